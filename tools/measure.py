@@ -1,0 +1,112 @@
+#!/usr/bin/env python3
+"""Times the proved program on inputs at and below its limits, and prints a table for docs/MEASURED.md.
+
+Usage: tools/measure.py [play|format|check ..]      (all of them where none is named)
+Each input is made anew in a temporary folder; each time is the best of five runs on one core, in seconds.
+"""
+import os
+import subprocess
+import sys
+import tempfile
+import time
+
+HERE = os.path.dirname(os.path.abspath(__file__))
+LAM = os.path.join(HERE, '..', 'crates', 'lam', 'out', 'lam')
+RUNS = 5
+
+
+def best_time(words, folder):
+    best = None
+    for _ in range(RUNS):
+        start = time.perf_counter()
+        done = subprocess.run([LAM] + words, cwd=folder, stdout=subprocess.DEVNULL)
+        took = time.perf_counter() - start
+        best = took if best is None else min(best, took)
+    return best, done.returncode
+
+
+def play_script(lines):
+    """A third of the lines declare tags, a third cells and actors, a third are steps."""
+    third = lines // 3
+    text = [f'tag t{n}' for n in range(third)]
+    text += [f'actor p{n} {{t{n}}}/{{}} +{{}}-{{t{n}}}' if n % 2 else f'cell c{n} {{t{n - 1 if n else 0}}}/{{}} {n}'
+             for n in range(third)]
+    actors = [n for n in range(third) if n % 2]
+    while len(text) < lines:
+        n = actors[len(text) % len(actors)]
+        step = ('read c%d', 'write c%d 7', 'copy c%d c0')[len(text) % 3] % (n - 1 if n > 1 else 0)
+        text.append(f'p{n} {step}')
+    return '\n'.join(text) + '\n'
+
+
+def steps_script(lines):
+    """Nearly all lines are steps on a few cells."""
+    text = ['tag a', 'actor p {a}/{} +{}-{a}', 'actor q {}/{}', 'cell c {a}/{} 1', 'cell d {}/{} 0']
+    steps = ['p read c', 'p write c 12345', 'p copy c d', 'q read d', 'q read c']
+    while len(text) < lines:
+        text.append(steps[len(text) % 5])
+    return '\n'.join(text) + '\n'
+
+
+def program(size):
+    """Functions of ordinary statements, up to so many bytes."""
+    parts, total, n = [], 0, 0
+    while total < size - 400:
+        part = (f'fn f{n}(x: int, ys: [int]): int {{\n  let sum: int = 0;\n  let i: int = 0;\n'
+                '  while (i < len(ys)) {\n    if (ys[i] > x && i % 2 == 0) {\n      sum = sum + ys[i] * 3 - (x - 1);\n'
+                '    } else {\n      sum = sum - 1;\n    }\n    i = i + 1;\n  }\n  return sum;\n}\n\n')
+        parts.append(part)
+        total += len(part)
+        n += 1
+    return ''.join(parts)[:-1], n
+
+
+def table(title, rows):
+    print(f'\n{title}\n')
+    print('| input | bytes | seconds | status |\n|---|---|---|---|')
+    for name, size, seconds, status in rows:
+        print(f'| {name} | {size} | {seconds:.3f} | {status} |')
+
+
+def measure_play(folder):
+    rows = []
+    for kind, make in (('names', play_script), ('steps', steps_script)):
+        for lines in (8192, 16384, 32768, 65536):
+            text = make(lines)
+            with open(os.path.join(folder, 's'), 'w') as f:
+                f.write(text)
+            seconds, status = best_time(['play', 's', '{}/{}'], folder)
+            rows.append((f'{kind}, {lines} lines', len(text), seconds, status))
+    table('`lam play`, observer `{}/{}`', rows)
+
+
+def measure_program(command, folder):
+    rows = []
+    for size in (131072, 262144, 524288, 1048576):
+        text, count = program(size)
+        with open(os.path.join(folder, 'p'), 'w') as f:
+            f.write(text)
+        seconds, status = best_time([command, 'p'], folder)
+        rows.append((f'{count} functions', len(text), seconds, status))
+    hostile = [('a mebibyte of `(`', '(' * 1048576), ('a mebibyte of `!`', 'fn f(): int { return ' + '!' * 1048500),
+               ('a mebibyte of `/`', '/' * 1048576), ('one identifier', 'a' * 1048576), ('an open text', '"' + 'a' * 1048000)]
+    for name, text in hostile:
+        with open(os.path.join(folder, 'p'), 'w') as f:
+            f.write(text)
+        seconds, status = best_time([command, 'p'], folder)
+        rows.append((name, len(text), seconds, status))
+    table(f'`lam {command}`', rows)
+
+
+def main():
+    wanted = sys.argv[1:] or ['play', 'format', 'check']
+    with tempfile.TemporaryDirectory() as folder:
+        for command in wanted:
+            if command == 'play':
+                measure_play(folder)
+            else:
+                measure_program(command, folder)
+
+
+if __name__ == '__main__':
+    main()
