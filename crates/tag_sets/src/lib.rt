@@ -1,0 +1,303 @@
+//! Finite sets of tags.
+//!
+//! A *tag* names one secret or one source of trust; labels and capabilities are made of sets of tags.
+//! A `TagSet` keeps its tags in increasing order, each once (`rising`), so two sets are compared in one
+//! walk over both. Contracts see it as the finite set of its tags: two sets with the same tags are
+//! equal, however they were made.
+
+#![tactic(auto)]
+
+mod rising;
+
+ghost use Rattle.std.specs.Prelude.{◌≡◌, nat_eq, ◌↔◌, Some, IsTrue, IsNone, IfSome, IfOk, OnOk, OnErr};
+ghost use Rattle.std.specs.FinSet as set;
+ghost use Rattle.std.proofs.Common.{rules, refl};
+ghost use Rattle.std.specs.Cmp.Rules.{comparing, hashing};
+ghost use Rattle.std.specs.Cmp.Lexicographic.{pointwise, slice_cmp};
+ghost use Rattle.std.specs.Ordering.{on, nat_cmp, as_partial_cmp};
+ghost use Rattle.std.specs.Hash as fed;
+ghost use Rattle.tag_sets.specs.Tags.{IsLeast, tags_of, least, lesser, apart};
+
+use rising::{
+    add_tag, find_missing, find_missing_both, has_tag, merged_tags, missing_tags, sorted_tags,
+};
+use std::alloc::{AllocError, AllocFailed, Global};
+use std::cmp::Ordering;
+use std::hash::{Hash, Hasher};
+use std::marker::Model;
+
+/// Memory was refused. It stands alone, so that no other failure hides behind it.
+#[derive(Clone, Copy, Debug, PartialEq, Eq)]
+pub struct NoMemory;
+
+impl From<AllocError> for NoMemory {
+    fn from(_e: AllocError) -> NoMemory {
+        NoMemory
+    }
+}
+
+impl<T: Drop> From<AllocFailed<T>> for NoMemory {
+    fn from(_e: AllocFailed<T>) -> NoMemory {
+        NoMemory
+    }
+}
+
+/// A tag, named by its number. The smaller number is the lesser tag.
+#[derive(Clone, Copy, Debug, PartialEq, Eq, PartialOrd, Ord, Hash)]
+pub struct TagId(pub u64);
+
+impl Model for TagId {
+    ghost use Rattle.std.specs.Prelude.{ℕ};
+
+    ghost Value = { ℕ };
+
+    ghost view = { λ t. t.0 };
+
+    ghost inverse = { λ n. record { 0 = n } };
+}
+
+/// A finite set of tags, compared and hashed by its tags in increasing order.
+#[derive(Debug, Drop)]
+pub struct TagSet {
+    tags: Vec<TagId>,
+}
+
+impl Model for TagSet {
+    ghost use Rattle.std.specs.FinSet.{from_list};
+    ghost use Rattle.tag_sets.specs.Rising.{IsRising};
+    ghost use Rattle.tag_sets.specs.Tags.{Tags, coded_tags};
+
+    ghost Value = { Tags };
+
+    ghost coded = { coded_tags };
+
+    ghost view = { λ s. from_list s.tags.items };
+
+    ghost invariant = { λ s. IsRising s.tags.items };
+}
+
+impl PartialEq for TagSet {
+    ghost eq = { on tags_of (pointwise nat_eq) };
+
+    ghost laws = { Prim.search (comparing, rules) };
+
+    fn eq(&self, other: &TagSet) -> bool {
+        self.tags() == other.tags()
+    }
+}
+
+impl Eq for TagSet {
+    ghost laws = { Prim.search (comparing, rules) };
+}
+
+impl PartialOrd for TagSet {
+    ghost partial_cmp = { as_partial_cmp (on tags_of (slice_cmp nat_cmp)) };
+
+    ghost laws = { Prim.search (comparing, rules) };
+
+    fn partial_cmp(&self, other: &TagSet) -> Option<Ordering> {
+        Some(self.tags().cmp(other.tags()))
+    }
+}
+
+impl Ord for TagSet {
+    ghost cmp = { on tags_of (slice_cmp nat_cmp) };
+
+    ghost total = { Prim.search (comparing, rules) };
+
+    ghost matches_partial_cmp = { λ x y. refl };
+
+    ghost matches_eq = { Prim.search (comparing, rules) };
+
+    fn cmp(&self, other: &TagSet) -> Ordering {
+        self.tags().cmp(other.tags())
+    }
+}
+
+impl Hash for TagSet {
+    ghost hash_input = { λ s. fed.slice fed.u64 (tags_of s) };
+
+    ghost respects_eq = { Prim.search (hashing, rules) };
+
+    fn hash<H: Hasher>(&self, state: &mut H) {
+        self.tags().hash(state);
+    }
+}
+
+impl TagSet {
+    /// The set of no tags.
+    pub fn empty(alloc: Global) -> TagSet
+        ensures { result ≡ set.empty }
+    {
+        TagSet {
+            tags: Vec::new(alloc),
+        }
+    }
+
+    /// The set of the given tags, in time `n log n`. Repeats count once, and the order does not matter.
+    ///
+    /// # Errors
+    ///
+    /// `NoMemory` where memory is refused.
+    pub fn from_slice(alloc: Global, tags: &[TagId]) -> Result<TagSet, NoMemory>
+        ensures { IfOk result (λ s. s ≡ set.from_list tags.now) }
+    {
+        let tags = sorted_tags(alloc, tags)?;
+        Ok(TagSet { tags })
+    }
+
+    /// The tags, in increasing order.
+    pub fn tags(&self) -> &[TagId]
+        ensures { result.now ≡ tags_of self.now }
+    {
+        self.tags.as_slice()
+    }
+
+    /// The allocator that the set keeps, for what is made beside it.
+    pub fn allocator(&self) -> Global {
+        *self.tags.allocator()
+    }
+
+    /// Whether a tag is in the set, by a binary search.
+    pub fn contains(&self, tag: TagId) -> bool
+        ensures { result ≡ set.contains self.now tag }
+    {
+        has_tag(self.tags.as_slice(), tag)
+    }
+
+    /// Whether each tag of this set is in the other.
+    pub fn is_subset(&self, other: &TagSet) -> bool
+        ensures { result ≡ set.is_subset self.now other.now }
+    {
+        self.first_missing(other).is_none()
+    }
+
+    /// Whether the two sets have the same tags.
+    pub fn same(&self, other: &TagSet) -> bool
+        ensures { IsTrue result ↔ (self.now ≡ other.now) }
+    {
+        self.tags.as_slice() == other.tags.as_slice()
+    }
+
+    /// The least tag, where the set has one.
+    pub fn first(&self) -> Option<TagId>
+        ensures value { result ≡ least self.now }
+        ensures none { IsNone result ↔ (self.now ≡ set.empty) }
+    {
+        self.tags.first().copied()
+    }
+
+    /// The least tag of this set that the other lacks: `None` exactly where this is a subset of the other.
+    pub fn first_missing(&self, other: &TagSet) -> Option<TagId>
+        ensures value { result ≡ least (set.difference self.now other.now) }
+        ensures none { IsNone result ↔ IsTrue (set.is_subset self.now other.now) }
+        ensures least { IfSome result (IsLeast (set.difference self.now other.now)) }
+    {
+        find_missing(self.tags.as_slice(), other.tags.as_slice())
+    }
+
+    /// The least tag of this set that is in neither of the others.
+    pub fn first_missing_both(&self, first: &TagSet, second: &TagSet) -> Option<TagId>
+        ensures value { result ≡ least (set.difference (set.difference self.now first.now) second.now) }
+        ensures none { IsNone result ↔ IsTrue (set.is_subset (set.difference self.now first.now) second.now) }
+    {
+        find_missing_both(
+            self.tags.as_slice(),
+            first.tags.as_slice(),
+            second.tags.as_slice(),
+        )
+    }
+
+    /// The least tag that is in one of the two sets only: `None` exactly where they are equal.
+    pub fn first_apart(&self, other: &TagSet) -> Option<TagId>
+        ensures value { result ≡ least (apart self.now other.now) }
+        ensures none { IsNone result ↔ (self.now ≡ other.now) }
+    {
+        lesser(self.first_missing(other), other.first_missing(self))
+    }
+
+    /// The tags that are in this set, in the other or in both.
+    ///
+    /// # Errors
+    ///
+    /// `NoMemory` where memory is refused.
+    pub fn union(&self, other: &TagSet) -> Result<TagSet, NoMemory>
+        ensures { IfOk result (λ s. s ≡ set.union self.now other.now) }
+    {
+        let tags = merged_tags(
+            *self.tags.allocator(),
+            self.tags.as_slice(),
+            other.tags.as_slice(),
+        )?;
+        Ok(TagSet { tags })
+    }
+
+    /// The tags of this set that the other lacks.
+    ///
+    /// # Errors
+    ///
+    /// `NoMemory` where memory is refused.
+    pub fn minus(&self, other: &TagSet) -> Result<TagSet, NoMemory>
+        ensures { IfOk result (λ s. s ≡ set.difference self.now other.now) }
+    {
+        let tags = missing_tags(
+            *self.tags.allocator(),
+            self.tags.as_slice(),
+            other.tags.as_slice(),
+        )?;
+        Ok(TagSet { tags })
+    }
+
+    /// An equal set.
+    ///
+    /// # Errors
+    ///
+    /// `NoMemory` where memory is refused.
+    pub fn copy(&self) -> Result<TagSet, NoMemory>
+        ensures { IfOk result (λ s. s ≡ self.now) }
+    {
+        let tags = Vec::from_slice(*self.tags.allocator(), self.tags.as_slice())?;
+        Ok(TagSet { tags })
+    }
+
+    /// Adds a tag. A tag that is there already counts once.
+    ///
+    /// # Errors
+    ///
+    /// `NoMemory` where memory is refused; the set is then as it was.
+    pub fn insert(&mut self, tag: TagId) -> Result<(), NoMemory>
+        ensures ok { OnOk result (self.new ≡ set.insert self.old tag) }
+        ensures err { OnErr result (self.new ≡ self.old) }
+    {
+        add_tag(&mut self.tags, tag)?;
+        Ok(())
+    }
+}
+
+/// The lesser of two tags, where there are any.
+fn lesser(a: Option<TagId>, b: Option<TagId>) -> Option<TagId>
+    ensures { result ≡ lesser a b }
+{
+    match (a, b) {
+        (None, b) => b,
+        (Some(x), None) => Some(x),
+        (Some(x), Some(y)) => { if y < x { Some(y) } else { Some(x) } }
+    }
+}
+
+#[cfg(test)]
+mod tests {
+    use super::*;
+
+    #[test]
+    fn three_one_three_is_the_set_of_one_and_three(rt: HostRuntime) -> Result<(), NoMemory> {
+        let alloc = rt.alloc();
+        let set = TagSet::from_slice(alloc, &[TagId(3), TagId(1), TagId(3)])?;
+        assert_eq!(rt; set.tags(), [TagId(1), TagId(3)].as_slice());
+        let with_two = set.union(&TagSet::from_slice(alloc, &[TagId(2)])?)?;
+        assert_eq!(rt; with_two.tags(), [TagId(1), TagId(2), TagId(3)].as_slice());
+        let without_one = set.minus(&TagSet::from_slice(alloc, &[TagId(1)])?)?;
+        assert_eq!(rt; without_one.tags(), [TagId(3)].as_slice());
+        Ok(())
+    }
+}
