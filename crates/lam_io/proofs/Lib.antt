@@ -1,0 +1,3 @@
+pub mod TookLemmas
+pub mod FileLemmas
+pub mod FaultLemmas

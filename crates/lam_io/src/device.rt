@@ -1,0 +1,171 @@
+//! The files of the current folder, and standard output. What a device holds is not told.
+
+ghost use Rattle.std.specs.Prelude.{◌≡◌, ◌≤◌, false, None, [], take, length, IsTrue, IfOk, OnOk, OnErr, IsErrOf};
+ghost use Rattle.lam_io.specs.Outside.{Rose, one_more};
+
+use crate::{Got, Shelf, ShelfFault, Sink, SinkFault};
+use std::alloc::Global;
+use std::io::{ErrorKind, Read, Write};
+use std::marker::Model;
+use std::rt::Files;
+use std::{fs, io};
+
+/// The files of the current folder. A caller sees the number of faults.
+#[derive(Drop)]
+pub struct DirShelf<R: Files + AllocGlobal + Drop> {
+    rt: R,
+    faults: u64,
+}
+
+impl<R: Files + AllocGlobal + Drop> Model for DirShelf<R> {
+    ghost use Rattle.std.specs.Prelude.{ℕ};
+
+    ghost Value = { ℕ };
+
+    ghost view = { λ s. s.faults };
+}
+
+impl<R: Files + AllocGlobal + Drop> DirShelf<R> {
+    pub fn new(rt: R) -> DirShelf<R>
+        ensures { result ≡ 0 }
+    {
+        DirShelf { rt, faults: 0 }
+    }
+}
+
+impl<R: Files + AllocGlobal + Drop> Shelf for DirShelf<R> {
+    ghost tells = { λ s. false };
+
+    ghost files = { λ s name. None };
+
+    ghost faults = { λ s. s };
+
+    fn read(&mut self, alloc: Global, name: &str, limit: u64) -> Result<Got, ShelfFault> {
+        match read_file(&self.rt, alloc, name, limit) {
+            Ok(got) => Ok(got),
+            Err(e) => Err(count_fault(&mut self.faults, e)),
+        }
+    }
+
+    fn write(&mut self, name: &str, bytes: &[u8]) -> Result<(), ShelfFault> {
+        match fs::write(&self.rt, name, bytes) {
+            Ok(()) => Ok(()),
+            Err(e) => Err(count_fault(&mut self.faults, e)),
+        }
+    }
+}
+
+/// Want of memory is no fault of the shelf; every other error is one.
+fn count_fault(faults: &mut u64, error: io::Error) -> ShelfFault
+    ensures later { faults.old ≤ faults.new }
+    ensures failed { result ≡ ShelfFault.Failed → Rose faults.old faults.new }
+{
+    if error.kind() == ErrorKind::OutOfMemory {
+        return ShelfFault::NoMemory;
+    }
+    *faults = faults.saturating_add(1);
+    ShelfFault::Failed
+}
+
+/// Reads at most one byte more than the limit.
+fn read_file<R: Files + AllocGlobal>(
+    rt: &R,
+    alloc: Global,
+    name: &str,
+    limit: u64,
+) -> io::Result<Got> {
+    let file = match fs::open(rt, name) {
+        Ok(file) => file,
+        Err(e) => {
+            if e.kind() == ErrorKind::NotFound {
+                return Ok(Got::Absent);
+            }
+            return Err(e);
+        }
+    };
+    let mut bytes = Vec::new(alloc);
+    file.take(limit.saturating_add(1)).read_to_end(&mut bytes)?;
+    if bytes.len() as u64 > limit {
+        return Ok(Got::TooLong);
+    }
+    Ok(Got::Found(bytes))
+}
+
+/// Standard output. A caller sees the number of faults.
+#[derive(Drop)]
+pub struct StdSink<R: Print + Drop> {
+    rt: R,
+    faults: u64,
+}
+
+impl<R: Print + Drop> Model for StdSink<R> {
+    ghost use Rattle.std.specs.Prelude.{ℕ};
+
+    ghost Value = { ℕ };
+
+    ghost view = { λ s. s.faults };
+}
+
+impl<R: Print + Drop> StdSink<R> {
+    pub fn new(rt: R) -> StdSink<R>
+        ensures { result ≡ 0 }
+    {
+        StdSink { rt, faults: 0 }
+    }
+}
+
+impl<R: Print + Drop> Sink for StdSink<R> {
+    ghost taken = { λ s. None };
+
+    ghost faults = { λ s. s };
+
+    fn write(&mut self, piece: &[u8]) -> Result<u64, SinkFault> {
+        if piece.is_empty() {
+            return Ok(0);
+        }
+        match io::writer(&self.rt).write(piece) {
+            Ok(count) if count > 0 => Ok(count as u64),
+            _ => {
+                self.faults = self.faults.saturating_add(1);
+                Err(SinkFault::Failed)
+            }
+        }
+    }
+}
+
+#[cfg(test)]
+mod tests {
+    use super::*;
+    use std::process;
+    use std::test::Fail;
+
+    #[test]
+    fn folder_is_a_shelf(rt: HostRuntime) -> Result<(), Fail> {
+        let alloc = rt.alloc();
+        let mut shelf = DirShelf::new(rt.clone()?);
+        let name = format!(in alloc; "/tmp/lam_io_{}", process::id(rt.process()))?;
+        assert_eq!(rt; shelf.write(name.as_str(), b"xy"), Ok(()));
+        let found = match shelf.read(alloc, name.as_str(), 2) {
+            Ok(Got::Found(bytes)) => bytes.as_slice() == b"xy".as_slice(),
+            _ => false,
+        };
+        fs::remove_file(&rt, name.as_str())?;
+        assert!(rt; found);
+        assert!(rt; matches!(&shelf.read(alloc, name.as_str(), 2), Ok(Got::Absent)));
+
+        // A file without an end is read no further than one byte past the limit.
+        assert!(rt; matches!(&shelf.read(alloc, "/dev/zero", 3), Ok(Got::TooLong)));
+        assert!(rt; matches!(&shelf.read(alloc, "/", 3), Err(ShelfFault::Failed)));
+        assert_eq!(rt; shelf.write("/", b"xy"), Err(ShelfFault::Failed));
+        assert_eq!(rt; shelf.faults, 2);
+        Ok(())
+    }
+
+    #[test]
+    fn standard_output_is_a_sink(rt: HostRuntime) -> Result<(), Fail> {
+        let mut sink = StdSink::new(rt.clone()?);
+        assert_eq!(rt; sink.write(b""), Ok(0));
+        assert_eq!(rt; sink.write(b"a\n"), Ok(2));
+        Ok(())
+    }
+}

@@ -1,0 +1,135 @@
+//! The outside of the tool: files, output and the scheduler's hook, as traits whose clauses say what each of
+//! them means, and the implementations that the program and the tests use.
+//!
+//! A [`Shelf`] is a file store and a [`Sink`] is an output stream. Each counts its faults; a caller that is generic
+//! in them can not raise the count, so it can not make a fault up. [`MemShelf`] and [`MemSink`] hold their contents
+//! in memory and fail at the calls that a test lists. [`DirShelf`] and [`StdSink`] are the current folder and
+//! standard output: the trusted edge, which tells nothing of contents. A [`Gate`] is a hook that a scheduler asks
+//! which thread goes on; [`OpenGate`] is the program's own.
+#![tactic(auto)]
+
+mod device;
+mod memory;
+
+ghost use Rattle.std.specs.Prelude.{◌≡◌, ◌≤◌, List, ℕ, Option, Bool, [], length, take, IfOk, OnOk, OnErr, IsErrOf, IsTrue};
+ghost use Rattle.lam_io.specs.declared.ShelfFault.TheVariants.{NoMemory as no_memory};
+ghost use Rattle.lam_io.specs.Outside.{Rose, AllStay, OthersStay, IsRead, Took, TookFront, IsCount};
+
+pub use device::{DirShelf, StdSink};
+pub use memory::{MemShelf, MemSink, OpenGate};
+use std::alloc::{AllocError, AllocFailed, Global};
+use tag_sets::NoMemory;
+
+/// What reading a file gave: its bytes, or that it is not there or is longer than the limit.
+#[derive(Debug, Drop)]
+pub enum Got {
+    Found(Vec<u8>),
+    Absent,
+    TooLong,
+}
+
+/// Why a shelf gave no answer. `Failed` is a fault of the shelf, which it counts.
+#[derive(Clone, Copy, Debug, PartialEq, Eq)]
+pub enum ShelfFault {
+    Failed,
+    NoMemory,
+}
+
+impl From<NoMemory> for ShelfFault {
+    ghost from_gives = { λ _ e. e ≡ no_memory };
+
+    fn from(_e: NoMemory) -> ShelfFault {
+        ShelfFault::NoMemory
+    }
+}
+
+impl From<AllocError> for ShelfFault {
+    ghost from_gives = { λ _ e. e ≡ no_memory };
+
+    fn from(_e: AllocError) -> ShelfFault {
+        ShelfFault::NoMemory
+    }
+}
+
+impl<T: Drop> From<AllocFailed<T>> for ShelfFault {
+    ghost from_gives = { λ _ e. e ≡ no_memory };
+
+    fn from(_e: AllocFailed<T>) -> ShelfFault {
+        ShelfFault::NoMemory
+    }
+}
+
+/// Why a sink took nothing.
+#[derive(Clone, Copy, Debug, PartialEq, Eq)]
+pub enum SinkFault {
+    Failed,
+}
+
+/// A file store: files by their names.
+///
+/// Whether it tells its files, the files, and how many of its calls failed are its meanings in proofs.
+pub trait Shelf {
+    ghost tells: { Self → Bool };
+
+    ghost files: { Self → List ℕ → Option (List ℕ) };
+
+    ghost faults: { Self → ℕ };
+
+    /// Reads a file of at most `limit` bytes. It changes no file, whatever it answers.
+    fn read(&mut self, alloc: Global, name: &str, limit: u64) -> Result<Got, ShelfFault>
+        ensures later { faults self.old ≤ faults self.new }
+        ensures failed { IsErrOf result ShelfFault.Failed → Rose (faults self.old) (faults self.new) }
+        ensures tells_on { IsTrue (tells self.old) → IsTrue (tells self.new) }
+        ensures got { IsTrue (tells self.old) → IfOk result (IsRead (files self.old name.now) limit) }
+        ensures stay { IsTrue (tells self.old) → AllStay (files self.old) (files self.new) };
+
+    /// Sets a file to these bytes, and no other. After an error that file may hold anything.
+    fn write(&mut self, name: &str, bytes: &[u8]) -> Result<(), ShelfFault>
+        ensures later { faults self.old ≤ faults self.new }
+        ensures failed { IsErrOf result ShelfFault.Failed → Rose (faults self.old) (faults self.new) }
+        ensures tells_on { IsTrue (tells self.old) → IsTrue (tells self.new) }
+        ensures set { IsTrue (tells self.old) → OnOk result (files self.new name.now ≡ Some bytes.now) }
+        ensures others { IsTrue (tells self.old) → OthersStay (files self.old) (files self.new) name.now };
+}
+
+/// An output stream: where bytes go.
+///
+/// The bytes that it took, where it tells them, and how many of its calls failed are its meanings in proofs.
+pub trait Sink {
+    ghost taken: { Self → Option (List ℕ) };
+
+    ghost faults: { Self → ℕ };
+
+    /// Takes some first bytes of the piece, at least one unless it is empty, and answers how many.
+    fn write(&mut self, piece: &[u8]) -> Result<u64, SinkFault>
+        ensures later { faults self.old ≤ faults self.new }
+        ensures failed { OnErr result (Rose (faults self.old) (faults self.new)) }
+        ensures count { IfOk result (λ n. IsCount n (length piece.now)) }
+        ensures took { IfOk result (λ n. Took (taken self.old) (taken self.new) (take n piece.now)) }
+        ensures nothing { OnErr result (Took (taken self.old) (taken self.new) []) };
+}
+
+/// A hook of a scheduler. It has no faults.
+pub trait Gate {
+    /// Which of the ready threads a worker takes at a turn, modulo the length of the list.
+    fn pick(&self, worker: u64, turn: u64, ready: &[u32]) -> u64;
+
+    /// Called outside the lock after each turn that a worker checked in.
+    fn between(&self, worker: u64, thread: u32);
+}
+
+/// Writes all of the text, or fails with a proper front of it taken. An empty rest makes no call.
+pub fn write_all<O: Sink>(out: &mut O, text: &[u8]) -> Result<(), SinkFault>
+    ensures later { O.faults out.old ≤ O.faults out.new }
+    ensures failed { OnErr result (Rose (O.faults out.old) (O.faults out.new)) }
+    ensures all { OnOk result (Took (O.taken out.old) (O.taken out.new) text.now) }
+    ensures front { OnErr result (TookFront (O.taken out.old) (O.taken out.new) text.now) }
+    ensures no_call { text.now ≡ [] → out.new ≡ out.old }
+{
+    let mut done = 0usize;
+    while done < text.len() {
+        let count = out.write(&text[done..])?;
+        done += count as usize;
+    }
+    Ok(())
+}
