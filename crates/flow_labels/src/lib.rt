@@ -1,0 +1,165 @@
+//! Labels of secrecy and integrity, and the rules by which information flows between them.
+//!
+//! A label is a pair of tag sets. A thing's secrecy says whose secrets are in it, and its integrity
+//! says who vouches for it. Information may flow from x to y where y is at least as secret as x, and
+//! at most as trusted: the lattice of Denning (CACM 1976), with the two sets of tags of Flume (SOSP
+//! 2007) and Laminar (PLDI 2009).
+//!
+//! A reference monitor asks the rules here before each access. A rule call answers None where the
+//! access may go on, and else the first rule that forbids it with that rule's least tag: secrecy comes
+//! before integrity. The rules on changes of a label, which speak of capabilities, stand in the crate
+//! `capabilities`; the variants of [`Rule`] that they need stand here with the others.
+//!
+//! The module `names` has the names of tags, and `texts` the text of a label, `{a,b}/{t}`, both ways.
+//! Both stand on `two_lists`, which reads and writes two lists of tag names in braces; the text of
+//! capabilities, `+{a}-{a,b}`, is another layout of the same.
+//!
+//! None of the calls without a Result takes memory.
+#![tactic(auto)]
+
+mod names;
+
+ghost use Rattle.std.specs.Prelude.{◌≡◌, IsTrue, IsNone, ◌↔◌, IfOk};
+ghost use Rattle.std.specs.FinSet as set;
+ghost use Rattle.flow_labels.specs.Flow.{flows, public_label};
+ghost use Rattle.flow_labels.specs.Failing.{denied_or, first_failing, read_test, write_test, mint_test, same_test};
+
+pub use names::{NameFault, TagNames};
+use std::alloc::Global;
+use tag_sets::{NoMemory, TagId, TagSet};
+
+/// The tags of a thing's secrecy, `s`, and of its integrity, `i`.
+///
+/// Two labels are equal, and hash alike, exactly where both sets have the same tags. The order is that
+/// of the tags in increasing order, secrecy first; it means nothing for the flow of information.
+#[derive(Debug, PartialEq, Eq, PartialOrd, Ord, Hash, Drop)]
+pub struct Label {
+    pub s: TagSet,
+    pub i: TagSet,
+}
+
+/// A rule of the reference monitor, which a tag can break.
+#[derive(Clone, Copy, Debug, PartialEq, Eq)]
+pub enum Rule {
+    /// Reading: what is read has a secret that the reader's label lacks.
+    ReadS,
+    /// Reading: the reader is vouched for by a tag that what is read lacks.
+    ReadI,
+    /// Writing: the writer has a secret that what is written lacks.
+    WriteS,
+    /// Writing: what is written is vouched for by a tag that the writer lacks.
+    WriteI,
+    /// A change of label adds a secret without its plus capability.
+    AddS,
+    /// A change of label drops a secret without its minus capability: a declassification.
+    DropS,
+    /// A change of label adds an integrity tag without its plus capability: an endorsement.
+    AddI,
+    /// A change of label drops an integrity tag without its minus capability.
+    DropI,
+    /// A capability that is asked for is not held.
+    Caps,
+    /// A tag is made at a label that is not the public one.
+    Mint,
+    /// Two labels that must be equal differ.
+    Same,
+}
+
+/// The first rule that failed, with the least tag that breaks it.
+#[derive(Clone, Copy, Debug, PartialEq, Eq)]
+pub struct Denied {
+    /// The rule that forbids.
+    pub rule: Rule,
+    /// Its least tag.
+    pub tag: TagId,
+}
+
+impl Label {
+    /// The label `{}/{}`, of what is neither secret nor vouched for. Takes no memory.
+    pub fn public(alloc: Global) -> Label
+        ensures { result ≡ public_label }
+    {
+        Label {
+            s: TagSet::empty(alloc),
+            i: TagSet::empty(alloc),
+        }
+    }
+
+    /// The allocator that the label keeps.
+    pub fn allocator(&self) -> Global {
+        self.s.allocator()
+    }
+
+    /// An equal label. NoMemory comes where memory runs out.
+    pub fn copy(&self) -> Result<Label, NoMemory>
+        ensures { IfOk result (λ l. l ≡ self.now) }
+    {
+        let s = self.s.copy()?;
+        let i = self.i.copy()?;
+        Ok(Label { s, i })
+    }
+}
+
+/// Whether information may flow from x to y: each secret of x is one of y, and each tag that vouches
+/// for y vouches for x.
+pub fn flows(x: &Label, y: &Label) -> bool
+    ensures { result ≡ flows x.now y.now }
+{
+    x.s.is_subset(&y.s) && y.i.is_subset(&x.i)
+}
+
+/// Whether two labels are equal: both sets have the same tags.
+pub fn same(x: &Label, y: &Label) -> bool
+    ensures { IsTrue result ↔ (x.now ≡ y.now) }
+{
+    x.s.same(&y.s) && x.i.same(&y.i)
+}
+
+/// The rule with the tag that breaks it, or what the later rules answer where no tag breaks it.
+pub fn denied_or(rule: Rule, tag: Option<TagId>, rest: Option<Denied>) -> Option<Denied>
+    ensures { result ≡ denied_or rule tag rest }
+{
+    match tag {
+        None => rest,
+        Some(tag) => Some(Denied { rule, tag }),
+    }
+}
+
+/// The first rule that forbids an actor at the label p to read a thing at the label x. None exactly
+/// where information may flow from x to p.
+pub fn read_rule(p: &Label, x: &Label) -> Option<Denied>
+    ensures value { result ≡ first_failing (read_test p.now x.now) }
+    ensures none { IsNone result ↔ IsTrue (flows x.now p.now) }
+{
+    let integrity = denied_or(Rule::ReadI, p.i.first_missing(&x.i), None);
+    denied_or(Rule::ReadS, x.s.first_missing(&p.s), integrity)
+}
+
+/// The first rule that forbids an actor at the label p to write a thing at the label x. None exactly
+/// where information may flow from p to x.
+pub fn write_rule(p: &Label, x: &Label) -> Option<Denied>
+    ensures value { result ≡ first_failing (write_test p.now x.now) }
+    ensures none { IsNone result ↔ IsTrue (flows p.now x.now) }
+{
+    let integrity = denied_or(Rule::WriteI, x.i.first_missing(&p.i), None);
+    denied_or(Rule::WriteS, p.s.first_missing(&x.s), integrity)
+}
+
+/// The first rule that forbids to make a tag at the label p. None exactly at the public label.
+pub fn mint_rule(p: &Label) -> Option<Denied>
+    ensures value { result ≡ first_failing (mint_test p.now) }
+    ensures none { IsNone result ↔ (p.now ≡ public_label) }
+{
+    let integrity = denied_or(Rule::Mint, p.i.first(), None);
+    denied_or(Rule::Mint, p.s.first(), integrity)
+}
+
+/// The first rule by which p and x are not the same label. None exactly where they are equal; its tag
+/// is the least that is in one of the two sets only.
+pub fn same_rule(p: &Label, x: &Label) -> Option<Denied>
+    ensures value { result ≡ first_failing (same_test p.now x.now) }
+    ensures none { IsNone result ↔ (p.now ≡ x.now) }
+{
+    let integrity = denied_or(Rule::Same, p.i.first_apart(&x.i), None);
+    denied_or(Rule::Same, p.s.first_apart(&x.s), integrity)
+}
