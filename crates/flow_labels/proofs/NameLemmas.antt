@@ -157,3 +157,14 @@ is_new ns so_far i text all at e = rw (e, at.1) (new_at ns i [] at.0 all)
 
 pub one_copied : (ns so_far new : List (List ℕ)) (i : ℕ) (text : List ℕ) → IsNameAt ns i text → so_far ≡ take i ns → new ≡ so_far ++ text ∷ [] → new ≡ take (i + 1) ns
 one_copied ns so_far new i text at e made = made ∙ (λ j. e j ++ at.1 j ∷ []) ∙ sym (take_more ns i [] at.0)
+
+found_at : (ns : List (List ℕ)) (i j : ℕ) (d : List ℕ) → i < length ns → AreNames ns → position_from (bytes_eq (get_or ns i d)) j ns ≡ Some (j + i)
+found_at [] i j d less all = absurd (omega arith)
+found_at (n ∷ ns) zero j d less all = let same : bytes_eq n n ≡ true = (bytes_eq-Decides n n).1 refl in rw same (ap Some (omega arith))
+found_at (n ∷ ns) (suc i) j d less all =
+    let later : bytes_eq (get_or ns i d) n ≡ false = bytes_eq_sym (get_or ns i d) n ∙ any_later (bytes_eq n) ns i d (omega arith) all.1 in
+    rw later (found_at ns i (j + 1) d (omega arith) all.2 ∙ ap Some (omega arith))
+
+-- the name at a place stands at that place
+pub place_at : (ns : List (List ℕ)) (i : ℕ) (d : List ℕ) → i < length ns → AreNames ns → place_of ns (get_or ns i d) ≡ Some i
+place_at ns i d less all = position_from-zero (bytes_eq (get_or ns i d)) ns ∙ found_at ns i 0 d less all ∙ ap Some (omega arith)

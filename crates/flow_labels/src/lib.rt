@@ -18,6 +18,8 @@
 #![tactic(auto)]
 
 mod names;
+mod texts;
+mod two_lists;
 
 ghost use Rattle.std.specs.Prelude.{◌≡◌, IsTrue, IsNone, ◌↔◌, IfOk};
 ghost use Rattle.std.specs.FinSet as set;
@@ -27,6 +29,11 @@ ghost use Rattle.flow_labels.specs.Failing.{denied_or, first_failing, read_test,
 pub use names::{NameFault, TagNames};
 use std::alloc::Global;
 use tag_sets::{NoMemory, TagId, TagSet};
+pub use texts::{LabelFault, label_form, label_text, labels_are_read, parse_label, texts_are_read};
+pub use two_lists::{
+    Form, TagFault, TwoSets, bad_place, lists_are_read, read_sets, sets_are_read, sets_text,
+    tag_text,
+};
 
 /// The tags of a thing's secrecy, `s`, and of its integrity, `i`.
 ///

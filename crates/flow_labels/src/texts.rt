@@ -1,0 +1,66 @@
+//! The text of a label, `{a,b}/{t}`: secrecy, then integrity.
+
+ghost use Rattle.std.specs.Prelude.{◌≡◌, ◌↔◌, IsTrue, IfOk, string_bytes};
+ghost use Rattle.flow_labels.specs.LabelText.{IsLabelText, label_of, label_text, Gives, LabelsAreRead, TextsAreRead};
+
+use crate::Label;
+use crate::names::TagNames;
+use crate::two_lists::{Form, TagFault, bad_place, read_sets, sets_text};
+use tag_sets::NoMemory;
+
+/// Why a text is no label.
+#[derive(Clone, Copy, Debug, PartialEq, Eq)]
+pub enum LabelFault {
+    /// The text has not the form of a label; `at` is the least place whose byte continues no label, or
+    /// the text's length where it is only the front of one.
+    BadLabel { at: u64 },
+    /// The text has the form, and the first name that no tag has begins at `at`.
+    NoTag { at: u64 },
+    /// Memory ran out.
+    NoMemory,
+}
+
+/// Whether a text has the form of a label, whatever names are known.
+pub fn label_form(text: &str) -> bool
+    ensures { IsTrue result ↔ IsLabelText text.now }
+{
+    bad_place(Form::Label, text.as_bytes()).is_none()
+}
+
+/// The label that a text spells. The names of each list may stand in any order, and a name that comes
+/// again counts once. Places are counted in bytes from 0.
+pub fn parse_label(text: &str, names: &TagNames) -> Result<Label, LabelFault>
+    ensures { Gives result (label_of names.now text.now) }
+{
+    let bytes = text.as_bytes();
+    if let Some(at) = bad_place(Form::Label, bytes) {
+        return Err(LabelFault::BadLabel { at });
+    }
+    match read_sets(bytes, names) {
+        Ok(sets) => Ok(Label {
+            s: sets.first,
+            i: sets.second,
+        }),
+        Err(TagFault::NoTag { at }) => Err(LabelFault::NoTag { at }),
+        Err(TagFault::NoMemory) => Err(LabelFault::NoMemory),
+    }
+}
+
+/// The text of a label: its tags in increasing order, each by its name, or by `#` and its number where
+/// it has none.
+pub fn label_text(l: &Label, names: &TagNames) -> Result<String, NoMemory>
+    ensures { IfOk result (λ t. string_bytes t ≡ label_text names.now l.now) }
+{
+    sets_text(Form::Label, &l.s, &l.i, names)
+}
+
+/// A law: each text of two lists of names is read as the label of their tags, or else at the place of
+/// the first name that is not known.
+pub fn labels_are_read()
+    ensures { LabelsAreRead }
+{}
+
+/// A law: the text of a label whose tags all have names is read as that label.
+pub fn texts_are_read()
+    ensures { TextsAreRead }
+{}
