@@ -1,10 +1,9 @@
 -- Reading stops at the least place that continues no text of the form, and nowhere else.
-use Rattle.std.proofs.Common.{◌≡◌, ℕ, ◌+◌, ◌-◌, ◌<◌, ◌≤◌, Bool, true, false, List, [], ◌∷◌, ◌++◌, length, take, Option, Some, None, is_none, IsNone, IfSome, ◌↔◌, refl, sym, ap, subst, ◌∙◌, arith, append-nil, zero, suc}
-use Rattle.flow_labels.specs.TwoLists.{Text, AllNames, joined, braced, before, between, spelled, Spells, HasForm, IsFront, IsBadPlace}
+use Rattle.std.proofs.Common.{◌≡◌, ℕ, ◌+◌, ◌<◌, ◌≤◌, List, [], ◌∷◌, ◌++◌, length, take, Option, Some, None, IsNone, IfSome, ◌↔◌, refl, sym, ap, subst, ◌∙◌, arith, suc}
+use Rattle.flow_labels.specs.TwoLists.{Text, AllNames, joined, braced, between, spelled, Spells, HasForm, IsBadPlace}
 use Rattle.flow_labels.specs.Reading.{start, step, at_end, go_on, bad_from, bad_place}
 use Rattle.flow_labels.specs.declared.two_lists.Form.{Form}
 use Rattle.flow_labels.specs.declared.two_lists.Form.TheVariants.{Label, Caps}
-use Rattle.flow_labels.specs.declared.two_lists.Side.{Side}
 use Rattle.flow_labels.specs.declared.two_lists.Side.TheVariants.{First, Second}
 use Rattle.flow_labels.specs.declared.two_lists.Spot.{Spot}
 use Rattle.flow_labels.specs.declared.two_lists.Spot.TheVariants.{Start, Brace, Open, Name, Comma, Closed}

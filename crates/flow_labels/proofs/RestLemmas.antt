@@ -1,12 +1,12 @@
 -- What may follow where reading stands, said by lists of names: a byte is read exactly where it is the
 -- first of something that may follow.
-use Rattle.std.proofs.Common.{◌≡◌, ℕ, ◌+◌, ◌-◌, ◌<◌, ◌≤◌, Bool, true, false, cond, ◌&&◌, ◌||◌, eqb, ltb, leb, lit≤, ◌⊎◌, inl, inr, List, [], ◌∷◌, ◌++◌, length, take, get_or, Option, Some, None, refl, sym, ap, subst, ◌∙◌, arith, append_assoc, zero, suc}
+use Rattle.std.proofs.Common.{◌≡◌, ℕ, ◌+◌, ◌-◌, ◌<◌, ◌≤◌, Bool, true, false, cond, ◌&&◌, eqb, ltb, leb, ◌⊎◌, inl, inr, List, [], ◌∷◌, ◌++◌, length, Some, None, refl, sym, ap, subst, ◌∙◌, arith, append_assoc, suc}
 use Rattle.std.specs.List.{list_all}
 use Rattle.std.proofs.lemmas.Bool.Decides.{nat_tests}
 use Rattle.std.proofs.lemmas.Bool.{eqb-true}
 use Rattle.flow_labels.specs.Names.{is_letter, is_word, is_name}
-use Rattle.flow_labels.specs.TwoLists.{Text, AllNames, after_commas, joined, braced, between}
-use Rattle.flow_labels.specs.Reading.{start, step, after_list, after_letter}
+use Rattle.flow_labels.specs.TwoLists.{Text, AllNames, after_commas, joined, between}
+use Rattle.flow_labels.specs.Reading.{step, after_letter}
 use Rattle.flow_labels.specs.declared.two_lists.Form.{Form}
 use Rattle.flow_labels.specs.declared.two_lists.Form.TheVariants.{Label, Caps}
 use Rattle.flow_labels.specs.declared.two_lists.Side.{Side}

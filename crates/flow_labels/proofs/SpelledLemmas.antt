@@ -1,7 +1,6 @@
 -- The words of a text that two lists of names spell are the names, at their places.
-use Rattle.std.proofs.Common.{◌≡◌, ℕ, ◌+◌, ◌-◌, ◌<◌, ◌≤◌, Bool, true, false, cond, not, ◌&&◌, ◌||◌, eqb, List, [], ◌∷◌, ◌++◌, length, take, drop, map, get_or, Option, Some, None, unwrap_or, Result, Ok, Err, refl, sym, ap, subst, ◌∙◌, arith, append_assoc, append-nil, add-zero, length-append, decimal, zero, suc}
-use Rattle.std.specs.List.{list_all, prefix_len, slice_get}
-use Rattle.std.specs.FinSet.{contains, from_list}
+use Rattle.std.proofs.Common.{◌≡◌, ℕ, ◌+◌, ◌-◌, ◌<◌, Bool, true, false, not, ◌||◌, eqb, List, [], ◌∷◌, ◌++◌, length, take, drop, map, get_or, Some, Ok, refl, sym, ap, ◌∙◌, arith, append_assoc, append-nil, add-zero, suc}
+use Rattle.std.specs.List.{list_all, prefix_len}
 use Rattle.std.proofs.Math.Seq.{take-append_seam, drop-append_seam}
 use Rattle.std.proofs.lemmas.Bool.Decides.{nat_tests}
 use Rattle.std.proofs.lemmas.Option.{slice_get-get_or}
@@ -9,10 +8,9 @@ use Rattle.tag_sets.specs.Tags.{Tags, tags_of}
 use Rattle.tag_sets.specs.Rising.{has}
 use Rattle.tag_sets.proofs.TagLemmas.{has-tags_of, from_list-tags_of}
 use Rattle.flow_labels.specs.Names.{is_word, is_name, place_of, AreNames}
-use Rattle.flow_labels.specs.TwoLists.{Text, AllNames, after_commas, joined, braced, before, between, spelled, Spells, placed, first_names, second_names, tag_text, sets_text}
-use Rattle.flow_labels.specs.Reading.{closing, words, ◌>>=◌, found, tags_of_names, sets_of, first_end, sets_in, bad_place, HasNames, ListsAreRead, SetsAreRead}
-use Rattle.flow_labels.specs.LabelText.{SpellsLabel, label_of, label_or, label_text, LabelsAreRead, TextsAreRead}
-use Rattle.flow_labels.specs.declared.Label.{Label}
+use Rattle.flow_labels.specs.TwoLists.{Text, AllNames, after_commas, joined, braced, spelled, Spells, placed, first_names, second_names, tag_text, sets_text}
+use Rattle.flow_labels.specs.Reading.{closing, words, tags_of_names, sets_of, first_end, sets_in, HasNames, ListsAreRead, SetsAreRead}
+use Rattle.flow_labels.specs.LabelText.{label_or, LabelsAreRead, TextsAreRead}
 use Rattle.flow_labels.specs.declared.two_lists.Form.{Form}
 use Rattle.flow_labels.specs.declared.two_lists.Form.TheVariants.{Label as label_form, Caps}
 use Rattle.flow_labels.proofs.NameLemmas.{and_both, name_is_words, named_at, place_at}
@@ -127,6 +125,7 @@ each_has_name names (t ∷ ts) h = (h t (rw (same t) refl), each_has_name names 
   where
     same : (n : ℕ) → eqb n n ≡ true
     same n = grind (arith, nat_tests)
+
     or_true : (a b : Bool) → b ≡ true → (a || b) ≡ true
     or_true true b e = refl
     or_true false b e = e

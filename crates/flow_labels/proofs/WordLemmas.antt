@@ -1,7 +1,6 @@
 -- Reading a text word by word.
-use Rattle.std.proofs.Common.{◌≡◌, ℕ, ◌+◌, ◌-◌, ◌<◌, ◌≤◌, Bool, true, false, List, [], ◌∷◌, ◌++◌, length, take, drop, get_or, Result, Ok, Err, refl, sym, ap, ◌∙◌, subst, arith, slice_range, append_assoc, add-one, append-nil, length-take-le, length-drop, ltb, zero, suc}
+use Rattle.std.proofs.Common.{◌≡◌, ℕ, ◌+◌, ◌-◌, ◌<◌, ◌≤◌, true, false, List, [], ◌∷◌, ◌++◌, length, take, drop, get_or, Result, Ok, Err, refl, sym, ap, ◌∙◌, subst, arith, slice_range, append_assoc, add-one, append-nil, length-take-le, length-drop}
 use Rattle.std.proofs.Math.Seq.{drop-cons}
-use Rattle.std.proofs.lemmas.Bool.{lt-ltb}
 use Rattle.std.proofs.lemmas.List.{take_more, get_or-drop, drop_all}
 use Rattle.flow_labels.specs.declared.two_lists.TagFault.{TagFault}
 use Rattle.flow_labels.specs.declared.two_lists.TagFault.TheVariants.{NoTag, NoMemory}

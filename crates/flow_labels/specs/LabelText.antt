@@ -65,8 +65,11 @@ unknown_integrity = refl
 form_before_names : label_of (codes "a" ∷ []) (codes "{b}/{b") ≡ Err (BadLabel 6)
 form_before_names = refl
 
-named_and_minted : spelled label_form (map (tag_text (codes "a" ∷ [])) (0 ∷ 12 ∷ [])) [] ≡ codes "{a,#" ++ decimal 12 ++ codes "}/{}"
-named_and_minted = refl
+named : spelled label_form (map (tag_text (codes "a" ∷ codes "b" ∷ [])) (0 ∷ 1 ∷ [])) [] ≡ codes "{a,b}/{}"
+named = refl
+
+minted : tag_text (codes "a" ∷ codes "b" ∷ []) 12 ≡ codes "#" ++ decimal 12
+minted = refl
 
 -- ---- laws
 

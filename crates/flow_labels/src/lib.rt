@@ -18,6 +18,8 @@
 #![tactic(auto)]
 
 mod names;
+#[cfg(test)]
+mod tests;
 mod texts;
 mod two_lists;
 
@@ -26,7 +28,7 @@ ghost use Rattle.std.specs.FinSet as set;
 ghost use Rattle.flow_labels.specs.Flow.{flows, public_label};
 ghost use Rattle.flow_labels.specs.Failing.{denied_or, first_failing, read_test, write_test, mint_test, same_test};
 
-pub use names::{NameFault, TagNames};
+pub use names::{NameFault, TagNames, is_letter, is_name, is_word};
 use std::alloc::Global;
 use tag_sets::{NoMemory, TagId, TagSet};
 pub use texts::{LabelFault, label_form, label_text, labels_are_read, parse_label, texts_are_read};
