@@ -1,0 +1,2 @@
+pub mod CapsText
+pub mod Changes

@@ -1,0 +1,178 @@
+//! Capabilities, and the changes of a label that they allow.
+//!
+//! A label is fixed by who made a thing, and information flows by labels alone. To change a label takes
+//! *capabilities* (Flume, SOSP 2007): `t+` lets its holder add the tag t to a label, and `t-` lets it
+//! remove t. So `t-` declassifies where t is a secret, and `t+` endorses where t vouches for a thing.
+//!
+//! `change_rule` is the safe label change: a tag that is added has a plus, a tag that is dropped has a
+//! minus. Like the rules of flow in `flow_labels` it answers the first rule that forbids the change,
+//! with that rule's least tag. The module `texts` has the text of capabilities, `+{a}-{a,b}`, both ways.
+//!
+//! The calls that give no `Result` take no memory.
+
+#![tactic(auto)]
+
+mod texts;
+
+ghost use Rattle.std.specs.Prelude.{◌≡◌, IsTrue, IsNone, ◌↔◌, IfOk};
+ghost use Rattle.flow_labels.specs.Failing.{first_failing};
+ghost use Rattle.capabilities.specs.Changes.{no_caps, with_both, joined, used, MayChange, Covers, change_test, covers_test};
+
+use flow_labels::{Denied, Label, Rule, denied_or};
+use std::alloc::Global;
+use tag_sets::{NoMemory, TagId, TagSet};
+pub use texts::{CapsFault, caps_are_read, caps_form, caps_text, parse_caps, texts_are_read};
+
+/// Capabilities: the tags that their holder may add to a label, and those that it may drop.
+#[derive(Debug, Drop)]
+pub struct Caps {
+    pub plus: TagSet,
+    pub minus: TagSet,
+}
+
+impl Caps {
+    /// No capabilities.
+    pub fn none(alloc: Global) -> Caps
+        ensures { result ≡ no_caps }
+    {
+        Caps {
+            plus: TagSet::empty(alloc),
+            minus: TagSet::empty(alloc),
+        }
+    }
+
+    /// The capabilities to add the tags of `plus` and to drop those of `minus`.
+    pub fn of(plus: TagSet, minus: TagSet) -> Caps
+        ensures plus { result.plus ≡ plus }
+        ensures minus { result.minus ≡ minus }
+    {
+        Caps { plus, minus }
+    }
+
+    /// The allocator that the capabilities keep, for what is made beside them.
+    pub fn allocator(&self) -> Global {
+        self.plus.allocator()
+    }
+
+    /// Equal capabilities.
+    ///
+    /// # Errors
+    ///
+    /// `NoMemory` where memory is refused.
+    pub fn copy(&self) -> Result<Caps, NoMemory>
+        ensures { IfOk result (λ c. c ≡ self.now) }
+    {
+        let plus = self.plus.copy()?;
+        let minus = self.minus.copy()?;
+        Ok(Caps { plus, minus })
+    }
+
+    /// Whether two capabilities are equal.
+    pub fn same(&self, other: &Caps) -> bool
+        ensures { IsTrue result ↔ (self.now ≡ other.now) }
+    {
+        self.plus.same(&other.plus) && self.minus.same(&other.minus)
+    }
+
+    /// The first rule that forbids a change from one label to another: `None` exactly where each tag that
+    /// is added has its plus, and each that is dropped its minus. Secrecy comes before integrity, adding
+    /// before dropping.
+    pub fn change_rule(&self, from: &Label, to: &Label) -> Option<Denied>
+        ensures value { result ≡ first_failing (change_test self.now from.now to.now) }
+        ensures none { IsNone result ↔ MayChange self.now from.now to.now }
+    {
+        let drop_i = from.i.first_missing_both(&to.i, &self.minus);
+        let add_i = to.i.first_missing_both(&from.i, &self.plus);
+        let drop_s = from.s.first_missing_both(&to.s, &self.minus);
+        let add_s = to.s.first_missing_both(&from.s, &self.plus);
+        let fourth = denied_or(Rule::DropI, drop_i, None);
+        let third = denied_or(Rule::AddI, add_i, fourth);
+        let second = denied_or(Rule::DropS, drop_s, third);
+        denied_or(Rule::AddS, add_s, second)
+    }
+
+    /// The first capability of `other` that is not held here, as a denial by the rule Caps: the least plus,
+    /// else the least minus. `None` exactly where all are held.
+    pub fn covers(&self, other: &Caps) -> Option<Denied>
+        ensures value { result ≡ first_failing (covers_test self.now other.now) }
+        ensures none { IsNone result ↔ Covers self.now other.now }
+    {
+        let minus = denied_or(Rule::Caps, other.minus.first_missing(&self.minus), None);
+        denied_or(Rule::Caps, other.plus.first_missing(&self.plus), minus)
+    }
+
+    /// These capabilities with the plus and the minus of a tag, as the maker of the tag holds them.
+    ///
+    /// # Errors
+    ///
+    /// `NoMemory` where memory is refused.
+    pub fn with_both(&self, t: TagId) -> Result<Caps, NoMemory>
+        ensures { IfOk result (λ c. c ≡ with_both self.now t) }
+    {
+        let mut caps = self.copy()?;
+        caps.plus.insert(t)?;
+        caps.minus.insert(t)?;
+        Ok(caps)
+    }
+
+    /// What is held here, in `other` or in both.
+    ///
+    /// # Errors
+    ///
+    /// `NoMemory` where memory is refused.
+    pub fn join(&self, other: &Caps) -> Result<Caps, NoMemory>
+        ensures { IfOk result (λ c. c ≡ joined self.now other.now) }
+    {
+        let plus = self.plus.union(&other.plus)?;
+        let minus = self.minus.union(&other.minus)?;
+        Ok(Caps { plus, minus })
+    }
+
+    /// The capabilities that a release from one label to another uses: the minus of each secret that is
+    /// dropped, and the plus of each integrity tag that is added.
+    ///
+    /// # Errors
+    ///
+    /// `NoMemory` where memory is refused.
+    pub fn used(from: &Label, to: &Label) -> Result<Caps, NoMemory>
+        ensures { IfOk result (λ c. c ≡ used from.now to.now) }
+    {
+        let plus = to.i.minus(&from.i)?;
+        let minus = from.s.minus(&to.s)?;
+        Ok(Caps { plus, minus })
+    }
+}
+
+#[cfg(test)]
+mod tests {
+    use super::*;
+
+    #[test]
+    fn both_signs_of_a_tag(rt: HostRuntime) -> Result<(), NoMemory> {
+        let alloc = rt.alloc();
+        let caps = Caps::none(alloc).with_both(TagId(3))?;
+        assert_eq!(rt; caps.plus.tags(), [TagId(3)].as_slice());
+        assert_eq!(rt; caps.minus.tags(), [TagId(3)].as_slice());
+        let secret = Label {
+            s: TagSet::from_slice(alloc, &[TagId(3), TagId(4)])?,
+            i: TagSet::empty(alloc),
+        };
+        let public = Label::public(alloc);
+        let denied = Denied {
+            rule: Rule::DropS,
+            tag: TagId(4),
+        };
+        assert_eq!(rt; caps.change_rule(&secret, &public), Some(denied));
+        let denied = Denied {
+            rule: Rule::AddS,
+            tag: TagId(4),
+        };
+        assert_eq!(rt; caps.change_rule(&public, &secret), Some(denied));
+        let release = Caps::used(&secret, &public)?;
+        assert_eq!(rt; release.minus.tags(), [TagId(3), TagId(4)].as_slice());
+        assert!(rt; release.plus.tags().is_empty());
+        let held = caps.join(&release)?;
+        assert!(rt; held.covers(&caps).is_none() && held.change_rule(&secret, &public).is_none());
+        Ok(())
+    }
+}
