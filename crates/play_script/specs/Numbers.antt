@@ -1,5 +1,5 @@
 -- Whole numbers of 64 bits in decimal: `0`, `7` and `-12`, and not `01`, `-0`, `+7` or nothing.
-use Rattle.std.specs.Prelude.{ℕ, ℤ, pos, negsuc, ◌^◌, Bool, true, false, not, ◌&&◌, ◌||◌, nat_eq, nat_lt, nat_le, if◌then◌else◌, List, [], ◌∷◌, Option, Some, None}
+use Rattle.std.specs.Prelude.{◌≡◌, ℕ, ℤ, pos, negsuc, ◌^◌, Bool, true, false, not, ◌&&◌, ◌||◌, nat_eq, nat_lt, nat_le, if◌then◌else◌, List, [], ◌∷◌, Option, Some, None, refl, codes}
 use Rattle.std.specs.List.{list_all}
 use Rattle.std.specs.Str.Parse.{signed_digits_value}
 
@@ -31,3 +31,18 @@ fits (negsuc n) = nat_lt n (2 ^ 63)
 
 abbrev pub int_of : List ℕ → Option ℤ
 int_of w = if is_int w && fits (signed_digits_value 10 w) then Some (signed_digits_value 10 w) else None
+
+minus_twelve : int_of (codes "-12") ≡ Some (negsuc 11)
+minus_twelve = refl
+
+leading_zero : int_of (codes "01") ≡ None
+leading_zero = refl
+
+minus_zero : int_of (codes "-0") ≡ None
+minus_zero = refl
+
+least : int_of (codes "-9223372036854775808") ≡ Some (negsuc 9223372036854775807)
+least = refl
+
+past_the_greatest : int_of (codes "9223372036854775808") ≡ None
+past_the_greatest = refl

@@ -1,5 +1,5 @@
 -- A script is lines, each ended by a line feed: declarations, and then steps.
-use Rattle.std.specs.Prelude.{◌≡◌, ℕ, ◌+◌, Bool, true, false, not, ◌&&◌, ◌||◌, nat_lt, nat_le, if◌then◌else◌, List, [], ◌∷◌, ◌++◌, Option, Some, None, Result, Ok, Err, codes, is_none}
+use Rattle.std.specs.Prelude.{◌≡◌, ℕ, ◌+◌, Bool, true, false, not, ◌&&◌, ◌||◌, nat_lt, nat_le, if◌then◌else◌, List, [], ◌∷◌, ◌++◌, Option, Some, None, Result, Ok, Err, codes, is_none, refl}
 use Rattle.std.specs.Str.{bytes_eq}
 use Rattle.std.specs.List.{list_all}
 use Rattle.flow_labels.specs.Names.{is_name, place_of}
@@ -165,6 +165,21 @@ read_lines p (line ∷ rest) number = last_or rest (at_end p line number) (or_li
 -- the play of a text, or its least broken line, counted from 1
 abbrev pub read_script : Word → Result Play ℕ
 read_script text = read_lines nothing (pieces 10 text) 1
+
+empty_text : read_script [] ≡ Ok nothing
+empty_text = refl
+
+one_tag : read_script (codes "tag a" ++ 10 ∷ []) ≡ Ok (with_tag nothing (codes "a"))
+one_tag = refl
+
+no_line_feed : read_script (codes "tag a") ≡ Err 1
+no_line_feed = refl
+
+declared_twice : read_script (codes "tag a" ++ 10 ∷ codes "tag a" ++ 10 ∷ []) ≡ Err 2
+declared_twice = refl
+
+two_blanks : read_script (codes "tag a" ++ 10 ∷ codes "tag  b" ++ 10 ∷ []) ≡ Err 2
+two_blanks = refl
 
 -- what a function gave is what reading gives, unless memory ran out
 abbrev pub Fails : {Y : Type 0} → ScriptFault → Result Y ℕ → Type 0
