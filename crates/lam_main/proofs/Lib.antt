@@ -1,0 +1,4 @@
+pub mod PrintLemmas
+pub mod WordLemmas
+pub mod AnswerLemmas
+pub mod PlayLemmas

@@ -1,0 +1,3 @@
+pub mod Words
+pub mod Plan
+pub mod Answer

@@ -1,0 +1,84 @@
+//! Why a call does not print the text of its command, and the line that it prints instead.
+
+ghost use Rattle.std.specs.Prelude.{◌≡◌, ◌≤◌, ◌++◌, ◌∷◌, [], OnOk, OnErr, decimal};
+ghost use Rattle.lam_io.specs.Outside.{Rose, Took, TookFront};
+ghost use Rattle.lam_main.specs.Answer.{stop_of, IsPrinted};
+ghost use Rattle.lam_main.specs.declared.halt.Halt.TheVariants.{NoMemory as no_memory};
+
+use crate::Status;
+use itoa::Buffer;
+use lam_io::{Sink, SinkFault, write_all};
+use tag_sets::NoMemory;
+
+/// Why a call does not print the text of its command.
+#[derive(Debug, Drop)]
+pub(crate) enum Halt {
+    NoMemory,
+    /// The shelf failed.
+    ShelfFailed,
+    /// The words are in no form at this index, or the word there names an unknown tag.
+    Word(u64),
+    /// The script is broken at this line.
+    Script(u64),
+    /// There is no file of this name.
+    Absent(String),
+    /// The file of this name is longer than its limit.
+    TooLong(String),
+}
+
+impl From<NoMemory> for Halt {
+    ghost from_gives = { λ _ e. e ≡ no_memory };
+
+    fn from(_e: NoMemory) -> Halt {
+        Halt::NoMemory
+    }
+}
+
+/// Prints the line of a halt, and gives its status. It takes no memory.
+pub(crate) fn print_halt<O: Sink>(out: &mut O, halt: &Halt) -> Result<Status, SinkFault>
+    ensures printed { IsPrinted result (stop_of halt.now) (O.taken out.old) (O.taken out.new) }
+    ensures failed { OnErr result (Rose (O.faults out.old) (O.faults out.new)) }
+{
+    match halt {
+        Halt::NoMemory => Ok(Status::NoMemory),
+        Halt::ShelfFailed => Ok(Status::ShelfFault),
+        Halt::Word(index) => {
+            print_number(out, b"lam: 2 word ", *index)?;
+            Ok(Status::Words)
+        }
+        Halt::Script(line) => {
+            print_number(out, b"lam: 3 Script line ", *line)?;
+            Ok(Status::Program)
+        }
+        Halt::Absent(name) => {
+            print_line(out, b"lam: 6 Absent ", name.as_bytes())?;
+            Ok(Status::Missing)
+        }
+        Halt::TooLong(name) => {
+            print_line(out, b"lam: 6 TooLong ", name.as_bytes())?;
+            Ok(Status::Missing)
+        }
+    }
+}
+
+fn print_number<O: Sink>(out: &mut O, front: &[u8], number: u64) -> Result<(), SinkFault>
+    ensures later { O.faults out.old ≤ O.faults out.new }
+    ensures failed { OnErr result (Rose (O.faults out.old) (O.faults out.new)) }
+    ensures all { OnOk result (Took (O.taken out.old) (O.taken out.new) (front.now ++ decimal number ++ 10 ∷ [])) }
+    ensures front { OnErr result (TookFront (O.taken out.old) (O.taken out.new) (front.now ++ decimal number ++ 10 ∷ [])) }
+{
+    let mut digits = Buffer::new();
+    print_line(out, front, digits.format(number).as_bytes())
+}
+
+/// Prints a line of two parts.
+fn print_line<O: Sink>(out: &mut O, front: &[u8], detail: &[u8]) -> Result<(), SinkFault>
+    ensures later { O.faults out.old ≤ O.faults out.new }
+    ensures failed { OnErr result (Rose (O.faults out.old) (O.faults out.new)) }
+    ensures all { OnOk result (Took (O.taken out.old) (O.taken out.new) (front.now ++ detail.now ++ 10 ∷ [])) }
+    ensures front { OnErr result (TookFront (O.taken out.old) (O.taken out.new) (front.now ++ detail.now ++ 10 ∷ [])) }
+{
+    write_all(out, front)?;
+    write_all(out, detail)?;
+    write_all(out, b"\n")
+}

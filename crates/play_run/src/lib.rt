@@ -1,0 +1,155 @@
+//! The run of a play script: what its actors do to its cells, what an observer sees of it, and the
+//! lines that it prints.
+//!
+//! The steps of a script are taken in order. Each is tested by the rules of `flow_labels` and
+//! `capabilities`; where a rule fails the step is refused, with the first rule that failed and its least
+//! tag, and changes nothing. An observer sees the steps of the actors whose labels flow to its own. A copy
+//! by an actor that it does not see into a cell that it does see is a *release past* the observer (a
+//! declassification or an endorsement), and prints a line of its own, with the capabilities that it used.
+//!
+//! `play_script` reads the scripts; [`play_text`] gives what an observer reads.
+//!
+//! [`scripts_are_isolated`] says what the observer cannot tell: the numbers of the cells that it does
+//! not see, but for what the releases past it tell. It is the form that isolation has for a script, in the
+//! sense of non-interference up to declassification.
+#![tactic(auto)]
+
+mod lines;
+mod steps;
+
+ghost use Rattle.std.specs.Prelude.{◌≡◌, ◌≤◌, length, IfOk, string_bytes};
+ghost use Rattle.play_script.specs.Script.{play_of};
+ghost use Rattle.play_run.specs.Lines.{play_lines};
+ghost use Rattle.play_run.specs.Isolation.{IsolatedScripts};
+ghost use Rattle.play_run.specs.Laws.{NotesAreExact, ReleasesAreAllowed};
+
+use flow_labels::Label;
+use play_script::Script;
+use std::alloc::Global;
+pub use steps::Outcome;
+use steps::{cells_of, take_step};
+use tag_sets::NoMemory;
+
+/// What the observer reads of the run of a script: a line for each step of an actor that it sees, and
+/// one for each release past it.
+///
+/// It takes time linear in the number of steps and in the labels, the names and the capabilities that
+/// they meet. A script that `read_script` of `play_script` gave has at most 65,536 cells.
+///
+/// # Errors
+///
+/// `NoMemory` where memory is refused, and no other.
+pub fn play_text(alloc: Global, script: &Script, observer: &Label) -> Result<String, NoMemory>
+    requires { length script.now.cells.items ≤ 65536 }
+    ensures { IfOk result (λ text. string_bytes text ≡ play_lines (play_of script.now) observer.now) }
+{
+    let mut cells = cells_of(alloc, script.cells.as_slice())?;
+    let mut text = String::new(alloc);
+    for step in &script.steps {
+        take_step(&mut text, &mut cells, script, observer, *step)?;
+    }
+    Ok(text)
+}
+
+/// Of two scripts that declare the same, but for the numbers of the cells that an observer does not see,
+/// the observer reads the same, as far as it sees the same steps and the same releases past it.
+pub fn scripts_are_isolated()
+    ensures { IsolatedScripts }
+{}
+
+/// A step has an entry in the trace exactly where the observer sees its actor, or where it is a release
+/// past the observer.
+pub fn notes_are_exact()
+    ensures { NotesAreExact }
+{}
+
+/// Each release past any observer is a copy that the actor's capabilities allowed, and the capabilities
+/// that its line names are those that it used.
+pub fn releases_are_allowed()
+    ensures { ReleasesAreAllowed }
+{}
+
+#[cfg(test)]
+mod tests {
+    use super::*;
+    use capabilities::Caps;
+    use flow_labels::TagNames;
+    use play_script::{Actor, Cell, Step};
+    use std::test::Fail;
+    use tag_sets::{TagId, TagSet};
+
+    fn label_of(alloc: Global, secrets: &[TagId]) -> Result<Label, NoMemory> {
+        Ok(Label {
+            s: TagSet::from_slice(alloc, secrets)?,
+            i: TagSet::empty(alloc),
+        })
+    }
+
+    fn names_of(alloc: Global, names: &[&str]) -> Result<TagNames, Fail> {
+        let mut all = TagNames::new(alloc);
+        for name in names {
+            all.add(*name)?;
+        }
+        Ok(all)
+    }
+
+    /// An actor p of `{a}/{}` copies the cell c of `{a}/{}` into the cell d of `{}/{}`, and then the
+    /// public actor q reads d.
+    fn copy_down(alloc: Global, minus: &[TagId]) -> Result<Script, Fail> {
+        let mut actors = Vec::new(alloc);
+        let caps = Caps::of(TagSet::empty(alloc), TagSet::from_slice(alloc, minus)?);
+        let label = label_of(alloc, &[TagId(0)])?;
+        actors.push(Actor { label, caps })?;
+        let label = Label::public(alloc);
+        let caps = Caps::none(alloc);
+        actors.push(Actor { label, caps })?;
+        let mut cells = Vec::new(alloc);
+        let label = label_of(alloc, &[TagId(0)])?;
+        cells.push(Cell { label, value: 7 })?;
+        let label = Label::public(alloc);
+        cells.push(Cell { label, value: 0 })?;
+        let mut steps = Vec::new(alloc);
+        steps.push(Step::Copy {
+            actor: 0,
+            from: 0,
+            to: 1,
+        })?;
+        steps.push(Step::Read { actor: 1, cell: 1 })?;
+        Ok(Script {
+            tags: names_of(alloc, &["a"])?,
+            actor_names: names_of(alloc, &["p", "q"])?,
+            actors,
+            cell_names: names_of(alloc, &["c", "d"])?,
+            cells,
+            steps,
+        })
+    }
+
+    #[test]
+    fn copy_down_prints_its_release(rt: HostRuntime) -> Result<(), Fail> {
+        let alloc = rt.alloc();
+        let script = copy_down(alloc, &[TagId(0)])?;
+        assert!(rt; script.cells.len() <= 65_536);
+        let public = play_text(alloc, &script, &Label::public(alloc))?;
+        assert_eq!(rt;
+            public.as_str(),
+            "release p copy c d = 7 by +{}-{a}\nq read d = 7\n"
+        );
+        let secret = play_text(alloc, &script, &label_of(alloc, &[TagId(0)])?)?;
+        assert_eq!(rt; secret.as_str(), "p copy c d = 7\nq read d = 7\n");
+        Ok(())
+    }
+
+    #[test]
+    fn copy_down_needs_its_minus(rt: HostRuntime) -> Result<(), Fail> {
+        let alloc = rt.alloc();
+        let script = copy_down(alloc, &[])?;
+        assert!(rt; script.cells.len() <= 65_536);
+        let secret = play_text(alloc, &script, &label_of(alloc, &[TagId(0)])?)?;
+        assert_eq!(rt;
+            secret.as_str(),
+            "p copy c d refused DropS a\nq read d = 0\n"
+        );
+        Ok(())
+    }
+}
