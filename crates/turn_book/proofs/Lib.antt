@@ -1,0 +1,5 @@
+pub mod CutLemmas
+pub mod DecimalLemmas
+pub mod LineLemmas
+pub mod StretchLemmas
+pub mod ValueLemmas
