@@ -47,6 +47,7 @@ one_zero (b ∷ bs) e h =
     only : (t n : Bool) → t ≡ true → (not t || n) ≡ true → n ≡ true
     only true n e h = h
     only false n e h = absurd cc
+
     nil_one : (bs : Text) → is_nil bs ≡ true → suc (length bs) ≡ 1
     nil_one [] e = refl
     nil_one (c ∷ cs) e = absurd cc
@@ -122,6 +123,7 @@ line_is text thread count s one two low some =
   where
     low_test : (t : ℕ) → t ≤ 4095 → leb t 4095 ≡ true
     low_test t h = grind (arith, nat_tests)
+
     some_test : (n : ℕ) → 0 < n → ltb 0 n ≡ true
     some_test n h = grind (arith, nat_tests)
 
@@ -149,18 +151,20 @@ stretch_back (Some t) None s e = absurd cc
 stretch_back (Some t) (Some n) s e =
     elim (leb t 4095 && ltb 0 n) as (λ v. (leb t 4095 && ltb 0 n) ≡ v → cond v (Some (record { thread = t; count = n })) None ≡ Some s → (Some t ≡ Some s.thread) × (Some n ≡ Some s.count) × (s.thread ≤ 4095) × (0 < s.count)) [
       | true ↦ λ was is.
-        let both = and_both (leb t 4095) (ltb 0 n) was in
-        let low : t ≤ 4095 = low_of t both.0 in
-        let some : 0 < n = some_of n both.1 in
-        let same : ◌≡◌ {A = Stretch} (record { thread = t; count = n }) s = inside is in
-        subst (λ (u : Stretch). (Some t ≡ Some u.thread) × (Some n ≡ Some u.count) × (u.thread ≤ 4095) × (0 < u.count)) same (refl, refl, low, some)
+          let both = and_both (leb t 4095) (ltb 0 n) was in
+          let low : t ≤ 4095 = low_of t both.0 in
+          let some : 0 < n = some_of n both.1 in
+          let same : ◌≡◌ {A = Stretch} (record { thread = t; count = n }) s = inside is in
+          subst (λ (u : Stretch). (Some t ≡ Some u.thread) × (Some n ≡ Some u.count) × (u.thread ≤ 4095) × (0 < u.count)) same (refl, refl, low, some)
       | false ↦ λ was is. absurd cc
     ] refl e
   where
     inside : {x y : Stretch} → Some x ≡ Some y → x ≡ y
     inside e = cc
+
     low_of : (t : ℕ) → leb t 4095 ≡ true → t ≤ 4095
     low_of t e = grind (arith, nat_tests)
+
     some_of : (n : ℕ) → ltb 0 n ≡ true → 0 < n
     some_of n e = grind (arith, nat_tests)
 
@@ -197,5 +201,7 @@ read_line_text text line rest s parts is fits low =
     ∙ (λ i. decimal_text h.thread s.thread h.thread_is low i ++ 32 ∷ (decimal_text h.count s.count h.count_is fits i ++ 10 ∷ rest))
 
 -- and a line that is written is read
-pub written_begins : (s : Stretch) (rest : Text) → s.thread ≤ 4095 → 0 < s.count → s.count < 2 ^ 64 → s.thread < 2 ^ 64 → BeginsWithLine (line_text s rest) s
-written_begins s rest low some fits small = record { thread = decimal s.thread; count = decimal s.count; rest = rest; thread_is = decimal_is s.thread small; count_is = decimal_is s.count fits; low = low; some = some; text_is = refl }
+pub written_read : (s : Stretch) (rest : Text) → s.thread ≤ 4095 → 0 < s.count → s.count < 2 ^ 64 → s.thread < 2 ^ 64 → (line : Text) × (cut 10 (line_text s rest) ≡ Some (line, rest)) × (stretch_of line ≡ Some s)
+written_read s rest low some fits small =
+    let read = begins_read (line_text s rest) s (record { thread = decimal s.thread; count = decimal s.count; rest = rest; thread_is = decimal_is s.thread small; count_is = decimal_is s.count fits; low = low; some = some; text_is = refl }) in
+    (decimal s.thread ++ 32 ∷ decimal s.count, read.0, read.1)

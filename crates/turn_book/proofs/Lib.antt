@@ -1,3 +1,4 @@
+pub mod BookLemmas
 pub mod CutLemmas
 pub mod DecimalLemmas
 pub mod LineLemmas

@@ -2,7 +2,7 @@
 use Rattle.std.proofs.Common.{◌≡◌, ℕ, ◌+◌, ◌-◌, ◌*◌, ◌^◌, ◌<◌, ◌≤◌, Bool, true, false, ◌&&◌, cond, eqb, ltb, leb, min, lit<, List, [], ◌∷◌, ◌++◌, length, take, drop, Option, Some, None, option_map, Result, Ok, Err, replicate, refl, sym, ap, subst, ◌∙◌, arith, length-append, zero, suc}
 use Rattle.std.proofs.lemmas.Bool.Decides.{nat_tests}
 use Rattle.std.proofs.lemmas.Bool.{lt-ltb}
-use Rattle.std.proofs.lemmas.List.{take_all}
+use Rattle.std.proofs.lemmas.List.{take_all, length-replicate}
 use Rattle.turn_book.specs.Book.{Text, Stretch}
 use Rattle.turn_book.specs.Cuts.{parts_of, stretch_seen}
 use Rattle.turn_book.specs.Reading.{◌>>=◌, cut, number_of, numbers_in, stretch_or, stretch_of, last_is, with_stretch, at_end, turns_from, saturated, Fails}
@@ -20,6 +20,7 @@ low_same t most big = elim (leb t 4095) as (λ v. leb t 4095 ≡ v → leb (min 
   where
     passes : (n : ℕ) → n ≤ 4095 → leb n 4095 ≡ true
     passes n h = grind (arith, nat_tests)
+
     fails : (n : ℕ) → 4095 < n → leb n 4095 ≡ false
     fails n h = grind (arith, nat_tests)
 
@@ -31,6 +32,7 @@ some_same n most big = elim (ltb 0 n) as (λ v. ltb 0 n ≡ v → ltb 0 (min n m
   where
     passes : (n : ℕ) → 0 < n → ltb 0 n ≡ true
     passes n h = grind (arith, nat_tests)
+
     fails : (n : ℕ) → n ≤ 0 → ltb 0 n ≡ false
     fails n h = grind (arith, nat_tests)
 
@@ -48,10 +50,10 @@ fit_stretch most (Some t) (Some n) big =
     ∙ elim (leb t 4095) as (λ v. leb t 4095 ≡ v → cond (v && ltb 0 n) (Some (record { thread = min t most; count = min n most })) None ≡ fitted_stretch most (cond (v && ltb 0 n) (Some (record { thread = t; count = n })) None)) [
       | false ↦ λ e. refl
       | true ↦ λ e. let small : t ≤ 4095 = grind (arith, nat_tests) in let same : min t most ≡ t = omega arith in
-        elim (ltb 0 n) as (λ v. cond v (Some (record { thread = min t most; count = min n most })) None ≡ fitted_stretch most (cond v (Some (record { thread = t; count = n })) None)) [
-          | false ↦ refl
-          | true ↦ ap (λ k. Some (record { thread = k; count = min n most })) same
-        ]
+          elim (ltb 0 n) as (λ v. cond v (Some (record { thread = min t most; count = min n most })) None ≡ fitted_stretch most (cond v (Some (record { thread = t; count = n })) None)) [
+            | false ↦ refl
+            | true ↦ ap (λ k. Some (record { thread = k; count = min n most })) same
+          ]
     ] refl
 
 pub stretch_fits : (line front rest : Text) (a b : Option ℕ) (r : Option Line) → Some (front, rest) ≡ cut 32 line → a ≡ option_map (λ n. min n (2 ^ 64 - 1)) (number_of front) → b ≡ option_map (λ n. min n (2 ^ 64 - 1)) (number_of rest) → option_map stretch_seen r ≡ stretch_or a b → option_map stretch_seen r ≡ option_map saturated (stretch_of line)
@@ -93,8 +95,10 @@ line_taken ts new line k thread count h other few fits made =
   where
     below : (a b c : ℕ) → a ≤ b → b < c → a < c
     below a b c h g = omega arith
+
     small : (n : ℕ) → n ≤ 1000000 → n < 2 ^ 64 - 1
     small n h = let big : 1000000 < 2 ^ 64 - 1 = lit< tt in below n 1000000 (2 ^ 64 - 1) h big
+
     within : (n : ℕ) → n ≤ 1000000 → ltb 1000000 n ≡ false
     within n h = grind (arith, nat_tests)
 
@@ -107,6 +111,7 @@ too_many ts line k thread count h other few past =
   where
     under : (c n most : ℕ) → c ≡ min n most → c ≤ n
     under c n most e = omega arith
+
     beyond : (n : ℕ) → 1000000 < n → ltb 1000000 n ≡ true
     beyond n h = grind (arith, nat_tests)
 
@@ -114,10 +119,6 @@ pub same_thread : (ts : List ℕ) (line : Text) (k thread count : ℕ) → Seen 
 same_thread ts line k thread count h last = ap (with_stretch ts k) h.is ∙ rw h.thread_is (rw last refl)
 
 -- ---- the lines
-length-replicate : (n t : ℕ) → length (replicate n t) ≡ n
-length-replicate zero t = refl
-length-replicate (suc n) t = ap suc (length-replicate n t)
-
 pub few_more : (ts new : List ℕ) (k : ℕ) (o : Option Stretch) → with_stretch ts k o ≡ Ok new → length new ≤ 1000000
 few_more ts new k None e = absurd cc
 few_more ts new k (Some s) e =
@@ -126,15 +127,16 @@ few_more ts new k (Some s) e =
       | false ↦ λ is. elim (ltb 1000000 (length ts + s.count)) as (λ v. ltb 1000000 (length ts + s.count) ≡ v → cond v (Err (TooMany k)) (Ok (ts ++ replicate s.count s.thread)) ≡ Ok new → length new ≤ 1000000) [
         | true ↦ λ was made. absurd cc
         | false ↦ λ was made.
-          let same : ts ++ replicate s.count s.thread ≡ new = inside made in
-          let few : length ts + s.count ≤ 1000000 = within (length ts + s.count) was in
-          let sum : length (ts ++ replicate s.count s.thread) ≡ length ts + s.count = length-append ts (replicate s.count s.thread) ∙ ap (λ n. length ts + n) (length-replicate s.count s.thread) in
-          subst (λ (ns : List ℕ). length ns ≤ 1000000) same (omega arith)
+            let same : ts ++ replicate s.count s.thread ≡ new = inside made in
+            let few : length ts + s.count ≤ 1000000 = within (length ts + s.count) was in
+            let sum : length (ts ++ replicate s.count s.thread) ≡ length ts + s.count = length-append ts (replicate s.count s.thread) ∙ ap (λ n. length ts + n) (length-replicate s.count s.thread) in
+            subst (λ (ns : List ℕ). length ns ≤ 1000000) same (omega arith)
       ] refl is
     ] e
   where
     inside : {x y : List ℕ} → ◌≡◌ {A = Result (List ℕ) BookFault} (Ok x) (Ok y) → x ≡ y
     inside e = cc
+
     within : (n : ℕ) → ltb 1000000 n ≡ false → n ≤ 1000000
     within n e = grind (arith, nat_tests)
 

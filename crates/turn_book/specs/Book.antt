@@ -27,6 +27,25 @@ abbrev pub stretches : List ℕ → List Stretch
 stretches [] = []
 stretches (t ∷ ts) = with_turn t (stretches ts)
 
+-- the turns of stretches
+abbrev pub expanded : List Stretch → List ℕ
+expanded [] = []
+expanded (s ∷ ss) = replicate s.count s.thread ++ expanded ss
+
+-- the next stretch, if there is one, is of another thread
+abbrev pub Differs : ℕ → List Stretch → Type 0
+Differs t [] = Unit {0}
+Differs t (s ∷ ss) = nat_eq t s.thread ≡ false
+
+-- no stretch is empty, and none goes on in the next
+abbrev pub AreLongest : List Stretch → Type 0
+AreLongest [] = Unit {0}
+AreLongest (s ∷ ss) = (0 < s.count) × Differs s.thread ss × AreLongest ss
+
+-- the stretches of turns are the one list of longest stretches that are those turns
+abbrev pub StretchesAreLongest : Type 0
+StretchesAreLongest = (ts : List ℕ) (ss : List Stretch) → (stretches ts ≡ ss → (expanded ss ≡ ts) × AreLongest ss) × (expanded ss ≡ ts → AreLongest ss → stretches ts ≡ ss)
+
 abbrev pub head : Text
 head = codes "lam book 1" ++ 10 ∷ []
 
@@ -102,9 +121,10 @@ pub record BooksBefore (text : Text) (line : ℕ) (ts : List ℕ) (rest : Text) 
   pub text_is : text ≡ book ts ++ rest
   pub line_is : line ≡ length (stretches ts) + 2
 
--- why a text is no book: the least broken line, and what is broken in it
+-- Why a text is no book: the least broken line, and what is broken in it. Want of memory says nothing of
+-- the text.
 abbrev pub IsBroken : Text → BookFault → Type 0
-IsBroken text NoMemory = ⊥
+IsBroken text NoMemory = Unit {0}
 IsBroken text BadHead = (rest : Text) → ¬ (text ≡ head ++ rest)
 IsBroken text (BadLine line) = (ts : List ℕ) × (rest : Text) × BooksBefore text line ts rest × IsNoLine rest
 IsBroken text (SameThread line) = (ts : List ℕ) × (rest : Text) × BooksBefore text line ts rest × IsOfLastThread ts rest

@@ -11,9 +11,11 @@
 
 mod lines;
 mod numbers;
+#[cfg(test)]
+mod tests;
 
 ghost use Rattle.std.specs.Prelude.{◌≡◌, ℕ, List, Ok, IfOk, IfErr};
-ghost use Rattle.turn_book.specs.Book.{AreTurns, IsBroken, book};
+ghost use Rattle.turn_book.specs.Book.{AreTurns, IsBroken, StretchesAreLongest, book};
 ghost use Rattle.turn_book.specs.Reading.{Gives, turns_of};
 ghost use Rattle.turn_book.specs.declared.BookFault.TheVariants.{NoMemory as no_memory};
 
@@ -104,7 +106,18 @@ const HEAD: &[u8; 11] = b"lam book 1\n";
 /// The turns whose book a text is. Ok comes exactly for the books of at most 1,000,000 turns of the
 /// threads 0 to 4095, unless memory runs out; else the fault names the least broken line.
 pub fn read_book(alloc: Global, text: &[u8]) -> Result<Turns, BookFault>
+    // What is read is a book.
+    ensures ok { IfOk result (λ t. AreTurns t × (text.now ≡ book t)) }
+    // Each book is read, unless memory runs out.
+    ensures only { (t : List ℕ) → AreTurns t → text.now ≡ book t → Gives (λ u. u) result (Ok t) }
+    ensures broken { IfErr result (IsBroken text.now) }
     ensures value { Gives (λ t. t) result (turns_of text.now) }
+{
+    read_turns(alloc, text)
+}
+
+fn read_turns(alloc: Global, text: &[u8]) -> Result<Turns, BookFault>
+    ensures { Gives (λ t. t) result (turns_of text.now) }
 {
     match text.strip_prefix(HEAD) {
         None => Err(BookFault::BadHead),
@@ -131,3 +144,9 @@ pub fn write_book(alloc: Global, t: &[u32]) -> Result<Vec<u8>, NoMemory>
     }
     Ok(text)
 }
+
+/// A law: the lines of a book are the longest stretches of its turns, and no other list of longest
+/// stretches has the same turns.
+pub fn stretches_are_longest()
+    ensures { StretchesAreLongest }
+{}
