@@ -1,13 +1,13 @@
 -- Exactly the books are read, each as its turns, and what is no book is refused at its least broken line.
-use Rattle.std.proofs.Common.{◌≡◌, ℕ, ◌+◌, ◌-◌, ◌^◌, ◌<◌, ◌≤◌, Bool, true, false, cond, eqb, ltb, lit<, List, [], ◌∷◌, ◌++◌, length, take, drop, get_or, Option, Some, None, Result, Ok, Err, replicate, codes, refl, sym, ap, subst, ◌∙◌, ◌⊎◌, inl, inr, arith, append_assoc, append-nil, length-append, All, IfOk, IfErr, zero, suc}
+use Rattle.std.proofs.Common.{◌≡◌, ℕ, ◌+◌, ◌^◌, ◌<◌, ◌≤◌, true, false, cond, ltb, lit<, List, [], ◌∷◌, ◌++◌, length, take, drop, Some, None, Result, Ok, Err, replicate, refl, sym, ap, subst, ◌∙◌, arith, append_assoc, append-nil, length-append, All, IfOk, IfErr, zero, suc}
 use Rattle.std.specs.List.{AllByRecursion}
 use Rattle.std.specs.Str.{bytes_eq}
 use Rattle.std.proofs.lemmas.Slice.Eq.{bytes_eq-Decides}
 use Rattle.std.proofs.lemmas.List.{take-append-drop, length-replicate}
 use Rattle.std.proofs.lemmas.List.Elements.{All-from_recursion, recursion_from_All}
 use Rattle.std.proofs.lemmas.Bool.Decides.{nat_tests}
-use Rattle.turn_book.specs.Book.{Text, Stretch, stretches, head, line_text, lines_text, book, expanded, Differs, AreLongest, AreTurns, BeginsWithLine, LastIs, IsNoLine, IsOfLastThread, IsTooLong, BooksBefore, IsBroken}
-use Rattle.turn_book.specs.Reading.{◌>>=◌, cut, stretch_of, last_is, with_stretch, at_end, turns_from, turns_of, Gives}
+use Rattle.turn_book.specs.Book.{Text, Stretch, stretches, head, line_text, lines_text, book, expanded, Differs, AreLongest, AreTurns, BeginsWithLine, LastIs, IsNoLine, BooksBefore, IsBroken}
+use Rattle.turn_book.specs.Reading.{◌>>=◌, cut, stretch_of, last_is, with_stretch, turns_from, turns_of, Gives}
 use Rattle.turn_book.specs.declared.BookFault.{BookFault}
 use Rattle.turn_book.specs.declared.BookFault.TheVariants.{BadHead, BadLine, SameThread, TooMany, NoMemory}
 use Rattle.turn_book.proofs.CutLemmas.{IsCut, cut_is, line_read, no_line_read}

@@ -1,12 +1,11 @@
 -- Cutting a text at a mark.
-use Rattle.std.proofs.Common.{◌≡◌, ℕ, ◌+◌, ◌-◌, ◌<◌, ◌≤◌, Bool, true, false, cond, eqb, List, [], ◌∷◌, ◌++◌, length, take, drop, Option, Some, None, option_map, Result, Ok, Err, refl, sym, ap, subst, ◌∙◌, arith, append_assoc, append-nil, add-one, zero, suc}
+use Rattle.std.proofs.Common.{◌≡◌, ℕ, ◌+◌, ◌≤◌, true, false, cond, eqb, List, [], ◌∷◌, ◌++◌, length, take, drop, Option, Some, None, refl, sym, ap, subst, ◌∙◌, arith, append_assoc, append-nil, suc}
 use Rattle.std.specs.Prelude.{position}
 use Rattle.std.specs.List.{position_from}
 use Rattle.std.proofs.lemmas.Iterator.Adapters.{position_from-zero}
 use Rattle.std.proofs.lemmas.Bool.{eqb-true}
 use Rattle.turn_book.specs.Book.{Text}
 use Rattle.turn_book.specs.Reading.{cut, onto, ◌>>=◌, stretch_of, with_stretch, at_end, turns_from}
-use Rattle.turn_book.specs.declared.BookFault.{BookFault}
 
 -- ---- by the place of the mark
 none_at : (mark j : ℕ) (text : Text) → position_from (λ b. eqb b mark) j text ≡ None → cut mark text ≡ None

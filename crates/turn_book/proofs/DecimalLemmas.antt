@@ -1,12 +1,11 @@
 -- The lines of stretches, as they are written and read.
-use Rattle.std.proofs.Common.{◌≡◌, ℕ, ◌+◌, ◌-◌, ◌^◌, ◌<◌, ◌≤◌, Bool, true, false, not, ◌&&◌, ◌||◌, cond, eqb, ltb, leb, List, [], ◌∷◌, ◌++◌, length, get_or, drop, Option, Some, None, decimal, refl, sym, ap, subst, ◌∙◌, arith, append_assoc, zero, suc}
+use Rattle.std.proofs.Common.{◌≡◌, ℕ, ◌-◌, ◌^◌, ◌<◌, ◌≤◌, Bool, true, false, not, ◌&&◌, ◌||◌, cond, eqb, ltb, leb, [], ◌∷◌, ◌++◌, length, get_or, drop, Option, Some, None, decimal, refl, sym, ap, subst, ◌∙◌, arith, append_assoc, zero, suc}
 use Rattle.std.specs.List.{list_all}
 use Rattle.std.specs.Char.{digit_value}
 use Rattle.std.specs.Str.Parse.{IsNumeral, AllDigits, digits_value}
 use Rattle.std.proofs.lemmas.Str.Parse.{IsNumeralModel, numerals_by_value, tells_digits}
 use Rattle.std.proofs.lemmas.Fmt.{decimal-digits_value, decimal_is_IsNumeral, decimal_digit, first_decimal}
 use Rattle.std.proofs.lemmas.Bool.Decides.{nat_tests}
-use Rattle.std.proofs.lemmas.Bool.{eqb-true}
 use Rattle.turn_book.specs.Book.{Text, Stretch, is_digit, is_nil, is_plain, IsDecimal, line_text, BeginsWithLine}
 use Rattle.turn_book.specs.Reading.{cut, onto, number_of, numbers_in, stretch_or, stretch_of}
 use Rattle.turn_book.proofs.ValueLemmas.{and_both, digit_worth}

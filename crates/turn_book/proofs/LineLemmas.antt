@@ -1,10 +1,9 @@
 -- A line is read, and the lines after it.
-use Rattle.std.proofs.Common.{◌≡◌, ℕ, ◌+◌, ◌-◌, ◌*◌, ◌^◌, ◌<◌, ◌≤◌, Bool, true, false, ◌&&◌, cond, eqb, ltb, leb, min, lit<, List, [], ◌∷◌, ◌++◌, length, take, drop, Option, Some, None, option_map, Result, Ok, Err, replicate, refl, sym, ap, subst, ◌∙◌, arith, length-append, zero, suc}
+use Rattle.std.proofs.Common.{◌≡◌, ℕ, ◌+◌, ◌-◌, ◌^◌, ◌<◌, ◌≤◌, true, false, ◌&&◌, cond, eqb, ltb, leb, min, lit<, List, [], ◌∷◌, ◌++◌, length, take, Option, Some, None, option_map, Result, Ok, Err, replicate, refl, sym, ap, subst, ◌∙◌, arith, length-append}
 use Rattle.std.proofs.lemmas.Bool.Decides.{nat_tests}
-use Rattle.std.proofs.lemmas.Bool.{lt-ltb}
 use Rattle.std.proofs.lemmas.List.{take_all, length-replicate}
 use Rattle.turn_book.specs.Book.{Text, Stretch}
-use Rattle.turn_book.specs.Cuts.{parts_of, stretch_seen}
+use Rattle.turn_book.specs.Cuts.{stretch_seen}
 use Rattle.turn_book.specs.Reading.{◌>>=◌, cut, number_of, numbers_in, stretch_or, stretch_of, last_is, with_stretch, at_end, turns_from, saturated, Fails}
 use Rattle.turn_book.specs.declared.BookFault.{BookFault}
 use Rattle.turn_book.specs.declared.BookFault.TheVariants.{BadHead, BadLine, SameThread, TooMany, NoMemory}

@@ -1,5 +1,4 @@
 -- What the code's values mean to the reading functions.
-use Rattle.std.specs.Prelude.{ℕ}
 use Rattle.std.specs.Borrow.{Bor}
 use Rattle.turn_book.specs.Book.{Text, Stretch}
 use Rattle.turn_book.specs.declared.lines.Stretch.{Stretch as Line}

@@ -1,4 +1,4 @@
-use Rattle.std.proofs.Common.{◌≡◌, ◌∙◌, ◌<◌, ◌++◌, sym, ap, arith, length, get_or, drop}
+use Rattle.std.proofs.Common.{◌≡◌, ◌∙◌, ◌<◌, ◌++◌, sym, ap, length, get_or}
 use Rattle.std.specs.Option.{option_copied}
 use Rattle.turn_book.specs.Book.{lines_text, stretches, book}
 use Rattle.turn_book.proofs.StretchLemmas.{first_is, stretch_written}

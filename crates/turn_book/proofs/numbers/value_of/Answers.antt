@@ -1,4 +1,4 @@
-use Rattle.std.proofs.Common.{◌≡◌, ◌+◌, ◌-◌, ◌*◌, ◌^◌, min, get_or, ap, sym, ◌∙◌, arith}
+use Rattle.std.proofs.Common.{◌+◌, ◌-◌, ◌^◌, min, ◌∙◌, arith}
 use Rattle.turn_book.proofs.ValueLemmas.{one_more_digit}
 use Rattle.turn_book.proofs.numbers.value_of.Goals as goal
 
