@@ -1,0 +1,28 @@
+use Rattle.std.proofs.Common.{◌≡◌, ◌<◌, ◌∙◌, ap, sym, cond, Some, refl, arith}
+use Rattle.std.specs.Map.{lookup}
+use Rattle.lam_value.specs.Homes.{home_of, home_in, label_eq}
+use Rattle.lam_value.proofs.Keys.{label_total, label_exact, label_ties}
+use Rattle.lam_value.proofs.Maps.{not_none}
+use Rattle.lam_value.proofs.Rows.{copy_more, taken_all}
+use Rattle.lam_value.proofs.counters.copied_rows.Goals as goal
+
+pub loop-at-init : goal.loop-at-init
+loop-at-init c = record { unique = c.new-copy.ensures.unique; same = λ h. ap (λ es. home_in es h) c.new-copy.ensures.empty }
+
+pub loop-at-preserved : goal.loop-at-preserved
+loop-at-preserved c = record {
+  unique = c.in_ok-insert.ensures.unique;
+  same = λ h.
+      copy_more label_eq label_total label_exact label_ties (λ row. lookup (label_eq h.own) row.entries) c.args.rows.now.entries c.loop-at.copy.entries c.insert.new.self.entries c.loop-at.at c.in-Some.maker.now c.in-Some.row.now c.in_ok-copied_row.field-0
+      (sym c.in-Some.ensures.entry) c.in-Some.ensures.value (c.in_ok-copied_row.ensures h.own) (λ q. c.loop-at.invariant.same (home_of q h.own))
+      (λ q. c.in_ok-insert.ensures.updates.0 q ∙ ap (λ k. cond (label_eq k q) (Some c.in_ok-copied_row.field-0) (lookup (label_eq q) c.loop-at.copy.entries)) c.in_ok-copy.ensures) h.maker;
+}
+
+pub returns : goal.returns
+returns c = record {
+  same = λ h. c.loop-at.invariant.same h ∙ ap (λ es. home_in es h) (taken_all c.args.rows.now.entries c.loop-at.at c.len-at-end.result c.loop-at-test.false c.len-at-end.ensures.len);
+  unique = c.loop-at.invariant.unique;
+}
+
+pub unreachable-requires : goal.unreachable-requires
+unreachable-requires c = not_none _ (c.get_index.ensures.found.1 (omega (arith, c.len-at-end.ensures.len))) c.in_default.is

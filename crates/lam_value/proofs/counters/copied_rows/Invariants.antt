@@ -1,0 +1,10 @@
+use Rattle.std.proofs.Common.{◌≡◌, take}
+use Rattle.std.specs.HashMap.{IsUnique}
+use Rattle.lam_value.specs.Homes.{Home, home_in, label_eq}
+use Rattle.lam_value.proofs.counters.copied_rows.Given as goal
+
+abbrev pub invariant-loop-at : goal.invariant-loop-at
+invariant-loop-at l = record {
+  unique : IsUnique label_eq l.copy;
+  same : (h : Home) → home_in l.copy.entries h ≡ home_in (take l.at l.rows.entries) h;
+}

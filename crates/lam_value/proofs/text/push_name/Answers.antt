@@ -1,0 +1,31 @@
+use Rattle.std.proofs.Common.{◌≡◌, ℕ, List, [], ◌∷◌, ◌++◌, append_assoc, ap, ◌∙◌, lit<}
+use Rattle.lam_value.proofs.text.push_name.Goals as goal
+
+parts : (old word maker own n : List ℕ) → (((((((old ++ word) ++ 60 ∷ []) ++ maker) ++ 124 ∷ []) ++ own) ++ 124 ∷ []) ++ n) ++ 62 ∷ [] ≡ old ++ (word ++ 60 ∷ (maker ++ 124 ∷ (own ++ 124 ∷ (n ++ 62 ∷ []))))
+parts old word maker own n = simp append_assoc
+
+-- eight texts, each with one more part
+pushed : (old word maker own n a b c d e f g h : List ℕ) → a ≡ old ++ word → b ≡ a ++ 60 ∷ [] → c ≡ b ++ maker → d ≡ c ++ 124 ∷ [] → e ≡ d ++ own → f ≡ e ++ 124 ∷ [] → g ≡ f ++ n → h ≡ g ++ 62 ∷ []
+    → h ≡ old ++ (word ++ 60 ∷ (maker ++ 124 ∷ (own ++ 124 ∷ (n ++ 62 ∷ []))))
+pushed old word maker own n a b c d e f g h is_a is_b is_c is_d is_e is_f is_g is_h =
+    let to_c : c ≡ ((old ++ word) ++ 60 ∷ []) ++ maker = is_c ∙ ap (λ t. t ++ maker) (is_b ∙ ap (λ t. t ++ 60 ∷ []) is_a) in
+    let to_e : e ≡ ((((old ++ word) ++ 60 ∷ []) ++ maker) ++ 124 ∷ []) ++ own = is_e ∙ ap (λ t. t ++ own) (is_d ∙ ap (λ t. t ++ 124 ∷ []) to_c) in
+    is_h ∙ ap (λ t. t ++ 62 ∷ []) (is_g ∙ ap (λ t. t ++ n) (is_f ∙ ap (λ t. t ++ 124 ∷ []) to_e)) ∙ parts old word maker own n
+
+-- the part that was pushed is the one that was made
+made : (new old part text whole : List ℕ) → new ≡ old ++ part → part ≡ text → text ≡ whole → new ≡ old ++ whole
+made new old part text whole is is_text is_whole = is ∙ ap (λ t. old ++ t) (is_text ∙ is_whole)
+
+mark : (new old part text : List ℕ) → new ≡ old ++ part → part ≡ text → new ≡ old ++ text
+mark new old part text is is_text = is ∙ ap (λ t. old ++ t) is_text
+
+pub returns : goal.returns
+returns c =
+    pushed _ _ _ _ _ _ _ _ _ _ _ _ _ c.in_ok-push_str.ensures.bytes
+    (mark _ _ _ _ c.in_ok-push.ensures.bytes (c.in_ok-push.ensures.ascii (lit< tt)))
+    (made _ _ _ _ _ c.in_ok-push_str-2.ensures.bytes c.as_str.ensures.value c.in_ok-label_text.ensures)
+    (mark _ _ _ _ c.in_ok-push-2.ensures.bytes (c.in_ok-push-2.ensures.ascii (lit< tt)))
+    (made _ _ _ _ _ c.in_ok-push_str-3.ensures.bytes c.as_str-2.ensures.value c.in_ok-label_text-2.ensures)
+    (mark _ _ _ _ c.in_ok-push-3.ensures.bytes (c.in_ok-push-3.ensures.ascii (lit< tt)))
+    c.in_ok-push_number.ensures
+    (mark _ _ _ _ c.in_ok-push-4.ensures.bytes (c.in_ok-push-4.ensures.ascii (lit< tt)))

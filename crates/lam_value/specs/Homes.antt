@@ -1,0 +1,63 @@
+-- A home is a pair of a maker's label and an own label, and things are numbered home by home.
+use Rattle.std.specs.Prelude.{ℕ, ◌+◌, ◌++◌, ◌&&◌, Bool, nat_eq, List, [], ◌∷◌, map, Option, refl, unwrap_or, option_and_then}
+use Rattle.std.specs.Coded.{Coded, code_by, coded×, coded_ℕ}
+use Rattle.std.specs.Ordering.{ordering_then}
+use Rattle.std.specs.declared.cmp.Ordering.{Ordering}
+use Rattle.std.specs.Cmp.Lexicographic.{pointwise}
+use Rattle.std.specs.FinMap.{FinMap, get, insert, code}
+use Rattle.std.specs.HashMap.{HashMap}
+use Rattle.std.specs.Map.{lookup}
+use Rattle.tag_sets.specs.Tags.{tags_of}
+use Rattle.flow_labels.specs.declared.Label.{Label}
+use Rattle.lam_value.specs.declared.names.Name.{Name}
+use Rattle.lam_value.specs.Names.{label_cmp, coded_label}
+
+pub record Home : Type 0 where
+  pub maker : Label
+  pub own : Label
+
+abbrev pub home_of : Label → Label → Home
+home_of p l = record { maker = p; own = l }
+
+-- the maker's label, then the own label
+abbrev pub home_cmp : Home → Home → Ordering
+home_cmp a b = ordering_then (label_cmp a.maker b.maker) (label_cmp a.own b.own)
+
+abbrev pub coded_home : Coded Home
+coded_home = code_by (Label × Label) (coded× coded_label coded_label) (λ h. (h.maker, h.own)) (λ p. record { maker = p.0; own = p.1 }) (λ _. refl)
+
+-- the name of a home's thing with a number
+abbrev pub name_of : Home → ℕ → Name
+name_of h n = record { maker = h.maker; own = h.own; n = n }
+
+-- how many things each home has made
+abbrev pub Counts : Type 0
+Counts = FinMap home_cmp ℕ
+
+abbrev pub coded_counts : Coded Counts
+coded_counts = code coded_home coded_ℕ
+
+-- the number of the next thing of a home: 0 where none was made
+abbrev pub count_in : Counts → Home → ℕ
+count_in m h = unwrap_or (get m h) 0
+
+-- one more thing of a home, and as many of each other home
+abbrev pub counted : Counts → Home → Counts
+counted m h = insert m h (count_in m h + 1)
+
+-- ---- how homes are found in code: a map from makers to maps from own labels to numbers
+
+abbrev pub label_eq : Label → Label → Bool
+label_eq a b = pointwise nat_eq (tags_of a.s) (tags_of b.s) && pointwise nat_eq (tags_of a.i) (tags_of b.i)
+
+abbrev pub home_eq : Home → Home → Bool
+home_eq a b = label_eq a.maker b.maker && label_eq a.own b.own
+
+-- all homes of all makers, each with its number
+abbrev pub homes_in : {S : Type 0} → List (Label × HashMap Label ℕ S) → List (Home × ℕ)
+homes_in [] = []
+homes_in (row ∷ rows) = map (λ (e : Label × ℕ). (home_of row.0 e.0, e.1)) row.1.entries ++ homes_in rows
+
+-- the number of a home, if there is one: that of the own label in the maker's map
+abbrev pub home_in : {S : Type 0} → List (Label × HashMap Label ℕ S) → Home → Option ℕ
+home_in rows h = option_and_then (λ row. lookup (label_eq h.own) row.entries) (lookup (label_eq h.maker) rows)

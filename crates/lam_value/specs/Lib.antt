@@ -1,0 +1,5 @@
+pub mod Homes
+pub mod Maps
+pub mod Names
+pub mod Shapes
+pub mod Texts

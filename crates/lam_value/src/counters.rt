@@ -1,0 +1,191 @@
+//! How many things each home has made.
+
+ghost use Rattle.std.specs.Prelude.{◌≡◌, ◌+◌, ◌^◌, ◌<◌, cond, Some, unwrap_or, IfOk, OnOk, OnErr};
+ghost use Rattle.std.specs.FinMap as map;
+ghost use Rattle.std.specs.HashMap.{IsUnique, IsUnchanged, Updates, get as at_key};
+ghost use Rattle.flow_labels.specs.declared.Label.{Label};
+ghost use Rattle.lam_value.specs.Homes.{Home, home_of, count_in, counted, label_eq, home_eq, home_in};
+
+use flow_labels::Label;
+use indexmap::IndexMap;
+use std::alloc::Global;
+use std::marker::Model;
+use tag_sets::NoMemory;
+
+type Row = IndexMap<Label, u64>;
+
+type Rows = IndexMap<Label, Row>;
+
+/// A counter for each home, a pair of a maker's label and an own label.
+///
+/// A counter is the number of things that its home has made, and so the number that the next one gets.
+/// There is no counter over all homes: numbers of one home tell nothing of any other.
+#[derive(Drop)]
+pub struct Counters {
+    rows: Rows,
+}
+
+impl Model for Counters {
+    ghost use Rattle.std.specs.FinMap.{from_entries};
+    ghost use Rattle.std.specs.HashMap.{IsUnique};
+    ghost use Rattle.lam_value.specs.Homes.{Counts, coded_counts, homes_in, label_eq};
+
+    ghost Value = { Counts };
+
+    ghost coded = { coded_counts };
+
+    ghost view = { λ c. from_entries (homes_in c.rows.entries) };
+
+    ghost invariant = { λ c. IsUnique label_eq c.rows };
+}
+
+impl Counters {
+    /// No home has made anything.
+    pub fn new(alloc: Global) -> Counters
+        ensures { result ≡ map.empty }
+    {
+        Counters {
+            rows: IndexMap::new(alloc),
+        }
+    }
+
+    /// The number of the next thing of a home: how many it has made.
+    pub fn next(&self, maker: &Label, own: &Label) -> u64
+        ensures { result ≡ count_in self.now (home_of maker.now own.now) }
+    {
+        count_of(&self.rows, maker, own)
+    }
+
+    /// Takes the next number of a home.
+    ///
+    /// # Errors
+    ///
+    /// `NoMemory` where memory is refused; no number is taken then.
+    pub fn draw(&mut self, maker: &Label, own: &Label) -> Result<u64, NoMemory>
+        requires { count_in self.old (home_of maker.now own.now) + 1 < 2 ^ 64 }
+        ensures number { IfOk result (λ n. n ≡ count_in self.old (home_of maker.now own.now)) }
+        ensures ok { OnOk result (self.new ≡ counted self.old (home_of maker.now own.now)) }
+        ensures err { OnErr result (self.new ≡ self.old) }
+    {
+        let number = count_of(&self.rows, maker, own);
+        set_count(&mut self.rows, maker, own, number + 1)?;
+        Ok(number)
+    }
+
+    /// Equal counters.
+    ///
+    /// # Errors
+    ///
+    /// `NoMemory` where memory is refused.
+    pub fn copy(&self) -> Result<Counters, NoMemory>
+        ensures { IfOk result (λ c. c ≡ self.now) }
+    {
+        let rows = copied_rows(&self.rows)?;
+        Ok(Counters { rows })
+    }
+}
+
+fn count_of(rows: &Rows, maker: &Label, own: &Label) -> u64
+    ensures { result ≡ unwrap_or (home_in rows.now.entries (home_of maker.now own.now)) 0 }
+{
+    match rows.get(maker) {
+        None => 0,
+        Some(row) => row_count(row, own),
+    }
+}
+
+fn row_count(row: &Row, own: &Label) -> u64
+    ensures { result ≡ unwrap_or (at_key label_eq row.now own.now) 0 }
+{
+    row.get(own).copied().unwrap_or(0)
+}
+
+/// Sets the counter of a home.
+fn set_count(rows: &mut Rows, maker: &Label, own: &Label, count: u64) -> Result<(), NoMemory>
+    requires { IsUnique label_eq rows.old }
+    ensures ok { OnOk result ((h : Home) → home_in rows.new.entries h ≡ cond (home_eq (home_of maker.now own.now) h) (Some count) (home_in rows.old.entries h)) }
+    ensures err { OnErr result ((h : Home) → home_in rows.new.entries h ≡ home_in rows.old.entries h) }
+    ensures unique { IsUnique label_eq rows.new }
+{
+    match rows.get_mut(maker) {
+        Some(row) => {
+            set_row(row, own, count)?;
+            Ok(())
+        }
+        None => {
+            let mut row = IndexMap::new(own.allocator());
+            set_row(&mut row, own, count)?;
+            rows.insert(maker.copy()?, row)?;
+            Ok(())
+        }
+    }
+}
+
+fn set_row(row: &mut Row, own: &Label, count: u64) -> Result<(), NoMemory>
+    ensures ok { OnOk result ((q : Label) → at_key label_eq row.new q ≡ cond (label_eq own.now q) (Some count) (at_key label_eq row.old q)) }
+    ensures err { OnErr result ((q : Label) → at_key label_eq row.new q ≡ at_key label_eq row.old q) }
+{
+    match row.get_mut(own) {
+        Some(number) => {
+            *number = count;
+            Ok(())
+        }
+        None => {
+            row.insert(own.copy()?, count)?;
+            Ok(())
+        }
+    }
+}
+
+fn copied_rows(rows: &Rows) -> Result<Rows, NoMemory>
+    ensures same { IfOk result (λ new. (h : Home) → home_in new.entries h ≡ home_in rows.now.entries h) }
+    ensures unique { IfOk result (IsUnique label_eq) }
+{
+    let mut copy = IndexMap::new(*rows.allocator());
+    for at in 0..rows.len() {
+        let Some((maker, row)) = rows.get_index(at) else {
+            unreachable!()
+        };
+        copy.insert(maker.copy()?, copied_row(row)?)?;
+    }
+    Ok(copy)
+}
+
+fn copied_row(row: &Row) -> Result<Row, NoMemory>
+    ensures { IfOk result (λ new. (q : Label) → at_key label_eq new q ≡ at_key label_eq row.now q) }
+{
+    let mut copy = IndexMap::new(*row.allocator());
+    for at in 0..row.len() {
+        let Some((own, count)) = row.get_index(at) else {
+            unreachable!()
+        };
+        copy.insert(own.copy()?, *count)?;
+    }
+    Ok(copy)
+}
+
+#[cfg(test)]
+mod tests {
+    use super::*;
+    use std::test::Fail;
+    use tag_sets::{TagId, TagSet};
+
+    #[test]
+    fn each_home_counts_for_itself(rt: HostRuntime) -> Result<(), Fail> {
+        let alloc = rt.alloc();
+        let public = Label::public(alloc);
+        let secret = Label {
+            s: TagSet::from_slice(alloc, &[TagId(0)])?,
+            i: TagSet::empty(alloc),
+        };
+        let mut counters = Counters::new(alloc);
+        for want in 0..2 {
+            assert_eq!(rt; counters.draw(&secret, &public)?, want);
+        }
+        assert_eq!(rt; counters.draw(&secret, &secret)?, 0u64);
+        let copy = counters.copy()?;
+        assert_eq!(rt; copy.next(&secret, &public), 2u64);
+        assert_eq!(rt; copy.next(&public, &public), 0u64);
+        Ok(())
+    }
+}

@@ -1,0 +1,30 @@
+//! Names, values and their texts.
+//!
+//! Everything that a program makes has a *name*: the label of its maker, its own label and a number. A
+//! name tells all that a reference monitor asks about a thing, so no test on a reference reads the thing.
+//! A *value* is what a local, a field or an array's element holds; references among them are names.
+//!
+//! - `names` has names and their order, by which stores are maps from names.
+//! - `byte_text` and `values` have the values; `shapes` what a new thing looks like.
+//! - `text` prints values.
+//! - `counters` numbers the things that are made at each *home*, a pair of a maker's label and an own
+//!   label. Numbers are counted for each home and never over all, so that none tells of another label.
+//!
+//! Contracts see all of these as plain data: equal values are equal in every respect. The laws by which a
+//! store's hash map is such a map (`Maps`, `Keys` in `proofs/`) stand here once for all stores.
+
+#![tactic(auto)]
+
+mod byte_text;
+mod counters;
+mod names;
+mod shapes;
+mod text;
+mod values;
+
+pub use byte_text::ByteText;
+pub use counters::Counters;
+pub use names::Name;
+pub use shapes::{Kind, Shape};
+pub use text::{bytes_text, value_text, values_text};
+pub use values::{Value, Values, same_value};

@@ -1,0 +1,114 @@
+//! What a new object or array looks like.
+
+ghost use Rattle.std.specs.Prelude.{◌≡◌, IfOk};
+ghost use Rattle.lam_value.specs.Shapes.{zero_of, slots_of};
+
+use crate::values::{Value, Values};
+use std::alloc::Global;
+use tag_sets::NoMemory;
+
+/// What the elements of an array are.
+#[derive(Clone, Copy, Debug, PartialEq, Eq)]
+pub enum Kind {
+    /// Whole numbers; 0 at first.
+    Int,
+    /// Truth values; false at first.
+    Bool,
+    /// References, or anything else that may be null; null at first.
+    Null,
+}
+
+/// The shape of a new thing.
+#[derive(Debug, Drop)]
+pub enum Shape {
+    /// An object of a class, named by the class's number, with its fields.
+    Class { class: u32, fields: Values },
+    /// An array of so many elements, each the first value of its kind.
+    Array { kind: Kind, len: u64 },
+}
+
+impl Kind {
+    /// The first value of each element.
+    pub fn zero(self) -> Value
+        ensures { result ≡ zero_of self }
+    {
+        match self {
+            Kind::Int => Value::Int(0),
+            Kind::Bool => Value::Bool(false),
+            Kind::Null => Value::Nothing,
+        }
+    }
+}
+
+impl Shape {
+    /// An equal shape.
+    ///
+    /// # Errors
+    ///
+    /// `NoMemory` where memory is refused.
+    pub fn copy(&self) -> Result<Shape, NoMemory>
+        ensures { IfOk result (λ s. s ≡ self.now) }
+    {
+        match self {
+            Shape::Class { class, fields } => {
+                let fields = fields.copy()?;
+                Ok(Shape::Class {
+                    class: *class,
+                    fields,
+                })
+            }
+            Shape::Array { kind, len } => Ok(Shape::Array {
+                kind: *kind,
+                len: *len,
+            }),
+        }
+    }
+
+    /// The slots of a thing of this shape: an object's fields, or an array's elements.
+    ///
+    /// # Errors
+    ///
+    /// `NoMemory` where memory is refused.
+    pub fn into_slots(self, alloc: Global) -> Result<Values, NoMemory>
+        ensures { IfOk result (λ vs. vs ≡ slots_of self) }
+    {
+        match self {
+            Shape::Class { class: _, fields } => Ok(fields),
+            Shape::Array { kind, len } => zeros(alloc, kind, len),
+        }
+    }
+}
+
+/// So many first values of a kind.
+fn zeros(alloc: Global, kind: Kind, len: u64) -> Result<Values, NoMemory>
+    ensures { IfOk result (λ vs. vs ≡ slots_of (Shape.Array kind len)) }
+{
+    let mut slots = Values::new(alloc);
+    for _ in 0..len {
+        slots.push(kind.zero())?;
+    }
+    Ok(slots)
+}
+
+#[cfg(test)]
+mod tests {
+    use super::*;
+    use crate::values::same_value;
+    use std::test::Fail;
+
+    #[test]
+    fn an_array_begins_with_first_values(rt: HostRuntime) -> Result<(), Fail> {
+        let shape = Shape::Array {
+            kind: Kind::Int,
+            len: 2,
+        };
+        let mut slots = shape.copy()?.into_slots(rt.alloc())?;
+        assert_eq!(rt; slots.len(), 2u64);
+        let Some(old) = slots.set(1, Value::Bool(true)) else {
+            return Err(Fail::new("no slot"));
+        };
+        assert!(rt; same_value(&old, &Value::Int(0)));
+        assert!(rt; slots.set(2, old).is_none());
+        Ok(())
+    }
+}

@@ -1,0 +1,244 @@
+//! The texts of values.
+
+ghost use Rattle.std.specs.Prelude.{◌≡◌, ◌<◌, ◌++◌, ◌∷◌, [], codes, decimal, IfOk, OnOk, string_bytes};
+ghost use Rattle.std.specs.Fmt.{signed_decimal};
+ghost use Rattle.flow_labels.specs.LabelText.{label_text};
+ghost use Rattle.flow_labels.specs.TwoLists.{tag_text, sets_text};
+ghost use Rattle.flow_labels.specs.declared.two_lists.Form.TheVariants.{Caps as caps_form};
+ghost use Rattle.lam_value.specs.Texts.{hex_digit, escaped, all_escaped, bytes_text, name_text, value_text, values_text, after_commas};
+
+use crate::names::Name;
+use crate::values::Value;
+use flow_labels::{Form, TagNames, label_text, sets_text, tag_text};
+use itoa::Buffer;
+use std::alloc::Global;
+use tag_sets::{NoMemory, TagSet};
+
+/// The text of a value: a number in decimal; `true`, `false` or `null`; bytes in double quotes; a
+/// reference as `obj<MAKER|OWN|N>`, and an array's with its length; `t` and a thread's number; a tag, a
+/// label or capabilities by the names of their tags.
+///
+/// Of bytes, the printable ones of ASCII stand as they are, but `"` and `\`, before which stands `\`; all
+/// others are `\x` and two lower-case hexadecimal digits.
+///
+/// # Errors
+///
+/// `NoMemory` where memory is refused.
+pub fn value_text(v: &Value, names: &TagNames) -> Result<String, NoMemory>
+    ensures { IfOk result (λ t. string_bytes t ≡ value_text names.now v.now) }
+{
+    let mut text = String::new(names.allocator());
+    push_value(&mut text, v, names)?;
+    Ok(text)
+}
+
+/// The texts of values, with a comma between each two.
+///
+/// # Errors
+///
+/// `NoMemory` where memory is refused.
+pub fn values_text(values: &[Value], names: &TagNames) -> Result<String, NoMemory>
+    ensures { IfOk result (λ t. string_bytes t ≡ values_text names.now values.now) }
+{
+    let mut text = String::new(names.allocator());
+    if let Some((first, rest)) = values.split_first() {
+        push_value(&mut text, first, names)?;
+        push_rest(&mut text, rest, names)?;
+    }
+    Ok(text)
+}
+
+/// The text of bytes, in double quotes.
+///
+/// # Errors
+///
+/// `NoMemory` where memory is refused.
+pub fn bytes_text(alloc: Global, bytes: &[u8]) -> Result<String, NoMemory>
+    ensures { IfOk result (λ t. string_bytes t ≡ bytes_text bytes.now) }
+{
+    let mut text = String::new(alloc);
+    push_bytes(&mut text, bytes)?;
+    Ok(text)
+}
+
+fn push_value(text: &mut String, v: &Value, names: &TagNames) -> Result<(), NoMemory>
+    ensures { OnOk result (string_bytes text.new ≡ string_bytes text.old ++ value_text names.now v.now) }
+{
+    match v {
+        Value::Int(n) => push_int(text, *n)?,
+        Value::Bool(true) => text.push_str("true")?,
+        Value::Bool(false) => text.push_str("false")?,
+        Value::Bytes(bytes) => push_bytes(text, bytes.bytes())?,
+        Value::Nothing => text.push_str("null")?,
+        Value::Obj(name) => push_name(text, "obj", name, names)?,
+        Value::Arr { name, len } => push_array(text, name, *len, names)?,
+        Value::File(name) => push_name(text, "file", name, names)?,
+        Value::Dir(name) => push_name(text, "dir", name, names)?,
+        Value::Pipe(name) => push_name(text, "pipe", name, names)?,
+        Value::Thread(t) => push_thread(text, *t)?,
+        Value::Tag(tag) => text.push_str(tag_text(*tag, names)?.as_str())?,
+        Value::Lab(label) => text.push_str(label_text(label, names)?.as_str())?,
+        Value::CapV { plus, minus } => push_caps(text, plus, minus, names)?,
+    }
+    Ok(())
+}
+
+/// Each value with a comma before it.
+fn push_rest(text: &mut String, rest: &[Value], names: &TagNames) -> Result<(), NoMemory>
+    ensures { OnOk result (string_bytes text.new ≡ string_bytes text.old ++ after_commas names.now rest.now) }
+{
+    for value in rest {
+        text.push(',')?;
+        push_value(text, value, names)?;
+    }
+    Ok(())
+}
+
+fn push_int(text: &mut String, n: i64) -> Result<(), NoMemory>
+    ensures { OnOk result (string_bytes text.new ≡ string_bytes text.old ++ signed_decimal n) }
+{
+    let mut digits = Buffer::new();
+    text.push_str(digits.format(n))?;
+    Ok(())
+}
+
+fn push_number(text: &mut String, n: u64) -> Result<(), NoMemory>
+    ensures { OnOk result (string_bytes text.new ≡ string_bytes text.old ++ decimal n) }
+{
+    let mut digits = Buffer::new();
+    text.push_str(digits.format(n))?;
+    Ok(())
+}
+
+fn push_thread(text: &mut String, t: u32) -> Result<(), NoMemory>
+    ensures { OnOk result (string_bytes text.new ≡ string_bytes text.old ++ 116 ∷ decimal t) }
+{
+    text.push('t')?;
+    push_number(text, t as u64)
+}
+
+fn push_caps(
+    text: &mut String,
+    plus: &TagSet,
+    minus: &TagSet,
+    names: &TagNames,
+) -> Result<(), NoMemory>
+    ensures { OnOk result (string_bytes text.new ≡ string_bytes text.old ++ sets_text caps_form names.now plus.now minus.now) }
+{
+    text.push_str(sets_text(Form::Caps, plus, minus, names)?.as_str())?;
+    Ok(())
+}
+
+/// A word, and a name in angle brackets.
+fn push_name(text: &mut String, word: &str, name: &Name, names: &TagNames) -> Result<(), NoMemory>
+    ensures { OnOk result (string_bytes text.new ≡ string_bytes text.old ++ name_text word.now names.now name.now) }
+{
+    text.push_str(word)?;
+    text.push('<')?;
+    text.push_str(label_text(&name.maker, names)?.as_str())?;
+    text.push('|')?;
+    text.push_str(label_text(&name.own, names)?.as_str())?;
+    text.push('|')?;
+    push_number(text, name.n)?;
+    text.push('>')?;
+    Ok(())
+}
+
+fn push_array(text: &mut String, name: &Name, len: u64, names: &TagNames) -> Result<(), NoMemory>
+    ensures { OnOk result (string_bytes text.new ≡ string_bytes text.old ++ name_text (codes "arr") names.now name.now ++ 91 ∷ decimal len ++ 93 ∷ []) }
+{
+    push_name(text, "arr", name, names)?;
+    text.push('[')?;
+    push_number(text, len)?;
+    text.push(']')?;
+    Ok(())
+}
+
+fn push_bytes(text: &mut String, bytes: &[u8]) -> Result<(), NoMemory>
+    ensures { OnOk result (string_bytes text.new ≡ string_bytes text.old ++ bytes_text bytes.now) }
+{
+    text.push('"')?;
+    for byte in bytes {
+        push_escaped(text, *byte)?;
+    }
+    text.push('"')?;
+    Ok(())
+}
+
+fn push_escaped(text: &mut String, byte: u8) -> Result<(), NoMemory>
+    ensures { OnOk result (string_bytes text.new ≡ string_bytes text.old ++ escaped byte) }
+{
+    match byte {
+        b'"' => text.push_str("\\\"")?,
+        b'\\' => text.push_str("\\\\")?,
+        32..=126 => text.push(byte as char)?,
+        _ => {
+            text.push_str("\\x")?;
+            text.push(hex_digit(byte / 16))?;
+            text.push(hex_digit(byte % 16))?;
+        }
+    }
+    Ok(())
+}
+
+fn hex_digit(digit: u8) -> char
+    requires { digit < 16 }
+    ensures value { result ≡ hex_digit digit }
+    ensures ascii { result < 128 }
+{
+    if digit < 10 {
+        (b'0' + digit) as char
+    } else {
+        (b'a' + (digit - 10)) as char
+    }
+}
+
+#[cfg(test)]
+mod tests {
+    use super::*;
+    use crate::byte_text::ByteText;
+    use crate::values::Values;
+    use flow_labels::Label;
+    use std::test::Fail;
+    use tag_sets::TagId;
+
+    #[test]
+    fn each_form_of_a_value(rt: HostRuntime) -> Result<(), Fail> {
+        let alloc = rt.alloc();
+        let mut names = TagNames::new(alloc);
+        assert!(rt; names.add("a").is_ok());
+        let a = TagSet::from_slice(alloc, &[TagId(0)])?;
+        let secret = Label {
+            s: a.copy()?,
+            i: TagSet::empty(alloc),
+        };
+        let mut values = Values::new(alloc);
+        values.push(Value::Int(-5))?;
+        values.push(Value::Bool(true))?;
+        values.push(Value::Bytes(ByteText::from_slice(alloc, b"a\"\\\x00\xff")?))?;
+        values.push(Value::Nothing)?;
+        values.push(Value::Obj(Name::of(&secret, &secret, 3)?))?;
+        values.push(Value::Arr {
+            name: Name::of(&Label::public(alloc), &secret, 0)?,
+            len: 2,
+        })?;
+        values.push(Value::File(Name::of(&Label::public(alloc), &Label::public(alloc), 1)?))?;
+        values.push(Value::Thread(7))?;
+        values.push(Value::Tag(TagId(4)))?;
+        values.push(Value::Lab(secret))?;
+        values.push(Value::CapV {
+            plus: a,
+            minus: TagSet::empty(alloc),
+        })?;
+        let text = values_text(values.as_slice(), &names)?;
+        let want =
+            "-5,true,\"a\\\"\\\\\\x00\\xff\",null,obj<{a}/{}|{a}/{}|3>,arr<{}/{}|{a}/{}|0>[2],\
+            file<{}/{}|{}/{}|1>,t7,#4,{a}/{},+{a}-{}";
+        assert_eq!(rt; text.as_str(), want);
+        assert_eq!(rt;
+            values_text(values.copy()?.as_slice(), &names)?.as_str(),
+            want
+        );
+        Ok(())
+    }
+}

@@ -1,0 +1,265 @@
+//! Values, and lists of them.
+
+ghost use Rattle.std.specs.Prelude.{◌≡◌, ◌<◌, ◌++◌, ◌∷◌, [], ℕ, length, IsTrue, ◌↔◌, IfOk, OnOk, OnErr, slice_get, slice_set};
+ghost use Rattle.std.specs.Option.{option_copied};
+
+use crate::byte_text::ByteText;
+use crate::names::Name;
+use flow_labels::{Label, same};
+use std::alloc::Global;
+use std::marker::Model;
+use std::mem::replace;
+use tag_sets::{NoMemory, TagId, TagSet};
+
+/// What a local, a field, an array's element or a message holds.
+#[derive(Debug, Drop)]
+pub enum Value {
+    Int(i64),
+    Bool(bool),
+    /// A string of bytes.
+    Bytes(ByteText),
+    /// Null, of every type of references.
+    Nothing,
+    /// A reference to an object.
+    Obj(Name),
+    /// A reference to an array, with its length.
+    Arr { name: Name, len: u64 },
+    /// A reference to a file.
+    File(Name),
+    /// A reference to a directory.
+    Dir(Name),
+    /// A reference to a pipe.
+    Pipe(Name),
+    /// A thread, by its number.
+    Thread(u32),
+    Tag(TagId),
+    Lab(Label),
+    /// A description of capabilities: what may be added to a label, and what dropped. To hold one gives none.
+    CapV { plus: TagSet, minus: TagSet },
+}
+
+impl Value {
+    /// An equal value.
+    pub fn copy(&self) -> Result<Value, NoMemory>
+        ensures { IfOk result (λ v. v ≡ self.now) }
+    {
+        match self {
+            Value::Int(n) => Ok(Value::Int(*n)),
+            Value::Bool(b) => Ok(Value::Bool(*b)),
+            Value::Bytes(text) => {
+                let text = text.copy()?;
+                Ok(Value::Bytes(text))
+            }
+            Value::Nothing => Ok(Value::Nothing),
+            Value::Obj(name) => {
+                let name = name.copy()?;
+                Ok(Value::Obj(name))
+            }
+            Value::Arr { name, len } => {
+                let name = name.copy()?;
+                Ok(Value::Arr { name, len: *len })
+            }
+            Value::File(name) => {
+                let name = name.copy()?;
+                Ok(Value::File(name))
+            }
+            Value::Dir(name) => {
+                let name = name.copy()?;
+                Ok(Value::Dir(name))
+            }
+            Value::Pipe(name) => {
+                let name = name.copy()?;
+                Ok(Value::Pipe(name))
+            }
+            Value::Thread(t) => Ok(Value::Thread(*t)),
+            Value::Tag(t) => Ok(Value::Tag(*t)),
+            Value::Lab(label) => {
+                let label = label.copy()?;
+                Ok(Value::Lab(label))
+            }
+            Value::CapV { plus, minus } => {
+                let plus = plus.copy()?;
+                let minus = minus.copy()?;
+                Ok(Value::CapV { plus, minus })
+            }
+        }
+    }
+}
+
+/// Whether two values are equal.
+pub fn same_value(a: &Value, b: &Value) -> bool
+    ensures { IsTrue result ↔ (a.now ≡ b.now) }
+{
+    match a {
+        Value::Int(x) => match b {
+            Value::Int(y) => x == y,
+            _ => false,
+        },
+        Value::Bool(x) => match b {
+            Value::Bool(y) => x == y,
+            _ => false,
+        },
+        Value::Bytes(x) => match b {
+            Value::Bytes(y) => x.same(y),
+            _ => false,
+        },
+        Value::Nothing => match b {
+            Value::Nothing => true,
+            _ => false,
+        },
+        Value::Obj(x) => match b {
+            Value::Obj(y) => x.same(y),
+            _ => false,
+        },
+        Value::Arr { name: x, len: m } => match b {
+            Value::Arr { name: y, len: n } => m == n && x.same(y),
+            _ => false,
+        },
+        Value::File(x) => match b {
+            Value::File(y) => x.same(y),
+            _ => false,
+        },
+        Value::Dir(x) => match b {
+            Value::Dir(y) => x.same(y),
+            _ => false,
+        },
+        Value::Pipe(x) => match b {
+            Value::Pipe(y) => x.same(y),
+            _ => false,
+        },
+        Value::Thread(x) => match b {
+            Value::Thread(y) => x == y,
+            _ => false,
+        },
+        Value::Tag(x) => match b {
+            Value::Tag(y) => x == y,
+            _ => false,
+        },
+        Value::Lab(x) => match b {
+            Value::Lab(y) => same(x, y),
+            _ => false,
+        },
+        Value::CapV { plus, minus } => match b {
+            Value::CapV { plus: p, minus: m } => plus.same(p) && minus.same(m),
+            _ => false,
+        },
+    }
+}
+
+/// A list of values: the fields of an object, the elements of an array, or the arguments of a call.
+#[derive(Debug, Drop)]
+pub struct Values {
+    items: Vec<Value>,
+}
+
+impl Model for Values {
+    ghost use Rattle.std.specs.Prelude.{List};
+    ghost use Rattle.std.specs.Coded.{coded_list};
+    ghost use Rattle.lam_value.specs.declared.values.Value.{Value as Item};
+    ghost use Rattle.lam_value.specs.contracts.values.Value as item;
+
+    ghost Value = { List Item };
+
+    ghost coded = { coded_list item.the_row.coded };
+
+    ghost view = { λ vs. vs.items.items };
+}
+
+impl Values {
+    /// No values.
+    pub fn new(alloc: Global) -> Values
+        ensures { result ≡ [] }
+    {
+        Values {
+            items: Vec::new(alloc),
+        }
+    }
+
+    /// The values that a vector holds, which are not copied.
+    pub fn from_vec(items: Vec<Value>) -> Values
+        ensures { result ≡ items.items }
+    {
+        Values { items }
+    }
+
+    /// The values.
+    pub fn as_slice(&self) -> &[Value]
+        ensures { result.now ≡ self.now }
+    {
+        self.items.as_slice()
+    }
+
+    /// The allocator that the list keeps.
+    pub fn allocator(&self) -> Global {
+        *self.items.allocator()
+    }
+
+    /// How many values there are.
+    pub fn len(&self) -> u64
+        ensures { result ≡ length self.now }
+    {
+        self.items.len() as u64
+    }
+
+    /// The value at a place, or `None` past the last.
+    pub fn get(&self, at: u64) -> Option<&Value>
+        ensures { option_copied result ≡ slice_get self.now at }
+    {
+        self.items.get(at as usize)
+    }
+
+    /// Puts a value at the end.
+    ///
+    /// # Errors
+    ///
+    /// `NoMemory` where memory is refused; the list is then as it was.
+    pub fn push(&mut self, value: Value) -> Result<(), NoMemory>
+        ensures ok { OnOk result (self.new ≡ self.old ++ value ∷ []) }
+        ensures err { OnErr result (self.new ≡ self.old) }
+    {
+        self.items.push(value)?;
+        Ok(())
+    }
+
+    /// Puts a value at a place, and gives the one that stood there. Past the last nothing changes, and the
+    /// answer is `None`.
+    pub fn set(&mut self, at: u64, value: Value) -> Option<Value>
+        ensures old { result ≡ slice_get self.old at }
+        ensures new { self.new ≡ slice_set self.old at value }
+    {
+        set_item(&mut self.items, at as usize, value)
+    }
+
+    /// An equal list.
+    ///
+    /// # Errors
+    ///
+    /// `NoMemory` where memory is refused.
+    pub fn copy(&self) -> Result<Values, NoMemory>
+        ensures { IfOk result (λ vs. vs ≡ self.now) }
+    {
+        let items = copied(*self.items.allocator(), self.items.as_slice())?;
+        Ok(Values { items })
+    }
+}
+
+fn set_item(items: &mut Vec<Value>, at: usize, value: Value) -> Option<Value>
+    ensures old { result ≡ slice_get items.old.items at }
+    ensures new { items.new.items ≡ slice_set items.old.items at value }
+{
+    if at < items.len() {
+        Some(replace(&mut items[at], value))
+    } else {
+        None
+    }
+}
+
+fn copied(alloc: Global, values: &[Value]) -> Result<Vec<Value>, NoMemory>
+    ensures { IfOk result (λ v. v.items ≡ values.now) }
+{
+    let mut out = Vec::with_capacity(alloc, values.len())?;
+    for value in values {
+        out.push(value.copy()?)?;
+    }
+    Ok(out)
+}
