@@ -5,9 +5,11 @@
 //! here.
 //!
 //! [`Cells`] are the cells of a play script: a list of numbers, each with its label, named by the order
-//! in which they were added.
+//! in which they were added. [`Heap`] has the objects and arrays of a program's run, by name.
 #![tactic(auto)]
 
 mod cells;
+mod heap;
 
 pub use cells::{Cell, Cells};
+pub use heap::{HOME_LIMIT, Heap, HeapFault, Sort};
