@@ -1,0 +1,5 @@
+pub mod Runs
+pub mod TextRuns
+pub mod Steps
+pub mod Whole
+pub mod Laws

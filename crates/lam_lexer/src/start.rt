@@ -1,0 +1,123 @@
+//! What a character begins.
+
+ghost use Rattle.std.specs.Prelude.{◌≡◌};
+ghost use Rattle.lam_lexer.specs.Characters as spec;
+ghost use Rattle.lam_lexer.specs.Lexed.{start, one_mark, two_marks};
+ghost use Rattle.lam_lexer.specs.Reading.{Begins};
+
+use crate::token::TokenKind;
+
+/// What a character begins, where the next one is known.
+#[derive(Drop)]
+pub enum Start {
+    Space,
+    Comment,
+    Name,
+    Number,
+    Text,
+    /// A mark of one character.
+    Mark(TokenKind),
+    /// A mark of two characters.
+    LongMark(TokenKind),
+    Nothing,
+}
+
+/// Whether the character is white space.
+pub fn is_space(c: char) -> bool
+    ensures { result ≡ spec.is_space c }
+{
+    c == ' ' || c == '\t' || c == '\r' || c == '\n'
+}
+
+/// Whether the character is a decimal digit.
+pub fn is_digit(c: char) -> bool
+    ensures { result ≡ spec.is_digit c }
+{
+    '0' <= c && c <= '9'
+}
+
+/// Whether an identifier may begin with the character.
+pub fn starts_name(c: char) -> bool
+    ensures { result ≡ spec.starts_name c }
+{
+    unicode_ident::is_xid_start(c) || c == '_'
+}
+
+/// Whether an identifier may go on with the character.
+pub fn continues_name(c: char) -> bool
+    ensures { result ≡ spec.continues_name c }
+{
+    unicode_ident::is_xid_continue(c) || c == '_'
+}
+
+fn one_mark(c: char) -> Start
+    ensures { result ≡ one_mark c }
+{
+    match c {
+        '{' => Start::Mark(TokenKind::BraceOpen),
+        '}' => Start::Mark(TokenKind::BraceClose),
+        '(' => Start::Mark(TokenKind::ParenOpen),
+        ')' => Start::Mark(TokenKind::ParenClose),
+        '[' => Start::Mark(TokenKind::BracketOpen),
+        ']' => Start::Mark(TokenKind::BracketClose),
+        ',' => Start::Mark(TokenKind::Comma),
+        ';' => Start::Mark(TokenKind::Semicolon),
+        ':' => Start::Mark(TokenKind::Colon),
+        '.' => Start::Mark(TokenKind::Dot),
+        '=' => Start::Mark(TokenKind::Assign),
+        '<' => Start::Mark(TokenKind::Less),
+        '>' => Start::Mark(TokenKind::Greater),
+        '+' => Start::Mark(TokenKind::Plus),
+        '-' => Start::Mark(TokenKind::Minus),
+        '*' => Start::Mark(TokenKind::Star),
+        '/' => Start::Mark(TokenKind::Slash),
+        '%' => Start::Mark(TokenKind::Percent),
+        '!' => Start::Mark(TokenKind::Not),
+        _ => Start::Nothing,
+    }
+}
+
+fn two_marks(c: char, d: char) -> Start
+    ensures { result ≡ two_marks c d }
+{
+    if c == '/' && d == '/' {
+        Start::Comment
+    } else if c == '=' && d == '=' {
+        Start::LongMark(TokenKind::Equal)
+    } else if c == '!' && d == '=' {
+        Start::LongMark(TokenKind::NotEqual)
+    } else if c == '<' && d == '=' {
+        Start::LongMark(TokenKind::LessEqual)
+    } else if c == '>' && d == '=' {
+        Start::LongMark(TokenKind::GreaterEqual)
+    } else if c == '&' && d == '&' {
+        Start::LongMark(TokenKind::And)
+    } else if c == '|' && d == '|' {
+        Start::LongMark(TokenKind::Or)
+    } else {
+        one_mark(c)
+    }
+}
+
+/// What a character begins before the next one. Of the marks it is the longest.
+pub fn start_of(c: char, next: Option<char>) -> Start
+    ensures is { result ≡ start c next }
+    ensures begins { Begins result c next }
+{
+    if is_space(c) {
+        return Start::Space;
+    }
+    if starts_name(c) {
+        return Start::Name;
+    }
+    if is_digit(c) {
+        return Start::Number;
+    }
+    if c == '"' {
+        return Start::Text;
+    }
+    match next {
+        None => one_mark(c),
+        Some(d) => two_marks(c, d),
+    }
+}
