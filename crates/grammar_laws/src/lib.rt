@@ -1,0 +1,13 @@
+//! Grammars that are read by one token of lookahead, as tables, and the laws of all such tables.
+//!
+//! A grammar is a record of `specs/Grammar.antt`: the bodies of each rule, which tokens a rule begins with, which rules
+//! count in the depth sum, and what each rule means. Nothing here speaks of one language. `Reads` says which tokens are
+//! read and what they mean; `Stops`, in `specs/Stopping.antt`, says where reading stops and which token could stand
+//! there instead.
+//!
+//! For each table that passes the tests of `proofs/Tests.antt`, which compute, `proofs/` has these laws: a text has one
+//! meaning; where reading stops, no text goes on; every text that is read so far can be finished; a token that reading
+//! could have taken does continue a text; and the depth sum passes its limit exactly where reading says so.
+//!
+//! The crate has no code: a parser states its contracts in these relations, and cites these laws.
+#![tactic(auto)]
