@@ -1,0 +1,4 @@
+pub mod Table
+pub mod Meaning
+pub mod Program
+pub mod Examples
