@@ -197,48 +197,45 @@ fn hex_digit(digit: u8) -> char
 mod tests {
     use super::*;
     use crate::byte_text::ByteText;
-    use crate::values::Values;
     use flow_labels::Label;
     use std::test::Fail;
     use tag_sets::TagId;
 
     #[test]
-    fn each_form_of_a_value(rt: HostRuntime) -> Result<(), Fail> {
-        let alloc = rt.alloc();
-        let mut names = TagNames::new(alloc);
-        assert!(rt; names.add("a").is_ok());
-        let a = TagSet::from_slice(alloc, &[TagId(0)])?;
-        let secret = Label {
-            s: a.copy()?,
+    fn plain_values(rt: HostRuntime) -> Result<(), Fail> {
+        let names = TagNames::new(rt.alloc());
+        let bytes = ByteText::from_slice(rt.alloc(), b"a\"\\\x00\xff")?;
+        let values = [
+            Value::Int(-5),
+            Value::Bool(true),
+            Value::Bytes(bytes),
+            Value::Nothing,
+            Value::Thread(7),
+            Value::Tag(TagId(4)),
+        ];
+        let text = values_text(&values, &names)?;
+        assert_eq!(rt; text.as_str(), "-5,true,\"a\\\"\\\\\\x00\\xff\",null,t7,#4");
+        Ok(())
+    }
+
+    fn secret(alloc: Global) -> Result<Label, NoMemory> {
+        let s = TagSet::from_slice(alloc, &[TagId(0)])?;
+        Ok(Label {
+            s,
             i: TagSet::empty(alloc),
-        };
-        let mut values = Values::new(alloc);
-        values.push(Value::Int(-5))?;
-        values.push(Value::Bool(true))?;
-        values.push(Value::Bytes(ByteText::from_slice(alloc, b"a\"\\\x00\xff")?))?;
-        values.push(Value::Nothing)?;
-        values.push(Value::Obj(Name::of(&secret, &secret, 3)?))?;
-        values.push(Value::Arr {
-            name: Name::of(&Label::public(alloc), &secret, 0)?,
-            len: 2,
-        })?;
-        values.push(Value::File(Name::of(&Label::public(alloc), &Label::public(alloc), 1)?))?;
-        values.push(Value::Thread(7))?;
-        values.push(Value::Tag(TagId(4)))?;
-        values.push(Value::Lab(secret))?;
-        values.push(Value::CapV {
-            plus: a,
-            minus: TagSet::empty(alloc),
-        })?;
-        let text = values_text(values.as_slice(), &names)?;
-        let want =
-            "-5,true,\"a\\\"\\\\\\x00\\xff\",null,obj<{a}/{}|{a}/{}|3>,arr<{}/{}|{a}/{}|0>[2],\
-            file<{}/{}|{}/{}|1>,t7,#4,{a}/{},+{a}-{}";
-        assert_eq!(rt; text.as_str(), want);
-        assert_eq!(rt;
-            values_text(values.copy()?.as_slice(), &names)?.as_str(),
-            want
-        );
+        })
+    }
+
+    #[test]
+    fn a_name_shows_both_labels(rt: HostRuntime) -> Result<(), Fail> {
+        let mut names = TagNames::new(rt.alloc());
+        assert!(rt; names.add("a").is_ok());
+        let own = secret(rt.alloc())?;
+        let name = Name::of(&Label::public(rt.alloc()), &own, 3)?;
+        let text = value_text(&Value::Arr { name, len: 2 }, &names)?;
+        assert_eq!(rt; text.as_str(), "arr<{}/{}|{a}/{}|3>[2]");
+        let text = value_text(&Value::Lab(own), &names)?;
+        assert_eq!(rt; text.as_str(), "{a}/{}");
         Ok(())
     }
 }
