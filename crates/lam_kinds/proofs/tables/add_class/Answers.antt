@@ -1,0 +1,26 @@
+use Rattle.std.proofs.Common.{◌≡◌, sym, ap, ◌∙◌, subst, refl, ◌++◌, ◌∷◌, [], List}
+use Rattle.std.proofs.lemmas.Result.{err_from_is_err_and}
+use Rattle.lam_syntax.specs.declared.Var.{Var}
+use Rattle.lam_syntax.specs.Tree.{Word, class_tree, vars_tree}
+use Rattle.lam_kinds.specs.Breaks.{Fine}
+use Rattle.lam_kinds.specs.Tables.{with_class, fields_of, Fields, find, typed_names}
+use Rattle.lam_kinds.specs.Values.{fields, class_entries}
+use Rattle.lam_kinds.proofs.Adding.{stops_seen, fine_seen, added, to_leaves}
+use Rattle.lam_kinds.proofs.tables.add_class.Goals as goal
+
+pub returns-in_err-new_name : goal.returns-in_err-new_name
+unfolding with_class
+returns-in_err-new_name c =
+    let p = err_from_is_err_and c.from_residual.result c.from_residual.ensures.1 in
+    rw (p.1, p.2) (stops_seen fields _ 1024 c.args.classes.now.entries (class_tree c.args.c.now).name _ c.in_err-new_name.ensures)
+
+same_fields : (f : Fields) (vs ws : List Var) → vs ≡ ws → ((x : Word) → f x ≡ find x (typed_names (vars_tree vs))) → f ≡ (λ x. find x (typed_names (vars_tree ws)))
+same_fields f vs ws e h = λ i x. (h x ∙ ap (λ (l : List Var). find x (typed_names (vars_tree l))) e) i
+
+pub returns : goal.returns
+unfolding with_class
+returns c =
+    to_leaves c.add_name.result _ _ _
+    (fine_seen fields 1024 c.args.classes.now.entries (class_tree c.args.c.now).name (λ _. Fine (class_entries c.args.classes.now.entries ++ ((class_tree c.args.c.now).name.word, fields_of (class_tree c.args.c.now)) ∷ [])) c.in_ok-new_name.ensures)
+    (added fields c.add_name.result c.add_name.new.all.entries c.args.classes.now.entries c.as_str.result c.in_ok-fields.fields _ _ c.add_name.ensures.ok c.add_name.ensures.err c.as_str.ensures.value
+    (same_fields (fields c.in_ok-fields.fields) c.as_slice.result.now c.args.c.now.fields.items c.as_slice.ensures.value c.in_ok-fields.ensures.ok))

@@ -1,0 +1,37 @@
+use Rattle.std.proofs.Common.{◌≡◌, refl, sym, ap, ◌∙◌, is_some, true, false, Bool, Option, None, Some, List, ◌++◌, ◌∷◌, [], Bor}
+use Rattle.std.specs.Map.{lookup}
+use Rattle.lam_syntax.specs.Tree.{Word, VarTree, var_tree}
+use Rattle.lam_kinds.specs.Tables.{Names, find, typed_name}
+use Rattle.lam_kinds.specs.Types.{ValueType}
+use Rattle.lam_kinds.specs.Values.{names, value_type, keyed, Table}
+use Rattle.lam_kinds.specs.declared.types.TypeRef.{TypeRef}
+use Rattle.lam_kinds.proofs.TableLemmas.{has_see, see_push, field_added, field_there, key_is}
+use Rattle.lam_kinds.proofs.tables.add_field.Goals as goal
+use Rattle.lam_kinds.proofs.tables.add_field.Goals.{then-not-contains_key+in_ok-add_name, else-not-contains_key}
+
+absent : {A : Type 0} (o : Option A) → is_some o ≡ false → o ≡ None
+absent None e = refl
+absent (Some a) e = absurd cc
+
+pub add_name-requires : goal.add_name-requires
+add_name-requires c =
+    absent (find c.as_str-then-not-contains_key.result.now (keyed c.args.all.now.entries))
+    (has_see (λ v. v) c.as_str-then-not-contains_key.result.now c.args.all.now.entries ∙
+    ap (λ (w : Word). is_some (lookup (key_is w) c.args.all.now.entries)) (c.as_str-then-not-contains_key.ensures.value ∙ sym c.as_str.ensures.value) ∙ sym c.contains_key.ensures ∙ c.if-not-contains_key.true)
+
+one_more : (es : List (Bor Word × TypeRef)) (k : Bor Word) (t : TypeRef) (v : VarTree) → k.now ≡ v.name.word → value_type t ≡ (typed_name v).1 → names (es ++ (k, t) ∷ []) ≡ names es ++ typed_name v ∷ []
+one_more es k t v e g =
+    see_push value_type es k t ∙ ap (λ (w : Word). names es ++ (w, value_type t) ∷ []) e ∙ ap (λ (u : ValueType). names es ++ (v.name.word, u) ∷ []) g
+
+pub returns-clause-ok : goal.returns-clause-ok
+returns-clause-ok c =
+    let old = names c.args.all.now.entries in
+    let v = var_tree c.args.v.now in
+    elim c.if-not-contains_key.branch [
+      | then-not-contains_key+in_ok-add_name w ↦ λ x.
+          ap (λ (m : Table TypeRef). find x (names m.entries)) w.all-is ∙
+          field_added old (names w.add_name.new.all.entries) v (ap names w.in_ok-add_name.ensures.ok ∙ one_more c.args.all.now.entries w.as_str-then-not-contains_key.result w.type_ref.result v w.as_str-then-not-contains_key.ensures.value w.type_ref.ensures) x
+      | else-not-contains_key w ↦ λ x.
+          ap (λ (m : Table TypeRef). find x (names m.entries)) w.all-is ∙
+          field_there old v (has_see value_type v.name.word c.args.all.now.entries ∙ ap (λ (w : Word). is_some (lookup (key_is w) c.args.all.now.entries)) (sym c.as_str.ensures.value) ∙ sym c.contains_key.ensures ∙ w.if-not-contains_key.false) x
+    ]

@@ -1,0 +1,43 @@
+-- Breaks of the typing rules, and checks that stop at the first.
+use Rattle.std.specs.Prelude.{ℕ, Bool, if◌then◌else◌, List, Option, Some, None}
+use Rattle.lam_syntax.specs.Tree.{TypeTree}
+use Rattle.lam_kinds.specs.Types.{ValueType, plain, Given, a_value, a_null, nothing, given_type, Place, suits, wanted_type}
+
+pub data Break : Type 0 where
+  no_name : (at : ℕ) → Break
+  twice : (at : ℕ) → Break
+  arity : (at : ℕ) → Break
+  no_field : (at : ℕ) → Break
+  no_return : (at : ℕ) → Break
+  too_many : (at : ℕ) → Break
+  mismatch : (at : ℕ) (want got : Option TypeTree) → Break
+
+-- the answer of a check: a value, or the first break
+pub data Verdict (A : Type 0) : Type 0 where
+  Fine : (a : A) → Verdict A
+  Stop : (b : Break) → Verdict A
+
+abbrev pub then_on : {A B : Type 0} → Verdict A → (A → Verdict B) → Verdict B
+then_on (Fine a) next = next a
+then_on (Stop b) next = Stop b
+
+abbrev pub first_break : {A : Type 0} → Verdict A → Option Break
+first_break (Fine a) = None
+first_break (Stop b) = Some b
+
+abbrev pub plain_option : Option ValueType → Option TypeTree
+plain_option None = None
+plain_option (Some t) = Some (plain t)
+
+abbrev pub mismatch_of : ℕ → Option ValueType → Option ValueType → Break
+mismatch_of at want got = mismatch at (plain_option want) (plain_option got)
+
+-- what is given stands at a place
+abbrev pub fit : ℕ → Place → Given → Verdict Given
+fit at p g = if suits p g then Fine g else Stop (mismatch_of at (wanted_type p) (given_type g))
+
+-- the operands of `==` or `!=` do not compare: the right one is at fault, or the left one where it gives nothing
+abbrev pub unequal : ℕ → ℕ → Given → Given → Break
+unequal left right nothing h = mismatch_of left (given_type h) None
+unequal left right (a_value t) h = mismatch_of right (Some t) (given_type h)
+unequal left right a_null h = mismatch_of right None (given_type h)
