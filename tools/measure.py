@@ -26,16 +26,14 @@ def best_time(words, folder):
 
 
 def play_script(lines):
-    """A third of the lines declare tags, a third cells and actors, a third are steps."""
+    """A third of the lines declare tags, a third actors and cells with labels, a third are steps."""
     third = lines // 3
-    text = [f'tag t{n}' for n in range(third)]
-    text += [f'actor p{n} {{t{n}}}/{{}} +{{}}-{{t{n}}}' if n % 2 else f'cell c{n} {{t{n - 1 if n else 0}}}/{{}} {n}'
-             for n in range(third)]
-    actors = [n for n in range(third) if n % 2]
+    text = [f'tag t{n:x}' for n in range(third)]
+    for n in range(third):
+        text.append(f'actor p{n:x} {{t{n:x}}}/{{}}' if n % 2 else f'cell c{n:x} {{t{n:x}}}/{{}} {n % 10}')
     while len(text) < lines:
-        n = actors[len(text) % len(actors)]
-        step = ('read c%d', 'write c%d 7', 'copy c%d c0')[len(text) % 3] % (n - 1 if n > 1 else 0)
-        text.append(f'p{n} {step}')
+        n = 2 * (len(text) % 128)
+        text.append(f'p{n + 1:x} read c{n:x}')
     return '\n'.join(text) + '\n'
 
 
