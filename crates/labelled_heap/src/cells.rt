@@ -106,22 +106,3 @@ impl Cells {
         cell.value = value;
     }
 }
-
-#[cfg(test)]
-mod tests {
-    use super::*;
-    use std::test::Fail;
-
-    #[test]
-    fn a_cell_is_written_alone(rt: HostRuntime) -> Result<(), Fail> {
-        let alloc = rt.alloc();
-        let mut cells = Cells::new(alloc);
-        let first = cells.add(Label::public(alloc), 5)?;
-        let second = cells.add(Label::public(alloc), -6)?;
-        cells.set(second, i64::MIN);
-        assert_eq!(rt; (first, second), (0, 1));
-        assert_eq!(rt; cells.get(first), 5);
-        assert_eq!(rt; cells.get(second), i64::MIN);
-        Ok(())
-    }
-}

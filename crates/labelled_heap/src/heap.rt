@@ -332,38 +332,3 @@ fn copied(things: &IndexMap<Name, Thing>) -> Result<IndexMap<Name, Thing>, NoMem
     }
     Ok(copy)
 }
-
-#[cfg(test)]
-mod tests {
-    use super::*;
-    use lam_value::same_value;
-    use std::test::Fail;
-
-    #[test]
-    fn a_copy_has_what_was_written(rt: HostRuntime) -> Result<(), Fail> {
-        let public = Label::public(rt.alloc());
-        let mut heap = Heap::new(rt.alloc());
-        let shape = Shape::Array {
-            kind: Kind::Int,
-            len: 1,
-        };
-        let Ok(name) = heap.make(&public, &public, shape) else {
-            return Err(Fail::new("nothing was made"));
-        };
-        assert!(rt; heap.set(&name, 0, Value::Int(9)).is_some());
-        let Ok(other) = heap.copy_to(&name, &public, &public) else {
-            return Err(Fail::new("nothing was copied"));
-        };
-        assert_eq!(rt; other.n, 1u64);
-        assert_eq!(rt; heap.next(&public, &public), 2u64);
-        let whole = heap.copy()?;
-        for thing in [&name, &other] {
-            assert_eq!(rt; whole.sort(thing), Some(Sort::Array(Kind::Int)));
-            let Some(value) = whole.get(thing, 0) else {
-                return Err(Fail::new("no slot"));
-            };
-            assert!(rt; same_value(value, &Value::Int(9)));
-        }
-        Ok(())
-    }
-}

@@ -163,29 +163,3 @@ fn copied_row(row: &Row) -> Result<Row, NoMemory>
     }
     Ok(copy)
 }
-
-#[cfg(test)]
-mod tests {
-    use super::*;
-    use std::test::Fail;
-    use tag_sets::{TagId, TagSet};
-
-    #[test]
-    fn each_home_counts_for_itself(rt: HostRuntime) -> Result<(), Fail> {
-        let alloc = rt.alloc();
-        let public = Label::public(alloc);
-        let secret = Label {
-            s: TagSet::from_slice(alloc, &[TagId(0)])?,
-            i: TagSet::empty(alloc),
-        };
-        let mut counters = Counters::new(alloc);
-        for want in 0..2 {
-            assert_eq!(rt; counters.draw(&secret, &public)?, want);
-        }
-        assert_eq!(rt; counters.draw(&secret, &secret)?, 0u64);
-        let copy = counters.copy()?;
-        assert_eq!(rt; copy.next(&secret, &public), 2u64);
-        assert_eq!(rt; copy.next(&public, &public), 0u64);
-        Ok(())
-    }
-}

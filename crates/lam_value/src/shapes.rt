@@ -89,26 +89,3 @@ fn zeros(alloc: Global, kind: Kind, len: u64) -> Result<Values, NoMemory>
     }
     Ok(slots)
 }
-
-#[cfg(test)]
-mod tests {
-    use super::*;
-    use crate::values::same_value;
-    use std::test::Fail;
-
-    #[test]
-    fn an_array_begins_with_first_values(rt: HostRuntime) -> Result<(), Fail> {
-        let shape = Shape::Array {
-            kind: Kind::Int,
-            len: 2,
-        };
-        let mut slots = shape.copy()?.into_slots(rt.alloc())?;
-        assert_eq!(rt; slots.len(), 2u64);
-        let Some(old) = slots.set(1, Value::Bool(true)) else {
-            return Err(Fail::new("no slot"));
-        };
-        assert!(rt; same_value(&old, &Value::Int(0)));
-        assert!(rt; slots.set(2, old).is_none());
-        Ok(())
-    }
-}

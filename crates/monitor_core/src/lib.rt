@@ -178,28 +178,3 @@ fn copied(holders: &IndexMap<Name, Holder>) -> Result<IndexMap<Name, Holder>, No
     }
     Ok(copy)
 }
-
-#[cfg(test)]
-mod tests {
-    use super::*;
-    use flow_labels::Label;
-    use std::test::Fail;
-
-    #[test]
-    fn monitor_is_reentrant(rt: HostRuntime) -> Result<(), Fail> {
-        let public = Label::public(rt.alloc());
-        let name = Name::of(&public, &public, 0)?;
-        let mut monitors = Monitors::new(rt.alloc());
-        monitors.enter(&name, 0)?;
-        assert!(rt; monitors.is_free_for(&name, 0) && !monitors.is_free_for(&name, 1));
-        monitors.enter(&name, 0)?;
-        assert_eq!(rt; monitors.copy()?.takings(&name), 2u64);
-        monitors.leave(&name, 1);
-        monitors.leave(&name, 0);
-        assert!(rt; !monitors.is_free_for(&name, 1));
-        monitors.drop_all(0, &[name.copy()?]);
-        assert!(rt; monitors.is_free_for(&name, 1));
-        assert_eq!(rt; monitors.takings(&name), 0u64);
-        Ok(())
-    }
-}
