@@ -78,7 +78,10 @@ mod tests {
             body,
         }))?;
         let text = print(&Program { items })?;
-        assert_eq!(rt; text.as_str(), "fn f(x: int): int {\n  return (x + 1) * 2;\n}\n");
+        assert_eq!(rt;
+            text.as_str(),
+            "fn f(x: int): int {\n  return (x + 1) * 2;\n}\n"
+        );
         Ok(())
     }
 
