@@ -1,0 +1,319 @@
+//! Pipes by name, with a counter for each home.
+//!
+//! The messages that wait in all pipes are one finite map from names. New pipes are numbered home by home:
+//! by the maker's label and the pipe's own label, and never over all, so that a name tells of no other
+//! label.
+
+ghost use Rattle.std.specs.Prelude.{◌≡◌, ◌≤◌, ◌<◌, ◌↔◌, IsOk, IfOk, OnOk, OnErr, IfNone, IsErrOf, [], cond, Some};
+ghost use Rattle.std.specs.Option.{option_copied};
+ghost use Rattle.std.specs.FinMap as map;
+ghost use Rattle.std.specs.HashMap.{get as at_key};
+ghost use Rattle.lam_value.specs.Homes.{home_of, name_of, count_in, counted};
+ghost use Rattle.lam_value.specs.declared.names.Name.{Name};
+ghost use Rattle.lam_value.proofs.Keys.{name_eq};
+ghost use Rattle.labelled_pipes.specs.Messages.{joined, front_of, rest_of};
+ghost use Rattle.labelled_pipes.specs.Queues.{no_pipes, waiting_at, with_pipe, with_sent, with_received};
+ghost use Rattle.labelled_pipes.specs.declared.pipes.PipeFault.TheVariants.{NoMemory as no_memory};
+
+use crate::message::{Message, MessageKind};
+use crate::queue::Queue;
+use flow_labels::Label;
+use indexmap::IndexMap;
+use lam_value::{Counters, Name};
+use std::alloc::{AllocError, AllocFailed, Global};
+use std::marker::Model;
+use tag_sets::NoMemory;
+
+/// The number of pipes that one home may make.
+pub const HOME_LIMIT: u64 = 4096;
+
+/// Why no pipe is made. The pipes are then as they were.
+#[derive(Clone, Copy, Debug, PartialEq, Eq)]
+pub enum PipeFault {
+    /// The home has made 4,096 pipes.
+    HomeFull,
+    /// Memory ran out.
+    NoMemory,
+}
+
+impl From<NoMemory> for PipeFault {
+    ghost from_gives = { λ _ e. e ≡ no_memory };
+
+    fn from(_e: NoMemory) -> PipeFault {
+        PipeFault::NoMemory
+    }
+}
+
+impl From<AllocError> for PipeFault {
+    ghost from_gives = { λ _ e. e ≡ no_memory };
+
+    fn from(_e: AllocError) -> PipeFault {
+        PipeFault::NoMemory
+    }
+}
+
+impl<T: Drop> From<AllocFailed<T>> for PipeFault {
+    ghost from_gives = { λ _ e. e ≡ no_memory };
+
+    fn from(_e: AllocFailed<T>) -> PipeFault {
+        PipeFault::NoMemory
+    }
+}
+
+/// Pipes by name, with a counter for each home.
+///
+/// A pipe lives from its making on; a call with a name that does not live changes nothing.
+#[derive(Drop)]
+pub struct Pipes {
+    queues: IndexMap<Name, Queue>,
+    counters: Counters,
+}
+
+impl Model for Pipes {
+    ghost use Rattle.labelled_pipes.specs.Queues.{Queues, coded_queues};
+
+    ghost Value = { Queues };
+
+    ghost coded = { coded_queues };
+
+    ghost use Rattle.labelled_pipes.specs.Seen.{queues_of, IsWithinLimit};
+
+    ghost view = { λ p. queues_of p.queues.entries p.counters };
+
+    ghost invariant = { λ p. IsWithinLimit p.counters };
+}
+
+impl Pipes {
+    /// No pipe lives.
+    pub fn new(alloc: Global) -> Pipes
+        ensures { result ≡ no_pipes }
+    {
+        Pipes {
+            queues: IndexMap::new(alloc),
+            counters: Counters::new(alloc),
+        }
+    }
+
+    /// Whether a pipe of this name lives.
+    pub fn lives(&self, p: &Name) -> bool
+        ensures { result ≡ map.contains_key self.now.waiting p.now }
+    {
+        self.queues.contains_key(p)
+    }
+
+    /// The number that the next pipe of a home gets: how many it has made, at most `HOME_LIMIT`.
+    pub fn next(&self, maker: &Label, own: &Label) -> u64
+        ensures value { result ≡ count_in self.now.counts (home_of maker.now own.now) }
+        ensures bound { result ≤ 4096 }
+    {
+        self.counters.next(maker, own)
+    }
+
+    /// Makes a pipe of a home, at the home's next number. Nothing waits in it.
+    ///
+    /// # Errors
+    ///
+    /// `HomeFull` exactly where the home has made 4,096 pipes, and `NoMemory` where memory is refused.
+    pub fn make(&mut self, maker: &Label, own: &Label) -> Result<Name, PipeFault>
+        ensures name { IfOk result (λ n. n ≡ name_of (home_of maker.now own.now) (count_in self.old.counts (home_of maker.now own.now))) }
+        ensures ok { OnOk result (self.new ≡ with_pipe self.old (home_of maker.now own.now)) }
+        ensures err { OnErr result (self.new ≡ self.old) }
+        ensures full { IsErrOf result PipeFault.HomeFull ↔ (count_in self.old.counts (home_of maker.now own.now) ≡ 4096) }
+    {
+        if self.next(maker, own) == HOME_LIMIT {
+            return Err(PipeFault::HomeFull);
+        }
+        let name = add_pipe(&mut self.queues, &mut self.counters, maker, own)?;
+        Ok(name)
+    }
+
+    /// Sends a message: it joins the end of the pipe where fewer than 1,024 messages wait there. In a full
+    /// pipe, or where the pipe does not live, it is dropped, nothing changes and nobody is told.
+    ///
+    /// # Errors
+    ///
+    /// `NoMemory` where memory is refused; the pipes are then as they were.
+    pub fn send(&mut self, p: &Name, m: Message) -> Result<(), NoMemory>
+        ensures ok { OnOk result (self.new ≡ with_sent self.old p.now m) }
+        ensures err { OnErr result (self.new ≡ self.old) }
+    {
+        match self.queues.get_mut(p) {
+            None => return nothing_sent(m),
+            Some(queue) => return join_queue(queue, m),
+        }
+    }
+
+    /// Takes the front message of a pipe where it is of this kind.
+    ///
+    /// `None` exactly where nothing waits, the front is of the other kind or the pipe does not live, and
+    /// then nothing changes.
+    pub fn receive(&mut self, p: &Name, kind: MessageKind) -> Option<Message>
+        ensures value { result ≡ front_of kind (waiting_at self.old p.now) }
+        ensures new { self.new ≡ with_received self.old p.now kind }
+        ensures none { IfNone result (self.new ≡ self.old) }
+    {
+        match self.queues.get_mut(p) {
+            None => return None,
+            Some(queue) => return take_from(queue, kind),
+        }
+    }
+
+    /// What `receive` would give, left in its place.
+    pub fn front(&self, p: &Name, kind: MessageKind) -> Option<&Message>
+        ensures { option_copied result ≡ front_of kind (waiting_at self.now p.now) }
+    {
+        match self.queues.get(p) {
+            None => None,
+            Some(queue) => front_in(queue, kind),
+        }
+    }
+
+    /// Equal pipes.
+    ///
+    /// # Errors
+    ///
+    /// `NoMemory` where memory is refused.
+    pub fn copy(&self) -> Result<Pipes, NoMemory>
+        ensures { IfOk result (λ p. p ≡ self.now) }
+    {
+        let queues = copied(&self.queues)?;
+        let counters = self.counters.copy()?;
+        Ok(Pipes { queues, counters })
+    }
+}
+
+/// Lets a message go that has no pipe.
+fn nothing_sent(_m: Message) -> Result<(), NoMemory>
+    ensures { IsOk result }
+{
+    Ok(())
+}
+
+fn join_queue(queue: &mut Queue, m: Message) -> Result<(), NoMemory>
+    ensures ok { OnOk result (queue.new ≡ joined m queue.old) }
+    ensures err { OnErr result (queue.new ≡ queue.old) }
+{
+    queue.join(m)
+}
+
+fn take_from(queue: &mut Queue, kind: MessageKind) -> Option<Message>
+    ensures value { result ≡ front_of kind queue.old }
+    ensures new { queue.new ≡ rest_of kind queue.old }
+{
+    queue.take(kind)
+}
+
+fn front_in(queue: &Queue, kind: MessageKind) -> Option<&Message>
+    ensures { option_copied result ≡ front_of kind queue.now }
+{
+    queue.front(kind)
+}
+
+/// Gives an empty queue the next name of a home. The last step that can fail is the counter's, and what
+/// comes after it has its room.
+fn add_pipe(
+    queues: &mut IndexMap<Name, Queue>,
+    counters: &mut Counters,
+    maker: &Label,
+    own: &Label,
+) -> Result<Name, NoMemory>
+    requires { count_in counters.old (home_of maker.now own.now) < 4096 }
+    ensures name { IfOk result (λ n. n ≡ name_of (home_of maker.now own.now) (count_in counters.old (home_of maker.now own.now))) }
+    ensures queues { OnOk result ((q : Name) → at_key name_eq queues.new q ≡ cond (name_eq (name_of (home_of maker.now own.now) (count_in counters.old (home_of maker.now own.now))) q) (Some []) (at_key name_eq queues.old q)) }
+    ensures counters { OnOk result (counters.new ≡ counted counters.old (home_of maker.now own.now)) }
+    ensures same_queues { OnErr result ((q : Name) → at_key name_eq queues.new q ≡ at_key name_eq queues.old q) }
+    ensures same_counters { OnErr result (counters.new ≡ counters.old) }
+{
+    let name = Name::of(maker, own, counters.next(maker, own))?;
+    let key = name.copy()?;
+    queues.reserve(1)?;
+    counters.draw(maker, own)?;
+    let Ok(_) = queues.insert(key, Queue::new(own.allocator())) else {
+        unreachable!()
+    };
+    Ok(name)
+}
+
+fn copied(queues: &IndexMap<Name, Queue>) -> Result<IndexMap<Name, Queue>, NoMemory>
+    ensures { IfOk result (λ new. (q : Name) → at_key name_eq new q ≡ at_key name_eq queues.now q) }
+{
+    let mut copy = IndexMap::new(*queues.allocator());
+    for at in 0..queues.len() {
+        let Some((name, queue)) = queues.get_index(at) else {
+            unreachable!()
+        };
+        copy.insert(name.copy()?, queue.copy()?)?;
+    }
+    Ok(copy)
+}
+
+#[cfg(test)]
+mod tests {
+    use super::*;
+    use capabilities::Caps;
+    use lam_value::ByteText;
+    use std::test::Fail;
+    use tag_sets::{TagId, TagSet};
+
+    /// A number, low byte first.
+    fn text_of(alloc: Global, n: u64) -> Result<ByteText, NoMemory> {
+        let bytes = [(n % 256) as u8, (n / 256 % 256) as u8];
+        ByteText::from_slice(alloc, &bytes)
+    }
+
+    fn send_numbers(alloc: Global, pipes: &mut Pipes, pipe: &Name) -> Result<(), NoMemory> {
+        for n in 0..1025u64 {
+            let text = text_of(alloc, n)?;
+            pipes.send(pipe, Message::Bytes(text))?;
+        }
+        Ok(())
+    }
+
+    fn gives_number(pipes: &mut Pipes, pipe: &Name, text: &ByteText) -> bool {
+        match pipes.receive(pipe, MessageKind::Bytes) {
+            Some(Message::Bytes(got)) => got.same(text),
+            _ => false,
+        }
+    }
+
+    fn gives_caps(pipes: &mut Pipes, pipe: &Name, caps: &Caps) -> bool {
+        match pipes.receive(pipe, MessageKind::Caps) {
+            Some(Message::Caps(got)) => got.same(caps),
+            _ => false,
+        }
+    }
+
+    /// How many of the numbers from 0 to 1023 come in their turn.
+    fn numbers_given(alloc: Global, pipes: &mut Pipes, pipe: &Name) -> Result<u64, NoMemory> {
+        for n in 0..1024u64 {
+            let text = text_of(alloc, n)?;
+            if !gives_number(pipes, pipe, &text) {
+                return Ok(n);
+            }
+        }
+        Ok(1024)
+    }
+
+    #[test]
+    fn pipe_keeps_1024_messages(rt: HostRuntime) -> Result<(), Fail> {
+        let public = Label::public(rt.alloc());
+        let mut pipes = Pipes::new(rt.alloc());
+        let Ok(pipe) = pipes.make(&public, &public) else {
+            return Err(Fail::new("no pipe was made"));
+        };
+        send_numbers(rt.alloc(), &mut pipes, &pipe)?;
+        let mut pipes = pipes.copy()?;
+        let given = numbers_given(rt.alloc(), &mut pipes, &pipe)?;
+        assert_eq!(rt; given, 1024u64);
+        assert!(rt; pipes.receive(&pipe, MessageKind::Bytes).is_none());
+        let caps = Caps::of(
+            TagSet::from_slice(rt.alloc(), &[TagId(3)])?,
+            TagSet::empty(rt.alloc()),
+        );
+        pipes.send(&pipe, Message::Caps(caps.copy()?))?;
+        assert!(rt; pipes.receive(&pipe, MessageKind::Bytes).is_none());
+        assert!(rt; pipes.front(&pipe, MessageKind::Caps).is_some());
+        assert!(rt; gives_caps(&mut pipes, &pipe, &caps));
+        Ok(())
+    }
+}
