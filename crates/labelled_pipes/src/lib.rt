@@ -2,8 +2,8 @@
 //!
 //! A pipe's label never changes, and a message is bytes or capabilities. Messages leave a pipe in the order
 //! in which they came. At most 1,024 wait in one pipe; a message for a full pipe is dropped, and its sender
-//! is not told, since how full a pipe is would tell the sender what its receiver did (Flume, SOSP 2007, and
-//! Laminar, PLDI 2009, drop messages for the same reason).
+//! is not told, since how full a pipe is would tell the sender what its receiver did. (Flume, SOSP 2007, drops
+//! a message that may not be delivered without an answer, for the same reason.)
 //!
 //! Nothing here tests a label: who may send or receive is for the reference monitor above to decide, by the
 //! rules of `flow_labels` and `capabilities`, before it comes here. Names and the counters of their homes

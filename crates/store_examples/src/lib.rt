@@ -9,4 +9,6 @@ mod heap;
 #[cfg(test)]
 mod monitors;
 #[cfg(test)]
+mod pipes;
+#[cfg(test)]
 mod values;
