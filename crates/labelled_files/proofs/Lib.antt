@@ -1,0 +1,4 @@
+pub mod EntryLemmas
+pub mod MakeLemmas
+pub mod SeenLemmas
+pub mod TreeLemmas

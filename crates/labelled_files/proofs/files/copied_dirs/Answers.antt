@@ -1,0 +1,26 @@
+use Rattle.std.proofs.Common.{◌≡◌, ◌<◌, ◌∙◌, ap, sym, cond, Some, arith}
+use Rattle.std.specs.Prelude.{option_and_then}
+use Rattle.std.specs.Map.{lookup}
+use Rattle.lam_value.proofs.Keys.{name_eq, name_total, name_exact, name_ties}
+use Rattle.lam_value.proofs.Maps.{not_none}
+use Rattle.lam_value.proofs.Rows.{copy_more, taken_all}
+use Rattle.labelled_files.specs.Seen.{shown}
+use Rattle.labelled_files.proofs.TreeLemmas.{alike}
+use Rattle.labelled_files.proofs.files.copied_dirs.Goals as goal
+
+pub loop-at-init : goal.loop-at-init
+loop-at-init c q = ap (λ es. option_and_then (λ x. Some (shown x)) (lookup (name_eq q) es)) c.new-copy.ensures.empty
+
+pub loop-at-preserved : goal.loop-at-preserved
+loop-at-preserved c =
+    copy_more name_eq name_total name_exact name_ties (λ x. Some (shown x)) c.args.dirs.now.entries c.loop-at.copy.entries c.insert.new.self.entries c.loop-at.at c.in-Some.name.now c.in-Some.directory.now c.in_ok-copy-2.field-0
+    (sym c.in-Some.ensures.entry) c.in-Some.ensures.value (ap (λ x. Some x) c.in_ok-copy-2.ensures) c.loop-at.invariant
+    (λ q. c.in_ok-insert.ensures.updates.0 q ∙ ap (λ k. cond (name_eq k q) (Some c.in_ok-copy-2.field-0) (lookup (name_eq q) c.loop-at.copy.entries)) c.in_ok-copy.ensures)
+
+pub returns : goal.returns
+returns c =
+    alike shown c.args.dirs.now.entries c.loop-at.copy.entries
+    (λ q. c.loop-at.invariant q ∙ ap (λ es. option_and_then (λ x. Some (shown x)) (lookup (name_eq q) es)) (taken_all c.args.dirs.now.entries c.loop-at.at c.len-at-end.result c.loop-at-test.false c.len-at-end.ensures.len))
+
+pub unreachable-requires : goal.unreachable-requires
+unreachable-requires c = not_none _ (c.get_index.ensures.found.1 (omega (arith, c.len-at-end.ensures.len))) c.in_default.is

@@ -1,0 +1,138 @@
+//! The entries of one directory.
+
+ghost use Rattle.std.specs.Prelude.{◌≡◌, ◌<◌, ◌≤◌, ◌++◌, ◌∷◌, [], None, length, is_some, IsTrue, IfOk};
+ghost use Rattle.std.specs.Option.{option_copied};
+ghost use Rattle.std.specs.Map.{lookup};
+ghost use Rattle.std.proofs.Props.{props};
+ghost use Rattle.indexmap.specs.IndexMap.{IsUnique, spare};
+ghost use Rattle.labelled_files.specs.Entries as entries;
+ghost use Rattle.labelled_files.specs.Entries.{text_eq, without, vec_eq, entries_of};
+
+use indexmap::IndexMap;
+use lam_value::Name;
+use std::alloc::Global;
+use tag_sets::NoMemory;
+
+/// The number of entries that one directory may have.
+pub const ENTRY_LIMIT: usize = 4_096;
+
+/// The two kinds of things that an entry may lead to.
+#[derive(Clone, Copy, Debug, PartialEq, Eq)]
+pub enum EntryKind {
+    File,
+    Dir,
+}
+
+/// What an entry leads to.
+#[derive(Debug, Drop)]
+pub struct Target {
+    pub kind: EntryKind,
+    pub name: Name,
+}
+
+impl Target {
+    fn copy(&self) -> Result<Target, NoMemory>
+        ensures { IfOk result (λ t. t ≡ self.now) }
+    {
+        let name = self.name.copy()?;
+        Ok(Target {
+            kind: self.kind,
+            name,
+        })
+    }
+}
+
+/// Whether an entry may have this name: 1 to 255 bytes without `/` and zero, and neither `.` nor `..`.
+pub fn is_entry_name(entry: &[u8]) -> bool
+    ensures { result ≡ entries.is_entry_name entry.now }
+{
+    1 <= entry.len()
+        && entry.len() <= 255
+        && !entry.contains(&b'/')
+        && !entry.contains(&0)
+        && entry != b".".as_slice()
+        && entry != b"..".as_slice()
+}
+
+/// Entries by name, in the order of their making, at most `ENTRY_LIMIT`.
+#[derive(Drop)]
+pub(crate) struct Directory {
+    entries: IndexMap<Vec<u8>, Target>,
+    ghost few: { length entries.entries ≤ 4096 },
+    ghost unique: { IsUnique vec_eq entries } by { Prim.hlevel props },
+}
+
+impl Directory {
+    pub(crate) fn new(alloc: Global) -> Directory
+        ensures { entries_of result.entries.entries ≡ [] }
+    {
+        Directory {
+            entries: IndexMap::new(alloc),
+        }
+    }
+
+    pub(crate) fn len(&self) -> usize
+        ensures { result ≡ length (entries_of self.now.entries.entries) }
+    {
+        self.entries.len()
+    }
+
+    /// What the entry of a name leads to.
+    pub(crate) fn target(&self, entry: &[u8]) -> Option<&Target>
+        ensures { option_copied result ≡ lookup (text_eq entry.now) (entries_of self.now.entries.entries) }
+    {
+        self.entries.get(entry)
+    }
+
+    /// Makes room for one more entry.
+    pub(crate) fn reserve(&mut self) -> Result<(), NoMemory>
+        ensures same { entries_of self.new.entries.entries ≡ entries_of self.old.entries.entries }
+        ensures room { IfOk result (λ _. 1 ≤ spare self.new.entries) }
+    {
+        self.entries.reserve(1)?;
+        Ok(())
+    }
+
+    /// Puts a new entry at the end, for which there is room.
+    pub(crate) fn join(&mut self, entry: Vec<u8>, target: Target)
+        requires few { length (entries_of self.old.entries.entries) < 4096 }
+        requires new { lookup (text_eq entry.items) (entries_of self.old.entries.entries) ≡ None }
+        requires room { 1 ≤ spare self.old.entries }
+        ensures { entries_of self.new.entries.entries ≡ entries_of self.old.entries.entries ++ (entry.items, target) ∷ [] }
+    {
+        let Ok(_) = self.entries.insert(entry, target) else {
+            unreachable!()
+        };
+    }
+
+    /// Takes an entry away, and says whether it was there.
+    pub(crate) fn leave(&mut self, entry: &[u8]) -> bool
+        ensures there { result ≡ is_some (lookup (text_eq entry.now) (entries_of self.old.entries.entries)) }
+        ensures rest { entries_of self.new.entries.entries ≡ without entry.now (entries_of self.old.entries.entries) }
+    {
+        self.entries.shift_remove(entry).is_some()
+    }
+
+    pub(crate) fn copy(&self) -> Result<Directory, NoMemory>
+        ensures { IfOk result (λ d. entries_of d.entries.entries ≡ entries_of self.now.entries.entries) }
+    {
+        let entries = copied(&self.entries)?;
+        Ok(Directory { entries })
+    }
+}
+
+fn copied(entries: &IndexMap<Vec<u8>, Target>) -> Result<IndexMap<Vec<u8>, Target>, NoMemory>
+    requires { IsUnique vec_eq entries.now }
+    ensures same { IfOk result (λ new. entries_of new.entries ≡ entries_of entries.now.entries) }
+    ensures unique { IfOk result (λ new. IsUnique vec_eq new) }
+{
+    let mut copy = IndexMap::new(*entries.allocator());
+    for at in 0..entries.len() {
+        let Some((entry, target)) = entries.get_index(at) else {
+            unreachable!()
+        };
+        let entry = Vec::from_slice(*entry.allocator(), entry.as_slice())?;
+        copy.insert(entry, target.copy()?)?;
+    }
+    Ok(copy)
+}

@@ -1,0 +1,523 @@
+//! Directories and files by name.
+
+ghost use Rattle.std.specs.Prelude.{◌≡◌, ◌≤◌, ◌<◌, [], IfOk, OnOk, OnErr, Some, None, length, take, drop, is_some, unwrap_or};
+ghost use Rattle.std.specs.Result.{MatchResult};
+ghost use Rattle.std.specs.Option.{option_copied};
+ghost use Rattle.std.specs.Map.{lookup};
+ghost use Rattle.std.specs.FinMap.{insert};
+ghost use Rattle.indexmap.specs.IndexMap.{spare};
+ghost use Rattle.lam_value.specs.Homes.{home_of, name_of, count_in, counted};
+ghost use Rattle.labelled_files.specs.Entries.{text_eq, name_of_kind};
+ghost use Rattle.labelled_files.specs.Seen.{dirs_of, files_of, at, shown};
+ghost use Rattle.labelled_files.specs.Trees as tree;
+ghost use Rattle.labelled_files.specs.Trees.{root_alone, lives_as, target_at, bytes_at, next_name, with_file, with_dir, without_entry, with_more, with_first, changed_at, joined};
+ghost use Rattle.labelled_files.specs.declared.files.FileFault.TheVariants.{NoMemory as no_memory};
+
+use crate::contents::{Contents, first_bytes, last_bytes};
+use crate::directory::{Directory, ENTRY_LIMIT, EntryKind, Target, is_entry_name};
+use flow_labels::Label;
+use indexmap::IndexMap;
+use lam_value::{Counters, Name};
+use std::alloc::{AllocError, AllocFailed, Global};
+use std::marker::Model;
+use tag_sets::NoMemory;
+
+/// The number of files and directories that one home may make.
+pub const HOME_LIMIT: u64 = 65_536;
+
+/// Why nothing is made. Everything is then as it was.
+#[derive(Clone, Copy, Debug, PartialEq, Eq)]
+pub enum FileFault {
+    /// No entry may have this name: see [`is_entry_name`].
+    BadName,
+    /// The directory has an entry of this name, of either kind.
+    Exists,
+    /// The directory has 4,096 entries.
+    DirFull,
+    /// The home has made 65,536 files and directories.
+    HomeFull,
+    /// Memory ran out.
+    NoMemory,
+}
+
+impl From<NoMemory> for FileFault {
+    ghost from_gives = { λ _ e. e ≡ no_memory };
+
+    fn from(_e: NoMemory) -> FileFault {
+        FileFault::NoMemory
+    }
+}
+
+impl From<AllocError> for FileFault {
+    ghost from_gives = { λ _ e. e ≡ no_memory };
+
+    fn from(_e: AllocError) -> FileFault {
+        FileFault::NoMemory
+    }
+}
+
+impl<T: Drop> From<AllocFailed<T>> for FileFault {
+    ghost from_gives = { λ _ e. e ≡ no_memory };
+
+    fn from(_e: AllocFailed<T>) -> FileFault {
+        FileFault::NoMemory
+    }
+}
+
+type Dirs = IndexMap<Name, Directory>;
+
+type FileMap = IndexMap<Name, Contents>;
+
+/// Directories and files by name, with a counter for each home, a pair of a maker's label and an own label.
+///
+/// A call on a name that does not live as the kind that the call is about answers as for an empty one, and
+/// changes nothing there.
+#[derive(Drop)]
+pub struct Files {
+    dirs: Dirs,
+    files: FileMap,
+    counters: Counters,
+    root: Name,
+}
+
+impl Model for Files {
+    ghost use Rattle.labelled_files.specs.Trees.{Tree, coded_tree};
+
+    ghost Value = { Tree };
+
+    ghost coded = { coded_tree };
+
+    ghost use Rattle.labelled_files.specs.Seen.{tree_of, IsWithinLimit};
+
+    ghost view = { λ f. tree_of f.dirs.entries f.files.entries f.counters f.root };
+
+    ghost invariant = { λ f. IsWithinLimit f.counters };
+}
+
+impl Files {
+    /// The root alone: an empty directory, the first thing of the public home.
+    ///
+    /// # Errors
+    ///
+    /// `NoMemory` where memory is refused.
+    pub fn new(alloc: Global) -> Result<Files, NoMemory>
+        ensures { IfOk result (λ f. f ≡ root_alone) }
+    {
+        let public = Label::public(alloc);
+        let root = Name::of(&public, &public, 0)?;
+        let mut dirs = IndexMap::new(alloc);
+        dirs.insert(root.copy()?, Directory::new(alloc))?;
+        let mut counters = Counters::new(alloc);
+        counters.draw(&public, &public)?;
+        Ok(Files {
+            dirs,
+            files: IndexMap::new(alloc),
+            counters,
+            root,
+        })
+    }
+
+    /// The name of the root, a directory.
+    pub fn root(&self) -> &Name
+        ensures { result.now ≡ self.now.root }
+    {
+        &self.root
+    }
+
+    /// Whether a file, or a directory, of this name lives.
+    pub fn lives(&self, n: &Name, kind: EntryKind) -> bool
+        ensures { result ≡ lives_as kind self.now n.now }
+    {
+        match kind {
+            EntryKind::File => self.files.contains_key(n),
+            EntryKind::Dir => self.dirs.contains_key(n),
+        }
+    }
+
+    /// The number that the next file or directory of a home gets: how many it has made, at most `HOME_LIMIT`.
+    pub fn next(&self, maker: &Label, own: &Label) -> u64
+        ensures value { result ≡ count_in self.now.counts (home_of maker.now own.now) }
+        ensures bound { result ≤ 65536 }
+    {
+        self.counters.next(maker, own)
+    }
+
+    /// Makes an empty file of a home, at the home's next number, and lists it last in a directory.
+    ///
+    /// # Errors
+    ///
+    /// The first of these that holds, in this order: `BadName`, `Exists`, `DirFull`, `HomeFull`. Where none
+    /// holds, `NoMemory` where memory is refused.
+    pub fn make_file(
+        &mut self,
+        dir: &Name,
+        entry: &[u8],
+        maker: &Label,
+        own: &Label,
+    ) -> Result<Name, FileFault>
+        ensures fault { MatchResult result (λ _. tree.first_fault self.old dir.now entry.now (home_of maker.now own.now) ≡ None) (λ e. e ≡ unwrap_or (tree.first_fault self.old dir.now entry.now (home_of maker.now own.now)) no_memory) }
+        ensures name { IfOk result (λ n. n ≡ next_name self.old (home_of maker.now own.now)) }
+        ensures ok { OnOk result (self.new ≡ with_file self.old dir.now entry.now (home_of maker.now own.now)) }
+        ensures err { OnErr result (self.new ≡ self.old) }
+    {
+        if let Some(fault) = self.first_fault(dir, entry, maker, own) {
+            return Err(fault);
+        }
+        let name = add_file(
+            &mut self.dirs,
+            &mut self.files,
+            &mut self.counters,
+            dir,
+            entry,
+            maker,
+            own,
+        )?;
+        Ok(name)
+    }
+
+    /// Makes an empty directory of a home, at the home's next number, and lists it last in a directory.
+    ///
+    /// # Errors
+    ///
+    /// As of [`Files::make_file`].
+    pub fn make_dir(
+        &mut self,
+        dir: &Name,
+        entry: &[u8],
+        maker: &Label,
+        own: &Label,
+    ) -> Result<Name, FileFault>
+        ensures fault { MatchResult result (λ _. tree.first_fault self.old dir.now entry.now (home_of maker.now own.now) ≡ None) (λ e. e ≡ unwrap_or (tree.first_fault self.old dir.now entry.now (home_of maker.now own.now)) no_memory) }
+        ensures name { IfOk result (λ n. n ≡ next_name self.old (home_of maker.now own.now)) }
+        ensures ok { OnOk result (self.new ≡ with_dir self.old dir.now entry.now (home_of maker.now own.now)) }
+        ensures err { OnErr result (self.new ≡ self.old) }
+    {
+        if let Some(fault) = self.first_fault(dir, entry, maker, own) {
+            return Err(fault);
+        }
+        let name = add_dir(&mut self.dirs, &mut self.counters, dir, entry, maker, own)?;
+        Ok(name)
+    }
+
+    /// Why nothing can be made, want of memory aside.
+    fn first_fault(&self, dir: &Name, entry: &[u8], maker: &Label, own: &Label) -> Option<FileFault>
+        ensures { result ≡ tree.first_fault self.now dir.now entry.now (home_of maker.now own.now) }
+    {
+        if !is_entry_name(entry) {
+            return Some(FileFault::BadName);
+        }
+        if self.target(dir, entry).is_some() {
+            return Some(FileFault::Exists);
+        }
+        if self.entry_count(dir) == ENTRY_LIMIT {
+            return Some(FileFault::DirFull);
+        }
+        if self.next(maker, own) == HOME_LIMIT {
+            return Some(FileFault::HomeFull);
+        }
+        None
+    }
+
+    fn target(&self, dir: &Name, entry: &[u8]) -> Option<&Target>
+        ensures { option_copied result ≡ target_at self.now dir.now entry.now }
+    {
+        match self.dirs.get(dir) {
+            None => None,
+            Some(directory) => directory.target(entry),
+        }
+    }
+
+    fn entry_count(&self, dir: &Name) -> usize
+        ensures { result ≡ length (tree.entries_at self.now dir.now) }
+    {
+        match self.dirs.get(dir) {
+            None => 0,
+            Some(directory) => directory.len(),
+        }
+    }
+
+    /// The name that an entry leads to, or `None` exactly where no entry of that name and kind is there.
+    pub fn look_up(&self, dir: &Name, entry: &[u8], kind: EntryKind) -> Option<&Name>
+        ensures { option_copied result ≡ name_of_kind kind (target_at self.now dir.now entry.now) }
+    {
+        match self.target(dir, entry) {
+            None => None,
+            Some(target) => name_as(target, kind),
+        }
+    }
+
+    /// Takes an entry away, and says whether it was there. What it led to lives on.
+    pub fn remove(&mut self, dir: &Name, entry: &[u8]) -> bool
+        ensures there { result ≡ is_some (target_at self.old dir.now entry.now) }
+        ensures new { self.new ≡ without_entry self.old dir.now entry.now }
+    {
+        match self.dirs.get_mut(dir) {
+            None => return false,
+            Some(directory) => return directory.leave(entry),
+        }
+    }
+
+    /// The bytes of a file from the place `at` on, at most `n`, and none past its end.
+    pub fn read(&self, f: &Name, at: u64, n: u64) -> &[u8]
+        ensures { result.now ≡ take n (drop at (bytes_at self.now f.now)) }
+    {
+        let rest = last_bytes(self.bytes(f), at as usize);
+        first_bytes(rest, n as usize)
+    }
+
+    /// The number of bytes of a file, at most `FILE_LIMIT`.
+    pub fn length(&self, f: &Name) -> u64
+        ensures value { result ≡ length (bytes_at self.now f.now) }
+        ensures bound { result ≤ 1048576 }
+    {
+        self.bytes(f).len() as u64
+    }
+
+    fn bytes(&self, f: &Name) -> &[u8]
+        ensures value { result.now ≡ bytes_at self.now f.now }
+        ensures few { length result.now ≤ 1048576 }
+    {
+        match self.files.get(f) {
+            None => &[],
+            Some(contents) => contents.bytes(),
+        }
+    }
+
+    /// Puts bytes at the end of a file: the front of them that fits into `FILE_LIMIT`.
+    ///
+    /// # Errors
+    ///
+    /// `NoMemory` where memory is refused; everything is then as it was.
+    pub fn append(&mut self, f: &Name, bytes: &[u8]) -> Result<(), NoMemory>
+        ensures ok { OnOk result (self.new ≡ with_more self.old f.now bytes.now) }
+        ensures err { OnErr result (self.new ≡ self.old) }
+    {
+        match self.files.get_mut(f) {
+            None => return Ok(()),
+            Some(contents) => return contents.append(bytes),
+        }
+    }
+
+    /// Keeps the first `len` bytes of a file, and all of a file that is no longer.
+    pub fn cut(&mut self, f: &Name, len: u64)
+        ensures { self.new ≡ with_first self.old f.now len }
+    {
+        match self.files.get_mut(f) {
+            None => return,
+            Some(contents) => return contents.cut(len as usize),
+        }
+    }
+
+    /// Equal files and directories.
+    ///
+    /// # Errors
+    ///
+    /// `NoMemory` where memory is refused.
+    pub fn copy(&self) -> Result<Files, NoMemory>
+        ensures { IfOk result (λ f. f ≡ self.now) }
+    {
+        let dirs = copied_dirs(&self.dirs)?;
+        let files = copied_files(&self.files)?;
+        let counters = self.counters.copy()?;
+        let root = self.root.copy()?;
+        Ok(Files {
+            dirs,
+            files,
+            counters,
+            root,
+        })
+    }
+}
+
+/// The name of a target, where it is of that kind.
+fn name_as(target: &Target, kind: EntryKind) -> Option<&Name>
+    ensures { option_copied result ≡ name_of_kind kind (Some target.now) }
+{
+    if target.kind == kind {
+        Some(&target.name)
+    } else {
+        None
+    }
+}
+
+/// Makes a file. The last step that can fail is the listing, and what comes after it has its room.
+fn add_file(
+    dirs: &mut Dirs,
+    files: &mut FileMap,
+    counters: &mut Counters,
+    dir: &Name,
+    entry: &[u8],
+    maker: &Label,
+    own: &Label,
+) -> Result<Name, NoMemory>
+    requires home { count_in counters.old (home_of maker.now own.now) < 65536 }
+    requires few { length (at dirs.old.entries dir.now) < 4096 }
+    requires fresh { lookup (text_eq entry.now) (at dirs.old.entries dir.now) ≡ None }
+    ensures name { IfOk result (λ n. n ≡ name_of (home_of maker.now own.now) (count_in counters.old (home_of maker.now own.now))) }
+    ensures dirs { OnOk result (dirs_of dirs.new.entries ≡ changed_at (dirs_of dirs.old.entries) dir.now (joined entry.now EntryKind.File (name_of (home_of maker.now own.now) (count_in counters.old (home_of maker.now own.now))))) }
+    ensures files { OnOk result (files_of files.new.entries ≡ insert (files_of files.old.entries) (name_of (home_of maker.now own.now) (count_in counters.old (home_of maker.now own.now))) []) }
+    ensures counters { OnOk result (counters.new ≡ counted counters.old (home_of maker.now own.now)) }
+    ensures same_dirs { OnErr result (dirs_of dirs.new.entries ≡ dirs_of dirs.old.entries) }
+    ensures same_files { OnErr result (files_of files.new.entries ≡ files_of files.old.entries) }
+    ensures same_counters { OnErr result (counters.new ≡ counters.old) }
+{
+    let name = Name::of(maker, own, counters.next(maker, own))?;
+    let key = name.copy()?;
+    let listed = name.copy()?;
+    let target = Target {
+        kind: EntryKind::File,
+        name: listed,
+    };
+    files.reserve(1)?;
+    list(dirs, counters, dir, entry, target)?;
+    let Ok(_) = files.insert(key, Contents::new(own.allocator())) else {
+        unreachable!()
+    };
+    Ok(name)
+}
+
+/// Makes a directory. The last step that can fail is the listing, and what comes after it has its room.
+fn add_dir(
+    dirs: &mut Dirs,
+    counters: &mut Counters,
+    dir: &Name,
+    entry: &[u8],
+    maker: &Label,
+    own: &Label,
+) -> Result<Name, NoMemory>
+    requires home { count_in counters.old (home_of maker.now own.now) < 65536 }
+    requires few { length (at dirs.old.entries dir.now) < 4096 }
+    requires fresh { lookup (text_eq entry.now) (at dirs.old.entries dir.now) ≡ None }
+    ensures name { IfOk result (λ n. n ≡ name_of (home_of maker.now own.now) (count_in counters.old (home_of maker.now own.now))) }
+    ensures dirs { OnOk result (dirs_of dirs.new.entries ≡ insert (changed_at (dirs_of dirs.old.entries) dir.now (joined entry.now EntryKind.Dir (name_of (home_of maker.now own.now) (count_in counters.old (home_of maker.now own.now))))) (name_of (home_of maker.now own.now) (count_in counters.old (home_of maker.now own.now))) []) }
+    ensures counters { OnOk result (counters.new ≡ counted counters.old (home_of maker.now own.now)) }
+    ensures same_dirs { OnErr result (dirs_of dirs.new.entries ≡ dirs_of dirs.old.entries) }
+    ensures same_counters { OnErr result (counters.new ≡ counters.old) }
+{
+    let name = Name::of(maker, own, counters.next(maker, own))?;
+    let key = name.copy()?;
+    let listed = name.copy()?;
+    let target = Target {
+        kind: EntryKind::Dir,
+        name: listed,
+    };
+    dirs.reserve(1)?;
+    list(dirs, counters, dir, entry, target)?;
+    let Ok(_) = dirs.insert(key, Directory::new(own.allocator())) else {
+        unreachable!()
+    };
+    Ok(name)
+}
+
+/// Lists a target last in a directory, and draws a number of the target's home. The map keeps its room.
+fn list(
+    dirs: &mut Dirs,
+    counters: &mut Counters,
+    dir: &Name,
+    entry: &[u8],
+    target: Target,
+) -> Result<(), NoMemory>
+    requires home { count_in counters.old (home_of target.name.maker target.name.own) < 65536 }
+    requires few { length (at dirs.old.entries dir.now) < 4096 }
+    requires fresh { lookup (text_eq entry.now) (at dirs.old.entries dir.now) ≡ None }
+    ensures dirs { OnOk result (dirs_of dirs.new.entries ≡ changed_at (dirs_of dirs.old.entries) dir.now (joined entry.now target.kind target.name)) }
+    ensures counters { OnOk result (counters.new ≡ counted counters.old (home_of target.name.maker target.name.own)) }
+    ensures same_dirs { OnErr result (dirs_of dirs.new.entries ≡ dirs_of dirs.old.entries) }
+    ensures same_counters { OnErr result (counters.new ≡ counters.old) }
+    ensures room { spare dirs.old ≤ spare dirs.new }
+{
+    match dirs.get_mut(dir) {
+        None => return draw_alone(counters, target),
+        Some(directory) => return list_in(directory, counters, entry, target),
+    }
+}
+
+/// Draws a number of a target's home, and lets the target go, for which there is no directory.
+fn draw_alone(counters: &mut Counters, target: Target) -> Result<(), NoMemory>
+    requires { count_in counters.old (home_of target.name.maker target.name.own) < 65536 }
+    ensures ok { OnOk result (counters.new ≡ counted counters.old (home_of target.name.maker target.name.own)) }
+    ensures err { OnErr result (counters.new ≡ counters.old) }
+{
+    counters.draw(&target.name.maker, &target.name.own)?;
+    Ok(())
+}
+
+fn list_in(
+    directory: &mut Directory,
+    counters: &mut Counters,
+    entry: &[u8],
+    target: Target,
+) -> Result<(), NoMemory>
+    requires home { count_in counters.old (home_of target.name.maker target.name.own) < 65536 }
+    requires few { length (shown directory.old) < 4096 }
+    requires fresh { lookup (text_eq entry.now) (shown directory.old) ≡ None }
+    ensures entries { OnOk result (shown directory.new ≡ joined entry.now target.kind target.name (shown directory.old)) }
+    ensures counters { OnOk result (counters.new ≡ counted counters.old (home_of target.name.maker target.name.own)) }
+    ensures same_entries { OnErr result (shown directory.new ≡ shown directory.old) }
+    ensures same_counters { OnErr result (counters.new ≡ counters.old) }
+{
+    let entry = Vec::from_slice(target.name.allocator(), entry)?;
+    directory.reserve()?;
+    counters.draw(&target.name.maker, &target.name.own)?;
+    directory.join(entry, target);
+    Ok(())
+}
+
+fn copied_dirs(dirs: &Dirs) -> Result<Dirs, NoMemory>
+    ensures { IfOk result (λ new. dirs_of new.entries ≡ dirs_of dirs.now.entries) }
+{
+    let mut copy = IndexMap::new(*dirs.allocator());
+    for at in 0..dirs.len() {
+        let Some((name, directory)) = dirs.get_index(at) else {
+            unreachable!()
+        };
+        copy.insert(name.copy()?, directory.copy()?)?;
+    }
+    Ok(copy)
+}
+
+fn copied_files(files: &FileMap) -> Result<FileMap, NoMemory>
+    ensures { IfOk result (λ new. files_of new.entries ≡ files_of files.now.entries) }
+{
+    let mut copy = IndexMap::new(*files.allocator());
+    for at in 0..files.len() {
+        let Some((name, contents)) = files.get_index(at) else {
+            unreachable!()
+        };
+        copy.insert(name.copy()?, contents.copy()?)?;
+    }
+    Ok(copy)
+}
+
+#[cfg(test)]
+mod tests {
+    use super::*;
+    use std::test::Fail;
+
+    #[test]
+    fn file_keeps_a_mebibyte(rt: HostRuntime) -> Result<(), Fail> {
+        let alloc = rt.alloc();
+        let public = Label::public(alloc);
+        let mut files = Files::new(alloc)?;
+        let root = files.root().copy()?;
+        let Ok(name) = files.make_file(&root, b"f", &public, &public) else {
+            return Err(Fail::new("no file was made"));
+        };
+        let most = Vec::from_elem(alloc, 0u8, 1_048_575)?;
+        files.append(&name, &most)?;
+        files.append(&name, b"xy")?;
+        assert_eq!(rt; files.length(&name), 1_048_576u64);
+        assert_eq!(rt; files.read(&name, 1_048_575, 9), b"x".as_slice());
+        files.cut(&name, 3);
+        assert_eq!(rt; files.read(&name, 0, 9), [0u8, 0, 0].as_slice());
+        let again = files.make_file(&root, b"f", &public, &public);
+        assert_eq!(rt; again.err(), Some(FileFault::Exists));
+        let slash = files.make_dir(&root, b"a/b", &public, &public);
+        assert_eq!(rt; slash.err(), Some(FileFault::BadName));
+        assert!(rt; files.remove(&root, b"f"));
+        assert!(rt; files.look_up(&root, b"f", EntryKind::File).is_none());
+        assert!(rt; files.lives(&name, EntryKind::File));
+        assert_eq!(rt; files.copy()?.next(&public, &public), 2u64);
+        Ok(())
+    }
+}
