@@ -488,36 +488,3 @@ fn copied_files(files: &FileMap) -> Result<FileMap, NoMemory>
     }
     Ok(copy)
 }
-
-#[cfg(test)]
-mod tests {
-    use super::*;
-    use std::test::Fail;
-
-    #[test]
-    fn file_keeps_a_mebibyte(rt: HostRuntime) -> Result<(), Fail> {
-        let alloc = rt.alloc();
-        let public = Label::public(alloc);
-        let mut files = Files::new(alloc)?;
-        let root = files.root().copy()?;
-        let Ok(name) = files.make_file(&root, b"f", &public, &public) else {
-            return Err(Fail::new("no file was made"));
-        };
-        let most = Vec::from_elem(alloc, 0u8, 1_048_575)?;
-        files.append(&name, &most)?;
-        files.append(&name, b"xy")?;
-        assert_eq!(rt; files.length(&name), 1_048_576u64);
-        assert_eq!(rt; files.read(&name, 1_048_575, 9), b"x".as_slice());
-        files.cut(&name, 3);
-        assert_eq!(rt; files.read(&name, 0, 9), [0u8, 0, 0].as_slice());
-        let again = files.make_file(&root, b"f", &public, &public);
-        assert_eq!(rt; again.err(), Some(FileFault::Exists));
-        let slash = files.make_dir(&root, b"a/b", &public, &public);
-        assert_eq!(rt; slash.err(), Some(FileFault::BadName));
-        assert!(rt; files.remove(&root, b"f"));
-        assert!(rt; files.look_up(&root, b"f", EntryKind::File).is_none());
-        assert!(rt; files.lives(&name, EntryKind::File));
-        assert_eq!(rt; files.copy()?.next(&public, &public), 2u64);
-        Ok(())
-    }
-}

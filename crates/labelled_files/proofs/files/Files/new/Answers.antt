@@ -26,6 +26,6 @@ returns c =
     let public = c.public-public.ensures in
     let named = c.in_ok-copy.ensures ∙ c.in_ok-root.ensures ∙ (λ i. name_of (home_of (public i) (public i)) 0) in
     let dirs = added shown [] c.insert.new.self.entries (name_of public_home 0) c.in_ok-copy.field-0 c.new.result [] named c.new.ensures
-        (λ q. c.in_ok-insert.ensures.updates.0 q ∙ (λ i. cond (name_eq c.in_ok-copy.field-0 q) (Some c.new.result) (lookup (name_eq q) (c.new-dirs.ensures.empty i)))) in
+    (λ q. c.in_ok-insert.ensures.updates.0 q ∙ (λ i. cond (name_eq c.in_ok-copy.field-0 q) (Some c.new.result) (lookup (name_eq q) (c.new-dirs.ensures.empty i)))) in
     let counts = c.in_ok-draw.ensures.ok ∙ (λ i. counted (c.new-counters.ensures i) (home_of (public i) (public i))) ∙ ap (λ n. insert map.empty public_home (n + 1)) (none_made public_home) in
     λ i. record { dirs = dirs i; files = files_of (c.new-2.ensures.empty i); counts = counts i; root = (c.in_ok-root.ensures ∙ (λ j. name_of (home_of (public j) (public j)) 0)) i }
