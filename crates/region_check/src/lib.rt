@@ -16,8 +16,6 @@ ghost use Rattle.region_check.specs.Sees.{see_names};
 ghost use Rattle.region_check.specs.declared.RegionFault.TheVariants.{NoMemory as no_memory};
 
 mod checked;
-#[cfg(test)]
-mod tests;
 mod whole;
 
 pub use checked::Checked;
