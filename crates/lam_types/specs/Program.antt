@@ -1,4 +1,9 @@
--- The first break of the typing rules in a program.
+-- The first break of the typing rules in a program. For example:
+--   fn f(): int { return true; }                                     a mismatch at 21: int is wanted, bool was got
+--   fn f(): int { return y; }                                        no name at 21
+--   fn f(): int { let x: int = 1; let x: int = 2; return x; }        twice at 34
+--   fn f(): int { }                                                  no return at 3
+--   fn f(x:int):int{return (x+1)*2;}                                 none
 use Rattle.std.specs.Prelude.{◌≡◌, ℕ, Bool, true, false, ◌&&◌, not, if◌then◌else◌, is_some, List, [], ◌∷◌, length, Option, Some, None}
 use Rattle.lam_syntax.specs.Tree.{TypeTree, ClassTree, FunctionTree, ItemTree, class_item, function_item, ProgramTree}
 use Rattle.lam_kinds.specs.Types.{ValueType, written}

@@ -1,4 +1,6 @@
--- The first break of the region rules, in source order.
+-- The first break of the region rules, in source order. For example:
+--   fn f(): int { let x: int = 1; region (label{;}, caps{}) [] { x = 2; } catch (e) { } return x; }     an outer write at 61
+--   the same with [x]                                                                                   none
 use Rattle.std.specs.Prelude.{◌≡◌, ℕ, Bool, true, false, if◌then◌else◌, ◌||◌, not, List, [], ◌∷◌, ◌++◌, Option, Some, None}
 use Rattle.std.specs.Str.{bytes_eq}
 use Rattle.std.specs.List.{list_any}
