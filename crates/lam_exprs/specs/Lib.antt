@@ -1,3 +1,0 @@
-pub mod Exprs
-pub mod Judgement
-pub mod Meets

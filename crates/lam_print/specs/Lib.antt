@@ -1,4 +1,0 @@
-pub mod Pieces
-pub mod Canon
-pub mod Printing
-pub mod Law

@@ -1,6 +1,0 @@
-pub mod Endings
-pub mod Stmts
-pub mod Program
-pub mod Judgement
-pub mod Meets
-pub mod Seen

@@ -1,5 +1,0 @@
-pub mod Breaks
-pub mod Legal
-pub mod Values
-pub mod Sees
-pub mod Seen
