@@ -1,0 +1,4 @@
+pub mod Pieces
+pub mod Canon
+pub mod Printing
+pub mod Law

@@ -1,0 +1,36 @@
+-- How the code meets the definitions.
+use Rattle.std.specs.Prelude.{◌≡◌, ℕ, List, ◌++◌, ◌∷◌, [], Option, Some, None, Result, Ok, Err}
+use Rattle.std.specs.Borrow.{Bor}
+use Rattle.lam_syntax.specs.Tree.{Word}
+use Rattle.lam_kinds.specs.Types.{ValueType}
+use Rattle.lam_kinds.specs.Breaks.{Break, Verdict, Fine, Stop}
+use Rattle.lam_kinds.specs.Tables.{Names}
+use Rattle.lam_kinds.specs.Values.{Breaks, IsFault}
+use Rattle.lam_kinds.specs.declared.fault.TypeFault.{TypeFault}
+use Rattle.lam_kinds.specs.declared.fault.TypeFault.TheVariants.{NoMemory}
+use Rattle.lam_types.specs.declared.stmts.Counts.{Counts}
+use Rattle.lam_types.specs.Stmts.{State}
+
+-- new counts
+abbrev pub Counted : Result Counts TypeFault → Verdict Counts → Type 0
+Counted (Ok c) v = v ≡ Fine c
+Counted (Err f) v = Breaks f v
+
+-- new counts, and new names in scope
+abbrev pub Steps : Result Counts TypeFault → Names → Verdict State → Type 0
+Steps (Ok c) env v = v ≡ Fine (env, c)
+Steps (Err f) env v = Breaks f v
+
+abbrev pub CountedRegions : Result ℕ TypeFault → Verdict ℕ → Type 0
+CountedRegions (Ok n) v = v ≡ Fine n
+CountedRegions (Err f) v = Breaks f v
+
+-- the refusal is the first break; where there is none, only memory may have run out
+abbrev pub IsFirst : TypeFault → Option Break → Type 0
+IsFirst f (Some b) = IsFault f b
+IsFirst f None = f ≡ NoMemory
+
+-- no break; only memory may have run out
+abbrev pub IsFine : {A : Type 0} → Result A TypeFault → Type 0
+IsFine (Ok a) = Unit {0}
+IsFine (Err f) = f ≡ NoMemory

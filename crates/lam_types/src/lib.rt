@@ -1,0 +1,20 @@
+//! The type checker.
+//!
+//! `specs/Stmts.antt` and `specs/Program.antt` say which break of the typing rules is the first in a program:
+//! all class names, all function names, then the items in source order, each from left to right. `specs/Judgement.antt`
+//! says which programs are typed, with one rule for each form of the grammar, and no positions and no order. `check`
+//! joins the two: it answers Ok exactly where the program is typed, and else the first break.
+//!
+//! The crate stands on `lam_exprs`, which types expressions, and on `lam_kinds`, which has the types and the tables.
+//! Names in scope are a table that a block cuts back at its end, so a look-up takes constant time.
+#![tactic(auto)]
+
+mod endings;
+mod items;
+mod stmts;
+mod typed;
+
+pub use items::check;
+pub use lam_kinds::TypeFault;
+pub use stmts::Counts;
+pub use typed::Typed;
