@@ -1,0 +1,5 @@
+pub mod Breaks
+pub mod Legal
+pub mod Values
+pub mod Sees
+pub mod Seen
