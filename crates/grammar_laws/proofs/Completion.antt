@@ -7,7 +7,7 @@ use Rattle.std.proofs.Math.Seq.{get_or-append_seam}
 use Rattle.grammar_laws.specs.Grammar.{Symbol, mark, rule, Grammar, production, enters, leaves, Reads, nothing, token, part}
 use Rattle.grammar_laws.specs.Texts.{limited, capped}
 use Rattle.grammar_laws.specs.Examples.{Examples, implies, all_empty, words, ends, closes_all, followed}
-use Rattle.grammar_laws.specs.Stopping.{Stop, unexpected, too_deep, could, reached, place, AtFirst, AfterLast, Stops, wrong, deep, there, sample, opens, later, inside, after, barred}
+use Rattle.grammar_laws.specs.Stopping.{Stop, unexpected, too_deep, could, reached, place, AtFirst, AfterLast, Stops, wrong, deep, there, sample, opens, skips, later, inside, after, barred}
 use Rattle.grammar_laws.proofs.Laws.{stands}
 use Rattle.grammar_laws.proofs.Sound.{Sound}
 use Rattle.grammar_laws.proofs.Spelling.{both_right, both_of, HasAt, moves, closes_after, Written, spell}
@@ -247,6 +247,10 @@ module _ (G : Grammar) (E : Examples G) (S : Sound G E) (ts : List G.Token) wher
       let g = S.fills r before fl in
       let k = here (E.first r) g.0 (E.full r) before (enters G r s) i le (S.following r before _ _ g.2) g.1 in
       up (could i (E.first r)) r (E.full r) rest before s i f (omega arith) k (ap (production G r before) k.next ∙ g.2) (slice_get_within k.others i (E.first r) k.next)
+  completes df le f (skips {r = r} {rest = rest} {before = before} {s = s} {i = i} {w = w} n cl h) =
+      let k = completes df le (followed_rest r rest f) h in
+      let e = S.empties r before (Some w) n cl in
+      in_same k (G.act r [] ∷ k.vs) (part (ap (production G r before) k.next ∙ e) nothing k.reads)
   completes df le f (deep {c = c} {rest = rest} {before = before} {s = s} {i = i} {w = w} l q d) = there_on (too_deep i) c rest before s i w refl refl tt l q f
   completes df le f (there {c = c} {rest = rest} {before = before} {s = s} {i = i} {w = w} l q) = there_on (reached i) c rest before s i w refl refl tt l q f
   completes df le f (later {c = c} {s = s} {i = i} {w = w} {x = x} l q d h) =

@@ -2,7 +2,7 @@
 use Rattle.std.proofs.Common.{◌≡◌, ℕ, ◌+◌, ◌<◌, ◌≤◌, Bool, true, false, cond, Option, Some, None, List, [], ◌∷◌, refl, sym, ap, ◌∙◌, subst, arith}
 use Rattle.grammar_laws.specs.Grammar.{Symbol, mark, rule, Grammar, pick, is_empty, production, leaves, Reads, nothing, token, part, free}
 use Rattle.grammar_laws.specs.Examples.{Examples}
-use Rattle.grammar_laws.specs.Stopping.{Stop, unexpected, too_deep, could, reached, place, fits_next, Stops, wrong, deep, there, sample, opens, later, inside, after, barred}
+use Rattle.grammar_laws.specs.Stopping.{Stop, unexpected, too_deep, could, reached, place, fits_next, Stops, wrong, deep, there, sample, opens, skips, later, inside, after, barred}
 
 -- two texts begin with the same n tokens
 abbrev pub Same : (G : Grammar) → (ℕ → Option G.Token) → (ℕ → Option G.Token) → ℕ → Type 0
@@ -79,6 +79,7 @@ stands (inside p a h) = stands h
 stands (after p g a h) = omega (arith, grows g, stands h)
 stands sample = omega arith
 stands (opens f) = omega arith
+stands (skips n c h) = omega arith
 stands (barred p) = omega arith
 
 -- What stops at a token is not read in any text that is the same as far as that token.
@@ -90,6 +91,7 @@ never (deep l f d) same n (token l' f' d' h') = omega (arith, d, d', n)
 never (there l f) same n r = n
 never sample same n r = n
 never (opens f) same n r = n
+never (skips m c h) same n r = n
 never {G} (later {i = i} l f d h) same n (token l' f' d' h') =
     never h same n (move_token G (one G (same i (omega (arith, stands h))) l l') h')
 never {G} (inside {r = r} {before = before} {i = i} p a h) same n (part p' h' g') =

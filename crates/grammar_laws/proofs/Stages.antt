@@ -2,7 +2,7 @@
 use Rattle.std.proofs.Common.{◌≡◌, ℕ, ◌+◌, ◌<◌, ◌≤◌, Bool, true, false, cond, Option, Some, List, [], ◌∷◌, refl, sym, ap, ◌∙◌, subst, arith}
 use Rattle.grammar_laws.specs.Grammar.{Symbol, mark, rule, Grammar, production, enters, leaves, Reads, nothing, token, part}
 use Rattle.grammar_laws.specs.Examples.{Examples}
-use Rattle.grammar_laws.specs.Stopping.{Stop, unexpected, too_deep, could, reached, place, AtFirst, AfterLast, Stops, opens, later, inside, after, barred}
+use Rattle.grammar_laws.specs.Stopping.{Stop, unexpected, too_deep, could, reached, place, AtFirst, AfterLast, Stops, wrong, deep, there, sample, opens, skips, later, inside, after, barred}
 use Rattle.grammar_laws.proofs.Laws.{stands}
 
 -- what could stand at the place is of that sort
@@ -44,6 +44,7 @@ pub weaken : {G : Grammar} {E : Examples G} {cap : ℕ → ℕ} {look : ℕ → 
 weaken (inside p a h) = inside p a h
 weaken (after p g a h) = elim h [ ]
 weaken (opens f) = opens f
+weaken (skips n c h) = elim h [ ]
 weaken (barred p) = barred p
 
 at_first : (G : Grammar) (E : Examples G) (r : G.Rule) (i : ℕ) (x : Stop G.Token) → E.null r ≡ false → At i (λ w. w ≡ E.first r) x → AtFirst G E r i x
@@ -75,7 +76,16 @@ of_first {G} {E} (inside {r = r} {i = i} {x = x} p a h) = go x a
     go (reached m) a = tt
 of_first (after p g a h) = elim h [ ]
 of_first (opens f) = λ e. refl
+of_first (skips n c h) = elim h [ ]
 of_first (barred p) = tt
+
+-- What could stand where a token is taken is one of its class.
+of_sample : {G : Grammar} {E : Examples G} {cap : ℕ → ℕ} {look : ℕ → Option G.Token} {c : G.Class} {rest : List (Symbol G.Class G.Rule)} {before : G.Value} {s i : ℕ} {x : Stop G.Token} → Stops G E cap look (mark c ∷ rest) before s i x → At i (λ w. w ≡ E.sample c) x
+of_sample (wrong f) = tt
+of_sample (deep l f d) = tt
+of_sample (there l f) = tt
+of_sample sample = λ e. refl
+of_sample {E = E} {c = c} (later {i = i} {x = x} l f d h) = at_past i (λ w. w ≡ E.sample c) x (omega (arith, stands h))
 
 at_map : {Token : Type 0} (k : ℕ) (ok ok' : Token → Type 0) (x : Stop Token) → ((w : Token) → ok w → ok' w) → At k ok x → At k ok' x
 at_map k ok ok' (unexpected b m) f a = tt
@@ -132,6 +142,16 @@ module _ (G : Grammar) (E : Examples G) (cap : ℕ → ℕ) (look : ℕ → Opti
 
   pub stop_rule : {r q : G.Rule} {s i k u : ℕ} {rest : List (Symbol G.Class G.Rule)} {prev : G.Value → G.Value} {done : List G.Value → List G.Value} {ok : G.Token → Type 0} → Stage G E cap look r s i (rule q ∷ rest) prev done k u ok → ok (E.first q) → (x : Stop G.Token) → Comes G E cap look q u k x → Comes G E cap look r s i x
   stop_rule {q = q} {k = k} {prev = prev} {ok = ok} g o x h before = g.stops before x (at_map k (λ w. w ≡ E.first q) ok x (λ w e. subst ok (sym e) o) (of_first (h (prev before)))) (weaken (h (prev before)))
+
+  pub stop_mark : {r : G.Rule} {s i k u : ℕ} {c : G.Class} {rest : List (Symbol G.Class G.Rule)} {prev : G.Value → G.Value} {done : List G.Value → List G.Value} {ok : G.Token → Type 0} → Stage G E cap look r s i (mark c ∷ rest) prev done k u ok → ok (E.sample c) → (x : Stop G.Token) → ((before : G.Value) → Stops G E cap look (mark c ∷ rest) before u k x) → Comes G E cap look r s i x
+  stop_mark {k = k} {c = c} {prev = prev} {ok = ok} g o x h before = g.stops before x (at_map k (λ w. w ≡ E.sample c) ok x (λ w e. subst ok (sym e) o) (of_sample (h (prev before)))) (h (prev before))
+
+  -- ---- a rule that is read in part inside another one
+
+  -- what the inner rule comes to past its first token the outer one comes to
+  pub stop_inside : {r q : G.Rule} {s i k u n t : ℕ} {rest more : List (Symbol G.Class G.Rule)} {prev prev' : G.Value → G.Value} {done done' : List G.Value → List G.Value} {ok ok' : G.Token → Type 0} → Stage G E cap look r s i (rule q ∷ rest) prev done k u ok → Stage G E cap look q u k more prev' done' n t ok' → k < n → (x : Stop G.Token) → At n ok' x → ((before : G.Value) → Stops G E cap look more before t n x) → Comes G E cap look r s i x
+  stop_inside {k = k} {n = n} {prev = prev} {prev' = prev'} {ok = ok} g y lt x a h before =
+      g.stops before x (at_past k ok x (omega (arith, stands (h before), lt))) (weaken (y.stops (prev before) x a (h (prev' (prev before)))))
 
   -- ---- a rule that ends with a part of itself
 

@@ -1,5 +1,5 @@
 -- Where reading stops, and what could stand there.
-use Rattle.std.specs.Prelude.{◌≡◌, ℕ, ◌+◌, ◌<◌, ◌≤◌, List, ◌∷◌, Option, Some, None, Bool, true, false}
+use Rattle.std.specs.Prelude.{◌≡◌, ℕ, ◌+◌, ◌<◌, ◌≤◌, List, [], ◌∷◌, Option, Some, None, Bool, true, false}
 use Rattle.grammar_laws.specs.Grammar.{Grammar, Symbol, mark, rule, production, enters, leaves, Reads}
 use Rattle.grammar_laws.specs.Examples.{Examples}
 
@@ -43,6 +43,8 @@ pub data Stops (G : Grammar) (E : Examples G) (cap : ℕ → ℕ) (look : ℕ �
   sample : {c : G.Class} {rest : List (Symbol G.Class G.Rule)} {before : G.Value} {s i : ℕ} → Stops G E cap look (mark c ∷ rest) before s i (could i (E.sample c))
   -- the rule, which is empty here, could begin here
   opens : {r : G.Rule} {rest : List (Symbol G.Class G.Rule)} {before : G.Value} {s i : ℕ} → E.fills r ≡ true → Stops G E cap look (rule r ∷ rest) before s i (could i (E.first r))
+  -- the rule, which may be empty, is left out before a token that ends it, whatever the token here is
+  skips : {r : G.Rule} {rest : List (Symbol G.Class G.Rule)} {before : G.Value} {s i : ℕ} {w : G.Token} → E.null r ≡ true → E.closes r w ≡ true → Stops G E cap look rest (G.act r []) (leaves G r s (enters G r s)) i (could i w) → Stops G E cap look (rule r ∷ rest) before s i (could i w)
   later : {c : G.Class} {rest : List (Symbol G.Class G.Rule)} {before : G.Value} {s i : ℕ} {w : G.Token} {x : Stop G.Token} → look i ≡ Some w → G.fits c w ≡ true → s ≤ cap i → Stops G E cap look rest (G.leaf w) (s + G.weight c) (i + 1) x → Stops G E cap look (mark c ∷ rest) before s i x
   inside : {r : G.Rule} {body rest : List (Symbol G.Class G.Rule)} {before : G.Value} {s i : ℕ} {x : Stop G.Token} → production G r before (look i) ≡ Some body → AtFirst G E r i x → Stops G E cap look body before (enters G r s) i x → Stops G E cap look (rule r ∷ rest) before s i x
   after : {r : G.Rule} {body rest : List (Symbol G.Class G.Rule)} {before : G.Value} {s i k u : ℕ} {us : List G.Value} {x : Stop G.Token} → production G r before (look i) ≡ Some body → Reads G cap look body before (enters G r s) i us k u → AfterLast G E r k x → Stops G E cap look rest (G.act r us) (leaves G r s u) k x → Stops G E cap look (rule r ∷ rest) before s i x
