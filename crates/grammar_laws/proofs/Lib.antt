@@ -4,4 +4,5 @@ pub mod Spelling
 pub mod Completion
 pub mod Theorem
 pub mod Stages
+pub mod Bodies
 pub mod Tests

@@ -149,9 +149,17 @@ module _ (G : Grammar) (E : Examples G) (cap : ℕ → ℕ) (look : ℕ → Opti
   -- ---- a rule that is read in part inside another one
 
   -- what the inner rule comes to past its first token the outer one comes to
-  pub stop_inside : {r q : G.Rule} {s i k u n t : ℕ} {rest more : List (Symbol G.Class G.Rule)} {prev prev' : G.Value → G.Value} {done done' : List G.Value → List G.Value} {ok ok' : G.Token → Type 0} → Stage G E cap look r s i (rule q ∷ rest) prev done k u ok → Stage G E cap look q u k more prev' done' n t ok' → k < n → (x : Stop G.Token) → At n ok' x → ((before : G.Value) → Stops G E cap look more before t n x) → Comes G E cap look r s i x
-  stop_inside {k = k} {n = n} {prev = prev} {prev' = prev'} {ok = ok} g y lt x a h before =
-      g.stops before x (at_past k ok x (omega (arith, stands (h before), lt))) (weaken (y.stops (prev before) x a (h (prev' (prev before)))))
+  pub stop_mark_inside : {r q : G.Rule} {s i k u n t : ℕ} {c : G.Class} {rest more : List (Symbol G.Class G.Rule)} {prev prev' : G.Value → G.Value} {done done' : List G.Value → List G.Value} {ok ok' : G.Token → Type 0} → Stage G E cap look r s i (rule q ∷ rest) prev done k u ok → k < n → Stage G E cap look q u k (mark c ∷ more) prev' done' n t ok' → ok' (E.sample c) → (x : Stop G.Token) → ((before : G.Value) → Stops G E cap look (mark c ∷ more) before t n x) → Comes G E cap look r s i x
+  stop_mark_inside {k = k} {prev = prev} {ok = ok} g lt y o x h before =
+      g.stops before x (at_past k ok x (omega (arith, stands (h before), lt))) (weaken (stop_mark y o x h (prev before)))
+
+  pub stop_rule_inside : {r q p : G.Rule} {s i k u n t : ℕ} {rest more : List (Symbol G.Class G.Rule)} {prev prev' : G.Value → G.Value} {done done' : List G.Value → List G.Value} {ok ok' : G.Token → Type 0} → Stage G E cap look r s i (rule q ∷ rest) prev done k u ok → k < n → Stage G E cap look q u k (rule p ∷ more) prev' done' n t ok' → ok' (E.first p) → (x : Stop G.Token) → Comes G E cap look p t n x → Comes G E cap look r s i x
+  stop_rule_inside {k = k} {prev = prev} {ok = ok} g lt y o x h before =
+      g.stops before x (at_past k ok x (omega (arith, stands (h before), lt))) (weaken (stop_rule y o x h (prev before)))
+
+  -- the sum is past the limit at the first token of the inner rule
+  pub stop_deep : {r q : G.Rule} {s i k u : ℕ} {c : G.Class} {w : G.Token} {rest more : List (Symbol G.Class G.Rule)} {prev : G.Value → G.Value} {done : List G.Value → List G.Value} {ok : G.Token → Type 0} → Stage G E cap look r s i (rule q ∷ rest) prev done k u ok → ((before : G.Value) → production G q before (look k) ≡ Some (mark c ∷ more)) → look k ≡ Some w → G.fits c w ≡ true → cap k < enters G q u → Comes G E cap look r s i (too_deep k)
+  stop_deep {k = k} g p l f d before = g.stops before (too_deep k) tt (inside (p _) tt (deep l f d))
 
   -- ---- a rule that ends with a part of itself
 
@@ -187,3 +195,15 @@ module _ (G : Grammar) (E : Examples G) (cap : ℕ → ℕ) (look : ℕ → Opti
   -- where the part stops after its first token
   pub goes_stop : {V : Type 0} {wrap : V → G.Value} {r q : G.Rule} {s i k u : ℕ} {ok : G.Token → Type 0} {value : V → G.Value} → Goes V G wrap E cap look r q s i value k u ok → (x : Stop G.Token) → At k ok x → Comes G E cap look q u k x → Comes G E cap look r s i x
   goes_stop g x a h before = g.stops before x a h
+
+  -- what the part comes to past its first token, and where the sum is past the limit at that token
+  pub goes_stop_mark : {V : Type 0} {wrap : V → G.Value} {r q : G.Rule} {s i k u n t : ℕ} {c : G.Class} {more : List (Symbol G.Class G.Rule)} {prev : G.Value → G.Value} {done : List G.Value → List G.Value} {ok ok' : G.Token → Type 0} {value : V → G.Value} → Goes V G wrap E cap look r q s i value k u ok → k < n → Stage G E cap look q u k (mark c ∷ more) prev done n t ok' → ok' (E.sample c) → (x : Stop G.Token) → ((before : G.Value) → Stops G E cap look (mark c ∷ more) before t n x) → Comes G E cap look r s i x
+  goes_stop_mark {k = k} {ok = ok} g lt y o x h before =
+      g.stops before x (at_past k ok x (omega (arith, stands (h before), lt))) (stop_mark y o x h)
+
+  pub goes_stop_rule : {V : Type 0} {wrap : V → G.Value} {r q p : G.Rule} {s i k u n t : ℕ} {more : List (Symbol G.Class G.Rule)} {prev : G.Value → G.Value} {done : List G.Value → List G.Value} {ok ok' : G.Token → Type 0} {value : V → G.Value} → Goes V G wrap E cap look r q s i value k u ok → k < n → Stage G E cap look q u k (rule p ∷ more) prev done n t ok' → ok' (E.first p) → (x : Stop G.Token) → Comes G E cap look p t n x → Comes G E cap look r s i x
+  goes_stop_rule {k = k} {ok = ok} g lt y o x h before =
+      g.stops before x (at_past k ok x (omega (arith, stands (h before), lt))) (stop_rule y o x h)
+
+  pub goes_stop_deep : {V : Type 0} {wrap : V → G.Value} {r q : G.Rule} {s i k u : ℕ} {c : G.Class} {w : G.Token} {more : List (Symbol G.Class G.Rule)} {ok : G.Token → Type 0} {value : V → G.Value} → Goes V G wrap E cap look r q s i value k u ok → ((before : G.Value) → production G q before (look k) ≡ Some (mark c ∷ more)) → look k ≡ Some w → G.fits c w ≡ true → cap k < enters G q u → Comes G E cap look r s i (too_deep k)
+  goes_stop_deep {k = k} g p l f d before = g.stops before (too_deep k) tt (λ b. inside (p b) tt (deep l f d))

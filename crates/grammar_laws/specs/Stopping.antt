@@ -24,6 +24,10 @@ abbrev pub fits_next : (G : Grammar) → G.Class → Option G.Token → Bool
 fits_next G c None = false
 fits_next G c (Some w) = G.fits c w
 
+abbrev pub begins_next : (G : Grammar) → G.Rule → Option G.Token → Bool
+begins_next G r None = false
+begins_next G r (Some w) = G.begins r w
+
 -- What could stand at the first token of a rule is the first of the rule's own text.
 abbrev pub AtFirst : (G : Grammar) → Examples G → G.Rule → ℕ → Stop G.Token → Type 0
 AtFirst G E r i (could m w) = m ≡ i → (w ≡ E.first r) × (E.null r ≡ false)
