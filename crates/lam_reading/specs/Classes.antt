@@ -1,7 +1,7 @@
 -- The classes of tokens as the code names them, and what a token of each wanted kind is.
 use Rattle.std.specs.Prelude.{ℕ, Option, Some, None, Bool, true, false, refl}
 use Rattle.grammar_laws.specs.Grammar.{mark, rule}
-use Rattle.grammar_laws.specs.Stopping.{fits_next}
+use Rattle.grammar_laws.specs.Stopping.{fits_next, begins_next}
 use Rattle.lam_lexer.specs.declared.token.Token.{Token}
 use Rattle.lam_lexer.specs.declared.token.TokenKind.{TokenKind}
 use Rattle.lam_lexer.specs.declared.token.TokenKind.TheVariants as kind
@@ -60,6 +60,10 @@ class_of m.End = class_in table.end_of_text
 -- Is the next token of the class?
 abbrev pub fits_at : Mark → Option Token → Bool
 fits_at k o = fits_next lam (class_of k) o
+
+-- Can the next token begin the rule?
+abbrev pub begins_at : Rule → Option Token → Bool
+begins_at r o = begins_next lam r o
 
 -- what a parser wants where it takes a token of the class
 abbrev pub wanted_of : Mark → Wanted

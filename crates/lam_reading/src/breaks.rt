@@ -3,9 +3,8 @@
 ghost use Rattle.std.specs.Prelude.{◌≡◌};
 ghost use Rattle.lam_reading.specs.declared.breaks.Break.TheVariants.{NoMemory as no_memory};
 
-use std::alloc::{AllocError, AllocFailed};
-
 use crate::Mark;
+use std::alloc::{AllocError, AllocFailed};
 
 /// What could have stood in place of a token.
 #[derive(Clone, Copy, Debug, PartialEq, Eq, Drop)]

@@ -13,5 +13,5 @@ mod marks;
 mod tokens;
 
 pub use breaks::{Break, Wanted};
-pub use marks::{is_mark, wanted_of, Mark};
-pub use tokens::{name_of, next_is, take, take_if, Read};
+pub use marks::{Mark, is_mark, wanted_of};
+pub use tokens::{Read, begins_expression, begins_statement, name_of, next_is, take, take_if};

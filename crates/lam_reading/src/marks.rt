@@ -5,10 +5,9 @@ ghost use Rattle.lam_grammar.specs.Table as table;
 ghost use Rattle.lam_reading.specs.Classes as classes;
 ghost use Rattle.lam_reading.specs.Classes.{class_of};
 
+use crate::Wanted;
 use lam_grammar::Level;
 use lam_lexer::TokenKind;
-
-use crate::Wanted;
 
 /// A class of tokens, as the grammar names them.
 #[derive(Clone, Copy, Debug, PartialEq, Eq, Drop)]

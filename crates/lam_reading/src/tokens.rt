@@ -3,15 +3,15 @@
 ghost use Rattle.std.specs.Prelude.{◌≡◌, true, ◌<◌, ◌≤◌, length, slice_get, IfOk, IfSome, MatchOption, MatchResult, option_copied};
 ghost use Rattle.lam_syntax.specs.Tree.{id_tree};
 ghost use Rattle.lam_grammar.specs.Meaning.{id_of};
-ghost use Rattle.lam_reading.specs.Classes.{fits_at};
+ghost use Rattle.lam_reading.specs.Classes.{fits_at, begins_at};
+ghost use Rattle.lam_grammar.specs.Table as table;
 ghost use Rattle.lam_reading.specs.Reading.{Taken, TakeFails, Absent, IsDeep};
 
+use crate::{Break, Mark, is_mark, wanted_of};
 use lam_lexer::{Token, TokenKind};
 use lam_syntax::{Expr, Id};
 use std::alloc::Global;
 use tag_sets::NoMemory;
-
-use crate::{is_mark, wanted_of, Break, Mark};
 
 /// The greatest depth sum that a token may have.
 const LIMIT: u64 = 128;
@@ -46,13 +46,66 @@ pub fn next_is(tokens: &[Token], at: usize, mark: Mark) -> bool
     }
 }
 
+/// Whether an expression can begin with the token at an index.
+pub fn begins_expression(tokens: &[Token], at: usize) -> bool
+    ensures is { result ≡ begins_at table.expr (slice_get tokens.now at) }
+    ensures within { result ≡ true → at < length tokens.now }
+{
+    match token_at(tokens, at) {
+        Some(token) => is_expression_start(&token.kind),
+        None => false,
+    }
+}
+
+/// Whether a statement can begin with the token at an index.
+pub fn begins_statement(tokens: &[Token], at: usize) -> bool
+    ensures is { result ≡ begins_at table.stmt (slice_get tokens.now at) }
+    ensures within { result ≡ true → at < length tokens.now }
+{
+    match token_at(tokens, at) {
+        Some(token) => is_statement_start(&token.kind),
+        None => false,
+    }
+}
+
+fn is_expression_start(kind: &TokenKind) -> bool
+    ensures { result ≡ table.begins_expr kind.now }
+{
+    matches!(
+        kind,
+        TokenKind::Not
+            | TokenKind::Minus
+            | TokenKind::Number(_)
+            | TokenKind::Text(_)
+            | TokenKind::True
+            | TokenKind::False
+            | TokenKind::Null
+            | TokenKind::ParenOpen
+            | TokenKind::Id(_)
+            | TokenKind::New
+            | TokenKind::Label
+            | TokenKind::Caps
+            | TokenKind::Spawn
+    )
+}
+
+fn is_statement_start(kind: &TokenKind) -> bool
+    ensures { result ≡ table.begins_stmt kind.now }
+{
+    match kind {
+        TokenKind::Let
+        | TokenKind::If
+        | TokenKind::While
+        | TokenKind::Return
+        | TokenKind::Throw
+        | TokenKind::Sync
+        | TokenKind::Region => true,
+        other => is_expression_start(other),
+    }
+}
+
 /// The token at an index, which has to be of the class, and within the depth limit.
-pub fn take<'a>(
-    tokens: &'a [Token],
-    at: usize,
-    depth: u64,
-    mark: Mark,
-) -> Result<&'a Token, Break>
+pub fn take<'a>(tokens: &'a [Token], at: usize, depth: u64, mark: Mark) -> Result<&'a Token, Break>
     ensures takes { MatchResult result (λ w. Taken tokens.now depth at mark w.now) (TakeFails tokens.now depth at mark) }
     ensures within { IfOk result (λ _. at < length tokens.now) }
 {
@@ -109,16 +162,5 @@ pub fn name_of(alloc: Global, token: &Token) -> Result<Id, NoMemory>
             at: token.at,
             name: String::new(alloc),
         }),
-    }
-}
-
-#[cfg(test)]
-mod tests {
-    use super::*;
-
-    #[test]
-    fn none_at_the_end() {
-        let tokens: [Token; 0] = [];
-        prove!(!next_is(&tokens, 0, Mark::Comma));
     }
 }
