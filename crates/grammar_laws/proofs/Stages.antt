@@ -87,7 +87,7 @@ of_sample (there l f) = tt
 of_sample sample = λ e. refl
 of_sample {E = E} {c = c} (later {i = i} {x = x} l f d h) = at_past i (λ w. w ≡ E.sample c) x (omega (arith, stands h))
 
-at_map : {Token : Type 0} (k : ℕ) (ok ok' : Token → Type 0) (x : Stop Token) → ((w : Token) → ok w → ok' w) → At k ok x → At k ok' x
+pub at_map : {Token : Type 0} (k : ℕ) (ok ok' : Token → Type 0) (x : Stop Token) → ((w : Token) → ok w → ok' w) → At k ok x → At k ok' x
 at_map k ok ok' (unexpected b m) f a = tt
 at_map k ok ok' (too_deep m) f a = tt
 at_map k ok ok' (could m w) f a = λ e. f w (a e)

@@ -2,15 +2,15 @@
 -- A rule is begun with the body that the next token chooses, its symbols are taken one after another, and it is read.
 -- At each place on the way, what stops at the next symbol stops the rule.
 use Rattle.std.proofs.Common.{◌≡◌, ℕ, ◌+◌, ◌<◌, ◌≤◌, ◌⊎◌, inl, inr, Bool, true, false, cond, Option, Some, None, List, [], ◌∷◌, slice_get, refl, sym, ap, ◌∙◌, subst, arith, add-zero}
-use Rattle.grammar_laws.specs.Grammar.{Symbol, mark, rule, Grammar, pick, starts, production, enters, leaves, Reads}
+use Rattle.grammar_laws.specs.Grammar.{Symbol, mark, rule, Grammar, pick, starts, is_empty, production, enters, leaves, Reads}
 use Rattle.grammar_laws.specs.Texts.{limited}
-use Rattle.grammar_laws.specs.Stopping.{Stop, unexpected, too_deep, could, Stops, fits_next, begins_next, wrong, deep, sample, opens, inside}
+use Rattle.grammar_laws.specs.Stopping.{Stop, unexpected, too_deep, could, Stops, fits_next, begins_next, wrong, deep, sample, opens, skips, inside, barred}
 use Rattle.grammar_laws.proofs.Bodies.{chosen, picks_mark, picks_rule, picks_past_mark, picks_past_rule, empty_read}
-use Rattle.grammar_laws.proofs.Stages.{Stage, Goes, begin, begin_full, take_token, take_rule, take_maybe, finish, stop_rule, stop_mark, stop_mark_inside, stop_rule_inside, stop_deep, goes_stop_mark, goes_stop_rule, goes_stop_deep}
+use Rattle.grammar_laws.proofs.Stages.{Stage, Goes, at_map, begin, begin_full, take_token, take_rule, take_maybe, finish, stop_rule, stop_mark, stop_mark_inside, stop_rule_inside, stop_deep, goes_stop_mark, goes_stop_rule, goes_stop_deep}
 use Rattle.grammar_laws.proofs.Stages as stage
 use Rattle.lam_lexer.specs.declared.token.Token.{Token}
-use Rattle.lam_grammar.specs.Table.{Class, Rule, Sym, bodies, counts}
-use Rattle.lam_grammar.specs.Meaning.{Value, word, permits, act}
+use Rattle.lam_grammar.specs.Table.{Class, Rule, Sym, bodies, counts, assign_part, expr, equals, semicolon}
+use Rattle.lam_grammar.specs.Meaning.{Value, word, permits, act, is_place_value}
 use Rattle.lam_grammar.specs.Program.{lam}
 use Rattle.lam_grammar.specs.Examples.{examples, null, fills, of_kind}
 use Rattle.lam_reading.specs.declared.marks.Mark.{Mark}
@@ -18,6 +18,7 @@ use Rattle.lam_reading.specs.declared.marks.Mark.TheVariants as mark_of
 use Rattle.lam_reading.specs.declared.breaks.Break.{Break}
 use Rattle.lam_reading.specs.declared.breaks.Break.TheVariants.{Unexpected, TooDeep, NoMemory}
 use Rattle.lam_reading.specs.declared.breaks.Wanted.{Wanted}
+use Rattle.lam_reading.specs.declared.breaks.Wanted.TheVariants as wanted_kind
 use Rattle.lam_reading.specs.Classes.{class_of, fits_at, wanted_of, sample_of, is_barred}
 use Rattle.lam_reading.specs.Reading.{Fails, Gives, Taken, Absent, IsDeep}
 
@@ -101,6 +102,10 @@ rule_taken {look} h lt g = take_rule lam examples (limited lam) look g lt h
 -- take one that may have been empty
 pub maybe_taken : {look : ℕ → Option Token} {r q : Rule} {s i k u m t : ℕ} {rest : List Sym} {prev : Value → Value} {done : List Value → List Value} {ok : Token → Type 0} {v : Value} → Gives look q u k v m t → k ≤ m → Part look r s i (rule q ∷ rest) prev done k u ok → Part look r s i rest (λ before. v) (λ vs. done (v ∷ vs)) m t (λ w. ok w × (examples.closes q w ≡ true))
 maybe_taken {look} h le g = take_maybe lam examples (limited lam) look g le h
+
+-- ask more of a token that could stand there
+pub part_strict : {look : ℕ → Option Token} {r : Rule} {s i k u : ℕ} {rest : List Sym} {prev : Value → Value} {done : List Value → List Value} {ok : Token → Type 0} (ok' : Token → Type 0) → ((w : Token) → ok' w → ok w) → Part look r s i rest prev done k u ok → Part look r s i rest prev done k u ok'
+part_strict {k = k} {ok = ok} ok' f g = record { reads = g.reads; stops = λ before x a h. g.stops before x (at_map k ok' ok x f a) h }
 
 -- the rule is read
 pub rule_read : {look : ℕ → Option Token} {r : Rule} {s i k u : ℕ} {prev : Value → Value} {done : List Value → List Value} {ok : Token → Type 0} → Part look r s i [] prev done k u ok → Gives look r s i (act r (done [])) k (leaves lam r s u)
@@ -240,3 +245,21 @@ loop_mark_fails {look = look} {r = r} {s = s} {i = i} {n = n} {t = t} {c = c} {m
 
 pub loop_rule_fails : {V : Type 0} {wrap : V → Value} {look : ℕ → Option Token} {r q p : Rule} {s i k u n t : ℕ} {more : List Sym} {prev : Value → Value} {done : List Value → List Value} {ok ok' : Token → Type 0} {value : V → Value} → Loop V wrap look r q s i value k u ok → k < n → Part look q u k (rule p ∷ more) prev done n t ok' → ok' (examples.first p) → (b : Break) → Fails look (rule p ∷ []) t n b → Fails look (rule r ∷ []) s i b
 loop_rule_fails {look = look} {r = r} {p = p} {s = s} {i = i} {n = n} {t = t} g lt y o b h = fails_by look (rule r ∷ []) s i b (λ x e. goes_stop_rule lam examples (limited lam) look g lt y o x (said look (rule p ∷ []) t n b h x e))
+
+pub loop_strict : {V : Type 0} {wrap : V → Value} {look : ℕ → Option Token} {r q : Rule} {s i k u : ℕ} {ok : Token → Type 0} {value : V → Value} (ok' : Token → Type 0) → ((w : Token) → ok' w → ok w) → Loop V wrap look r q s i value k u ok → Loop V wrap look r q s i value k u ok'
+loop_strict {k = k} {ok = ok} ok' f g = record { reads = g.reads; stops = λ before x a h. g.stops before x (at_map k ok' ok x f a) h }
+
+-- ---- what is no place before `=`
+
+bars : (before : Value) (o : Option Token) → is_place_value before ≡ false → fits_at mark_of.Assign o ≡ true → production lam assign_part before o ≡ None
+bars before o p h =
+    let all = pick lam (bodies assign_part) o in
+    let e : all ≡ equals ∷ rule expr ∷ [] = picks_mark lam (class_of mark_of.Assign) (rule expr ∷ []) ([] ∷ []) o h in
+    ap (λ (b : Bool). cond b (Some all) (cond (is_empty all) (Some []) None)) p ∙ ap (λ (q : List Sym). cond (is_empty q) (Some []) None) e
+
+-- The statement stops at the `=`, in place of which a `;` could stand.
+pub place_wanted : {look : ℕ → Option Token} {r : Rule} {s i k u : ℕ} {prev : Value → Value} {done : List Value → List Value} {ok : Token → Type 0} → Part look r s i (rule assign_part ∷ semicolon ∷ []) prev done k u ok → ok (sample_of wanted_kind.Place) → ((before : Value) → is_place_value (prev before) ≡ false) → fits_at mark_of.Assign (look k) ≡ true → Fails look (rule r ∷ []) s i (Unexpected k wanted_kind.Place)
+place_wanted {look} {k = k} g o p h = (
+  λ before. g.stops before (unexpected true k) tt (barred (bars _ (look k) (p before) h)),
+  λ before. g.stops before (could k (sample_of wanted_kind.Place)) (λ e. o) (skips refl refl sample),
+)

@@ -1,0 +1,12 @@
+//! From tokens to types and to the trees of expressions.
+//!
+//! Each function reads one rule of the grammar, from a token on and with a depth sum, and says so in its contract.
+//! Operators of one level, postfix parts and lists are loops; only what is nested recurses, which the depth limit bounds.
+#![tactic(auto)]
+
+mod operators;
+mod primary;
+mod types;
+
+pub use operators::expression;
+pub use types::typ;
