@@ -1,14 +1,14 @@
 //! Types.
 
 ghost use Rattle.std.specs.Prelude.{◌≡◌, ◌<◌, ◌≤◌, length, IfOk};
-ghost use Rattle.lam_syntax.specs.Tree.{type_form, type_tree, type_node};
+ghost use Rattle.lam_syntax.specs.Tree.{type_form, type_tree, type_node, array_type};
 ghost use Rattle.lam_grammar.specs.Meaning.{type_form_of};
 ghost use Rattle.lam_parse_exprs.specs.Types.{ReadsType};
 
 use lam_lexer::{Token, TokenKind};
 use lam_reading::{take, take_if, Break, Mark, Wanted};
 use lam_syntax::{TypeExpr, TypeKind};
-use std::alloc::Global;
+use std::alloc::{AllocError, Global};
 use tag_sets::NoMemory;
 
 /// The type that is written from a token on, and the index of the token behind it.
@@ -43,14 +43,17 @@ pub fn typ(
     };
     let (element, next) = typ(alloc, tokens, at + 1, inner)?;
     let _close = take(tokens, next, inner, Mark::BracketClose)?;
-    let kind = TypeKind::Array(Box::new(alloc, element)?);
-    Ok((
-        TypeExpr {
-            at: bracket.at,
-            kind,
-        },
-        next + 1,
-    ))
+    Ok((array_of(alloc, bracket.at, element)?, next + 1))
+}
+
+fn array_of(alloc: Global, at: u64, element: TypeExpr) -> Result<TypeExpr, AllocError>
+    ensures { IfOk result (λ t. type_tree t ≡ type_node at (array_type (type_tree element))) }
+{
+    let element = Box::new(alloc, element)?;
+    Ok(TypeExpr {
+        at,
+        kind: TypeKind::Array(element),
+    })
 }
 
 // The type that one word or name is.

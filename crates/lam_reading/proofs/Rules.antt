@@ -175,6 +175,17 @@ neither_body_of {tokens} {k} {m} {m2} q {rest} {rest2} a b e p before =
     let o = slice_get tokens k in
     chosen lam q before o (p before) (ap (λ bs. pick lam bs o) e ∙ picks_past_mark lam (class_of m) rest (mark (class_of m2) ∷ rest2) ([] ∷ []) o a.no ∙ picks_past_mark lam (class_of m2) rest2 [] [] o b.no)
 
+-- the last of two bodies, and the last of three, where none before it begins with the token
+pub last_of_two : {tokens : List Token} {k : ℕ} {m : Mark} (q : Rule) {rest body : List Sym} → Absent tokens k m → bodies q ≡ (mark (class_of m) ∷ rest) ∷ body ∷ [] → IsPermitted q → (before : Value) → production lam q before (slice_get tokens k) ≡ Some body
+last_of_two {tokens} {k} {m} q {rest} {body} a e p before =
+    let o = slice_get tokens k in
+    chosen lam q before o (p before) (ap (λ bs. pick lam bs o) e ∙ picks_past_mark lam (class_of m) rest body [] o a.no)
+
+pub last_of_three : {tokens : List Token} {k : ℕ} {m m2 : Mark} (q : Rule) {rest rest2 body : List Sym} → Absent tokens k m → Absent tokens k m2 → bodies q ≡ (mark (class_of m) ∷ rest) ∷ (mark (class_of m2) ∷ rest2) ∷ body ∷ [] → IsPermitted q → (before : Value) → production lam q before (slice_get tokens k) ≡ Some body
+last_of_three {tokens} {k} {m} {m2} q {rest} {rest2} {body} a b e p before =
+    let o = slice_get tokens k in
+    chosen lam q before o (p before) (ap (λ bs. pick lam bs o) e ∙ picks_past_mark lam (class_of m) rest (mark (class_of m2) ∷ rest2) (body ∷ []) o a.no ∙ picks_past_mark lam (class_of m2) rest2 body [] o b.no)
+
 -- a body that begins with a rule, and the empty one
 pub rule_body_of : (tokens : List Token) (k : ℕ) (q r : Rule) {rest : List Sym} {more : List (List Sym)} → begins_next lam r (slice_get tokens k) ≡ true → bodies q ≡ (rule r ∷ rest) ∷ more → IsPermitted q → (before : Value) → production lam q before (slice_get tokens k) ≡ Some (rule r ∷ rest)
 rule_body_of tokens k q r {rest} {more} h e p before =
@@ -185,6 +196,11 @@ pub no_rule_body_of : (tokens : List Token) (k : ℕ) (q r : Rule) {rest : List 
 no_rule_body_of tokens k q r {rest} h e p before =
     let o = slice_get tokens k in
     chosen lam q before o (p before) (ap (λ bs. pick lam bs o) e ∙ picks_past_rule lam r rest [] [] o h)
+
+-- the sum is past the limit at the next token
+pub token_deep_fails : {tokens : List Token} {r : Rule} {s i k u : ℕ} {m : Mark} {rest : List Sym} {prev : Value → Value} {done : List Value → List Value} {ok : Token → Type 0} → Part (slice_get tokens) r s i (mark (class_of m) ∷ rest) prev done k u ok → (b : Break) → IsDeep tokens u k m b → Fails (slice_get tokens) (rule r ∷ []) s i b
+token_deep_fails {tokens} {r} {s} {i} {k} g b d =
+    subst (λ x. Fails (slice_get tokens) (rule r ∷ []) s i x) (sym d.says) (λ before. g.stops before (too_deep k) tt (deep d.is d.fit d.over))
 
 -- ---- an optional part, whose first token tells whether it is there
 
