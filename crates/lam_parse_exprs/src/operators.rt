@@ -6,13 +6,12 @@ ghost use Rattle.lam_grammar.specs.Table as table;
 ghost use Rattle.lam_grammar.specs.Meaning as meaning;
 ghost use Rattle.lam_reading.specs.Reading.{ReadsExpr};
 
+use crate::primary::primary;
 use lam_grammar::Level;
 use lam_lexer::{Token, TokenKind};
-use lam_reading::{name_of, take, take_if, Break, Mark, Read};
+use lam_reading::{Break, Mark, Read, name_of, take, take_if};
 use lam_syntax::{BinaryOp, Expr, ExprKind, Id, UnaryOp};
 use std::alloc::{AllocError, Global};
-
-use crate::primary::primary;
 
 /// The expression that is written from a token on.
 ///

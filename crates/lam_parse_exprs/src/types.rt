@@ -6,7 +6,7 @@ ghost use Rattle.lam_grammar.specs.Meaning.{type_form_of};
 ghost use Rattle.lam_parse_exprs.specs.Types.{ReadsType};
 
 use lam_lexer::{Token, TokenKind};
-use lam_reading::{take, take_if, Break, Mark, Wanted};
+use lam_reading::{Break, Mark, Wanted, take, take_if};
 use lam_syntax::{TypeExpr, TypeKind};
 use std::alloc::{AllocError, Global};
 use tag_sets::NoMemory;

@@ -2,7 +2,7 @@
 -- A rule is begun with the body that the next token chooses, its symbols are taken one after another, and it is read.
 -- At each place on the way, what stops at the next symbol stops the rule.
 use Rattle.std.proofs.Common.{◌≡◌, ℕ, ◌+◌, ◌<◌, ◌≤◌, ◌⊎◌, inl, inr, Bool, true, false, cond, Option, Some, None, List, [], ◌∷◌, slice_get, refl, sym, ap, ◌∙◌, subst, arith, add-zero}
-use Rattle.grammar_laws.specs.Grammar.{Symbol, mark, rule, Grammar, pick, starts, is_empty, production, enters, leaves, Reads}
+use Rattle.grammar_laws.specs.Grammar.{mark, rule, pick, is_empty, production, enters, leaves}
 use Rattle.grammar_laws.specs.Texts.{limited}
 use Rattle.grammar_laws.specs.Stopping.{Stop, unexpected, too_deep, could, Stops, fits_next, begins_next, wrong, deep, sample, opens, skips, inside, barred}
 use Rattle.grammar_laws.proofs.Bodies.{chosen, picks_mark, picks_rule, picks_past_mark, picks_past_rule, empty_read}

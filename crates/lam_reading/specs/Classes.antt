@@ -1,5 +1,5 @@
 -- The classes of tokens as the code names them, and what a token of each wanted kind is.
-use Rattle.std.specs.Prelude.{ℕ, Option, Some, None, Bool, true, false, refl}
+use Rattle.std.specs.Prelude.{Option, Bool, true, false, refl}
 use Rattle.grammar_laws.specs.Grammar.{mark, rule}
 use Rattle.grammar_laws.specs.Stopping.{fits_next, begins_next}
 use Rattle.lam_lexer.specs.declared.token.Token.{Token}

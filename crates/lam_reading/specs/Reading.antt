@@ -1,8 +1,8 @@
 -- What reading a rule of the grammar gives, from a token and a depth sum on.
-use Rattle.std.specs.Prelude.{◌≡◌, ℕ, ◌+◌, ◌<◌, ◌≤◌, List, [], ◌∷◌, Option, Some, true, false, Result, Ok, Err, slice_get}
+use Rattle.std.specs.Prelude.{◌≡◌, ℕ, ◌<◌, ◌≤◌, List, [], ◌∷◌, Option, Some, true, false, Result, Ok, Err, slice_get}
 use Rattle.grammar_laws.specs.Grammar.{mark, rule, Reads}
 use Rattle.grammar_laws.specs.Texts.{limited}
-use Rattle.grammar_laws.specs.Stopping.{Stop, unexpected, too_deep, could, Stops}
+use Rattle.grammar_laws.specs.Stopping.{unexpected, too_deep, could, Stops}
 use Rattle.lam_lexer.specs.declared.token.Token.{Token}
 use Rattle.lam_syntax.specs.Tree.{expr_tree}
 use Rattle.lam_grammar.specs.Table.{Rule, Sym}

@@ -1,4 +1,4 @@
-use Rattle.std.proofs.Common.{◌≡◌, refl, slice_get, arith}
+use Rattle.std.proofs.Common.{refl, slice_get}
 use Rattle.std.proofs.lemmas.Result.{err_from_is_err_and}
 use Rattle.lam_grammar.specs.Table.{typ}
 use Rattle.lam_reading.proofs.Rules.{begun, mark_taken, rule_taken, rule_read, mark_fails, rule_fails, rule_unwanted, token_deep_fails, present, deep_present, body_of, second_body_of, last_of_three}
