@@ -1,1 +1,5 @@
 pub mod Ranks
+pub mod Begun
+pub mod Steps
+pub mod Forms
+pub mod Lists

@@ -4,9 +4,11 @@
 //! Operators of one level, postfix parts and lists are loops; only what is nested recurses, which the depth limit bounds.
 #![tactic(auto)]
 
+mod nodes;
 mod operators;
 mod primary;
 mod types;
 
 pub use operators::expression;
+pub use primary::parens;
 pub use types::typ;

@@ -1,0 +1,135 @@
+//! The nodes of the tree that stand for the forms of a primary expression, made of what was read.
+//!
+//! Each function says which tree of `lam_syntax` its node is seen as.
+
+ghost use Rattle.std.specs.Prelude.{◌≡◌, IfOk, string_bytes};
+ghost use Rattle.lam_syntax.specs.Tree as view;
+ghost use Rattle.lam_grammar.specs.Meaning.{spelt, id_of, literal_form, is_plus};
+
+use lam_lexer::{Token, TokenKind};
+use lam_reading::name_of;
+use lam_syntax::{CapItem, Expr, ExprKind, TypeExpr};
+use std::alloc::Global;
+use tag_sets::NoMemory;
+
+/// The text of an identifier. Other tokens have none.
+fn spelling(alloc: Global, kind: &TokenKind) -> Result<String, NoMemory>
+    ensures { IfOk result (λ s. string_bytes s ≡ spelt kind.now) }
+{
+    match kind {
+        TokenKind::Id(name) => Ok(String::from_str(alloc, name.as_str())?),
+        _ => Ok(String::new(alloc)),
+    }
+}
+
+/// The value that a literal is.
+fn literal_kind(alloc: Global, kind: &TokenKind) -> Result<ExprKind, NoMemory>
+    ensures { IfOk result (λ k. view.expr_form k ≡ literal_form kind.now) }
+{
+    match kind {
+        TokenKind::Number(n) => Ok(ExprKind::Number(*n)),
+        TokenKind::Text(text) => Ok(ExprKind::Text(Vec::from_slice(alloc, text.bytes())?)),
+        TokenKind::True => Ok(ExprKind::Bool(true)),
+        TokenKind::False => Ok(ExprKind::Bool(false)),
+        _ => Ok(ExprKind::Null),
+    }
+}
+
+/// A literal, at its position.
+pub fn make_literal(alloc: Global, token: &Token) -> Result<Expr, NoMemory>
+    ensures { IfOk result (λ e. view.expr_tree e ≡ view.expr_node token.now.at (literal_form token.now.kind)) }
+{
+    Ok(Expr {
+        at: token.at,
+        kind: literal_kind(alloc, &token.kind)?,
+    })
+}
+
+/// A name as an expression.
+pub fn make_name(alloc: Global, token: &Token) -> Result<Expr, NoMemory>
+    ensures { IfOk result (λ e. view.expr_tree e ≡ view.expr_node token.now.at (view.name_expr (spelt token.now.kind))) }
+{
+    Ok(Expr {
+        at: token.at,
+        kind: ExprKind::Name(spelling(alloc, &token.kind)?),
+    })
+}
+
+/// A call, at the position of the name of its function.
+pub fn make_call(alloc: Global, name: &Token, args: Vec<Expr>) -> Result<Expr, NoMemory>
+    ensures { IfOk result (λ e. view.expr_tree e ≡ view.expr_node name.now.at (view.call_expr (id_of name.now) (view.exprs_tree args.items))) }
+{
+    let at = name.at;
+    let name = name_of(alloc, name)?;
+    Ok(Expr {
+        at,
+        kind: ExprKind::Call { name, args },
+    })
+}
+
+/// A node at a position.
+pub fn make_node(at: u64, kind: ExprKind) -> Expr
+    ensures { view.expr_tree result ≡ view.expr_node at (view.expr_form kind) }
+{
+    Expr { at, kind }
+}
+
+/// `new [element](length)`.
+pub fn array_kind(alloc: Global, element: TypeExpr, length: Expr) -> Result<ExprKind, NoMemory>
+    ensures { IfOk result (λ k. view.expr_form k ≡ view.new_array_expr (view.type_tree element) (view.expr_tree length)) }
+{
+    let length = Box::new(alloc, length)?;
+    Ok(ExprKind::NewArray { element, length })
+}
+
+/// `label{s; i}`, from a position on.
+pub fn make_label(at: u64, s: Vec<Expr>, i: Vec<Expr>) -> Expr
+    ensures { view.expr_tree result ≡ view.expr_node at (view.label_expr (view.exprs_tree s.items) (view.exprs_tree i.items)) }
+{
+    Expr {
+        at,
+        kind: ExprKind::LabelOf { s, i },
+    }
+}
+
+/// `caps{..}`, from a position on.
+pub fn make_caps(at: u64, items: Vec<CapItem>) -> Expr
+    ensures { view.expr_tree result ≡ view.expr_node at (view.caps_expr (view.caps_tree items.items)) }
+{
+    Expr {
+        at,
+        kind: ExprKind::CapsOf(items),
+    }
+}
+
+/// A tag and its sign, in the braces of `caps`.
+pub fn make_cap(alloc: Global, name: &Token, sign: &Token) -> Result<CapItem, NoMemory>
+    ensures { IfOk result (λ c. view.cap_tree c ≡ record { name = id_of name.now; plus = is_plus sign.now.kind }) }
+{
+    Ok(CapItem {
+        name: name_of(alloc, name)?,
+        plus: matches!(sign.kind, TokenKind::Plus),
+    })
+}
+
+/// `spawn(caps) function(args)`, from a position on.
+pub fn make_spawn(
+    alloc: Global,
+    at: u64,
+    caps: Expr,
+    function: &Token,
+    args: Vec<Expr>,
+) -> Result<Expr, NoMemory>
+    ensures { IfOk result (λ e. view.expr_tree e ≡ view.expr_node at (view.spawn_expr (view.expr_tree caps) (id_of function.now) (view.exprs_tree args.items))) }
+{
+    let function = name_of(alloc, function)?;
+    let caps = Box::new(alloc, caps)?;
+    Ok(Expr {
+        at,
+        kind: ExprKind::Spawn {
+            caps,
+            function,
+            args,
+        },
+    })
+}
