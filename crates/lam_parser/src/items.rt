@@ -1,0 +1,91 @@
+//! Classes, functions, and the program that they make.
+
+use crate::stmts::block;
+use crate::variables::{fields, params, take_name};
+use lam_lexer::Token;
+use lam_parse_exprs::typ;
+use lam_reading::{Break, Mark, Wanted, next_is, take};
+use lam_syntax::{Class, Function, Item, Program, TypeExpr};
+use std::alloc::Global;
+
+/// An item that was read, and the token after it.
+type ReadItem = (Item, usize);
+
+/// Items and the end of the text, and the token after it, of which a text has none.
+pub(crate) fn program(alloc: Global, tokens: &[Token]) -> Result<(Program, usize), Break> {
+    let mut items = Vec::new(alloc);
+    let mut next = 0;
+    while begins_item(tokens, next) {
+        let (item, end) = item(alloc, tokens, next)?;
+        items.push(item)?;
+        next = end;
+    }
+    if !next_is(tokens, next, Mark::End) {
+        return Err(Break::Unexpected {
+            at: next,
+            wanted: Wanted::Item,
+        });
+    }
+    Ok((Program { items }, next + 1))
+}
+
+fn begins_item(tokens: &[Token], at: usize) -> bool {
+    next_is(tokens, at, Mark::Class) || next_is(tokens, at, Mark::Fn)
+}
+
+/// A class or a function, as its first token tells.
+fn item(alloc: Global, tokens: &[Token], at: usize) -> Result<ReadItem, Break> {
+    if next_is(tokens, at, Mark::Class) {
+        class(alloc, tokens, at)
+    } else {
+        function(alloc, tokens, at)
+    }
+}
+
+/// `class Name { fields }`
+fn class(alloc: Global, tokens: &[Token], at: usize) -> Result<ReadItem, Break> {
+    let word = take(tokens, at, 0, Mark::Class)?;
+    let name = take_name(alloc, tokens, at + 1, 0)?;
+    take(tokens, at + 2, 0, Mark::BraceOpen)?;
+    let (fields, next) = fields(alloc, tokens, at + 3, 0)?;
+    take(tokens, next, 0, Mark::BraceClose)?;
+    let class = Class {
+        at: word.at,
+        name,
+        fields,
+    };
+    Ok((Item::Class(class), next + 1))
+}
+
+/// `fn name(params): type { body }`, or without a type.
+fn function(alloc: Global, tokens: &[Token], at: usize) -> Result<ReadItem, Break> {
+    let word = take(tokens, at, 0, Mark::Fn)?;
+    let name = take_name(alloc, tokens, at + 1, 0)?;
+    take(tokens, at + 2, 0, Mark::ParenOpen)?;
+    let (params, next) = params(alloc, tokens, at + 3, 0)?;
+    take(tokens, next, 0, Mark::ParenClose)?;
+    let (result, brace) = result_part(alloc, tokens, next + 1)?;
+    let (body, end) = block(alloc, tokens, brace, 0)?;
+    let function = Function {
+        at: word.at,
+        name,
+        params,
+        result,
+        body,
+    };
+    Ok((Item::Function(function), end))
+}
+
+/// `: type`, or nothing.
+fn result_part(
+    alloc: Global,
+    tokens: &[Token],
+    at: usize,
+) -> Result<(Option<TypeExpr>, usize), Break> {
+    if !next_is(tokens, at, Mark::Colon) {
+        return Ok((None, at));
+    }
+    take(tokens, at, 0, Mark::Colon)?;
+    let (ty, next) = typ(alloc, tokens, at + 1, 0)?;
+    Ok((Some(ty), next))
+}

@@ -1,0 +1,92 @@
+//! Names with their types, and lists of names.
+
+use lam_lexer::Token;
+use lam_parse_exprs::typ;
+use lam_reading::{Break, Mark, name_of, next_is, take};
+use lam_syntax::{Id, Var};
+use std::alloc::Global;
+
+/// The name that the token at an index is.
+pub(crate) fn take_name(
+    alloc: Global,
+    tokens: &[Token],
+    at: usize,
+    depth: u64,
+) -> Result<Id, Break> {
+    let token = take(tokens, at, depth, Mark::Name)?;
+    Ok(name_of(alloc, token)?)
+}
+
+/// `name: type`
+pub(crate) fn variable(
+    alloc: Global,
+    tokens: &[Token],
+    at: usize,
+    depth: u64,
+) -> Result<(Var, usize), Break> {
+    let name = take_name(alloc, tokens, at, depth)?;
+    take(tokens, at + 1, depth, Mark::Colon)?;
+    let (ty, next) = typ(alloc, tokens, at + 2, depth)?;
+    Ok((Var { name, ty }, next))
+}
+
+/// The fields of a class, as many as there are.
+pub(crate) fn fields(
+    alloc: Global,
+    tokens: &[Token],
+    at: usize,
+    depth: u64,
+) -> Result<(Vec<Var>, usize), Break> {
+    let mut all = Vec::new(alloc);
+    let mut next = at;
+    while next_is(tokens, next, Mark::Name) {
+        let (field, end) = variable(alloc, tokens, next, depth)?;
+        take(tokens, end, depth, Mark::Semicolon)?;
+        all.push(field)?;
+        next = end + 1;
+    }
+    Ok((all, next))
+}
+
+/// The parameters of a function, or none.
+pub(crate) fn params(
+    alloc: Global,
+    tokens: &[Token],
+    at: usize,
+    depth: u64,
+) -> Result<(Vec<Var>, usize), Break> {
+    let mut all = Vec::new(alloc);
+    if !next_is(tokens, at, Mark::Name) {
+        return Ok((all, at));
+    }
+    let (first, mut next) = variable(alloc, tokens, at, depth)?;
+    all.push(first)?;
+    while next_is(tokens, next, Mark::Comma) {
+        take(tokens, next, depth, Mark::Comma)?;
+        let (param, end) = variable(alloc, tokens, next + 1, depth)?;
+        all.push(param)?;
+        next = end;
+    }
+    Ok((all, next))
+}
+
+/// The names that a region captures, or none.
+pub(crate) fn names(
+    alloc: Global,
+    tokens: &[Token],
+    at: usize,
+    depth: u64,
+) -> Result<(Vec<Id>, usize), Break> {
+    let mut all = Vec::new(alloc);
+    if !next_is(tokens, at, Mark::Name) {
+        return Ok((all, at));
+    }
+    all.push(take_name(alloc, tokens, at, depth)?)?;
+    let mut next = at + 1;
+    while next_is(tokens, next, Mark::Comma) {
+        take(tokens, next, depth, Mark::Comma)?;
+        all.push(take_name(alloc, tokens, next + 1, depth)?)?;
+        next += 2;
+    }
+    Ok((all, next))
+}
