@@ -1,5 +1,10 @@
 //! Classes, functions, and the program that they make.
 
+ghost use Rattle.std.specs.Prelude.{◌≡◌, true, ◌<◌, ◌≤◌, length, slice_get, IfOk};
+ghost use Rattle.lam_grammar.specs.Table as table;
+ghost use Rattle.lam_reading.specs.Classes.{fits_at, begins_at};
+ghost use Rattle.lam_parser.specs.Parts.{ReadsItem, ReadsProgram, ReadsResult};
+
 use crate::stmts::block;
 use crate::variables::{fields, params, take_name};
 use lam_lexer::Token;
@@ -12,7 +17,10 @@ use std::alloc::Global;
 type ReadItem = (Item, usize);
 
 /// Items and the end of the text, and the token after it, of which a text has none.
-pub(crate) fn program(alloc: Global, tokens: &[Token]) -> Result<(Program, usize), Break> {
+pub(crate) fn program(alloc: Global, tokens: &[Token]) -> Result<(Program, usize), Break>
+    ensures reads { ReadsProgram tokens.now result }
+    ensures within { IfOk result (λ x. x.1 ≤ length tokens.now) }
+{
     let mut items = Vec::new(alloc);
     let mut next = 0;
     while begins_item(tokens, next) {
@@ -29,12 +37,19 @@ pub(crate) fn program(alloc: Global, tokens: &[Token]) -> Result<(Program, usize
     Ok((Program { items }, next + 1))
 }
 
-fn begins_item(tokens: &[Token], at: usize) -> bool {
+fn begins_item(tokens: &[Token], at: usize) -> bool
+    ensures is { result ≡ begins_at table.item (slice_get tokens.now at) }
+    ensures within { result ≡ true → at < length tokens.now }
+{
     next_is(tokens, at, Mark::Class) || next_is(tokens, at, Mark::Fn)
 }
 
 /// A class or a function, as its first token tells.
-fn item(alloc: Global, tokens: &[Token], at: usize) -> Result<ReadItem, Break> {
+fn item(alloc: Global, tokens: &[Token], at: usize) -> Result<ReadItem, Break>
+    requires in_range { at ≤ length tokens.now }
+    ensures reads { ReadsItem tokens.now at result }
+    ensures goes_on { IfOk result (λ x. (at < x.1) × (x.1 ≤ length tokens.now)) }
+{
     if next_is(tokens, at, Mark::Class) {
         class(alloc, tokens, at)
     } else {
@@ -43,7 +58,12 @@ fn item(alloc: Global, tokens: &[Token], at: usize) -> Result<ReadItem, Break> {
 }
 
 /// `class Name { fields }`
-fn class(alloc: Global, tokens: &[Token], at: usize) -> Result<ReadItem, Break> {
+fn class(alloc: Global, tokens: &[Token], at: usize) -> Result<ReadItem, Break>
+    requires in_range { at ≤ length tokens.now }
+    requires begun { fits_at Mark.Class (slice_get tokens.now at) ≡ true }
+    ensures reads { ReadsItem tokens.now at result }
+    ensures goes_on { IfOk result (λ x. (at < x.1) × (x.1 ≤ length tokens.now)) }
+{
     let word = take(tokens, at, 0, Mark::Class)?;
     let name = take_name(alloc, tokens, at + 1, 0)?;
     take(tokens, at + 2, 0, Mark::BraceOpen)?;
@@ -58,7 +78,12 @@ fn class(alloc: Global, tokens: &[Token], at: usize) -> Result<ReadItem, Break> 
 }
 
 /// `fn name(params): type { body }`, or without a type.
-fn function(alloc: Global, tokens: &[Token], at: usize) -> Result<ReadItem, Break> {
+fn function(alloc: Global, tokens: &[Token], at: usize) -> Result<ReadItem, Break>
+    requires in_range { at ≤ length tokens.now }
+    requires begun { fits_at Mark.Fn (slice_get tokens.now at) ≡ true }
+    ensures reads { ReadsItem tokens.now at result }
+    ensures goes_on { IfOk result (λ x. (at < x.1) × (x.1 ≤ length tokens.now)) }
+{
     let word = take(tokens, at, 0, Mark::Fn)?;
     let name = take_name(alloc, tokens, at + 1, 0)?;
     take(tokens, at + 2, 0, Mark::ParenOpen)?;
@@ -81,7 +106,11 @@ fn result_part(
     alloc: Global,
     tokens: &[Token],
     at: usize,
-) -> Result<(Option<TypeExpr>, usize), Break> {
+) -> Result<(Option<TypeExpr>, usize), Break>
+    requires in_range { at ≤ length tokens.now }
+    ensures reads { ReadsResult tokens.now at result }
+    ensures goes_on { IfOk result (λ x. (at ≤ x.1) × (x.1 ≤ length tokens.now)) }
+{
     if !next_is(tokens, at, Mark::Colon) {
         return Ok((None, at));
     }

@@ -11,6 +11,11 @@
 //! wanted kind could stand in its place; the token named as too deep is the first at which the depth sum passes 128.
 #![tactic(auto)]
 
+ghost use Rattle.std.specs.Prelude.{◌≡◌, slice_get};
+ghost use Rattle.lam_grammar.specs.Program as table;
+ghost use Rattle.lam_reading.specs.Reading.{Fails};
+ghost use Rattle.lam_parser.specs.Answers.{Parses, place};
+
 mod items;
 mod stmts;
 mod variables;
@@ -35,7 +40,9 @@ pub enum ParseFault {
 }
 
 /// The program that the tokens spell, or the first fault.
-pub fn parse(alloc: Global, tokens: &[Token]) -> Result<Program, ParseFault> {
+pub fn parse(alloc: Global, tokens: &[Token]) -> Result<Program, ParseFault>
+    ensures { Parses tokens.now result }
+{
     match program(alloc, tokens) {
         Ok((program, end)) => {
             if end < tokens.len() {
@@ -51,7 +58,9 @@ pub fn parse(alloc: Global, tokens: &[Token]) -> Result<Program, ParseFault> {
 }
 
 /// The position of a token, or of the last one where there is none at the index; 0 without tokens.
-fn position(tokens: &[Token], index: usize) -> u64 {
+fn position(tokens: &[Token], index: usize) -> u64
+    ensures { result ≡ place tokens.now index }
+{
     match tokens.get(index) {
         Some(token) => token.at,
         None => match tokens.last() {
@@ -61,7 +70,9 @@ fn position(tokens: &[Token], index: usize) -> u64 {
     }
 }
 
-fn fault_of(tokens: &[Token], stopped: Break) -> ParseFault {
+fn fault_of(tokens: &[Token], stopped: Break) -> ParseFault
+    ensures { Fails (slice_get tokens.now) table.program 0 0 stopped → Parses tokens.now (Err result) }
+{
     match stopped {
         Break::Unexpected { at, wanted } => ParseFault::Unexpected {
             at: position(tokens, at),

@@ -1,9 +1,16 @@
 //! Statements and blocks.
 
+ghost use Rattle.std.specs.Prelude.{◌≡◌, true, ◌<◌, ◌≤◌, length, slice_get, IfOk};
+ghost use Rattle.lam_syntax.specs.Tree.{expr_tree};
+ghost use Rattle.lam_grammar.specs.Table.{captures};
+ghost use Rattle.lam_grammar.specs.Meaning.{is_place};
+ghost use Rattle.lam_reading.specs.Classes.{fits_at};
+ghost use Rattle.lam_parser.specs.Parts.{ReadsStmt, ReadsBlock, ReadsElse, ReadsHead, ReadsNames, ReadsHandler, NoWord};
+
 use crate::variables::{names, take_name, variable};
 use lam_lexer::Token;
 use lam_parse_exprs::{expression, parens};
-use lam_reading::{Break, Mark, Read, Wanted, begins_expression, begins_statement, next_is, take};
+use lam_reading::{Break, Mark, Wanted, begins_expression, begins_statement, next_is, take};
 use lam_syntax::{Expr, ExprKind, Id, Stmt, StmtKind};
 use std::alloc::Global;
 
@@ -20,7 +27,12 @@ pub(crate) fn block(
     tokens: &[Token],
     at: usize,
     depth: u64,
-) -> Result<ReadBlock, Break> {
+) -> Result<ReadBlock, Break>
+    requires in_range { at ≤ length tokens.now }
+    requires bounded { depth ≤ 128 }
+    ensures reads { ReadsBlock tokens.now depth at result }
+    ensures goes_on { IfOk result (λ x. (at < x.1) × (x.1 ≤ length tokens.now)) }
+{
     let inner = depth + 1;
     take(tokens, at, inner, Mark::BraceOpen)?;
     let mut body = Vec::new(alloc);
@@ -41,7 +53,12 @@ pub(crate) fn block(
 
 /// A statement of the form that its first token tells.
 #[cycle(statement)]
-fn statement(alloc: Global, tokens: &[Token], at: usize, depth: u64) -> Result<ReadStmt, Break> {
+fn statement(alloc: Global, tokens: &[Token], at: usize, depth: u64) -> Result<ReadStmt, Break>
+    requires in_range { at ≤ length tokens.now }
+    requires bounded { depth ≤ 128 }
+    ensures reads { ReadsStmt tokens.now depth at result }
+    ensures goes_on { IfOk result (λ x. (at < x.1) × (x.1 ≤ length tokens.now)) }
+{
     if next_is(tokens, at, Mark::Let) {
         return let_statement(alloc, tokens, at, depth);
     }
@@ -67,12 +84,13 @@ fn statement(alloc: Global, tokens: &[Token], at: usize, depth: u64) -> Result<R
 }
 
 /// `let name: type = value;`
-fn let_statement(
-    alloc: Global,
-    tokens: &[Token],
-    at: usize,
-    depth: u64,
-) -> Result<ReadStmt, Break> {
+fn let_statement(alloc: Global, tokens: &[Token], at: usize, depth: u64) -> Result<ReadStmt, Break>
+    requires in_range { at ≤ length tokens.now }
+    requires bounded { depth ≤ 128 }
+    requires begun { fits_at Mark.Let (slice_get tokens.now at) ≡ true }
+    ensures reads { ReadsStmt tokens.now depth at result }
+    ensures goes_on { IfOk result (λ x. (at < x.1) × (x.1 ≤ length tokens.now)) }
+{
     let word = take(tokens, at, depth, Mark::Let)?;
     let (var, equals) = variable(alloc, tokens, at + 1, depth)?;
     take(tokens, equals, depth, Mark::Assign)?;
@@ -87,7 +105,13 @@ fn let_statement(
 
 /// `if (test) { yes } else { no }`, or without `else`.
 #[cycle(statement)]
-fn if_statement(alloc: Global, tokens: &[Token], at: usize, depth: u64) -> Result<ReadStmt, Break> {
+fn if_statement(alloc: Global, tokens: &[Token], at: usize, depth: u64) -> Result<ReadStmt, Break>
+    requires in_range { at ≤ length tokens.now }
+    requires bounded { depth ≤ 128 }
+    requires begun { fits_at Mark.If (slice_get tokens.now at) ≡ true }
+    ensures reads { ReadsStmt tokens.now depth at result }
+    ensures goes_on { IfOk result (λ x. (at < x.1) × (x.1 ≤ length tokens.now)) }
+{
     let word = take(tokens, at, depth, Mark::If)?;
     let test = parens(alloc, tokens, at + 1, depth)?;
     let (yes, other) = block(alloc, tokens, test.next, depth)?;
@@ -107,7 +131,12 @@ fn else_part(
     tokens: &[Token],
     at: usize,
     depth: u64,
-) -> Result<(Option<Vec<Stmt>>, usize), Break> {
+) -> Result<(Option<Vec<Stmt>>, usize), Break>
+    requires in_range { at ≤ length tokens.now }
+    requires bounded { depth ≤ 128 }
+    ensures reads { ReadsElse tokens.now depth at result }
+    ensures goes_on { IfOk result (λ x. (at ≤ x.1) × (x.1 ≤ length tokens.now)) }
+{
     if !next_is(tokens, at, Mark::Else) {
         return Ok((None, at));
     }
@@ -123,7 +152,13 @@ fn while_statement(
     tokens: &[Token],
     at: usize,
     depth: u64,
-) -> Result<ReadStmt, Break> {
+) -> Result<ReadStmt, Break>
+    requires in_range { at ≤ length tokens.now }
+    requires bounded { depth ≤ 128 }
+    requires begun { fits_at Mark.While (slice_get tokens.now at) ≡ true }
+    ensures reads { ReadsStmt tokens.now depth at result }
+    ensures goes_on { IfOk result (λ x. (at < x.1) × (x.1 ≤ length tokens.now)) }
+{
     let word = take(tokens, at, depth, Mark::While)?;
     let test = parens(alloc, tokens, at + 1, depth)?;
     let (body, next) = block(alloc, tokens, test.next, depth)?;
@@ -140,26 +175,23 @@ fn return_statement(
     tokens: &[Token],
     at: usize,
     depth: u64,
-) -> Result<ReadStmt, Break> {
+) -> Result<ReadStmt, Break>
+    requires in_range { at ≤ length tokens.now }
+    requires bounded { depth ≤ 128 }
+    requires begun { fits_at Mark.Return (slice_get tokens.now at) ≡ true }
+    ensures reads { ReadsStmt tokens.now depth at result }
+    ensures goes_on { IfOk result (λ x. (at < x.1) × (x.1 ≤ length tokens.now)) }
+{
     let word = take(tokens, at, depth, Mark::Return)?;
-    let (value, next) = value_part(alloc, tokens, at + 1, depth)?;
-    take(tokens, next, depth, Mark::Semicolon)?;
-    let kind = StmtKind::Return(value);
-    Ok((Stmt { at: word.at, kind }, next + 1))
-}
-
-/// An expression, or nothing.
-fn value_part(
-    alloc: Global,
-    tokens: &[Token],
-    at: usize,
-    depth: u64,
-) -> Result<(Option<Expr>, usize), Break> {
-    if !begins_expression(tokens, at) {
-        return Ok((None, at));
+    if !begins_expression(tokens, at + 1) {
+        take(tokens, at + 1, depth, Mark::Semicolon)?;
+        let kind = StmtKind::Return(None);
+        return Ok((Stmt { at: word.at, kind }, at + 2));
     }
-    let value = expression(alloc, tokens, at, depth)?;
-    Ok((Some(value.expr), value.next))
+    let value = expression(alloc, tokens, at + 1, depth)?;
+    take(tokens, value.next, depth, Mark::Semicolon)?;
+    let kind = StmtKind::Return(Some(value.expr));
+    Ok((Stmt { at: word.at, kind }, value.next + 1))
 }
 
 /// `throw value;`
@@ -168,7 +200,13 @@ fn throw_statement(
     tokens: &[Token],
     at: usize,
     depth: u64,
-) -> Result<ReadStmt, Break> {
+) -> Result<ReadStmt, Break>
+    requires in_range { at ≤ length tokens.now }
+    requires bounded { depth ≤ 128 }
+    requires begun { fits_at Mark.Throw (slice_get tokens.now at) ≡ true }
+    ensures reads { ReadsStmt tokens.now depth at result }
+    ensures goes_on { IfOk result (λ x. (at < x.1) × (x.1 ≤ length tokens.now)) }
+{
     let word = take(tokens, at, depth, Mark::Throw)?;
     let value = expression(alloc, tokens, at + 1, depth)?;
     take(tokens, value.next, depth, Mark::Semicolon)?;
@@ -178,12 +216,13 @@ fn throw_statement(
 
 /// `sync (thing) { body }`
 #[cycle(statement)]
-fn sync_statement(
-    alloc: Global,
-    tokens: &[Token],
-    at: usize,
-    depth: u64,
-) -> Result<ReadStmt, Break> {
+fn sync_statement(alloc: Global, tokens: &[Token], at: usize, depth: u64) -> Result<ReadStmt, Break>
+    requires in_range { at ≤ length tokens.now }
+    requires bounded { depth ≤ 128 }
+    requires begun { fits_at Mark.Sync (slice_get tokens.now at) ≡ true }
+    ensures reads { ReadsStmt tokens.now depth at result }
+    ensures goes_on { IfOk result (λ x. (at < x.1) × (x.1 ≤ length tokens.now)) }
+{
     let word = take(tokens, at, depth, Mark::Sync)?;
     let thing = parens(alloc, tokens, at + 1, depth)?;
     let (body, next) = block(alloc, tokens, thing.next, depth)?;
@@ -201,7 +240,13 @@ fn region_statement(
     tokens: &[Token],
     at: usize,
     depth: u64,
-) -> Result<ReadStmt, Break> {
+) -> Result<ReadStmt, Break>
+    requires in_range { at ≤ length tokens.now }
+    requires bounded { depth ≤ 128 }
+    requires begun { fits_at Mark.Region (slice_get tokens.now at) ≡ true }
+    ensures reads { ReadsStmt tokens.now depth at result }
+    ensures goes_on { IfOk result (λ x. (at < x.1) × (x.1 ≤ length tokens.now)) }
+{
     let word = take(tokens, at, depth, Mark::Region)?;
     let head = region_head(alloc, tokens, at + 1, depth)?;
     let (captures, brace) = captures(alloc, tokens, head.next, depth)?;
@@ -227,7 +272,12 @@ struct Head {
 }
 
 /// `(label, caps)`
-fn region_head(alloc: Global, tokens: &[Token], at: usize, depth: u64) -> Result<Head, Break> {
+fn region_head(alloc: Global, tokens: &[Token], at: usize, depth: u64) -> Result<Head, Break>
+    requires in_range { at ≤ length tokens.now }
+    requires bounded { depth ≤ 128 }
+    ensures reads { ReadsHead tokens.now depth at result }
+    ensures goes_on { IfOk result (λ x. (at < x.next) × (x.next ≤ length tokens.now)) }
+{
     take(tokens, at, depth, Mark::ParenOpen)?;
     let label = expression(alloc, tokens, at + 1, depth)?;
     take(tokens, label.next, depth, Mark::Comma)?;
@@ -246,7 +296,12 @@ fn captures(
     tokens: &[Token],
     at: usize,
     depth: u64,
-) -> Result<(Vec<Id>, usize), Break> {
+) -> Result<(Vec<Id>, usize), Break>
+    requires in_range { at ≤ length tokens.now }
+    requires bounded { depth ≤ 128 }
+    ensures reads { ReadsNames tokens.now captures depth at result }
+    ensures goes_on { IfOk result (λ x. (at < x.1) × (x.1 ≤ length tokens.now)) }
+{
     take(tokens, at, depth, Mark::BracketOpen)?;
     let (all, next) = names(alloc, tokens, at + 1, depth)?;
     take(tokens, next, depth, Mark::BracketClose)?;
@@ -263,7 +318,12 @@ struct Catch {
 
 /// `catch (name) { body }`
 #[cycle(statement)]
-fn handler(alloc: Global, tokens: &[Token], at: usize, depth: u64) -> Result<Catch, Break> {
+fn handler(alloc: Global, tokens: &[Token], at: usize, depth: u64) -> Result<Catch, Break>
+    requires in_range { at ≤ length tokens.now }
+    requires bounded { depth ≤ 128 }
+    ensures reads { ReadsHandler tokens.now depth at result }
+    ensures goes_on { IfOk result (λ x. (at < x.next) × (x.next ≤ length tokens.now)) }
+{
     take(tokens, at, depth, Mark::Catch)?;
     take(tokens, at + 1, depth, Mark::ParenOpen)?;
     let name = take_name(alloc, tokens, at + 2, depth)?;
@@ -278,32 +338,34 @@ fn expression_statement(
     tokens: &[Token],
     at: usize,
     depth: u64,
-) -> Result<ReadStmt, Break> {
+) -> Result<ReadStmt, Break>
+    requires in_range { at ≤ length tokens.now }
+    requires bounded { depth ≤ 128 }
+    requires begun { NoWord (slice_get tokens.now at) }
+    ensures reads { ReadsStmt tokens.now depth at result }
+    ensures goes_on { IfOk result (λ x. (at < x.1) × (x.1 ≤ length tokens.now)) }
+{
     let left = expression(alloc, tokens, at, depth)?;
-    if next_is(tokens, left.next, Mark::Assign) {
-        return assignment(alloc, tokens, left, depth);
+    let equals = left.next;
+    if !next_is(tokens, equals, Mark::Assign) {
+        take(tokens, equals, depth, Mark::Semicolon)?;
+        let kind = StmtKind::Do(left.expr);
+        return Ok((
+            Stmt {
+                at: left.begin,
+                kind,
+            },
+            equals + 1,
+        ));
     }
-    take(tokens, left.next, depth, Mark::Semicolon)?;
-    let kind = StmtKind::Do(left.expr);
-    Ok((
-        Stmt {
-            at: left.begin,
-            kind,
-        },
-        left.next + 1,
-    ))
-}
-
-/// `= value;` after what is to be a place.
-fn assignment(alloc: Global, tokens: &[Token], left: Read, depth: u64) -> Result<ReadStmt, Break> {
     if !is_place(&left.expr) {
         return Err(Break::Unexpected {
-            at: left.next,
+            at: equals,
             wanted: Wanted::Place,
         });
     }
-    take(tokens, left.next, depth, Mark::Assign)?;
-    let value = expression(alloc, tokens, left.next + 1, depth)?;
+    take(tokens, equals, depth, Mark::Assign)?;
+    let value = expression(alloc, tokens, equals + 1, depth)?;
     take(tokens, value.next, depth, Mark::Semicolon)?;
     let kind = StmtKind::Assign {
         place: left.expr,
@@ -319,7 +381,9 @@ fn assignment(alloc: Global, tokens: &[Token], left: Read, depth: u64) -> Result
 }
 
 /// Names, fields and elements are places.
-fn is_place(e: &Expr) -> bool {
+fn is_place(e: &Expr) -> bool
+    ensures { result ≡ is_place (expr_tree e.now) }
+{
     matches!(
         e.kind,
         ExprKind::Name(_) | ExprKind::Field { .. } | ExprKind::Element { .. }

@@ -1,5 +1,9 @@
 //! Names with their types, and lists of names.
 
+ghost use Rattle.std.specs.Prelude.{◌≡◌, ◌<◌, ◌≤◌, length, IfOk};
+ghost use Rattle.lam_grammar.specs.Table.{fields, params, names};
+ghost use Rattle.lam_parser.specs.Parts.{TakesName, ReadsVariable, ReadsVariables, ReadsNames};
+
 use lam_lexer::Token;
 use lam_parse_exprs::typ;
 use lam_reading::{Break, Mark, name_of, next_is, take};
@@ -7,12 +11,10 @@ use lam_syntax::{Id, Var};
 use std::alloc::Global;
 
 /// The name that the token at an index is.
-pub(crate) fn take_name(
-    alloc: Global,
-    tokens: &[Token],
-    at: usize,
-    depth: u64,
-) -> Result<Id, Break> {
+pub(crate) fn take_name(alloc: Global, tokens: &[Token], at: usize, depth: u64) -> Result<Id, Break>
+    ensures takes { TakesName tokens.now depth at result }
+    ensures within { IfOk result (λ _. at < length tokens.now) }
+{
     let token = take(tokens, at, depth, Mark::Name)?;
     Ok(name_of(alloc, token)?)
 }
@@ -23,7 +25,12 @@ pub(crate) fn variable(
     tokens: &[Token],
     at: usize,
     depth: u64,
-) -> Result<(Var, usize), Break> {
+) -> Result<(Var, usize), Break>
+    requires in_range { at ≤ length tokens.now }
+    requires bounded { depth ≤ 128 }
+    ensures reads { ReadsVariable tokens.now depth at result }
+    ensures goes_on { IfOk result (λ x. (at < x.1) × (x.1 ≤ length tokens.now)) }
+{
     let name = take_name(alloc, tokens, at, depth)?;
     take(tokens, at + 1, depth, Mark::Colon)?;
     let (ty, next) = typ(alloc, tokens, at + 2, depth)?;
@@ -36,7 +43,12 @@ pub(crate) fn fields(
     tokens: &[Token],
     at: usize,
     depth: u64,
-) -> Result<(Vec<Var>, usize), Break> {
+) -> Result<(Vec<Var>, usize), Break>
+    requires in_range { at ≤ length tokens.now }
+    requires bounded { depth ≤ 128 }
+    ensures reads { ReadsVariables tokens.now fields depth at result }
+    ensures goes_on { IfOk result (λ x. (at ≤ x.1) × (x.1 ≤ length tokens.now)) }
+{
     let mut all = Vec::new(alloc);
     let mut next = at;
     while next_is(tokens, next, Mark::Name) {
@@ -54,7 +66,12 @@ pub(crate) fn params(
     tokens: &[Token],
     at: usize,
     depth: u64,
-) -> Result<(Vec<Var>, usize), Break> {
+) -> Result<(Vec<Var>, usize), Break>
+    requires in_range { at ≤ length tokens.now }
+    requires bounded { depth ≤ 128 }
+    ensures reads { ReadsVariables tokens.now params depth at result }
+    ensures goes_on { IfOk result (λ x. (at ≤ x.1) × (x.1 ≤ length tokens.now)) }
+{
     let mut all = Vec::new(alloc);
     if !next_is(tokens, at, Mark::Name) {
         return Ok((all, at));
@@ -76,7 +93,12 @@ pub(crate) fn names(
     tokens: &[Token],
     at: usize,
     depth: u64,
-) -> Result<(Vec<Id>, usize), Break> {
+) -> Result<(Vec<Id>, usize), Break>
+    requires in_range { at ≤ length tokens.now }
+    requires bounded { depth ≤ 128 }
+    ensures reads { ReadsNames tokens.now names depth at result }
+    ensures goes_on { IfOk result (λ x. (at ≤ x.1) × (x.1 ≤ length tokens.now)) }
+{
     let mut all = Vec::new(alloc);
     if !next_is(tokens, at, Mark::Name) {
         return Ok((all, at));

@@ -1,0 +1,74 @@
+-- From what reading comes to, to what the answer says of the tokens.
+use Rattle.std.proofs.Common.{◌≡◌, ℕ, ◌+◌, ◌<◌, ◌≤◌, ◌⊎◌, inl, inr, Bool, true, false, Option, Some, None, List, [], ◌∷◌, ◌++◌, length, take, slice_get, refl, sym, ap, ◌∙◌, arith, length-append}
+use Rattle.std.proofs.lemmas.Option.{slice_get-get_or, slice_get_past, slice_get_within}
+use Rattle.std.proofs.lemmas.List.{length-take-le}
+use Rattle.grammar_laws.specs.Grammar.{Reads, free}
+use Rattle.grammar_laws.specs.Texts.{limited, capped, Spells, Continues, CouldStand, IsUnexpected, IsTooDeep, IsBarred}
+use Rattle.grammar_laws.specs.Stopping.{unexpected, too_deep, could, Stops}
+use Rattle.grammar_laws.proofs.Laws.{once, free_reads}
+use Rattle.grammar_laws.proofs.Spelling.{moves}
+use Rattle.grammar_laws.proofs.Completion.{at_taken, low, within_text}
+use Rattle.grammar_laws.proofs.Theorem.{could_stand, is_unexpected, is_too_deep, is_not_barred, is_barred}
+use Rattle.lam_lexer.specs.declared.token.Token.{Token}
+use Rattle.lam_lexer.specs.declared.token.TokenKind.TheVariants.{End}
+use Rattle.lam_grammar.specs.Meaning.{Value, nothing}
+use Rattle.lam_grammar.specs.Program.{lam, program}
+use Rattle.lam_grammar.specs.Examples.{of_kind, examples}
+use Rattle.lam_grammar.proofs.Passes.{sound, free_sound, bars}
+use Rattle.lam_parser.specs.Answers.{CouldBe, LacksPlace}
+
+module _ (ts : List Token) where
+  pub unexpected_there : (n : ℕ) (w : Token) → Stops lam examples (limited lam) (slice_get ts) program nothing 0 0 (unexpected false n) → Stops lam examples (limited lam) (slice_get ts) program nothing 0 0 (could n w) → IsUnexpected lam program nothing ts n × (LacksPlace ts n → ⊥) × CouldBe ts n w
+  unexpected_there n w h k = (is_unexpected lam examples sound program nothing ts false n w refl h k, is_not_barred lam examples sound program nothing ts n h, could_stand lam examples sound program nothing ts n w refl k)
+
+  pub barred_there : (n : ℕ) (w : Token) → Stops lam examples (limited lam) (slice_get ts) program nothing 0 0 (unexpected true n) → Stops lam examples (limited lam) (slice_get ts) program nothing 0 0 (could n w) → IsUnexpected lam program nothing ts n × LacksPlace ts n
+  barred_there n w h k = (is_unexpected lam examples sound program nothing ts true n w refl h k, is_barred lam examples bars free_sound program nothing ts n refl h)
+
+  pub too_deep_there : (n : ℕ) → Stops lam examples (limited lam) (slice_get ts) program nothing 0 0 (too_deep n) → IsTooDeep lam program nothing ts n
+  too_deep_there n h = is_too_deep lam examples sound program nothing ts n refl h
+
+  -- ---- behind the end of the text
+
+  module _ (vs : List Value) (n s : ℕ) (h : Reads lam (limited lam) (slice_get ts) program nothing 0 0 vs n s) where
+    -- a text with the same first tokens ends there too
+    there_too : (others : List Token) → ((j : ℕ) → j < n → slice_get others j ≡ slice_get ts j) → Reads lam (limited lam) (slice_get others) program nothing 0 0 vs n s
+    there_too others same = moves lam examples sound h same (inr refl) (λ m l. omega arith)
+
+    ends_too : (others : List Token) (cap : ℕ → ℕ) (vs' : List Value) (n' s' : ℕ) → ((j : ℕ) → j < n → slice_get others j ≡ slice_get ts j) → Reads (free lam) cap (slice_get others) program nothing 0 0 vs' n' s' → n ≡ n'
+    ends_too others cap vs' n' s' same g = ap (λ (x : List Value × ℕ × ℕ). x.1) (once (free_reads (there_too others same)) (λ j l. refl) g)
+
+    -- nothing stands behind it
+    nothing_there : (others : List Token) (cap : ℕ → ℕ) (vs' : List Value) (n' s' : ℕ) → ((j : ℕ) → j < n → slice_get others j ≡ slice_get ts j) → Reads (free lam) cap (slice_get others) program nothing 0 0 vs' n' s' → slice_get others n' ≡ None → slice_get others n ≡ None
+    nothing_there others cap vs' n' s' same g e = ap (slice_get others) (ends_too others cap vs' n' s' same g) ∙ e
+
+    no_other : (w : Token) → CouldBe ts n w → ⊥
+    no_other w c =
+        let e = nothing_there c.others _ c.vs c.spells.end c.spells.sum c.same (free_reads c.spells.reads) c.spells.whole in
+        let f = c.next in
+        cc
+
+    token_there : n < length ts → (o : Option Token) → o ≡ slice_get ts n → o ≡ None → ⊥
+    token_there lt o q e =
+        let f = slice_get-get_or ts n (of_kind End) lt in
+        cc
+
+    pub past_end : n < length ts → IsUnexpected lam program nothing ts n × (LacksPlace ts n → ⊥) × ((w : Token) → CouldBe ts n w → ⊥)
+    past_end lt = (
+      (
+        record {
+          others = take n ts ++ [];
+          same = λ j l. at_taken ts n [] (omega arith) j l;
+          bound = 0;
+          vs = vs;
+          spells = record {
+            end = n;
+            sum = s;
+            reads = moves lam examples sound h (λ j l. at_taken ts n [] (omega arith) j l) (inr refl) (λ m l. low lam n 0 m l);
+            whole = slice_get_past (take n ts ++ []) n (omega (arith, length-append (take n ts) [], length-take-le n ts (omega arith)));
+          };
+        },
+        λ c. token_there lt _ (c.same n (omega arith)) (nothing_there c.others _ c.vs c.spells.end c.spells.sum (λ j l. c.same j (omega arith)) (free_reads c.spells.reads) c.spells.whole),
+      ),
+      λ c. token_there lt _ (c.same n (omega arith)) (nothing_there c.others _ c.vs c.spells.end c.spells.sum (λ j l. c.same j (omega arith)) c.spells.reads c.spells.whole),
+      no_other,
+    )
