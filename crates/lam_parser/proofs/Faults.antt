@@ -1,5 +1,5 @@
 -- From what reading comes to, to what the answer says of the tokens.
-use Rattle.std.proofs.Common.{◌≡◌, ℕ, ◌+◌, ◌<◌, ◌≤◌, ◌⊎◌, inl, inr, Bool, true, false, Option, Some, None, List, [], ◌∷◌, ◌++◌, length, take, slice_get, refl, sym, ap, ◌∙◌, arith, length-append}
+use Rattle.std.proofs.Common.{◌≡◌, ℕ, ◌+◌, ◌<◌, ◌≤◌, ◌⊎◌, inl, inr, Bool, true, false, Option, Some, None, Result, Ok, Err, List, [], ◌∷◌, ◌++◌, length, take, slice_get, refl, sym, ap, ◌∙◌, arith, length-append}
 use Rattle.std.proofs.lemmas.Option.{slice_get-get_or, slice_get_past, slice_get_within}
 use Rattle.std.proofs.lemmas.List.{length-take-le}
 use Rattle.grammar_laws.specs.Grammar.{Reads, free}
@@ -11,11 +11,20 @@ use Rattle.grammar_laws.proofs.Completion.{at_taken, low, within_text}
 use Rattle.grammar_laws.proofs.Theorem.{could_stand, is_unexpected, is_too_deep, is_not_barred, is_barred}
 use Rattle.lam_lexer.specs.declared.token.Token.{Token}
 use Rattle.lam_lexer.specs.declared.token.TokenKind.TheVariants.{End}
-use Rattle.lam_grammar.specs.Meaning.{Value, nothing}
+use Rattle.lam_syntax.specs.declared.Program.{Program}
+use Rattle.lam_syntax.specs.Tree.{program_tree}
+use Rattle.lam_grammar.specs.Meaning.{Value, nothing, word, items_value}
 use Rattle.lam_grammar.specs.Program.{lam, program}
 use Rattle.lam_grammar.specs.Examples.{of_kind, examples}
 use Rattle.lam_grammar.proofs.Passes.{sound, free_sound, bars}
-use Rattle.lam_parser.specs.Answers.{CouldBe, LacksPlace}
+use Rattle.lam_reading.specs.declared.marks.Mark as marks
+use Rattle.lam_reading.specs.declared.breaks.Wanted.{Wanted}
+use Rattle.lam_reading.specs.declared.breaks.Wanted.TheVariants.{Item, Name, TypeName, Statement, Expression, Place, Mark}
+use Rattle.lam_reading.specs.declared.breaks.Break.TheVariants.{Unexpected, TooDeep}
+use Rattle.lam_reading.specs.Classes.{class_of, sample_of}
+use Rattle.lam_reading.specs.Reading.{Fails}
+use Rattle.lam_parser.specs.declared.ParseFault.TheVariants as answer
+use Rattle.lam_parser.specs.Answers.{CouldBe, LacksPlace, place, Parses}
 
 module _ (ts : List Token) where
   pub unexpected_there : (n : ℕ) (w : Token) → Stops lam examples (limited lam) (slice_get ts) program nothing 0 0 (unexpected false n) → Stops lam examples (limited lam) (slice_get ts) program nothing 0 0 (could n w) → IsUnexpected lam program nothing ts n × (LacksPlace ts n → ⊥) × CouldBe ts n w
@@ -72,3 +81,40 @@ module _ (ts : List Token) where
       λ c. token_there lt _ (c.same n (omega arith)) (nothing_there c.others _ c.vs c.spells.end c.spells.sum (λ j l. c.same j (omega arith)) c.spells.reads c.spells.whole),
       no_other,
     )
+
+-- ---- the parser's answer
+
+pub unexpected_answer : (ts : List Token) (n at : ℕ) (wanted : Wanted) → at ≡ place ts n → Fails (slice_get ts) program 0 0 (Unexpected n wanted) → Parses ts (Err (answer.Unexpected at wanted))
+unexpected_answer ts n at Place e h =
+    let u = barred_there ts n _ (h.0 nothing) (h.1 nothing) in
+    (n, e, u.0, u.1)
+unexpected_answer ts n at Item e h =
+    let u = unexpected_there ts n _ (h.0 nothing) (h.1 nothing) in
+    (n, e, u.0, (u.1, inl (sample_of Item, refl, u.2)))
+unexpected_answer ts n at Name e h =
+    let u = unexpected_there ts n _ (h.0 nothing) (h.1 nothing) in
+    (n, e, u.0, (u.1, inl (sample_of Name, refl, u.2)))
+unexpected_answer ts n at TypeName e h =
+    let u = unexpected_there ts n _ (h.0 nothing) (h.1 nothing) in
+    (n, e, u.0, (u.1, inl (sample_of TypeName, refl, u.2)))
+unexpected_answer ts n at Statement e h =
+    let u = unexpected_there ts n _ (h.0 nothing) (h.1 nothing) in
+    (n, e, u.0, (u.1, inl (sample_of Statement, refl, u.2)))
+unexpected_answer ts n at Expression e h =
+    let u = unexpected_there ts n _ (h.0 nothing) (h.1 nothing) in
+    (n, e, u.0, (u.1, inl (sample_of Expression, refl, u.2)))
+unexpected_answer ts n at (Mark m) e h =
+    let u = unexpected_there ts n _ (h.0 nothing) (h.1 nothing) in
+    (n, e, u.0, (u.1, inl (sample_of (Mark m), (class_of m).sure, u.2)))
+
+pub too_deep_answer : (ts : List Token) (n at : ℕ) → at ≡ place ts n → Fails (slice_get ts) program 0 0 (TooDeep n) → Parses ts (Err (answer.TooDeep at))
+too_deep_answer ts n at e h = (n, e, too_deep_there ts n (h nothing))
+
+-- the tokens go on behind the end of the text
+pub past_answer : (ts : List Token) (n at s : ℕ) (vs : List Value) (m : marks.Mark) → at ≡ place ts n → Reads lam (limited lam) (slice_get ts) program nothing 0 0 vs n s → n < length ts → Parses ts (Err (answer.Unexpected at (Mark m)))
+past_answer ts n at s vs m e h lt =
+    let u = past_end ts vs n s h lt in
+    (n, e, u.0, (u.1, inr u.2))
+
+pub whole_answer : (ts : List Token) (n s : ℕ) (w : Token) (p : Program) → Reads lam (limited lam) (slice_get ts) program nothing 0 0 (items_value (program_tree p) ∷ word w ∷ []) n s → length ts ≤ n → Parses ts (Ok p)
+whole_answer ts n s w p h le = (w, record { end = n; sum = s; reads = h; whole = slice_get_past ts n le })

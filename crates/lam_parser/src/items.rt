@@ -2,14 +2,15 @@
 
 ghost use Rattle.std.specs.Prelude.{◌≡◌, true, ◌<◌, ◌≤◌, length, slice_get, IfOk};
 ghost use Rattle.lam_grammar.specs.Table as table;
-ghost use Rattle.lam_reading.specs.Classes.{fits_at, begins_at};
+ghost use Rattle.lam_reading.specs.Classes.{begins_at};
+ghost use Rattle.lam_reading.specs.Reading.{Taken};
 ghost use Rattle.lam_parser.specs.Parts.{ReadsItem, ReadsProgram, ReadsResult};
 
 use crate::stmts::block;
 use crate::variables::{fields, params, take_name};
 use lam_lexer::Token;
 use lam_parse_exprs::typ;
-use lam_reading::{Break, Mark, Wanted, next_is, take};
+use lam_reading::{Break, Mark, Wanted, next_is, take, take_if};
 use lam_syntax::{Class, Function, Item, Program, TypeExpr};
 use std::alloc::Global;
 
@@ -47,24 +48,24 @@ fn begins_item(tokens: &[Token], at: usize) -> bool
 /// A class or a function, as its first token tells.
 fn item(alloc: Global, tokens: &[Token], at: usize) -> Result<ReadItem, Break>
     requires in_range { at ≤ length tokens.now }
+    requires begun { begins_at table.item (slice_get tokens.now at) ≡ true }
     ensures reads { ReadsItem tokens.now at result }
     ensures goes_on { IfOk result (λ x. (at < x.1) × (x.1 ≤ length tokens.now)) }
 {
-    if next_is(tokens, at, Mark::Class) {
-        class(alloc, tokens, at)
-    } else {
-        function(alloc, tokens, at)
+    if let Some(word) = take_if(tokens, at, 0, Mark::Class)? {
+        return class(alloc, tokens, at, word);
     }
+    let word = take(tokens, at, 0, Mark::Fn)?;
+    function(alloc, tokens, at, word)
 }
 
 /// `class Name { fields }`
-fn class(alloc: Global, tokens: &[Token], at: usize) -> Result<ReadItem, Break>
+fn class(alloc: Global, tokens: &[Token], at: usize, word: &Token) -> Result<ReadItem, Break>
     requires in_range { at ≤ length tokens.now }
-    requires begun { fits_at Mark.Class (slice_get tokens.now at) ≡ true }
+    requires begun { Taken tokens.now 0 at Mark.Class word.now }
     ensures reads { ReadsItem tokens.now at result }
     ensures goes_on { IfOk result (λ x. (at < x.1) × (x.1 ≤ length tokens.now)) }
 {
-    let word = take(tokens, at, 0, Mark::Class)?;
     let name = take_name(alloc, tokens, at + 1, 0)?;
     take(tokens, at + 2, 0, Mark::BraceOpen)?;
     let (fields, next) = fields(alloc, tokens, at + 3, 0)?;
@@ -78,13 +79,12 @@ fn class(alloc: Global, tokens: &[Token], at: usize) -> Result<ReadItem, Break>
 }
 
 /// `fn name(params): type { body }`, or without a type.
-fn function(alloc: Global, tokens: &[Token], at: usize) -> Result<ReadItem, Break>
+fn function(alloc: Global, tokens: &[Token], at: usize, word: &Token) -> Result<ReadItem, Break>
     requires in_range { at ≤ length tokens.now }
-    requires begun { fits_at Mark.Fn (slice_get tokens.now at) ≡ true }
+    requires begun { Taken tokens.now 0 at Mark.Fn word.now }
     ensures reads { ReadsItem tokens.now at result }
     ensures goes_on { IfOk result (λ x. (at < x.1) × (x.1 ≤ length tokens.now)) }
 {
-    let word = take(tokens, at, 0, Mark::Fn)?;
     let name = take_name(alloc, tokens, at + 1, 0)?;
     take(tokens, at + 2, 0, Mark::ParenOpen)?;
     let (params, next) = params(alloc, tokens, at + 3, 0)?;
@@ -111,10 +111,9 @@ fn result_part(
     ensures reads { ReadsResult tokens.now at result }
     ensures goes_on { IfOk result (λ x. (at ≤ x.1) × (x.1 ≤ length tokens.now)) }
 {
-    if !next_is(tokens, at, Mark::Colon) {
+    if take_if(tokens, at, 0, Mark::Colon)?.is_none() {
         return Ok((None, at));
     }
-    take(tokens, at, 0, Mark::Colon)?;
     let (ty, next) = typ(alloc, tokens, at + 1, 0)?;
     Ok((Some(ty), next))
 }

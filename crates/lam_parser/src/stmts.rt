@@ -4,13 +4,15 @@ ghost use Rattle.std.specs.Prelude.{◌≡◌, true, ◌<◌, ◌≤◌, length,
 ghost use Rattle.lam_syntax.specs.Tree.{expr_tree};
 ghost use Rattle.lam_grammar.specs.Table.{captures};
 ghost use Rattle.lam_grammar.specs.Meaning.{is_place};
-ghost use Rattle.lam_reading.specs.Classes.{fits_at};
+ghost use Rattle.lam_reading.specs.Reading.{Taken};
 ghost use Rattle.lam_parser.specs.Parts.{ReadsStmt, ReadsBlock, ReadsElse, ReadsHead, ReadsNames, ReadsHandler, NoWord};
 
 use crate::variables::{names, take_name, variable};
 use lam_lexer::Token;
 use lam_parse_exprs::{expression, parens};
-use lam_reading::{Break, Mark, Wanted, begins_expression, begins_statement, next_is, take};
+use lam_reading::{
+    Break, Mark, Wanted, begins_expression, begins_statement, next_is, take, take_if,
+};
 use lam_syntax::{Expr, ExprKind, Id, Stmt, StmtKind};
 use std::alloc::Global;
 
@@ -59,39 +61,44 @@ fn statement(alloc: Global, tokens: &[Token], at: usize, depth: u64) -> Result<R
     ensures reads { ReadsStmt tokens.now depth at result }
     ensures goes_on { IfOk result (λ x. (at < x.1) × (x.1 ≤ length tokens.now)) }
 {
-    if next_is(tokens, at, Mark::Let) {
-        return let_statement(alloc, tokens, at, depth);
+    if let Some(word) = take_if(tokens, at, depth, Mark::Let)? {
+        return let_statement(alloc, tokens, at, depth, word);
     }
-    if next_is(tokens, at, Mark::If) {
-        return if_statement(alloc, tokens, at, depth);
+    if let Some(word) = take_if(tokens, at, depth, Mark::If)? {
+        return if_statement(alloc, tokens, at, depth, word);
     }
-    if next_is(tokens, at, Mark::While) {
-        return while_statement(alloc, tokens, at, depth);
+    if let Some(word) = take_if(tokens, at, depth, Mark::While)? {
+        return while_statement(alloc, tokens, at, depth, word);
     }
-    if next_is(tokens, at, Mark::Return) {
-        return return_statement(alloc, tokens, at, depth);
+    if let Some(word) = take_if(tokens, at, depth, Mark::Return)? {
+        return return_statement(alloc, tokens, at, depth, word);
     }
-    if next_is(tokens, at, Mark::Throw) {
-        return throw_statement(alloc, tokens, at, depth);
+    if let Some(word) = take_if(tokens, at, depth, Mark::Throw)? {
+        return throw_statement(alloc, tokens, at, depth, word);
     }
-    if next_is(tokens, at, Mark::Sync) {
-        return sync_statement(alloc, tokens, at, depth);
+    if let Some(word) = take_if(tokens, at, depth, Mark::Sync)? {
+        return sync_statement(alloc, tokens, at, depth, word);
     }
-    if next_is(tokens, at, Mark::Region) {
-        return region_statement(alloc, tokens, at, depth);
+    if let Some(word) = take_if(tokens, at, depth, Mark::Region)? {
+        return region_statement(alloc, tokens, at, depth, word);
     }
     expression_statement(alloc, tokens, at, depth)
 }
 
 /// `let name: type = value;`
-fn let_statement(alloc: Global, tokens: &[Token], at: usize, depth: u64) -> Result<ReadStmt, Break>
+fn let_statement(
+    alloc: Global,
+    tokens: &[Token],
+    at: usize,
+    depth: u64,
+    word: &Token,
+) -> Result<ReadStmt, Break>
     requires in_range { at ≤ length tokens.now }
     requires bounded { depth ≤ 128 }
-    requires begun { fits_at Mark.Let (slice_get tokens.now at) ≡ true }
+    requires begun { Taken tokens.now depth at Mark.Let word.now }
     ensures reads { ReadsStmt tokens.now depth at result }
     ensures goes_on { IfOk result (λ x. (at < x.1) × (x.1 ≤ length tokens.now)) }
 {
-    let word = take(tokens, at, depth, Mark::Let)?;
     let (var, equals) = variable(alloc, tokens, at + 1, depth)?;
     take(tokens, equals, depth, Mark::Assign)?;
     let value = expression(alloc, tokens, equals + 1, depth)?;
@@ -105,14 +112,19 @@ fn let_statement(alloc: Global, tokens: &[Token], at: usize, depth: u64) -> Resu
 
 /// `if (test) { yes } else { no }`, or without `else`.
 #[cycle(statement)]
-fn if_statement(alloc: Global, tokens: &[Token], at: usize, depth: u64) -> Result<ReadStmt, Break>
+fn if_statement(
+    alloc: Global,
+    tokens: &[Token],
+    at: usize,
+    depth: u64,
+    word: &Token,
+) -> Result<ReadStmt, Break>
     requires in_range { at ≤ length tokens.now }
     requires bounded { depth ≤ 128 }
-    requires begun { fits_at Mark.If (slice_get tokens.now at) ≡ true }
+    requires begun { Taken tokens.now depth at Mark.If word.now }
     ensures reads { ReadsStmt tokens.now depth at result }
     ensures goes_on { IfOk result (λ x. (at < x.1) × (x.1 ≤ length tokens.now)) }
 {
-    let word = take(tokens, at, depth, Mark::If)?;
     let test = parens(alloc, tokens, at + 1, depth)?;
     let (yes, other) = block(alloc, tokens, test.next, depth)?;
     let (no, next) = else_part(alloc, tokens, other, depth)?;
@@ -137,10 +149,9 @@ fn else_part(
     ensures reads { ReadsElse tokens.now depth at result }
     ensures goes_on { IfOk result (λ x. (at ≤ x.1) × (x.1 ≤ length tokens.now)) }
 {
-    if !next_is(tokens, at, Mark::Else) {
+    if take_if(tokens, at, depth, Mark::Else)?.is_none() {
         return Ok((None, at));
     }
-    take(tokens, at, depth, Mark::Else)?;
     let (no, next) = block(alloc, tokens, at + 1, depth)?;
     Ok((Some(no), next))
 }
@@ -152,14 +163,14 @@ fn while_statement(
     tokens: &[Token],
     at: usize,
     depth: u64,
+    word: &Token,
 ) -> Result<ReadStmt, Break>
     requires in_range { at ≤ length tokens.now }
     requires bounded { depth ≤ 128 }
-    requires begun { fits_at Mark.While (slice_get tokens.now at) ≡ true }
+    requires begun { Taken tokens.now depth at Mark.While word.now }
     ensures reads { ReadsStmt tokens.now depth at result }
     ensures goes_on { IfOk result (λ x. (at < x.1) × (x.1 ≤ length tokens.now)) }
 {
-    let word = take(tokens, at, depth, Mark::While)?;
     let test = parens(alloc, tokens, at + 1, depth)?;
     let (body, next) = block(alloc, tokens, test.next, depth)?;
     let kind = StmtKind::While {
@@ -175,14 +186,14 @@ fn return_statement(
     tokens: &[Token],
     at: usize,
     depth: u64,
+    word: &Token,
 ) -> Result<ReadStmt, Break>
     requires in_range { at ≤ length tokens.now }
     requires bounded { depth ≤ 128 }
-    requires begun { fits_at Mark.Return (slice_get tokens.now at) ≡ true }
+    requires begun { Taken tokens.now depth at Mark.Return word.now }
     ensures reads { ReadsStmt tokens.now depth at result }
     ensures goes_on { IfOk result (λ x. (at < x.1) × (x.1 ≤ length tokens.now)) }
 {
-    let word = take(tokens, at, depth, Mark::Return)?;
     if !begins_expression(tokens, at + 1) {
         take(tokens, at + 1, depth, Mark::Semicolon)?;
         let kind = StmtKind::Return(None);
@@ -200,14 +211,14 @@ fn throw_statement(
     tokens: &[Token],
     at: usize,
     depth: u64,
+    word: &Token,
 ) -> Result<ReadStmt, Break>
     requires in_range { at ≤ length tokens.now }
     requires bounded { depth ≤ 128 }
-    requires begun { fits_at Mark.Throw (slice_get tokens.now at) ≡ true }
+    requires begun { Taken tokens.now depth at Mark.Throw word.now }
     ensures reads { ReadsStmt tokens.now depth at result }
     ensures goes_on { IfOk result (λ x. (at < x.1) × (x.1 ≤ length tokens.now)) }
 {
-    let word = take(tokens, at, depth, Mark::Throw)?;
     let value = expression(alloc, tokens, at + 1, depth)?;
     take(tokens, value.next, depth, Mark::Semicolon)?;
     let kind = StmtKind::Throw(value.expr);
@@ -216,14 +227,19 @@ fn throw_statement(
 
 /// `sync (thing) { body }`
 #[cycle(statement)]
-fn sync_statement(alloc: Global, tokens: &[Token], at: usize, depth: u64) -> Result<ReadStmt, Break>
+fn sync_statement(
+    alloc: Global,
+    tokens: &[Token],
+    at: usize,
+    depth: u64,
+    word: &Token,
+) -> Result<ReadStmt, Break>
     requires in_range { at ≤ length tokens.now }
     requires bounded { depth ≤ 128 }
-    requires begun { fits_at Mark.Sync (slice_get tokens.now at) ≡ true }
+    requires begun { Taken tokens.now depth at Mark.Sync word.now }
     ensures reads { ReadsStmt tokens.now depth at result }
     ensures goes_on { IfOk result (λ x. (at < x.1) × (x.1 ≤ length tokens.now)) }
 {
-    let word = take(tokens, at, depth, Mark::Sync)?;
     let thing = parens(alloc, tokens, at + 1, depth)?;
     let (body, next) = block(alloc, tokens, thing.next, depth)?;
     let kind = StmtKind::Sync {
@@ -240,14 +256,14 @@ fn region_statement(
     tokens: &[Token],
     at: usize,
     depth: u64,
+    word: &Token,
 ) -> Result<ReadStmt, Break>
     requires in_range { at ≤ length tokens.now }
     requires bounded { depth ≤ 128 }
-    requires begun { fits_at Mark.Region (slice_get tokens.now at) ≡ true }
+    requires begun { Taken tokens.now depth at Mark.Region word.now }
     ensures reads { ReadsStmt tokens.now depth at result }
     ensures goes_on { IfOk result (λ x. (at < x.1) × (x.1 ≤ length tokens.now)) }
 {
-    let word = take(tokens, at, depth, Mark::Region)?;
     let head = region_head(alloc, tokens, at + 1, depth)?;
     let (captures, brace) = captures(alloc, tokens, head.next, depth)?;
     let (body, word_catch) = block(alloc, tokens, brace, depth)?;

@@ -6,7 +6,7 @@ ghost use Rattle.lam_parser.specs.Parts.{TakesName, ReadsVariable, ReadsVariable
 
 use lam_lexer::Token;
 use lam_parse_exprs::typ;
-use lam_reading::{Break, Mark, name_of, next_is, take};
+use lam_reading::{Break, Mark, name_of, next_is, take, take_if};
 use lam_syntax::{Id, Var};
 use std::alloc::Global;
 
@@ -78,8 +78,7 @@ pub(crate) fn params(
     }
     let (first, mut next) = variable(alloc, tokens, at, depth)?;
     all.push(first)?;
-    while next_is(tokens, next, Mark::Comma) {
-        take(tokens, next, depth, Mark::Comma)?;
+    while let Some(_) = take_if(tokens, next, depth, Mark::Comma)? {
         let (param, end) = variable(alloc, tokens, next + 1, depth)?;
         all.push(param)?;
         next = end;
@@ -100,13 +99,12 @@ pub(crate) fn names(
     ensures goes_on { IfOk result (λ x. (at ≤ x.1) × (x.1 ≤ length tokens.now)) }
 {
     let mut all = Vec::new(alloc);
-    if !next_is(tokens, at, Mark::Name) {
+    let Some(first) = take_if(tokens, at, depth, Mark::Name)? else {
         return Ok((all, at));
-    }
-    all.push(take_name(alloc, tokens, at, depth)?)?;
+    };
+    all.push(name_of(alloc, first)?)?;
     let mut next = at + 1;
-    while next_is(tokens, next, Mark::Comma) {
-        take(tokens, next, depth, Mark::Comma)?;
+    while let Some(_) = take_if(tokens, next, depth, Mark::Comma)? {
         all.push(take_name(alloc, tokens, next + 1, depth)?)?;
         next += 2;
     }

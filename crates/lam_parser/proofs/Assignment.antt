@@ -1,0 +1,75 @@
+-- What stands behind an expression in a statement: `=` and a value, after a place, or nothing.
+use Rattle.std.proofs.Common.{◌≡◌, ℕ, ◌+◌, ◌<◌, ◌≤◌, Bool, true, false, cond, Option, Some, None, List, [], ◌∷◌, slice_get, refl, sym, ap, ◌∙◌, arith, add-zero}
+use Rattle.grammar_laws.specs.Grammar.{mark, rule, pick, is_empty, production, Reads, nothing, token, part}
+use Rattle.grammar_laws.specs.Texts.{limited}
+use Rattle.grammar_laws.specs.Stopping.{Stop, unexpected, too_deep, could, reached, place, fits_next, AtFirst, AfterLast, Stops, sample, skips, later, inside, after, barred}
+use Rattle.grammar_laws.proofs.Laws.{stands}
+use Rattle.grammar_laws.proofs.Stages.{Stage, At, at_past, joins, joins_stop}
+use Rattle.lam_lexer.specs.declared.token.Token.{Token}
+use Rattle.lam_lexer.specs.declared.token.TokenKind.{TokenKind}
+use Rattle.lam_lexer.specs.declared.token.TokenKind.TheVariants as kind
+use Rattle.lam_grammar.specs.Table.{Rule, Sym, bodies, stmt, assign_part, expr, equals, semicolon}
+use Rattle.lam_grammar.specs.Meaning.{Value, word, permits, act}
+use Rattle.lam_grammar.specs.Meaning as meaning
+use Rattle.lam_grammar.specs.Program.{lam}
+use Rattle.lam_grammar.specs.Examples.{examples}
+use Rattle.lam_reading.specs.declared.marks.Mark.TheVariants as m
+use Rattle.lam_reading.specs.declared.breaks.Break.{Break}
+use Rattle.lam_reading.specs.declared.breaks.Break.TheVariants.{Unexpected, TooDeep, NoMemory}
+use Rattle.lam_reading.specs.declared.breaks.Wanted.TheVariants.{Place}
+use Rattle.lam_reading.specs.Classes.{class_of, fits_at, sample_of, is_barred}
+use Rattle.lam_reading.specs.Reading.{Gives, Fails, Taken, TakeFails}
+use Rattle.lam_reading.proofs.Rules.{Part}
+
+-- the body before a token `=`, and before each other one
+assign_pick : (o : Option Token) → fits_at m.Assign o ≡ true → pick lam (bodies assign_part) o ≡ equals ∷ rule expr ∷ []
+assign_pick None f = cc
+assign_pick (Some w) f = ap (λ (b : Bool). cond b (equals ∷ rule expr ∷ []) []) f
+
+no_assign_pick : (o : Option Token) → fits_at m.Assign o ≡ false → pick lam (bodies assign_part) o ≡ []
+no_assign_pick None f = refl
+no_assign_pick (Some w) f = ap (λ (b : Bool). cond b (equals ∷ rule expr ∷ []) []) f
+
+-- the body by its guard
+abbrev body_by : Bool → List Sym → Option (List Sym)
+body_by b p = cond b (Some p) (cond (is_empty p) (Some []) None)
+
+empty_by : (b : Bool) → body_by b [] ≡ Some []
+empty_by true = refl
+empty_by false = refl
+
+pub absent : (look : ℕ → Option Token) (k : ℕ) → fits_at m.Assign (look k) ≡ false → (before : Value) → production lam assign_part before (look k) ≡ Some []
+absent look k f before = ap (body_by (permits assign_part before)) (no_assign_pick (look k) f) ∙ empty_by (permits assign_part before)
+
+present : (look : ℕ → Option Token) (k : ℕ) (v : Value) → permits assign_part v ≡ true → fits_at m.Assign (look k) ≡ true → production lam assign_part v (look k) ≡ Some (equals ∷ rule expr ∷ [])
+present look k v y f = ap (λ (b : Bool). body_by b (pick lam (bodies assign_part) (look k))) y ∙ ap Some (assign_pick (look k) f)
+
+shut : (look : ℕ → Option Token) (k : ℕ) (v : Value) → permits assign_part v ≡ false → fits_at m.Assign (look k) ≡ true → production lam assign_part v (look k) ≡ None
+shut look k v n f = ap (λ (b : Bool). body_by b (pick lam (bodies assign_part) (look k))) n ∙ ap (body_by false) (assign_pick (look k) f)
+
+first_past : (r : Rule) (k : ℕ) (x : Stop Token) → k < place x → AtFirst lam examples r k x
+first_past r k (unexpected b m) lt = tt
+first_past r k (too_deep m) lt = tt
+first_past r k (could m w) lt = λ e. absurd (omega arith)
+first_past r k (reached m) lt = tt
+
+closes_expr : Token → Type 0
+closes_expr w = examples.closes expr w ≡ true
+
+-- an expression was read, which means v
+module _ (look : ℕ → Option Token) (s i k u : ℕ) (v : Value) (done : List Value → List Value) (g : Part look stmt s i (rule assign_part ∷ semicolon ∷ []) (λ before. v) done k u (λ w. examples.closes expr w ≡ true)) where
+  -- a `=` stands behind what is no place
+  pub no_place : permits assign_part v ≡ false → fits_at m.Assign (look k) ≡ true → Fails look (rule stmt ∷ []) s i (Unexpected k Place)
+  no_place n f = (
+    λ before. g.stops before (unexpected true k) tt (barred (shut look k v n f)),
+    λ before. g.stops before (could k (sample_of Place)) (λ e. refl) (skips refl refl sample),
+  )
+
+  module _ (y : permits assign_part v ≡ true) (f : fits_at m.Assign (look k) ≡ true) where
+    -- what stops behind the first token of the assignment
+    stops_past : (x : Stop Token) → k < place x → Stops lam examples (limited lam) look (equals ∷ rule expr ∷ []) v u k x → (before : Value) → Stops lam examples (limited lam) look (rule stmt ∷ []) before s i x
+    stops_past x lt h before = g.stops before x (at_past k (λ w. examples.closes expr w ≡ true) x lt) (inside (present look k v y f) (first_past assign_part k x lt) h)
+
+    -- the sum is past its limit at the `=`
+    pub equals_deep : Fails look (equals ∷ rule expr ∷ []) u k (TooDeep k) → Fails look (rule stmt ∷ []) s i (TooDeep k)
+    equals_deep h before = g.stops before (too_deep k) tt (inside (present look k v y f) tt (h v))
