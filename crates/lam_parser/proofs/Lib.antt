@@ -1,2 +1,5 @@
 pub mod Faults
 pub mod Lists
+pub mod Starts
+pub mod StmtBodies
+pub mod Assignment

@@ -1,5 +1,5 @@
 -- What reading a part of a program gives.
-use Rattle.std.specs.Prelude.{◌≡◌, false, ℕ, List, [], ◌∷◌, Option, Some, None, Vec, Result, Ok, Err, slice_get}
+use Rattle.std.specs.Prelude.{◌≡◌, ℕ, List, [], ◌∷◌, Option, Some, None, Vec, Result, Ok, Err, slice_get}
 use Rattle.std.specs.declared.alloc.Global.{Global}
 use Rattle.grammar_laws.specs.Grammar.{rule, Reads}
 use Rattle.grammar_laws.specs.Texts.{limited}
@@ -16,8 +16,7 @@ use Rattle.lam_grammar.specs.Meaning.{Value, nothing, word, id_of, ids_value, ty
 use Rattle.lam_grammar.specs.Program.{lam, program}
 use Rattle.lam_reading.specs.declared.breaks.Break.{Break}
 use Rattle.lam_reading.specs.declared.marks.Mark.TheVariants.{Name, Let, If, While, Return, Throw, Sync, Region}
-use Rattle.lam_reading.specs.Classes.{fits_at}
-use Rattle.lam_reading.specs.Reading.{Gives, Fails, Taken, TakeFails}
+use Rattle.lam_reading.specs.Reading.{Gives, Fails, Taken, TakeFails, Absent}
 use Rattle.lam_parser.specs.declared.stmts.Head.{Head}
 use Rattle.lam_parser.specs.declared.stmts.Catch.{Catch}
 
@@ -74,6 +73,12 @@ abbrev pub TakesName : List Token → ℕ → ℕ → Result Id Break → Type 0
 TakesName tokens s i (Ok x) = (w : Token) × Taken tokens s i Name w × (id_tree x ≡ id_of w)
 TakesName tokens s i (Err b) = TakeFails tokens s i Name b
 
--- The next token is no word with which a statement begins.
-abbrev pub NoWord : Option Token → Type 0
-NoWord o = (fits_at Let o ≡ false) × (fits_at If o ≡ false) × (fits_at While o ≡ false) × (fits_at Return o ≡ false) × (fits_at Throw o ≡ false) × (fits_at Sync o ≡ false) × (fits_at Region o ≡ false)
+-- The token there is no word with which a statement begins.
+pub record NoWord (tokens : List Token) (i : ℕ) : Type 0 where
+  pub no_let : Absent tokens i Let
+  pub no_if : Absent tokens i If
+  pub no_while : Absent tokens i While
+  pub no_return : Absent tokens i Return
+  pub no_throw : Absent tokens i Throw
+  pub no_sync : Absent tokens i Sync
+  pub no_region : Absent tokens i Region

@@ -66,9 +66,11 @@ fn class(alloc: Global, tokens: &[Token], at: usize, word: &Token) -> Result<Rea
     ensures reads { ReadsItem tokens.now at result }
     ensures goes_on { IfOk result (λ x. (at < x.1) × (x.1 ≤ length tokens.now)) }
 {
-    let name = take_name(alloc, tokens, at + 1, 0)?;
-    take(tokens, at + 2, 0, Mark::BraceOpen)?;
-    let (fields, next) = fields(alloc, tokens, at + 3, 0)?;
+    let after_word = at + 1;
+    let name = take_name(alloc, tokens, after_word, 0)?;
+    let brace = after_word + 1;
+    take(tokens, brace, 0, Mark::BraceOpen)?;
+    let (fields, next) = fields(alloc, tokens, brace + 1, 0)?;
     take(tokens, next, 0, Mark::BraceClose)?;
     let class = Class {
         at: word.at,
@@ -85,9 +87,11 @@ fn function(alloc: Global, tokens: &[Token], at: usize, word: &Token) -> Result<
     ensures reads { ReadsItem tokens.now at result }
     ensures goes_on { IfOk result (λ x. (at < x.1) × (x.1 ≤ length tokens.now)) }
 {
-    let name = take_name(alloc, tokens, at + 1, 0)?;
-    take(tokens, at + 2, 0, Mark::ParenOpen)?;
-    let (params, next) = params(alloc, tokens, at + 3, 0)?;
+    let after_word = at + 1;
+    let name = take_name(alloc, tokens, after_word, 0)?;
+    let paren = after_word + 1;
+    take(tokens, paren, 0, Mark::ParenOpen)?;
+    let (params, next) = params(alloc, tokens, paren + 1, 0)?;
     take(tokens, next, 0, Mark::ParenClose)?;
     let (result, brace) = result_part(alloc, tokens, next + 1)?;
     let (body, end) = block(alloc, tokens, brace, 0)?;

@@ -194,12 +194,13 @@ fn return_statement(
     ensures reads { ReadsStmt tokens.now depth at result }
     ensures goes_on { IfOk result (λ x. (at < x.1) × (x.1 ≤ length tokens.now)) }
 {
-    if !begins_expression(tokens, at + 1) {
-        take(tokens, at + 1, depth, Mark::Semicolon)?;
+    let after_word = at + 1;
+    if !begins_expression(tokens, after_word) {
+        take(tokens, after_word, depth, Mark::Semicolon)?;
         let kind = StmtKind::Return(None);
-        return Ok((Stmt { at: word.at, kind }, at + 2));
+        return Ok((Stmt { at: word.at, kind }, after_word + 1));
     }
-    let value = expression(alloc, tokens, at + 1, depth)?;
+    let value = expression(alloc, tokens, after_word, depth)?;
     take(tokens, value.next, depth, Mark::Semicolon)?;
     let kind = StmtKind::Return(Some(value.expr));
     Ok((Stmt { at: word.at, kind }, value.next + 1))
@@ -341,10 +342,13 @@ fn handler(alloc: Global, tokens: &[Token], at: usize, depth: u64) -> Result<Cat
     ensures goes_on { IfOk result (λ x. (at < x.next) × (x.next ≤ length tokens.now)) }
 {
     take(tokens, at, depth, Mark::Catch)?;
-    take(tokens, at + 1, depth, Mark::ParenOpen)?;
-    let name = take_name(alloc, tokens, at + 2, depth)?;
-    take(tokens, at + 3, depth, Mark::ParenClose)?;
-    let (body, next) = block(alloc, tokens, at + 4, depth)?;
+    let paren = at + 1;
+    take(tokens, paren, depth, Mark::ParenOpen)?;
+    let name_at = paren + 1;
+    let name = take_name(alloc, tokens, name_at, depth)?;
+    let close = name_at + 1;
+    take(tokens, close, depth, Mark::ParenClose)?;
+    let (body, next) = block(alloc, tokens, close + 1, depth)?;
     Ok(Catch { name, body, next })
 }
 
@@ -357,7 +361,7 @@ fn expression_statement(
 ) -> Result<ReadStmt, Break>
     requires in_range { at ≤ length tokens.now }
     requires bounded { depth ≤ 128 }
-    requires begun { NoWord (slice_get tokens.now at) }
+    requires begun { NoWord tokens.now at }
     ensures reads { ReadsStmt tokens.now depth at result }
     ensures goes_on { IfOk result (λ x. (at < x.1) × (x.1 ≤ length tokens.now)) }
 {

@@ -32,8 +32,9 @@ pub(crate) fn variable(
     ensures goes_on { IfOk result (λ x. (at < x.1) × (x.1 ≤ length tokens.now)) }
 {
     let name = take_name(alloc, tokens, at, depth)?;
-    take(tokens, at + 1, depth, Mark::Colon)?;
-    let (ty, next) = typ(alloc, tokens, at + 2, depth)?;
+    let colon = at + 1;
+    take(tokens, colon, depth, Mark::Colon)?;
+    let (ty, next) = typ(alloc, tokens, colon + 1, depth)?;
     Ok((Var { name, ty }, next))
 }
 
@@ -105,8 +106,9 @@ pub(crate) fn names(
     all.push(name_of(alloc, first)?)?;
     let mut next = at + 1;
     while let Some(_) = take_if(tokens, next, depth, Mark::Comma)? {
-        all.push(take_name(alloc, tokens, next + 1, depth)?)?;
-        next += 2;
+        let after_comma = next + 1;
+        all.push(take_name(alloc, tokens, after_comma, depth)?)?;
+        next = after_comma + 1;
     }
     Ok((all, next))
 }
