@@ -1,10 +1,10 @@
 -- What stands behind an expression in a statement: `=` and a value, after a place, or nothing.
-use Rattle.std.proofs.Common.{◌≡◌, ℕ, ◌+◌, ◌<◌, ◌≤◌, Bool, true, false, cond, Option, Some, None, List, [], ◌∷◌, slice_get, refl, sym, ap, ◌∙◌, arith, add-zero}
+use Rattle.std.proofs.Common.{◌≡◌, ℕ, ◌+◌, ◌<◌, ◌≤◌, Bool, true, false, cond, Option, Some, None, List, [], ◌∷◌, slice_get, refl, sym, ap, ◌∙◌, subst, arith, add-zero}
 use Rattle.grammar_laws.specs.Grammar.{mark, rule, pick, is_empty, production, Reads, nothing, token, part}
 use Rattle.grammar_laws.specs.Texts.{limited}
 use Rattle.grammar_laws.specs.Stopping.{Stop, unexpected, too_deep, could, reached, place, fits_next, AtFirst, AfterLast, Stops, sample, skips, later, inside, after, barred}
 use Rattle.grammar_laws.proofs.Laws.{stands}
-use Rattle.grammar_laws.proofs.Stages.{Stage, At, at_past, joins, joins_stop}
+use Rattle.grammar_laws.proofs.Stages.{Stage, At, at_past}
 use Rattle.lam_lexer.specs.declared.token.Token.{Token}
 use Rattle.lam_lexer.specs.declared.token.TokenKind.{TokenKind}
 use Rattle.lam_lexer.specs.declared.token.TokenKind.TheVariants as kind
@@ -53,23 +53,44 @@ first_past r k (too_deep m) lt = tt
 first_past r k (could m w) lt = λ e. absurd (omega arith)
 first_past r k (reached m) lt = tt
 
-closes_expr : Token → Type 0
-closes_expr w = examples.closes expr w ≡ true
+after_of : (r : Rule) (k : ℕ) (x : Stop Token) → At k (λ w. examples.closes r w ≡ true) x → AfterLast lam examples r k x
+after_of r k (unexpected b m) a = tt
+after_of r k (too_deep m) a = tt
+after_of r k (could m w) a = a
+after_of r k (reached m) a = tt
 
 -- an expression was read, which means v
-module _ (look : ℕ → Option Token) (s i k u : ℕ) (v : Value) (done : List Value → List Value) (g : Part look stmt s i (rule assign_part ∷ semicolon ∷ []) (λ before. v) done k u (λ w. examples.closes expr w ≡ true)) where
+module _ (tokens : List Token) (s i k u : ℕ) (v : Value) (done : List Value → List Value) (g : Part (slice_get tokens) stmt s i (rule assign_part ∷ semicolon ∷ []) (λ before. v) done k u (λ w. examples.closes expr w ≡ true)) (w : Token) (t : Taken tokens u k m.Assign w) where
+  fits : fits_at m.Assign (slice_get tokens k) ≡ true
+  fits = ap (fits_next lam (class_of m.Assign)) t.is ∙ t.fit
+
   -- a `=` stands behind what is no place
-  pub no_place : permits assign_part v ≡ false → fits_at m.Assign (look k) ≡ true → Fails look (rule stmt ∷ []) s i (Unexpected k Place)
-  no_place n f = (
-    λ before. g.stops before (unexpected true k) tt (barred (shut look k v n f)),
+  pub no_place : permits assign_part v ≡ false → Fails (slice_get tokens) (rule stmt ∷ []) s i (Unexpected k Place)
+  no_place n = (
+    λ before. g.stops before (unexpected true k) tt (barred (shut (slice_get tokens) k v n fits)),
     λ before. g.stops before (could k (sample_of Place)) (λ e. refl) (skips refl refl sample),
   )
 
-  module _ (y : permits assign_part v ≡ true) (f : fits_at m.Assign (look k) ≡ true) where
-    -- what stops behind the first token of the assignment
-    stops_past : (x : Stop Token) → k < place x → Stops lam examples (limited lam) look (equals ∷ rule expr ∷ []) v u k x → (before : Value) → Stops lam examples (limited lam) look (rule stmt ∷ []) before s i x
-    stops_past x lt h before = g.stops before x (at_past k (λ w. examples.closes expr w ≡ true) x lt) (inside (present look k v y f) (first_past assign_part k x lt) h)
+  module _ (y : permits assign_part v ≡ true) where
+    -- what the value comes to the statement comes to
+    stops_past : (x : Stop Token) → Stops lam examples (limited lam) (slice_get tokens) (rule expr ∷ []) (word w) u (k + 1) x → (before : Value) → Stops lam examples (limited lam) (slice_get tokens) (rule stmt ∷ []) before s i x
+    stops_past x h before =
+        let lt : k < place x = omega (arith, stands h) in
+        let e = sym (add-zero u) in
+        g.stops before x (at_past k (λ z. examples.closes expr z ≡ true) x lt) (inside (present (slice_get tokens) k v y fits) (first_past assign_part k x lt) (later t.is t.fit t.within (subst (λ n. Stops lam examples (limited lam) (slice_get tokens) (rule expr ∷ []) (word w) n (k + 1) x) e h)))
 
-    -- the sum is past its limit at the `=`
-    pub equals_deep : Fails look (equals ∷ rule expr ∷ []) u k (TooDeep k) → Fails look (rule stmt ∷ []) s i (TooDeep k)
-    equals_deep h before = g.stops before (too_deep k) tt (inside (present look k v y f) tt (h v))
+    pub value_fails : (b : Break) → Fails (slice_get tokens) (rule expr ∷ []) u (k + 1) b → Fails (slice_get tokens) (rule stmt ∷ []) s i b
+    value_fails (Unexpected at wanted) h = (stops_past _ (h.0 (word w)), stops_past _ (h.1 (word w)))
+    value_fails (TooDeep at) h = stops_past _ (h (word w))
+    value_fails NoMemory h = tt
+
+    module _ (x : Value) (n : ℕ) (h : Gives (slice_get tokens) expr u (k + 1) x n u) where
+      body_reads : Reads lam (limited lam) (slice_get tokens) (equals ∷ rule expr ∷ []) v u k (word w ∷ x ∷ []) n u
+      body_reads = token t.is t.fit t.within (subst (λ z. Reads lam (limited lam) (slice_get tokens) (rule expr ∷ []) (word w) z (k + 1) (x ∷ []) n u) (sym (add-zero u)) (h (word w)))
+
+      -- the value was read
+      pub assigned : k + 1 < n → Part (slice_get tokens) stmt s i (semicolon ∷ []) (λ before. x) (λ vs. done (x ∷ vs)) n u (λ z. examples.closes assign_part z ≡ true)
+      assigned lt = record {
+        reads = λ before vs j z r. g.reads before (x ∷ vs) j z (part (present (slice_get tokens) k v y fits) body_reads r);
+        stops = λ before z a r. g.stops before z (at_past k (λ q. examples.closes expr q ≡ true) z (omega (arith, lt, stands r))) (after (present (slice_get tokens) k v y fits) body_reads (after_of assign_part n z a) r);
+      }

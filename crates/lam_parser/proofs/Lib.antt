@@ -3,3 +3,4 @@ pub mod Lists
 pub mod Starts
 pub mod StmtBodies
 pub mod Assignment
+pub mod Sums

@@ -115,9 +115,9 @@ fn result_part(
     ensures reads { ReadsResult tokens.now at result }
     ensures goes_on { IfOk result (λ x. (at ≤ x.1) × (x.1 ≤ length tokens.now)) }
 {
-    if take_if(tokens, at, 0, Mark::Colon)?.is_none() {
+    let Some(_) = take_if(tokens, at, 0, Mark::Colon)? else {
         return Ok((None, at));
-    }
+    };
     let (ty, next) = typ(alloc, tokens, at + 1, 0)?;
     Ok((Some(ty), next))
 }

@@ -149,9 +149,9 @@ fn else_part(
     ensures reads { ReadsElse tokens.now depth at result }
     ensures goes_on { IfOk result (λ x. (at ≤ x.1) × (x.1 ≤ length tokens.now)) }
 {
-    if take_if(tokens, at, depth, Mark::Else)?.is_none() {
+    let Some(_) = take_if(tokens, at, depth, Mark::Else)? else {
         return Ok((None, at));
-    }
+    };
     let (no, next) = block(alloc, tokens, at + 1, depth)?;
     Ok((Some(no), next))
 }
@@ -367,7 +367,7 @@ fn expression_statement(
 {
     let left = expression(alloc, tokens, at, depth)?;
     let equals = left.next;
-    if !next_is(tokens, equals, Mark::Assign) {
+    let Some(_) = take_if(tokens, equals, depth, Mark::Assign)? else {
         take(tokens, equals, depth, Mark::Semicolon)?;
         let kind = StmtKind::Do(left.expr);
         return Ok((
@@ -377,14 +377,13 @@ fn expression_statement(
             },
             equals + 1,
         ));
-    }
+    };
     if !is_place(&left.expr) {
         return Err(Break::Unexpected {
             at: equals,
             wanted: Wanted::Place,
         });
     }
-    take(tokens, equals, depth, Mark::Assign)?;
     let value = expression(alloc, tokens, equals + 1, depth)?;
     take(tokens, value.next, depth, Mark::Semicolon)?;
     let kind = StmtKind::Assign {
