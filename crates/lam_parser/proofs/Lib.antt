@@ -4,3 +4,4 @@ pub mod Starts
 pub mod StmtBodies
 pub mod Assignment
 pub mod Sums
+pub mod Blocks

@@ -10,9 +10,7 @@ ghost use Rattle.lam_parser.specs.Parts.{ReadsStmt, ReadsBlock, ReadsElse, Reads
 use crate::variables::{names, take_name, variable};
 use lam_lexer::Token;
 use lam_parse_exprs::{expression, parens};
-use lam_reading::{
-    Break, Mark, Wanted, begins_expression, begins_statement, next_is, take, take_if,
-};
+use lam_reading::{Break, Mark, Wanted, begins_expression, begins_statement, take, take_if};
 use lam_syntax::{Expr, ExprKind, Id, Stmt, StmtKind};
 use std::alloc::Global;
 
@@ -44,12 +42,12 @@ pub(crate) fn block(
         body.push(stmt)?;
         next = end;
     }
-    if !next_is(tokens, next, Mark::BraceClose) {
+    let Some(_) = take_if(tokens, next, inner, Mark::BraceClose)? else {
         return Err(Break::Unexpected {
             at: next,
             wanted: Wanted::Statement,
         });
-    }
+    };
     Ok((body, next + 1))
 }
 
