@@ -5,3 +5,4 @@ pub mod StmtBodies
 pub mod Assignment
 pub mod Sums
 pub mod Blocks
+pub mod ItemBodies

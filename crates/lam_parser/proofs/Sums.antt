@@ -23,3 +23,6 @@ loop_narrowed {k = k} {ok = ok} {ok' = ok'} f g = record {
     wider (too_deep m) a = tt
     wider (could m w) a = λ e. f w (a e)
     wider (reached m) a = tt
+
+pub with_value : {look : ℕ → Option Token} {r : Rule} {s i j t : ℕ} {v w : Value} → v ≡ w → Gives look r s i v j t → Gives look r s i w j t
+with_value {look} {r} {s} {i} {j} {t} e h = subst (λ x. Gives look r s i x j t) e h

@@ -29,12 +29,12 @@ pub(crate) fn program(alloc: Global, tokens: &[Token]) -> Result<(Program, usize
         items.push(item)?;
         next = end;
     }
-    if !next_is(tokens, next, Mark::End) {
+    let Some(_) = take_if(tokens, next, 0, Mark::End)? else {
         return Err(Break::Unexpected {
             at: next,
             wanted: Wanted::Item,
         });
-    }
+    };
     Ok((Program { items }, next + 1))
 }
 
