@@ -6,3 +6,5 @@ pub mod Fields
 pub mod Sides
 pub mod Lexing
 pub mod Parting
+pub mod PiecesFit
+pub mod TokensFit

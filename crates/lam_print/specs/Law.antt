@@ -44,3 +44,7 @@ kind_of t = t.kind
 -- the canonical text of a program is read as the tokens of its pieces, and the end
 abbrev pub TextLaw : Type 0
 TextLaw = (p : ProgramTree) → AllFit (kinds (pieces p)) → (tokens : List Token) × Lexed (chars (canon p)) tokens × (map kind_of tokens ≡ kinds (pieces p) ++ Kind.End ∷ [])
+
+-- the tokens of a text before its end are such tokens
+abbrev pub TokensFit : Type 0
+TokensFit = (text : List ℕ) → IsUtf8 text → (tokens : List Token) → Lexed (chars text) tokens → (before : List TokenKind) × (map kind_of tokens ≡ before ++ Kind.End ∷ []) × AllFit before
