@@ -1,11 +1,11 @@
 -- Blocks of statements.
-use Rattle.std.proofs.Common.{◌≡◌, ℕ, ◌+◌, ◌<◌, ◌≤◌, List, [], ◌∷◌, ◌++◌, Result, OnOk, length, get_or, refl, sym, ap, ◌∙◌, subst, codes, ◌==◌, true, false, arith}
+use Rattle.std.proofs.Common.{◌≡◌, ℕ, ◌+◌, ◌<◌, List, [], ◌∷◌, ◌++◌, Result, OnOk, length, get_or, refl, sym, ap, ◌∙◌, subst, codes, ◌==◌, true, false, arith}
 use Rattle.std.proofs.lemmas.Bool.{eqb-true, both_ways}
 use Rattle.lam_lexer.specs.declared.token.TokenKind.TheVariants as Kind
 use Rattle.lam_syntax.specs.declared.Stmt.{Stmt}
 use Rattle.lam_syntax.specs.Tree.{stmt_tree, stmts_tree}
-use Rattle.lam_print.specs.Pieces.{Piece, token, blank, line, written}
-use Rattle.lam_print.specs.Canon.{lay_block, lay_stmt, lay_stmts}
+use Rattle.lam_print.specs.Pieces.{token, line, written}
+use Rattle.lam_print.specs.Canon.{lay_block, lay_stmt}
 use Rattle.lam_print.specs.Printing.{Puts}
 use Rattle.lam_print.proofs.Steps.{said, on_ok, EachSoFar, each_more}
 use Rattle.lam_print.proofs.Views.{all_stmts, one_stmt, stmts-each}

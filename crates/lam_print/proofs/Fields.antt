@@ -1,10 +1,10 @@
 -- The fields of a class.
-use Rattle.std.proofs.Common.{◌≡◌, ℕ, List, [], ◌∷◌, ◌++◌, Result, OnOk, length, refl, sym, ap, ◌∙◌, codes, ◌==◌, true, false, arith}
+use Rattle.std.proofs.Common.{◌≡◌, ℕ, List, [], ◌∷◌, ◌++◌, Result, OnOk, length, refl, sym, ap, ◌∙◌, ◌==◌, true, false, arith}
 use Rattle.std.proofs.lemmas.Bool.{eqb-true, both_ways}
 use Rattle.lam_lexer.specs.declared.token.TokenKind.TheVariants as Kind
 use Rattle.lam_syntax.specs.declared.Var.{Var}
 use Rattle.lam_syntax.specs.Tree.{vars_tree}
-use Rattle.lam_print.specs.Pieces.{Piece, token, blank, line, written}
+use Rattle.lam_print.specs.Pieces.{token, line, written}
 use Rattle.lam_print.specs.Canon.{lay_class_body, lay_fields}
 use Rattle.lam_print.specs.Printing.{Puts}
 use Rattle.lam_print.proofs.Steps.{said, on_ok}

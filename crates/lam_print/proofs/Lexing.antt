@@ -1,28 +1,26 @@
 -- Pieces that are parted are read as their tokens.
-use Rattle.std.proofs.Common.{◌≡◌, ℕ, zero, suc, ◌+◌, ◌-◌, ◌*◌, ◌/◌, ◌%◌, ◌^◌, ◌<◌, ◌≤◌, ◌⊎◌, inl, inr, ◌==◌, ◌&&◌, ◌||◌, nat_le, nat_lt, Bool, true, false, not, cond, List, [], ◌∷◌, ◌++◌, Option, Some, None, length, map, refl, sym, ap, ◌∙◌, subst, arith, length-append, append_assoc, ℤ, pos, negsuc, encode_utf8, encode_utf8_all, IsUtf8, codes}
-use Rattle.std.proofs.lemmas.List.{append-nil}
+use Rattle.std.proofs.Common.{◌≡◌, ℕ, zero, suc, ◌+◌, ◌/◌, ◌%◌, ◌^◌, ◌<◌, ◌≤◌, ◌⊎◌, inl, inr, ◌==◌, ◌&&◌, nat_le, nat_lt, Bool, true, false, not, List, [], ◌∷◌, ◌++◌, Option, Some, None, length, map, refl, sym, ap, ◌∙◌, subst, arith, append_assoc, pos, negsuc, encode_utf8_all}
 use Rattle.std.proofs.lemmas.Bool.{both_ways, and_parts, and_from, not-true, leb-true, le-leb, le-ltb, lt-ltb, lt-leb, ltb-true, eqb-true, ne_eqb, and_right, cases_lt, cases_Bool, agree_below_at}
-use Rattle.std.proofs.lemmas.Str.{encodes-chars, encode_ascii, chars-append, len_utf8_ascii}
+use Rattle.std.proofs.lemmas.Str.{encodes-chars, encode_ascii, chars-append}
 use Rattle.std.proofs.lemmas.Fmt.{decimal_by_steps}
 use Rattle.std.proofs.lemmas.Nat.{div-add-mod'}
 use Rattle.std.specs.Fmt.{decimal}
 use Rattle.std.specs.Char.{len_utf8}
-use Rattle.std.specs.Str.{chars, chars_after, continuation_len, lead_bits}
+use Rattle.std.specs.Str.{chars, chars_after, lead_bits}
 use Rattle.unicode_ident.specs.Ident.{is_xid_start}
 use Rattle.unicode_ident.proofs.IdentLemmas.{is_xid_start-ascii}
 use Rattle.lam_lexer.specs.declared.token.Token.{Token}
 use Rattle.lam_lexer.specs.declared.token.TokenKind.{TokenKind}
 use Rattle.lam_lexer.specs.declared.token.TokenKind.TheVariants as Kind
 use Rattle.lam_lexer.specs.declared.start.Start.{Start}
-use Rattle.lam_lexer.specs.declared.start.Start.TheVariants as Start
-use Rattle.lam_lexer.specs.Characters.{is_space, is_digit, starts_name, continues_name, run, past, goes_on, first, number, number_after}
+use Rattle.lam_lexer.specs.Characters.{is_space, is_digit, starts_name, continues_name, run, past, goes_on, first, number}
 use Rattle.lam_lexer.specs.Text.{Part, part, means, end_quote, hex_value, hex_part, room, Means, ends}
 use Rattle.lam_lexer.specs.Text as text
 use Rattle.lam_lexer.specs.Lexed.{start, marks, reserved, kind_or_name, word_kind, Reads, a_space, a_name, a_number, a_text, a_mark, a_long_mark, LexedAt, at_end, then_on, Lexed}
 use Rattle.lam_lexer.specs.Lexed as lexed
 use Rattle.lam_lexer.proofs.Runs.{at_true, at_false, number_on}
 use Rattle.lam_print.specs.Pieces.{Piece, token, blank, line, hex_digit, spell_byte, spell_text, spelling, indent, written, kinds}
-use Rattle.lam_print.specs.Law.{all_continue, is_identifier, AllBytes, IsNumber, Fits, AllFit, kind_of}
+use Rattle.lam_print.specs.Law.{all_continue, is_identifier, AllBytes, Fits, AllFit, kind_of}
 use Rattle.lam_print.proofs.Sides.{or_true_left, or_true_right, start_continues, another, no_start, no_continue, begins_name, begins_number, begins_mark, begins_text, Side, wordy, half, whole, right, left, joins, parted, Calm}
 
 -- characters that are read as tokens of these kinds, wherever they begin

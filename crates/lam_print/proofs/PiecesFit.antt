@@ -1,6 +1,5 @@
 -- The pieces of a program whose names, numbers and texts fit are tokens that fit.
 use Rattle.std.proofs.Common.{ℕ, ◌+◌, nat_lt, Bool, true, false, if◌then◌else◌, List, [], ◌∷◌, Option, Some, None}
-use Rattle.lam_lexer.specs.declared.token.TokenKind.{TokenKind}
 use Rattle.lam_lexer.specs.declared.token.TokenKind.TheVariants as Kind
 use Rattle.lam_syntax.specs.declared.BinaryOp.{BinaryOp}
 use Rattle.lam_syntax.specs.declared.BinaryOp.TheVariants as Op
@@ -10,7 +9,7 @@ use Rattle.lam_syntax.specs.Tree.{IdTree, TypeTree, TypeForm, type_node, int_typ
 use Rattle.lam_print.specs.Law.{Fits, AllFit}
 use Rattle.lam_print.specs.Pieces.{Piece, token, blank, line, kinds}
 use Rattle.lam_print.specs.Canon.{operator, sign, opened, closed, grouped, weight, operand, prefixed, whole, left_place, right_place, comma, spaced, lay_type_form, lay_type, lay_var, lay_names, lay_vars, lay_cap, lay_caps, truth, lay_form, lay, lay_args, lay_tags, lay_value, lay_stmt_form, lay_stmt, lay_block, lay_stmts, lay_else, lay_fields, lay_class_body, lay_result, lay_class, lay_function, lay_item, gap, lay_items}
-use Rattle.lam_print.specs.Fitting.{NameFits, NamesFit, TypeFormFits, TypeFits, ResultFits, VarFits, VarsFit, CapsFit, FormFits, ExprFits, ExprsFit, ValueFits, StmtFormFits, StmtFits, BlockFits, ElseFits, ClassFits, FunctionFits, ItemFits, FitsTree, PiecesFit}
+use Rattle.lam_print.specs.Fitting.{NamesFit, TypeFormFits, TypeFits, ResultFits, VarFits, VarsFit, CapsFit, FormFits, ExprFits, ExprsFit, ValueFits, StmtFormFits, StmtFits, BlockFits, ElseFits, ClassFits, FunctionFits, ItemFits, FitsTree, PiecesFit}
 
 abbrev Fit : List Piece → Type 0
 Fit ps = AllFit (kinds ps)

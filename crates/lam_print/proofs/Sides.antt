@@ -1,13 +1,12 @@
 -- What single characters are, and which tokens join.
-use Rattle.std.proofs.Common.{◌≡◌, ℕ, zero, suc, ◌+◌, ◌-◌, ◌*◌, ◌/◌, ◌%◌, ◌^◌, ◌<◌, ◌≤◌, ◌⊎◌, inl, inr, ◌==◌, ◌&&◌, ◌||◌, nat_le, nat_lt, Bool, true, false, not, cond, List, [], ◌∷◌, ◌++◌, Option, Some, None, length, map, refl, sym, ap, ◌∙◌, subst, arith, length-append, append_assoc, ℤ, pos, negsuc, chars, encode_utf8, encode_utf8_all, IsUtf8, codes}
-use Rattle.std.proofs.lemmas.Bool.{both_ways, eqb-true, ne_eqb, leb-true, and_parts, and_left, and_right, cases_Bool, or_cases, lt-leb}
+use Rattle.std.proofs.Common.{◌≡◌, ℕ, ◌<◌, ◌≤◌, ◌⊎◌, inl, inr, ◌==◌, ◌&&◌, ◌||◌, nat_le, Bool, true, false, not, List, [], ◌∷◌, Option, refl, sym, ap, ◌∙◌, arith}
+use Rattle.std.proofs.lemmas.Bool.{both_ways, ne_eqb, leb-true, and_parts, and_left, or_cases, lt-leb}
 use Rattle.std.specs.Char.{is_ascii_alphabetic, is_ascii_alphanumeric}
 use Rattle.unicode_ident.specs.Ident.{is_xid_start, is_xid_continue}
 use Rattle.unicode_ident.proofs.IdentLemmas.{is_xid_start-ascii, is_xid_continue-ascii, is_xid_start-is_xid_continue}
 use Rattle.lam_lexer.specs.declared.token.TokenKind.{TokenKind}
 use Rattle.lam_lexer.specs.declared.token.TokenKind.TheVariants as Kind
 use Rattle.lam_lexer.specs.declared.start.Start.{Start}
-use Rattle.lam_lexer.specs.declared.start.Start.TheVariants as Start
 use Rattle.lam_lexer.specs.Characters.{is_space, is_digit, starts_name, continues_name, goes_on}
 use Rattle.lam_lexer.specs.Lexed.{start, marks}
 use Rattle.lam_lexer.proofs.Runs.{at_true, at_false}

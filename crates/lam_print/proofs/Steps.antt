@@ -1,6 +1,6 @@
 -- How the printer's steps make a whole.
 use Rattle.std.proofs.Common.{◌≡◌, ℕ, ◌+◌, ◌<◌, ◌≤◌, nat_lt, cond, Bool, true, false, List, [], ◌∷◌, ◌++◌, Result, Ok, Err, OnOk, length, get_or, drop, refl, sym, ap, ◌∙◌, subst, arith, append_assoc}
-use Rattle.std.proofs.lemmas.List.{append-nil, drop_more, drop_all}
+use Rattle.std.proofs.lemmas.List.{drop_more, drop_all}
 use Rattle.std.proofs.lemmas.Bool.{lt-ltb}
 use Rattle.lam_lexer.specs.declared.token.TokenKind.TheVariants as Kind
 use Rattle.lam_syntax.specs.Tree.{CapTree}

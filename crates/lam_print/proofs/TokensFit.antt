@@ -1,6 +1,6 @@
 -- The tokens of a text fit.
-use Rattle.std.proofs.Common.{◌≡◌, ℕ, ◌+◌, ◌-◌, ◌*◌, ◌/◌, ◌%◌, ◌^◌, ◌<◌, ◌≤◌, ◌⊎◌, inl, inr, ◌==◌, ◌&&◌, nat_le, nat_lt, Bool, true, false, cond, List, [], ◌∷◌, ◌++◌, Option, Some, None, length, map, chars, IsUtf8, codes, bytes_eq, encode_utf8, encode_utf8_all, refl, sym, ap, ◌∙◌, subst, arith, length-append}
-use Rattle.std.proofs.lemmas.Bool.{both_ways, and_parts, and_from, leb-true, ltb-true, cases_Bool}
+use Rattle.std.proofs.Common.{◌≡◌, ℕ, ◌+◌, ◌-◌, ◌/◌, ◌%◌, ◌<◌, ◌≤◌, ◌⊎◌, inl, inr, ◌==◌, ◌&&◌, nat_le, nat_lt, Bool, true, false, cond, List, [], ◌∷◌, ◌++◌, Option, Some, None, length, map, chars, IsUtf8, codes, bytes_eq, encode_utf8, encode_utf8_all, refl, sym, ap, subst, arith, length-append}
+use Rattle.std.proofs.lemmas.Bool.{and_parts, and_from, leb-true, ltb-true}
 use Rattle.std.proofs.lemmas.Str.{chars-encodes, scalars-chars}
 use Rattle.std.proofs.Math.Utf8.{scalar, scalars, encode, scalar_cases}
 use Rattle.std.specs.Char.{len_utf8}
@@ -8,11 +8,9 @@ use Rattle.lam_lexer.specs.declared.token.Token.{Token}
 use Rattle.lam_lexer.specs.declared.token.TokenKind.{TokenKind}
 use Rattle.lam_lexer.specs.declared.token.TokenKind.TheVariants as Kind
 use Rattle.lam_lexer.specs.declared.start.Start.{Start}
-use Rattle.lam_lexer.specs.declared.start.Start.TheVariants as Start
 use Rattle.lam_lexer.specs.Characters.{is_digit, starts_name, continues_name, is_space, run, past, first}
 use Rattle.lam_lexer.specs.Text.{letter, hex_value, Part, end_quote, means, bad_escape, no_end, hex_part, letter_part, after_x, after_backslash, part, room, Means, ends, goes_on}
 use Rattle.lam_lexer.specs.Lexed.{one_mark, two_marks, marks, start, reserved, kind_or_name, word_kind, Reads, a_space, a_comment, a_name, a_number, a_text, a_mark, a_long_mark, LexedAt, at_end, then_on}
-use Rattle.lam_lexer.proofs.Runs.{at_true, at_false}
 use Rattle.lam_print.specs.Law.{all_continue, is_identifier, AllBytes, Fits, AllFit, kind_of, TokensFit}
 
 -- a choice has what both branches have

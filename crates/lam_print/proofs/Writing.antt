@@ -1,7 +1,7 @@
 -- What the writing of a text and of an indent keeps.
-use Rattle.std.proofs.Common.{◌≡◌, ℕ, zero, suc, ◌+◌, ◌-◌, ◌<◌, ◌≤◌, List, [], ◌∷◌, ◌++◌, length, drop, get_or, refl, sym, ap, ◌∙◌, subst, arith, append_assoc, drop-cons}
+use Rattle.std.proofs.Common.{◌≡◌, ℕ, suc, ◌+◌, ◌-◌, ◌<◌, ◌≤◌, List, [], ◌∷◌, ◌++◌, length, drop, get_or, sym, ap, ◌∙◌, arith, append_assoc, drop-cons}
 use Rattle.std.proofs.Math.ListN.{drop_of_length-le}
-use Rattle.lam_print.specs.Pieces.{Piece, line, written, indent, spell_byte, spell_text}
+use Rattle.lam_print.specs.Pieces.{line, written, indent, spell_byte, spell_text}
 use Rattle.lam_print.specs.Printing.{Puts}
 use Rattle.lam_print.proofs.Steps.{said}
 

@@ -1,5 +1,5 @@
 -- What a step of the printer writes.
-use Rattle.std.specs.Prelude.{◌≡◌, ℕ, List, [], ◌∷◌, ◌++◌}
+use Rattle.std.specs.Prelude.{◌≡◌, ℕ, List, ◌++◌}
 use Rattle.lam_print.specs.Pieces.{Piece, written}
 
 -- The text grew from the old bytes to the new ones by the pieces that f puts before others.

@@ -1,4 +1,4 @@
-use Rattle.std.proofs.Common.{◌≡◌, ◌∙◌, ◌++◌, ◌∷◌, [], ℕ, List, ap, append_assoc, string_bytes}
+use Rattle.std.proofs.Common.{◌∙◌, ◌++◌, ◌∷◌, [], ℕ, List, ap, append_assoc, string_bytes}
 use Rattle.lam_print.specs.Pieces.{spell_text}
 use Rattle.lam_print.proofs.Steps.{on_ok}
 use Rattle.lam_print.proofs.Writing.{text_more, text_last}
