@@ -1,0 +1,11 @@
+pub mod Spans
+pub mod Marks
+pub mod Parts
+pub mod Levels
+pub mod Heads
+pub mod Expressions
+pub mod Statements
+pub mod Items
+pub mod Ready
+pub mod TheLaw
+pub mod Steady
