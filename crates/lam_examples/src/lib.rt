@@ -7,4 +7,6 @@
 #[cfg(test)]
 mod play;
 #[cfg(test)]
+mod programs;
+#[cfg(test)]
 mod run;

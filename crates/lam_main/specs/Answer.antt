@@ -1,15 +1,17 @@
 -- How a call's status, and what the sink took, answer to the plan.
-use Rattle.std.specs.Prelude.{◌≡◌, ℕ, [], Option, Result, Ok, Err, String, string_bytes}
+use Rattle.std.specs.Prelude.{◌≡◌, ◌≤◌, ◌⊎◌, ℕ, [], length, Option, Some, Result, Ok, Err, String, string_bytes}
 use Rattle.std.specs.declared.alloc.Global.{Global}
 use Rattle.std.specs.Prelude.{Vec}
 use Rattle.lam_io.specs.Outside.{Took, TookFront}
 use Rattle.lam_io.specs.declared.SinkFault.{SinkFault as Failure}
+use Rattle.lam_front.specs.declared.fault.ProgramFault.{ProgramFault}
+use Rattle.lam_front.specs.declared.fault.ProgramFault.TheVariants.{NoMemory as no_memory_of_it}
 use Rattle.lam_main.specs.declared.Status.{Status}
 use Rattle.lam_main.specs.declared.Status.TheVariants.{Done, NoMemory, Words, Program, World, Book, Missing, ShelfFault, SinkFault, Budget, AllWait}
 use Rattle.lam_main.specs.declared.halt.Halt.{Halt}
-use Rattle.lam_main.specs.declared.halt.Halt.TheVariants.{NoMemory as no_memory, ShelfFailed, Word, Script, Absent, TooLong}
+use Rattle.lam_main.specs.declared.halt.Halt.TheVariants.{NoMemory as no_memory, ShelfFailed, Word, Script, Fault, Absent, TooLong}
 use Rattle.lam_main.specs.Words.{Text}
-use Rattle.lam_main.specs.Plan.{Plan, prints, no_word, no_script, absent, too_long}
+use Rattle.lam_main.specs.Plan.{Plan, prints, no_word, no_script, no_program, absent, too_long, IsUnread}
 
 -- it ended as planned, or the sink failed after a front of the text
 abbrev pub AsPlanned : Status → Plan → Option Text → Option Text → Type 0
@@ -43,29 +45,43 @@ stop_of no_memory = record { status = NoMemory; text = [] }
 stop_of ShelfFailed = record { status = ShelfFault; text = [] }
 stop_of (Word index) = no_word index
 stop_of (Script line) = no_script line
+stop_of (Fault fault) = no_program fault
 stop_of (Absent name) = absent (string_bytes name)
 stop_of (TooLong name) = too_long (string_bytes name)
+
+-- the halt of a program's fault
+abbrev pub halt_of : ProgramFault → Halt
+halt_of no_memory_of_it = no_memory
+halt_of fault = Fault fault
 
 -- an answer as a plan
 abbrev pub ended : Result (String Global) Halt → Plan
 ended (Ok text) = prints (string_bytes text)
 ended (Err halt) = stop_of halt
 
--- a halt that is planned is the plan; want of memory and a fault of the shelf are not planned
-abbrev pub Halts : Halt → Plan → Type 0
-Halts no_memory plan = Unit {0}
-Halts ShelfFailed plan = Unit {0}
-Halts halt plan = plan ≡ stop_of halt
+-- a halt that is planned; want of memory and a fault of the shelf are not planned
+abbrev pub Halts : Halt → (Plan → Type 0) → Type 0
+Halts no_memory IsPlan = Unit {0}
+Halts ShelfFailed IsPlan = Unit {0}
+Halts halt IsPlan = IsPlan (stop_of halt)
 
--- a text is the plan, or a halt is
-abbrev pub Gives : Result (String Global) Halt → Plan → Type 0
-Gives (Ok text) plan = plan ≡ prints (string_bytes text)
-Gives (Err halt) plan = Halts halt plan
+-- a text that is planned, or a halt
+abbrev pub Gives : Result (String Global) Halt → (Plan → Type 0) → Type 0
+Gives (Ok text) IsPlan = IsPlan (prints (string_bytes text))
+Gives (Err halt) IsPlan = Halts halt IsPlan
 
--- a part of a plan, which goes on with what was given
-abbrev pub GoesOn : Result (Vec ℕ Global) Halt → ((Text → Plan) → Plan) → Type 0
-GoesOn (Ok bytes) plan = (rest : Text → Plan) → plan rest ≡ rest bytes.items
-GoesOn (Err halt) plan = (rest : Text → Plan) → Halts halt (plan rest)
+-- the bytes of a file of a name and with a limit, or a halt
+abbrev pub IsRead : Result (Vec ℕ Global) Halt → Option Text → Text → ℕ → Type 0
+IsRead (Ok bytes) found name limit = (found ≡ Some bytes.items) × (length bytes.items ≤ limit)
+IsRead (Err halt) found name limit = Halts halt (IsUnread found name limit)
+
+-- The call ended as some plan says, unless memory ran out or the shelf failed; or the sink failed after a front of
+-- its text.
+abbrev pub IsPlanned : Status → (Plan → Type 0) → Option Text → Option Text → Type 0
+IsPlanned NoMemory IsPlan old new = Unit {0}
+IsPlanned ShelfFault IsPlan old new = Unit {0}
+IsPlanned SinkFault IsPlan old new = Took old new [] ⊎ ((plan : Plan) × IsPlan plan × TookFront old new plan.text)
+IsPlanned status IsPlan old new = (plan : Plan) × IsPlan plan × AsPlanned status plan old new
 
 -- the plan's text was printed, or a front of it until the sink failed
 abbrev pub IsPrinted : Result Status Failure → Plan → Option Text → Option Text → Type 0

@@ -1,5 +1,5 @@
 -- What a call of given words prints of given files, and how it ends, where nothing fails.
-use Rattle.std.specs.Prelude.{◌≡◌, ◌≤◌, ℕ, nat_lt, if◌then◌else◌, List, [], ◌∷◌, ◌++◌, length, Option, Some, None, Result, Ok, Err, codes, decimal, refl}
+use Rattle.std.specs.Prelude.{◌≡◌, ◌<◌, ◌≤◌, ◌⊎◌, inl, inr, ℕ, List, [], ◌∷◌, ◌++◌, length, Option, Some, None, Result, Ok, Err, chars, codes, decimal, refl}
 use Rattle.flow_labels.specs.LabelText.{label_of}
 use Rattle.flow_labels.specs.declared.Label.{Label}
 use Rattle.flow_labels.specs.declared.texts.LabelFault.{LabelFault}
@@ -7,9 +7,20 @@ use Rattle.lam_io.specs.Outside.{Files}
 use Rattle.play_script.specs.Script.{Play, read_script}
 use Rattle.play_run.specs.Lines.{play_lines}
 use Rattle.play_run.specs.Isolation.{IsolatedFrom}
+use Rattle.lam_syntax.specs.Tree.{ProgramTree}
+use Rattle.lam_syntax.specs.Unplaced.{unplaced}
+use Rattle.lam_lexer.specs.declared.token.Token.{Token}
+use Rattle.lam_lexer.specs.Lexed.{Lexed}
+use Rattle.lam_grammar.specs.Program.{SpellsProgram}
+use Rattle.lam_round_trip.specs.Law.{NoneTooDeep}
+use Rattle.lam_print.specs.Canon.{canon}
+use Rattle.lam_front.specs.declared.fault.ProgramFault.{ProgramFault}
+use Rattle.lam_front.specs.declared.fault.ProgramFault.TheVariants.{NotUtf8, At, NoMemory as no_memory}
+use Rattle.lam_front.specs.Faults.{flaw_name}
+use Rattle.lam_front.specs.Programs.{IsSpelt, IsMisspelt, IsFine, IsBroken}
 use Rattle.lam_main.specs.declared.Status.{Status}
-use Rattle.lam_main.specs.declared.Status.TheVariants.{Done, Words, Program, Missing}
-use Rattle.lam_main.specs.Words.{Text, Request, play, request_of}
+use Rattle.lam_main.specs.declared.Status.TheVariants.{Done, NoMemory, Words, Program, Missing}
+use Rattle.lam_main.specs.Words.{Text, Request, play, check, format, request_of}
 
 -- how a call ends, and what it prints
 pub record Plan : Type 0 where
@@ -19,12 +30,19 @@ pub record Plan : Type 0 where
 abbrev pub prints : Text → Plan
 prints text = record { status = Done; text = text }
 
--- the lines of refusals: `lam: 2 word 0`, `lam: 3 Script line 2`, `lam: 6 Absent none`, `lam: 6 TooLong big`
+-- the lines of refusals: `lam: 2 word 0`, `lam: 3 Script line 2`, `lam: 3 NotUtf8`, `lam: 3 Unexpected at 0`,
+-- `lam: 6 Absent none`, `lam: 6 TooLong big`
 abbrev pub no_word : ℕ → Plan
 no_word index = record { status = Words; text = codes "lam: 2 word " ++ decimal index ++ 10 ∷ [] }
 
 abbrev pub no_script : ℕ → Plan
 no_script line = record { status = Program; text = codes "lam: 3 Script line " ++ decimal line ++ 10 ∷ [] }
+
+-- the first fault of a program; want of memory is no fault of it, and prints nothing
+abbrev pub no_program : ProgramFault → Plan
+no_program NotUtf8 = record { status = Program; text = codes "lam: 3 NotUtf8\n" }
+no_program (At flaw at) = record { status = Program; text = codes "lam: 3 " ++ flaw_name flaw ++ codes " at " ++ decimal at ++ 10 ∷ [] }
+no_program no_memory = record { status = NoMemory; text = [] }
 
 abbrev pub absent : Text → Plan
 absent name = record { status = Missing; text = codes "lam: 6 Absent " ++ name ++ 10 ∷ [] }
@@ -32,14 +50,29 @@ absent name = record { status = Missing; text = codes "lam: 6 Absent " ++ name +
 abbrev pub too_long : Text → Plan
 too_long name = record { status = Missing; text = codes "lam: 6 TooLong " ++ name ++ 10 ∷ [] }
 
--- the most bytes of a script
+-- the most bytes of a script, and of a program
 abbrev pub script_limit : ℕ
 script_limit = 1048576
 
--- a file that is read next, of a name and with a limit, and what comes of its bytes
-abbrev pub with_file : Option Text → Text → ℕ → (Text → Plan) → Plan
-with_file None name limit rest = absent name
-with_file (Some bytes) name limit rest = if nat_lt limit (length bytes) then too_long name else rest bytes
+abbrev pub program_limit : ℕ
+program_limit = 1048576
+
+-- the plan where a file that is read next, of a name and with a limit, is not there or too long
+abbrev pub IsUnread : Option Text → Text → ℕ → Plan → Type 0
+IsUnread None name limit plan = plan ≡ absent name
+IsUnread (Some bytes) name limit plan = (limit < length bytes) × (plan ≡ too_long name)
+
+-- the plan of its bytes, where it is there and not too long
+pub record IsOfFile (found : Option Text) (limit : ℕ) (IsOf : Text → Plan → Type 0) (plan : Plan) : Type 0 where
+  pub bytes : Text
+  pub there : found ≡ Some bytes
+  pub short : length bytes ≤ limit
+  pub follows : IsOf bytes plan
+
+abbrev pub WithFile : Option Text → Text → ℕ → (Text → Plan → Type 0) → Plan → Type 0
+WithFile found name limit IsOf plan = IsUnread found name limit plan ⊎ IsOfFile found limit IsOf plan
+
+-- ---- `play`
 
 -- the observer is the word of index 2
 abbrev pub seen_by : Play → Result Label LabelFault → Plan
@@ -50,19 +83,35 @@ abbrev pub played : Result Play ℕ → Text → Plan
 played (Ok script) observer = seen_by script (label_of script.tags observer)
 played (Err line) observer = no_script line
 
-abbrev pub play_plan : Text → Text → Plan
-play_plan observer bytes = played (read_script bytes) observer
+abbrev pub Plays : Text → Text → Plan → Type 0
+Plays observer bytes plan = plan ≡ played (read_script bytes) observer
 
-abbrev pub plan_of : Result Request ℕ → Files → Plan
-plan_of (Err index) files = no_word index
-plan_of (Ok (play file observer)) files = with_file (files file) file script_limit (play_plan observer)
+-- ---- `format` and `check`
 
--- in the order of reading: words, file, script, tags of the observer
-abbrev pub plan : List Text → Files → Plan
-plan ws files = plan_of (request_of ws) files
+-- the canonical text of the program that the bytes spell, or their first fault
+pub data Formats (bytes : Text) (plan : Plan) : Type 0 where
+  canonical : (p : ProgramTree) → IsSpelt bytes p → plan ≡ prints (canon p) → Formats bytes plan
+  misspelt : (f : ProgramFault) → IsMisspelt bytes f → plan ≡ no_program f → Formats bytes plan
+
+-- `ok` where the bytes spell a program that keeps the type rules and the region rules, or their first fault
+pub data Checks (bytes : Text) (plan : Plan) : Type 0 where
+  fine : (p : ProgramTree) → IsFine bytes p → plan ≡ prints (codes "ok\n") → Checks bytes plan
+  broken : (f : ProgramFault) → IsBroken bytes f → plan ≡ no_program f → Checks bytes plan
+
+-- ---- every command
+
+abbrev pub IsPlanOf : Result Request ℕ → Files → Plan → Type 0
+IsPlanOf (Err index) files plan = plan ≡ no_word index
+IsPlanOf (Ok (play file observer)) files plan = WithFile (files file) file script_limit (Plays observer) plan
+IsPlanOf (Ok (check file)) files plan = WithFile (files file) file program_limit Checks plan
+IsPlanOf (Ok (format file)) files plan = WithFile (files file) file program_limit Formats plan
+
+-- the one plan of words and files, in the order of reading: words, file, and then what the file is read for
+abbrev pub IsPlan : List Text → Files → Plan → Type 0
+IsPlan ws files plan = IsPlanOf (request_of ws) files plan
 
 -- the words and the files name this script and this observer
-pub record Plays (ws : List Text) (files : Files) (script : Play) (observer : Label) : Type 0 where
+pub record PlaysScript (ws : List Text) (files : Files) (script : Play) (observer : Label) : Type 0 where
   pub file : Text
   pub bytes : Text
   pub label : Text
@@ -75,11 +124,31 @@ pub record Plays (ws : List Text) (files : Files) (script : Play) (observer : La
 -- what is printed is what the observer sees of the script, which tells it nothing of the cells that it does not
 -- see, but for the releases past it
 abbrev pub PlaysIsolated : List Text → Files → Type 0
-PlaysIsolated ws files = (script : Play) (observer : Label) → Plays ws files script observer → (plan ws files ≡ prints (play_lines script observer)) × IsolatedFrom script observer
+PlaysIsolated ws files = (script : Play) (observer : Label) → PlaysScript ws files script observer → IsPlan ws files (prints (play_lines script observer)) × IsolatedFrom script observer
+
+-- the words ask for the canonical text of this program
+pub record IsFormatted (ws : List Text) (files : Files) (p : ProgramTree) : Type 0 where
+  pub file : Text
+  pub bytes : Text
+  pub asks : request_of ws ≡ Ok (format file)
+  pub found : files file ≡ Some bytes
+  pub short : length bytes ≤ program_limit
+  pub spelt : IsSpelt bytes p
+
+-- The text has tokens. Unless the depth sum passes its limit at one of them, they spell the program again, but for its
+-- positions, and that is printed as this text.
+pub record IsReadAgain (text : Text) (p : ProgramTree) : Type 0 where
+  pub tokens : List Token
+  pub lexed : Lexed (chars text) tokens
+  pub again : NoneTooDeep tokens → (q : ProgramTree) × SpellsProgram tokens q × (unplaced q ≡ unplaced p) × (canon q ≡ text)
+
+-- what `format` prints is read as the same program
+abbrev pub FormatIsSteady : List Text → Files → Type 0
+FormatIsSteady ws files = (p : ProgramTree) → IsFormatted ws files p → IsPlan ws files (prints (canon p)) × IsReadAgain (canon p) p
 
 -- a file that is not there, and a script whose second line is broken
-not_there : plan (codes "play" ∷ codes "none" ∷ codes "{}/{}" ∷ []) (λ name. None) ≡ absent (codes "none")
-not_there = refl
+not_there : IsPlan (codes "play" ∷ codes "none" ∷ codes "{}/{}" ∷ []) (λ name. None) (absent (codes "none"))
+not_there = inl refl
 
-broken_line : plan (codes "play" ∷ codes "s" ∷ codes "{}/{}" ∷ []) (λ name. Some (codes "tag a\ncell c {}/{} 01\n")) ≡ no_script 2
-broken_line = refl
+broken_line : IsPlan (codes "play" ∷ codes "s" ∷ codes "{}/{}" ∷ []) (λ name. Some (codes "tag a\ncell c {}/{} 01\n")) (no_script 2)
+broken_line = inr (record { bytes = _; there = refl; short = omega arith; follows = refl })

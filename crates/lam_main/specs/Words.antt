@@ -5,11 +5,11 @@ use Rattle.std.specs.Str.{bytes_eq}
 use Rattle.flow_labels.specs.Reading.{bad_place}
 use Rattle.flow_labels.specs.declared.two_lists.Form.TheVariants.{Label}
 use Rattle.lam_main.specs.declared.words.Kind.{Kind}
-use Rattle.lam_main.specs.declared.words.Kind.TheVariants.{Play as play_word, File, Observer}
+use Rattle.lam_main.specs.declared.words.Kind.TheVariants.{Play as play_word, Check as check_word, Format as format_word, File, Observer}
 use Rattle.lam_main.specs.declared.words.Form.{Form}
-use Rattle.lam_main.specs.declared.words.Form.TheVariants.{Play as play_form}
+use Rattle.lam_main.specs.declared.words.Form.TheVariants.{Play as play_form, Check as check_form, Format as format_form}
 use Rattle.lam_main.specs.declared.words.Command.{Command}
-use Rattle.lam_main.specs.declared.words.Command.TheVariants.{Play}
+use Rattle.lam_main.specs.declared.words.Command.TheVariants.{Play, Check, Format}
 use Rattle.lam_main.specs.declared.words.WordFault.{WordFault}
 use Rattle.lam_main.specs.declared.words.WordFault.TheVariants.{Word, NoMemory}
 
@@ -19,15 +19,19 @@ Text = List ℕ
 -- a word of a form: one fixed word, a file's name, which is any word that is not empty, or a label's text
 abbrev pub fits : Kind → Text → Bool
 fits play_word w = bytes_eq w (codes "play")
+fits check_word w = bytes_eq w (codes "check")
+fits format_word w = bytes_eq w (codes "format")
 fits File w = nat_lt 0 (length w)
 fits Observer w = is_none (bad_place Label w)
 
 -- the table: the words of each form
 abbrev pub kinds : Form → List Kind
 kinds play_form = play_word ∷ File ∷ Observer ∷ []
+kinds check_form = check_word ∷ File ∷ []
+kinds format_form = format_word ∷ File ∷ []
 
 abbrev pub forms : List Form
-forms = play_form ∷ []
+forms = play_form ∷ check_form ∷ format_form ∷ []
 
 -- with how many first words the words of a form agree
 abbrev pub agreed : List Kind → List Text → ℕ
@@ -46,12 +50,16 @@ longest ws = fold (λ most form. max most (agreed (kinds form) ws)) 0 forms
 -- what words ask
 pub data Request : Type 0 where
   play : (file observer : Text) → Request
+  check : (file : Text) → Request
+  format : (file : Text) → Request
 
 abbrev pub word : List Text → ℕ → Text
 word ws index = unwrap_or (slice_get ws index) []
 
 abbrev pub requested : List Text → Form → Request
 requested ws play_form = play (word ws 1) (word ws 2)
+requested ws check_form = check (word ws 1)
+requested ws format_form = format (word ws 1)
 
 abbrev pub request_in : List Text → Option Form → Result Request ℕ
 request_in ws None = Err (longest ws)
@@ -64,6 +72,8 @@ request_of ws = request_in ws (find (is_in ws) forms)
 -- a command as what it asks
 abbrev pub asked : Command → Request
 asked (Play file observer) = play (string_bytes file) (string_bytes observer)
+asked (Check file) = check (string_bytes file)
+asked (Format file) = format (string_bytes file)
 
 -- What reading words answers: a command that asks what they ask, or the index at which they are in no form.
 -- Memory can run out only where they are in a form.
@@ -84,3 +94,9 @@ word_too_many = refl
 
 words_of_play : request_of (codes "play" ∷ codes "s" ∷ codes "{a}/{}" ∷ []) ≡ Ok (play (codes "s") (codes "{a}/{}"))
 words_of_play = refl
+
+words_of_check : request_of (codes "check" ∷ codes "p" ∷ []) ≡ Ok (check (codes "p"))
+words_of_check = refl
+
+word_too_many_of_format : request_of (codes "format" ∷ codes "p" ∷ codes "x" ∷ []) ≡ Err 2
+word_too_many_of_format = refl

@@ -2,8 +2,7 @@
 
 ghost use Rattle.std.specs.Prelude.{◌≡◌, IsTrue, IfErr, string_bytes};
 ghost use Rattle.lam_io.specs.Outside.{Rose, AllStay};
-ghost use Rattle.lam_main.specs.Plan.{with_file};
-ghost use Rattle.lam_main.specs.Answer.{GoesOn};
+ghost use Rattle.lam_main.specs.Answer.{IsRead};
 
 use crate::halt::Halt;
 use lam_io::{Got, Shelf, ShelfFault};
@@ -16,7 +15,7 @@ pub(crate) fn read_file<H: Shelf>(
     name: String,
     limit: u64,
 ) -> Result<Vec<u8>, Halt>
-    ensures goes_on { IsTrue (H.tells shelf.old) → GoesOn result (with_file (H.files shelf.old (string_bytes name)) (string_bytes name) limit) }
+    ensures read { IsTrue (H.tells shelf.old) → IsRead result (H.files shelf.old (string_bytes name)) (string_bytes name) limit }
     ensures stay { IsTrue (H.tells shelf.old) → AllStay (H.files shelf.old) (H.files shelf.new) }
     ensures failed { IfErr result (λ halt. halt ≡ Halt.ShelfFailed → Rose (H.faults shelf.old) (H.faults shelf.new)) }
 {

@@ -1,12 +1,14 @@
 //! Why a call does not print the text of its command, and the line that it prints instead.
 
-ghost use Rattle.std.specs.Prelude.{◌≡◌, ◌≤◌, ◌++◌, ◌∷◌, [], OnOk, OnErr, decimal};
+ghost use Rattle.std.specs.Prelude.{◌≡◌, ◌≤◌, ◌++◌, ◌∷◌, [], OnOk, OnErr, codes, decimal};
 ghost use Rattle.lam_io.specs.Outside.{Rose, Took, TookFront};
-ghost use Rattle.lam_main.specs.Answer.{stop_of, IsPrinted};
+ghost use Rattle.lam_main.specs.Plan.{no_program};
+ghost use Rattle.lam_main.specs.Answer.{stop_of, halt_of, IsPrinted};
 ghost use Rattle.lam_main.specs.declared.halt.Halt.TheVariants.{NoMemory as no_memory};
 
 use crate::Status;
 use itoa::Buffer;
+use lam_front::ProgramFault;
 use lam_io::{Sink, SinkFault, write_all};
 use tag_sets::NoMemory;
 
@@ -20,6 +22,8 @@ pub(crate) enum Halt {
     Word(u64),
     /// The script is broken at this line.
     Script(u64),
+    /// The program's first fault.
+    Fault(ProgramFault),
     /// There is no file of this name.
     Absent(String),
     /// The file of this name is longer than its limit.
@@ -31,6 +35,17 @@ impl From<NoMemory> for Halt {
 
     fn from(_e: NoMemory) -> Halt {
         Halt::NoMemory
+    }
+}
+
+impl From<ProgramFault> for Halt {
+    ghost from_gives = { λ f e. e ≡ halt_of f };
+
+    fn from(fault: ProgramFault) -> Halt {
+        match fault {
+            ProgramFault::NoMemory => Halt::NoMemory,
+            other => Halt::Fault(other),
+        }
     }
 }
 
@@ -50,6 +65,7 @@ pub(crate) fn print_halt<O: Sink>(out: &mut O, halt: &Halt) -> Result<Status, Si
             print_number(out, b"lam: 3 Script line ", *line)?;
             Ok(Status::Program)
         }
+        Halt::Fault(fault) => print_fault(out, *fault),
         Halt::Absent(name) => {
             print_line(out, b"lam: 6 Absent ", name.as_bytes())?;
             Ok(Status::Missing)
@@ -59,6 +75,35 @@ pub(crate) fn print_halt<O: Sink>(out: &mut O, halt: &Halt) -> Result<Status, Si
             Ok(Status::Missing)
         }
     }
+}
+
+/// Prints the line of a program's first fault.
+fn print_fault<O: Sink>(out: &mut O, fault: ProgramFault) -> Result<Status, SinkFault>
+    ensures printed { IsPrinted result (no_program fault) (O.taken out.old) (O.taken out.new) }
+    ensures failed { OnErr result (Rose (O.faults out.old) (O.faults out.new)) }
+{
+    match fault {
+        ProgramFault::NotUtf8 => {
+            write_all(out, b"lam: 3 NotUtf8\n")?;
+            Ok(Status::Program)
+        }
+        ProgramFault::At { flaw, at } => {
+            print_place(out, flaw.name(), at)?;
+            Ok(Status::Program)
+        }
+        ProgramFault::NoMemory => Ok(Status::NoMemory),
+    }
+}
+
+/// Prints the line of a fault of a name at a position.
+fn print_place<O: Sink>(out: &mut O, name: &str, at: u64) -> Result<(), SinkFault>
+    ensures failed { OnErr result (Rose (O.faults out.old) (O.faults out.new)) }
+    ensures all { OnOk result (Took (O.taken out.old) (O.taken out.new) (codes "lam: 3 " ++ name.now ++ codes " at " ++ decimal at ++ 10 ∷ [])) }
+    ensures front { OnErr result (TookFront (O.taken out.old) (O.taken out.new) (codes "lam: 3 " ++ name.now ++ codes " at " ++ decimal at ++ 10 ∷ [])) }
+{
+    write_all(out, b"lam: 3 ")?;
+    write_all(out, name.as_bytes())?;
+    print_number(out, b" at ", at)
 }
 
 fn print_number<O: Sink>(out: &mut O, front: &[u8], number: u64) -> Result<(), SinkFault>

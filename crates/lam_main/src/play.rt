@@ -2,7 +2,7 @@
 
 ghost use Rattle.std.specs.Prelude.{◌≡◌, ◌≢◌, IsTrue, IfErr, string_bytes};
 ghost use Rattle.lam_io.specs.Outside.{Rose, AllStay};
-ghost use Rattle.lam_main.specs.Plan.{with_file, play_plan, script_limit};
+ghost use Rattle.lam_main.specs.Plan.{WithFile, Plays, script_limit};
 ghost use Rattle.lam_main.specs.Answer.{Gives};
 
 use crate::files::read_file;
@@ -25,7 +25,7 @@ pub(crate) fn play<H: Shelf>(
     file: String,
     observer: &str,
 ) -> Result<String, Halt>
-    ensures gives { IsTrue (H.tells shelf.old) → Gives result (with_file (H.files shelf.old (string_bytes file)) (string_bytes file) script_limit (play_plan observer.now)) }
+    ensures gives { IsTrue (H.tells shelf.old) → Gives result (WithFile (H.files shelf.old (string_bytes file)) (string_bytes file) script_limit (Plays observer.now)) }
     ensures stay { IsTrue (H.tells shelf.old) → AllStay (H.files shelf.old) (H.files shelf.new) }
     ensures failed { IfErr result (λ halt. halt ≡ Halt.ShelfFailed → Rose (H.faults shelf.old) (H.faults shelf.new)) }
 {
@@ -35,7 +35,7 @@ pub(crate) fn play<H: Shelf>(
 
 /// What an observer sees of the script in a file's bytes.
 fn play_bytes(alloc: Global, bytes: &[u8], observer: &str) -> Result<String, Halt>
-    ensures gives { Gives result (play_plan observer.now bytes.now) }
+    ensures gives { Gives result (Plays observer.now bytes.now) }
     ensures no_fault { IfErr result (λ halt. halt ≢ Halt.ShelfFailed) }
 {
     let script = match read_script(alloc, bytes) {

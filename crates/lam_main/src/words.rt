@@ -15,6 +15,10 @@ use tag_sets::NoMemory;
 enum Kind {
     /// The word `play`.
     Play,
+    /// The word `check`.
+    Check,
+    /// The word `format`.
+    Format,
     /// The name of a file: any word that is not empty.
     File,
     /// A text that has the form of a label.
@@ -27,6 +31,8 @@ impl Kind {
     {
         match self {
             Kind::Play => word == "play",
+            Kind::Check => word == "check",
+            Kind::Format => word == "format",
             Kind::File => !word.is_empty(),
             Kind::Observer => bad_place(TwoLists::Label, word.as_bytes()).is_none(),
         }
@@ -38,6 +44,10 @@ impl Kind {
 enum Form {
     /// `play FILE OBS`
     Play,
+    /// `check P`
+    Check,
+    /// `format P`
+    Format,
 }
 
 impl Form {
@@ -46,6 +56,8 @@ impl Form {
     {
         match self {
             Form::Play => &[Kind::Play, Kind::File, Kind::Observer],
+            Form::Check => &[Kind::Check, Kind::File],
+            Form::Format => &[Kind::Format, Kind::File],
         }
     }
 }
@@ -53,7 +65,7 @@ impl Form {
 fn forms() -> &'static [Form]
     ensures { result.now ≡ forms }
 {
-    &[Form::Play]
+    &[Form::Play, Form::Check, Form::Format]
 }
 
 /// What the words ask, with its parts as texts of its own.
@@ -61,6 +73,10 @@ fn forms() -> &'static [Form]
 pub enum Command {
     /// `play FILE OBS`: the steps of a script as an observer sees them.
     Play { file: String, obs: String },
+    /// `check P`: whether a program keeps the type rules and the region rules.
+    Check { file: String },
+    /// `format P`: a program in canonical text.
+    Format { file: String },
 }
 
 /// Why words are no command.
@@ -108,6 +124,12 @@ pub fn read_words(alloc: Global, words: &[String]) -> Result<Command, WordFault>
         Form::Play => Ok(Command::Play {
             file: String::from_str(alloc, word_at(words, 1))?,
             obs: String::from_str(alloc, word_at(words, 2))?,
+        }),
+        Form::Check => Ok(Command::Check {
+            file: String::from_str(alloc, word_at(words, 1))?,
+        }),
+        Form::Format => Ok(Command::Format {
+            file: String::from_str(alloc, word_at(words, 1))?,
         }),
     }
 }

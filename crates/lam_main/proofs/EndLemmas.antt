@@ -1,0 +1,149 @@
+-- From the plan of an answer to how the call ended.
+use Rattle.std.proofs.Common.{◌≡◌, ◌≢◌, ◌≤◌, ◌⊎◌, inl, inr, ℕ, List, [], ◌∷◌, ◌++◌, length, take, Option, Some, None, Result, Ok, Err, String, string_bytes, refl, sym, ap, subst, ◌∙◌, arith}
+use Rattle.std.specs.declared.alloc.Global.{Global}
+use Rattle.std.specs.Prelude.{Vec}
+use Rattle.lam_io.specs.Outside.{Took, TookFront}
+use Rattle.lam_main.specs.declared.Status.{Status}
+use Rattle.lam_main.specs.declared.Status.TheVariants.{Done, NoMemory, Words, Program, World, Book, Missing, ShelfFault, SinkFault, Budget, AllWait}
+use Rattle.lam_main.specs.declared.halt.Halt.{Halt}
+use Rattle.lam_main.specs.declared.halt.Halt.TheVariants.{NoMemory as no_memory, ShelfFailed, Word, Script, Fault, Absent, TooLong}
+use Rattle.lam_front.specs.declared.fault.ProgramFault.{ProgramFault}
+use Rattle.lam_front.specs.declared.fault.ProgramFault.TheVariants.{NotUtf8, At, NoMemory as no_memory_of_it}
+use Rattle.lam_main.specs.Words.{Text}
+use Rattle.lam_main.specs.Plan.{Plan, prints, no_program, IsUnread, IsOfFile, WithFile}
+use Rattle.lam_main.specs.Answer.{AsPlanned, IsAnswer, stop_of, ended, Halts, Gives, IsRead, IsPlanned}
+
+-- ---- a file that was read
+
+pub of_file : (found : Option Text) (name : Text) (limit : ℕ) (IsOf : Text → Plan → Type 0) (bytes : Vec ℕ Global) → IsRead (Ok bytes) found name limit → (answer : Result (String Global) Halt) → Gives answer (IsOf bytes.items) → Gives answer (WithFile found name limit IsOf)
+of_file found name limit IsOf bytes r (Ok text) h = inr (record { bytes = bytes.items; there = r.0; short = r.1; follows = h })
+of_file found name limit IsOf bytes r (Err no_memory) h = tt
+of_file found name limit IsOf bytes r (Err ShelfFailed) h = tt
+of_file found name limit IsOf bytes r (Err (Word index)) h = inr (record { bytes = bytes.items; there = r.0; short = r.1; follows = h })
+of_file found name limit IsOf bytes r (Err (Script line)) h = inr (record { bytes = bytes.items; there = r.0; short = r.1; follows = h })
+of_file found name limit IsOf bytes r (Err (Fault fault)) h = inr (record { bytes = bytes.items; there = r.0; short = r.1; follows = h })
+of_file found name limit IsOf bytes r (Err (Absent it)) h = inr (record { bytes = bytes.items; there = r.0; short = r.1; follows = h })
+of_file found name limit IsOf bytes r (Err (TooLong it)) h = inr (record { bytes = bytes.items; there = r.0; short = r.1; follows = h })
+
+pub not_of_file : (found : Option Text) (name : Text) (limit : ℕ) (IsOf : Text → Plan → Type 0) (halt : Halt) → IsRead (Err halt) found name limit → Halts halt (WithFile found name limit IsOf)
+not_of_file found name limit IsOf no_memory h = tt
+not_of_file found name limit IsOf ShelfFailed h = tt
+not_of_file found name limit IsOf (Word index) h = inl h
+not_of_file found name limit IsOf (Script line) h = inl h
+not_of_file found name limit IsOf (Fault fault) h = inl h
+not_of_file found name limit IsOf (Absent it) h = inl h
+not_of_file found name limit IsOf (TooLong it) h = inl h
+
+-- ---- how the call ended
+
+module _ (old new : Option Text) where
+  nothing_taken : TookFront old new [] → Took old new []
+  nothing_taken h = let e : take h.0 [] ≡ [] = take_none h.0 in subst (λ (xs : Text). Took old new xs) e h.2
+    where
+      take_none : (n : ℕ) → take n [] ≡ []
+      take_none n = refl
+
+  front_of_any : (text : Text) → Took old new [] → TookFront old new text
+  front_of_any text h = (0, omega arith, h)
+
+  -- a plan that prints nothing where memory ran out or the shelf failed
+  answered : (status : Status) (plan : Plan) → (plan.status ≡ NoMemory → plan.text ≡ []) → (plan.status ≡ ShelfFault → plan.text ≡ []) → AsPlanned status plan old new → IsAnswer status plan old new
+  answered NoMemory plan a b h = subst (λ (xs : Text). Took old new xs) (a (sym h.0)) h.1
+  answered ShelfFault plan a b h = subst (λ (xs : Text). Took old new xs) (b (sym h.0)) h.1
+  answered SinkFault plan a b h = h
+  answered Done plan a b h = h
+  answered Words plan a b h = h
+  answered Program plan a b h = h
+  answered World plan a b h = h
+  answered Book plan a b h = h
+  answered Missing plan a b h = h
+  answered Budget plan a b h = h
+  answered AllWait plan a b h = h
+
+  -- a call that stopped for want of memory or a fault of the shelf
+  unplanned : (status : Status) (other plan : Plan) → (other.status ≡ NoMemory) ⊎ (other.status ≡ ShelfFault) → other.text ≡ [] → AsPlanned status other old new → IsAnswer status plan old new
+  unplanned NoMemory other plan s t h = subst (λ (xs : Text). Took old new xs) t h.1
+  unplanned ShelfFault other plan s t h = subst (λ (xs : Text). Took old new xs) t h.1
+  unplanned SinkFault other plan s t h = front_of_any plan.text (nothing_taken (subst (λ (xs : Text). TookFront old new xs) t h))
+  unplanned Done other plan s t h = absurd (elim s [ inl e ↦ let x : Done ≡ NoMemory = h.0 ∙ e in cc | inr e ↦ let x : Done ≡ ShelfFault = h.0 ∙ e in cc ])
+  unplanned Words other plan s t h = absurd (elim s [ inl e ↦ let x : Words ≡ NoMemory = h.0 ∙ e in cc | inr e ↦ let x : Words ≡ ShelfFault = h.0 ∙ e in cc ])
+  unplanned Program other plan s t h = absurd (elim s [ inl e ↦ let x : Program ≡ NoMemory = h.0 ∙ e in cc | inr e ↦ let x : Program ≡ ShelfFault = h.0 ∙ e in cc ])
+  unplanned World other plan s t h = absurd (elim s [ inl e ↦ let x : World ≡ NoMemory = h.0 ∙ e in cc | inr e ↦ let x : World ≡ ShelfFault = h.0 ∙ e in cc ])
+  unplanned Book other plan s t h = absurd (elim s [ inl e ↦ let x : Book ≡ NoMemory = h.0 ∙ e in cc | inr e ↦ let x : Book ≡ ShelfFault = h.0 ∙ e in cc ])
+  unplanned Missing other plan s t h = absurd (elim s [ inl e ↦ let x : Missing ≡ NoMemory = h.0 ∙ e in cc | inr e ↦ let x : Missing ≡ ShelfFault = h.0 ∙ e in cc ])
+  unplanned Budget other plan s t h = absurd (elim s [ inl e ↦ let x : Budget ≡ NoMemory = h.0 ∙ e in cc | inr e ↦ let x : Budget ≡ ShelfFault = h.0 ∙ e in cc ])
+  unplanned AllWait other plan s t h = absurd (elim s [ inl e ↦ let x : AllWait ≡ NoMemory = h.0 ∙ e in cc | inr e ↦ let x : AllWait ≡ ShelfFault = h.0 ∙ e in cc ])
+
+  module _ (IsPlan : Plan → Type 0) where
+    planned_as : (status : Status) (plan : Plan) → IsPlan plan → AsPlanned status plan old new → IsPlanned status IsPlan old new
+    planned_as NoMemory plan p h = tt
+    planned_as ShelfFault plan p h = tt
+    planned_as SinkFault plan p h = inr (plan, p, h)
+    planned_as Done plan p h = (plan, p, h)
+    planned_as Words plan p h = (plan, p, h)
+    planned_as Program plan p h = (plan, p, h)
+    planned_as World plan p h = (plan, p, h)
+    planned_as Book plan p h = (plan, p, h)
+    planned_as Missing plan p h = (plan, p, h)
+    planned_as Budget plan p h = (plan, p, h)
+    planned_as AllWait plan p h = (plan, p, h)
+
+    unplanned_end : (status : Status) (other : Plan) → (other.status ≡ NoMemory) ⊎ (other.status ≡ ShelfFault) → other.text ≡ [] → AsPlanned status other old new → IsPlanned status IsPlan old new
+    unplanned_end NoMemory other s t h = tt
+    unplanned_end ShelfFault other s t h = tt
+    unplanned_end SinkFault other s t h = inl (nothing_taken (subst (λ (xs : Text). TookFront old new xs) t h))
+    unplanned_end Done other s t h = absurd (elim s [ inl e ↦ let x : Done ≡ NoMemory = h.0 ∙ e in cc | inr e ↦ let x : Done ≡ ShelfFault = h.0 ∙ e in cc ])
+    unplanned_end Words other s t h = absurd (elim s [ inl e ↦ let x : Words ≡ NoMemory = h.0 ∙ e in cc | inr e ↦ let x : Words ≡ ShelfFault = h.0 ∙ e in cc ])
+    unplanned_end Program other s t h = absurd (elim s [ inl e ↦ let x : Program ≡ NoMemory = h.0 ∙ e in cc | inr e ↦ let x : Program ≡ ShelfFault = h.0 ∙ e in cc ])
+    unplanned_end World other s t h = absurd (elim s [ inl e ↦ let x : World ≡ NoMemory = h.0 ∙ e in cc | inr e ↦ let x : World ≡ ShelfFault = h.0 ∙ e in cc ])
+    unplanned_end Book other s t h = absurd (elim s [ inl e ↦ let x : Book ≡ NoMemory = h.0 ∙ e in cc | inr e ↦ let x : Book ≡ ShelfFault = h.0 ∙ e in cc ])
+    unplanned_end Missing other s t h = absurd (elim s [ inl e ↦ let x : Missing ≡ NoMemory = h.0 ∙ e in cc | inr e ↦ let x : Missing ≡ ShelfFault = h.0 ∙ e in cc ])
+    unplanned_end Budget other s t h = absurd (elim s [ inl e ↦ let x : Budget ≡ NoMemory = h.0 ∙ e in cc | inr e ↦ let x : Budget ≡ ShelfFault = h.0 ∙ e in cc ])
+    unplanned_end AllWait other s t h = absurd (elim s [ inl e ↦ let x : AllWait ≡ NoMemory = h.0 ∙ e in cc | inr e ↦ let x : AllWait ≡ ShelfFault = h.0 ∙ e in cc ])
+
+    pub planned_of : (status : Status) (answer : Result (String Global) Halt) → Gives answer IsPlan → AsPlanned status (ended answer) old new → IsPlanned status IsPlan old new
+    planned_of status (Ok text) g h = planned_as status (prints (string_bytes text)) g h
+    planned_of status (Err no_memory) g h = unplanned_end status (stop_of no_memory) (inl refl) refl h
+    planned_of status (Err ShelfFailed) g h = unplanned_end status (stop_of ShelfFailed) (inr refl) refl h
+    planned_of status (Err (Word index)) g h = planned_as status (stop_of (Word index)) g h
+    planned_of status (Err (Script line)) g h = planned_as status (stop_of (Script line)) g h
+    planned_of status (Err (Fault fault)) g h = planned_as status (stop_of (Fault fault)) g h
+    planned_of status (Err (Absent name)) g h = planned_as status (stop_of (Absent name)) g h
+    planned_of status (Err (TooLong name)) g h = planned_as status (stop_of (TooLong name)) g h
+
+    module _ (one : (p q : Plan) → IsPlan p → IsPlan q → p ≡ q) where
+      answered_as : (status : Status) (other plan : Plan) → IsPlan other → IsPlan plan → (other.status ≡ NoMemory → other.text ≡ []) → (other.status ≡ ShelfFault → other.text ≡ []) → AsPlanned status other old new → IsAnswer status plan old new
+      answered_as status other plan p q a b h = subst (λ (x : Plan). IsAnswer status x old new) (one other plan p q) (answered status other a b h)
+
+      silent_memory : (fault : ProgramFault) → (no_program fault).status ≡ NoMemory → (no_program fault).text ≡ []
+      silent_memory NotUtf8 e = cc
+      silent_memory (At flaw at) e = cc
+      silent_memory no_memory_of_it e = refl
+
+      silent_shelf : (fault : ProgramFault) → (no_program fault).status ≡ ShelfFault → (no_program fault).text ≡ []
+      silent_shelf NotUtf8 e = cc
+      silent_shelf (At flaw at) e = cc
+      silent_shelf no_memory_of_it e = refl
+
+      pub answer_of : (status : Status) (answer : Result (String Global) Halt) → Gives answer IsPlan → AsPlanned status (ended answer) old new → (plan : Plan) → IsPlan plan → IsAnswer status plan old new
+      answer_of status (Ok text) g h plan p = answered_as status (prints (string_bytes text)) plan g p (λ e. cc) (λ e. cc) h
+      answer_of status (Err no_memory) g h plan p = unplanned status (stop_of no_memory) plan (inl refl) refl h
+      answer_of status (Err ShelfFailed) g h plan p = unplanned status (stop_of ShelfFailed) plan (inr refl) refl h
+      answer_of status (Err (Word index)) g h plan p = answered_as status (stop_of (Word index)) plan g p (λ e. cc) (λ e. cc) h
+      answer_of status (Err (Script line)) g h plan p = answered_as status (stop_of (Script line)) plan g p (λ e. cc) (λ e. cc) h
+      answer_of status (Err (Fault fault)) g h plan p = answered_as status (stop_of (Fault fault)) plan g p (silent_memory fault) (silent_shelf fault) h
+      answer_of status (Err (Absent name)) g h plan p = answered_as status (stop_of (Absent name)) plan g p (λ e. cc) (λ e. cc) h
+      answer_of status (Err (TooLong name)) g h plan p = answered_as status (stop_of (TooLong name)) plan g p (λ e. cc) (λ e. cc) h
+
+  pub status_of : (status : Status) (plan : Plan) → (status ≡ NoMemory → ⊥) → (status ≡ ShelfFault → ⊥) → (status ≡ SinkFault → ⊥) → IsAnswer status plan old new → status ≡ plan.status
+  status_of NoMemory plan a b c h = absurd (a refl)
+  status_of ShelfFault plan a b c h = absurd (b refl)
+  status_of SinkFault plan a b c h = absurd (c refl)
+  status_of Done plan a b c h = h.0
+  status_of Words plan a b c h = h.0
+  status_of Program plan a b c h = h.0
+  status_of World plan a b c h = h.0
+  status_of Book plan a b c h = h.0
+  status_of Missing plan a b c h = h.0
+  status_of Budget plan a b c h = h.0
+  status_of AllWait plan a b c h = h.0
