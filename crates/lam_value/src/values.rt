@@ -46,42 +46,23 @@ impl Value {
         match self {
             Value::Int(n) => Ok(Value::Int(*n)),
             Value::Bool(b) => Ok(Value::Bool(*b)),
-            Value::Bytes(text) => {
-                let text = text.copy()?;
-                Ok(Value::Bytes(text))
-            }
+            Value::Bytes(text) => Ok(Value::Bytes(text.copy()?)),
             Value::Nothing => Ok(Value::Nothing),
-            Value::Obj(name) => {
-                let name = name.copy()?;
-                Ok(Value::Obj(name))
-            }
-            Value::Arr { name, len } => {
-                let name = name.copy()?;
-                Ok(Value::Arr { name, len: *len })
-            }
-            Value::File(name) => {
-                let name = name.copy()?;
-                Ok(Value::File(name))
-            }
-            Value::Dir(name) => {
-                let name = name.copy()?;
-                Ok(Value::Dir(name))
-            }
-            Value::Pipe(name) => {
-                let name = name.copy()?;
-                Ok(Value::Pipe(name))
-            }
+            Value::Obj(name) => Ok(Value::Obj(name.copy()?)),
+            Value::Arr { name, len } => Ok(Value::Arr {
+                name: name.copy()?,
+                len: *len,
+            }),
+            Value::File(name) => Ok(Value::File(name.copy()?)),
+            Value::Dir(name) => Ok(Value::Dir(name.copy()?)),
+            Value::Pipe(name) => Ok(Value::Pipe(name.copy()?)),
             Value::Thread(t) => Ok(Value::Thread(*t)),
             Value::Tag(t) => Ok(Value::Tag(*t)),
-            Value::Lab(label) => {
-                let label = label.copy()?;
-                Ok(Value::Lab(label))
-            }
-            Value::CapV { plus, minus } => {
-                let plus = plus.copy()?;
-                let minus = minus.copy()?;
-                Ok(Value::CapV { plus, minus })
-            }
+            Value::Lab(label) => Ok(Value::Lab(label.copy()?)),
+            Value::CapV { plus, minus } => Ok(Value::CapV {
+                plus: plus.copy()?,
+                minus: minus.copy()?,
+            }),
         }
     }
 }
@@ -91,58 +72,23 @@ pub fn same_value(a: &Value, b: &Value) -> bool
     ensures { IsTrue result ↔ (a.now ≡ b.now) }
 {
     match a {
-        Value::Int(x) => match b {
-            Value::Int(y) => x == y,
-            _ => false,
-        },
-        Value::Bool(x) => match b {
-            Value::Bool(y) => x == y,
-            _ => false,
-        },
-        Value::Bytes(x) => match b {
-            Value::Bytes(y) => x.same(y),
-            _ => false,
-        },
-        Value::Nothing => match b {
-            Value::Nothing => true,
-            _ => false,
-        },
-        Value::Obj(x) => match b {
-            Value::Obj(y) => x.same(y),
-            _ => false,
-        },
-        Value::Arr { name: x, len: m } => match b {
-            Value::Arr { name: y, len: n } => m == n && x.same(y),
-            _ => false,
-        },
-        Value::File(x) => match b {
-            Value::File(y) => x.same(y),
-            _ => false,
-        },
-        Value::Dir(x) => match b {
-            Value::Dir(y) => x.same(y),
-            _ => false,
-        },
-        Value::Pipe(x) => match b {
-            Value::Pipe(y) => x.same(y),
-            _ => false,
-        },
-        Value::Thread(x) => match b {
-            Value::Thread(y) => x == y,
-            _ => false,
-        },
-        Value::Tag(x) => match b {
-            Value::Tag(y) => x == y,
-            _ => false,
-        },
-        Value::Lab(x) => match b {
-            Value::Lab(y) => same(x, y),
-            _ => false,
-        },
-        Value::CapV { plus, minus } => match b {
-            Value::CapV { plus: p, minus: m } => plus.same(p) && minus.same(m),
-            _ => false,
-        },
+        Value::Int(x) => matches!(b, Value::Int(y) if x == y),
+        Value::Bool(x) => matches!(b, Value::Bool(y) if x == y),
+        Value::Bytes(x) => matches!(b, Value::Bytes(y) if x.same(y)),
+        Value::Nothing => matches!(b, Value::Nothing),
+        Value::Obj(x) => matches!(b, Value::Obj(y) if x.same(y)),
+        Value::Arr { name: x, len: m } => {
+            matches!(b, Value::Arr { name: y, len: n } if m == n && x.same(y))
+        }
+        Value::File(x) => matches!(b, Value::File(y) if x.same(y)),
+        Value::Dir(x) => matches!(b, Value::Dir(y) if x.same(y)),
+        Value::Pipe(x) => matches!(b, Value::Pipe(y) if x.same(y)),
+        Value::Thread(x) => matches!(b, Value::Thread(y) if x == y),
+        Value::Tag(x) => matches!(b, Value::Tag(y) if x == y),
+        Value::Lab(x) => matches!(b, Value::Lab(y) if same(x, y)),
+        Value::CapV { plus, minus } => {
+            matches!(b, Value::CapV { plus: p, minus: m } if plus.same(p) && minus.same(m))
+        }
     }
 }
 
