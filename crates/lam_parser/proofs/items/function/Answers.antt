@@ -76,5 +76,5 @@ returns-clause-reads c =
     let typed = maybe_taken c.in_ok-result.ensures.reads c.in_ok-result.ensures.goes_on.0 close in
     let body = rule_taken c.in_ok-body.ensures.reads c.in_ok-body.ensures.goes_on.0 typed in
     subst (λ x. Gives (slice_get c.args.tokens.now) item 0 c.args.at (item_value (function_item (record { at = c.args.word.now.at; name = x; params = vars_tree c.in_ok-params.params.items; result = option_type_tree c.in_ok-result.result; body = stmts_tree c.in_ok-body.body.items }))) c.in_ok-body.end 0) (sym c.in_ok-name.ensures.takes.2) (
-      subst (λ r. Gives (slice_get c.args.tokens.now) item 0 c.args.at (item_value (function_item (record { at = c.args.word.now.at; name = id_of c.in_ok-name.ensures.takes.0; params = vars_tree c.in_ok-params.params.items; result = r; body = stmts_tree c.in_ok-body.body.items }))) c.in_ok-body.end 0) (result_type c.in_ok-result.result) (rule_read body)
+    subst (λ r. Gives (slice_get c.args.tokens.now) item 0 c.args.at (item_value (function_item (record { at = c.args.word.now.at; name = id_of c.in_ok-name.ensures.takes.0; params = vars_tree c.in_ok-params.params.items; result = r; body = stmts_tree c.in_ok-body.body.items }))) c.in_ok-body.end 0) (result_type c.in_ok-result.result) (rule_read body)
     )
