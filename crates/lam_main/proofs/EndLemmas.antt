@@ -10,29 +10,29 @@ use Rattle.lam_main.specs.declared.halt.Halt.TheVariants.{NoMemory as no_memory,
 use Rattle.lam_front.specs.declared.fault.ProgramFault.{ProgramFault}
 use Rattle.lam_front.specs.declared.fault.ProgramFault.TheVariants.{NotUtf8, At, NoMemory as no_memory_of_it}
 use Rattle.lam_main.specs.Words.{Text}
-use Rattle.lam_main.specs.Plan.{Plan, prints, no_program, IsUnread, IsOfFile, WithFile}
+use Rattle.lam_main.specs.Plan.{Plan, prints, no_program, IsUnread, IsOfFile, WithFile, unread, of_file}
 use Rattle.lam_main.specs.Answer.{AsPlanned, IsAnswer, stop_of, ended, Halts, Gives, IsRead, IsPlanned}
 
 -- ---- a file that was read
 
-pub of_file : (found : Option Text) (name : Text) (limit : ℕ) (IsOf : Text → Plan → Type 0) (bytes : Vec ℕ Global) → IsRead (Ok bytes) found name limit → (answer : Result (String Global) Halt) → Gives answer (IsOf bytes.items) → Gives answer (WithFile found name limit IsOf)
-of_file found name limit IsOf bytes r (Ok text) h = inr (record { bytes = bytes.items; there = r.0; short = r.1; follows = h })
-of_file found name limit IsOf bytes r (Err no_memory) h = tt
-of_file found name limit IsOf bytes r (Err ShelfFailed) h = tt
-of_file found name limit IsOf bytes r (Err (Word index)) h = inr (record { bytes = bytes.items; there = r.0; short = r.1; follows = h })
-of_file found name limit IsOf bytes r (Err (Script line)) h = inr (record { bytes = bytes.items; there = r.0; short = r.1; follows = h })
-of_file found name limit IsOf bytes r (Err (Fault fault)) h = inr (record { bytes = bytes.items; there = r.0; short = r.1; follows = h })
-of_file found name limit IsOf bytes r (Err (Absent it)) h = inr (record { bytes = bytes.items; there = r.0; short = r.1; follows = h })
-of_file found name limit IsOf bytes r (Err (TooLong it)) h = inr (record { bytes = bytes.items; there = r.0; short = r.1; follows = h })
+pub from_file : (found : Option Text) (name : Text) (limit : ℕ) (IsOf : Text → Plan → Type 0) (bytes : Vec ℕ Global) → IsRead (Ok bytes) found name limit → (answer : Result (String Global) Halt) → Gives answer (IsOf bytes.items) → Gives answer (WithFile found name limit IsOf)
+from_file found name limit IsOf bytes r (Ok text) h = of_file (record { bytes = bytes.items; there = r.0; short = r.1; follows = h })
+from_file found name limit IsOf bytes r (Err no_memory) h = tt
+from_file found name limit IsOf bytes r (Err ShelfFailed) h = tt
+from_file found name limit IsOf bytes r (Err (Word index)) h = of_file (record { bytes = bytes.items; there = r.0; short = r.1; follows = h })
+from_file found name limit IsOf bytes r (Err (Script line)) h = of_file (record { bytes = bytes.items; there = r.0; short = r.1; follows = h })
+from_file found name limit IsOf bytes r (Err (Fault fault)) h = of_file (record { bytes = bytes.items; there = r.0; short = r.1; follows = h })
+from_file found name limit IsOf bytes r (Err (Absent it)) h = of_file (record { bytes = bytes.items; there = r.0; short = r.1; follows = h })
+from_file found name limit IsOf bytes r (Err (TooLong it)) h = of_file (record { bytes = bytes.items; there = r.0; short = r.1; follows = h })
 
-pub not_of_file : (found : Option Text) (name : Text) (limit : ℕ) (IsOf : Text → Plan → Type 0) (halt : Halt) → IsRead (Err halt) found name limit → Halts halt (WithFile found name limit IsOf)
-not_of_file found name limit IsOf no_memory h = tt
-not_of_file found name limit IsOf ShelfFailed h = tt
-not_of_file found name limit IsOf (Word index) h = inl h
-not_of_file found name limit IsOf (Script line) h = inl h
-not_of_file found name limit IsOf (Fault fault) h = inl h
-not_of_file found name limit IsOf (Absent it) h = inl h
-not_of_file found name limit IsOf (TooLong it) h = inl h
+pub not_from_file : (found : Option Text) (name : Text) (limit : ℕ) (IsOf : Text → Plan → Type 0) (halt : Halt) → IsRead (Err halt) found name limit → Halts halt (WithFile found name limit IsOf)
+not_from_file found name limit IsOf no_memory h = tt
+not_from_file found name limit IsOf ShelfFailed h = tt
+not_from_file found name limit IsOf (Word index) h = unread h
+not_from_file found name limit IsOf (Script line) h = unread h
+not_from_file found name limit IsOf (Fault fault) h = unread h
+not_from_file found name limit IsOf (Absent it) h = unread h
+not_from_file found name limit IsOf (TooLong it) h = unread h
 
 -- ---- how the call ended
 

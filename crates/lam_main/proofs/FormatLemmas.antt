@@ -1,17 +1,17 @@
 -- what `format` prints is read as the same program
-use Rattle.std.proofs.Common.{◌≡◌, List, Result, Ok, ℕ, inr, refl, sym, subst}
+use Rattle.std.proofs.Common.{◌≡◌, List, Result, Ok, ℕ, refl, sym, subst}
 use Rattle.lam_io.specs.Outside.{Files}
 use Rattle.lam_syntax.specs.Tree.{ProgramTree}
 use Rattle.lam_print.specs.Canon.{canon}
 use Rattle.lam_spelt.specs.Law.{ReadAgain}
 use Rattle.lam_round_trip.specs.Law.{WayRound, Steady}
 use Rattle.lam_main.specs.Words.{Text, Request}
-use Rattle.lam_main.specs.Plan.{IsPlan, IsPlanOf, canonical, prints, IsFormatted, IsReadAgain, FormatIsSteady}
+use Rattle.lam_main.specs.Plan.{IsPlan, IsPlanOf, of_file, canonical, prints, IsFormatted, IsReadAgain, FormatIsSteady}
 
 planned : (ws : List Text) (files : Files) (p : ProgramTree) → IsFormatted ws files p → IsPlan ws files (prints (canon p))
 planned ws files p f =
     subst (λ (r : Result Request ℕ). IsPlanOf r files (prints (canon p))) (sym f.asks)
-    (inr (record { bytes = f.bytes; there = f.found; short = f.short; follows = canonical p f.spelt refl }))
+    (of_file (record { bytes = f.bytes; there = f.found; short = f.short; follows = canonical p f.spelt refl }))
 
 again : (ws : List Text) (files : Files) (p : ProgramTree) → ReadAgain → WayRound → Steady → IsFormatted ws files p → IsReadAgain (canon p) p
 again ws files p read round steady f =

@@ -1,10 +1,10 @@
 -- Words and files have at most one plan.
-use Rattle.std.proofs.Common.{◌≡◌, ◌<◌, ◌≤◌, ◌⊎◌, inl, inr, ℕ, List, length, Option, Some, None, Result, Ok, Err, codes, refl, sym, ap, subst, ◌∙◌, arith}
+use Rattle.std.proofs.Common.{◌≡◌, ◌<◌, ◌≤◌, ℕ, List, length, Option, Some, None, Result, Ok, Err, codes, refl, sym, ap, subst, ◌∙◌, arith}
 use Rattle.lam_io.specs.Outside.{Files}
 use Rattle.lam_print.specs.Canon.{canon}
 use Rattle.lam_front.proofs.Once.{one_spelt, spelt_or_misspelt, one_misspelt, fine_or_broken, one_broken}
 use Rattle.lam_main.specs.Words.{Text, Request, play, check, format, request_of}
-use Rattle.lam_main.specs.Plan.{Plan, prints, no_program, IsUnread, IsOfFile, WithFile, Plays, Formats, canonical, misspelt, Checks, fine, broken, IsPlanOf, IsPlan, script_limit, program_limit}
+use Rattle.lam_main.specs.Plan.{Plan, prints, no_program, IsUnread, IsOfFile, WithFile, unread, of_file, Plays, Formats, canonical, misspelt, Checks, fine, broken, IsPlanOf, IsPlan, script_limit, program_limit}
 
 one_unread : (found : Option Text) (name : Text) (limit : ℕ) (p q : Plan) → IsUnread found name limit p → IsUnread found name limit q → p ≡ q
 one_unread None name limit p q h k = h ∙ sym k
@@ -27,10 +27,10 @@ one_of_file : (found : Option Text) (limit : ℕ) (IsOf : Text → Plan → Type
 one_of_file found limit IsOf one p q h k = one k.bytes p q (subst (λ (bs : Text). IsOf bs p) (one_bytes (sym h.there ∙ k.there)) h.follows) k.follows
 
 one_with_file : (found : Option Text) (name : Text) (limit : ℕ) (IsOf : Text → Plan → Type 0) → ((bytes : Text) (p q : Plan) → IsOf bytes p → IsOf bytes q → p ≡ q) → (p q : Plan) → WithFile found name limit IsOf p → WithFile found name limit IsOf q → p ≡ q
-one_with_file found name limit IsOf one p q (inl h) (inl k) = one_unread found name limit p q h k
-one_with_file found name limit IsOf one p q (inl h) (inr k) = absurd (unread_or_of_file found name limit IsOf p q h k)
-one_with_file found name limit IsOf one p q (inr h) (inl k) = absurd (unread_or_of_file found name limit IsOf q p k h)
-one_with_file found name limit IsOf one p q (inr h) (inr k) = one_of_file found limit IsOf one p q h k
+one_with_file found name limit IsOf one p q (unread h) (unread k) = one_unread found name limit p q h k
+one_with_file found name limit IsOf one p q (unread h) (of_file k) = absurd (unread_or_of_file found name limit IsOf p q h k)
+one_with_file found name limit IsOf one p q (of_file h) (unread k) = absurd (unread_or_of_file found name limit IsOf q p k h)
+one_with_file found name limit IsOf one p q (of_file h) (of_file k) = one_of_file found limit IsOf one p q h k
 
 one_plays : (observer bytes : Text) (p q : Plan) → Plays observer bytes p → Plays observer bytes q → p ≡ q
 one_plays observer bytes p q h k = h ∙ sym k

@@ -1,5 +1,5 @@
 -- What a call of given words prints of given files, and how it ends, where nothing fails.
-use Rattle.std.specs.Prelude.{◌≡◌, ◌<◌, ◌≤◌, ◌⊎◌, inl, inr, ℕ, List, [], ◌∷◌, ◌++◌, length, Option, Some, None, Result, Ok, Err, chars, codes, decimal, refl}
+use Rattle.std.specs.Prelude.{◌≡◌, ◌<◌, ◌≤◌, ℕ, List, [], ◌∷◌, ◌++◌, length, Option, Some, None, Result, Ok, Err, chars, codes, decimal, refl}
 use Rattle.flow_labels.specs.LabelText.{label_of}
 use Rattle.flow_labels.specs.declared.Label.{Label}
 use Rattle.flow_labels.specs.declared.texts.LabelFault.{LabelFault}
@@ -69,8 +69,9 @@ pub record IsOfFile (found : Option Text) (limit : ℕ) (IsOf : Text → Plan �
   pub short : length bytes ≤ limit
   pub follows : IsOf bytes plan
 
-abbrev pub WithFile : Option Text → Text → ℕ → (Text → Plan → Type 0) → Plan → Type 0
-WithFile found name limit IsOf plan = IsUnread found name limit plan ⊎ IsOfFile found limit IsOf plan
+pub data WithFile (found : Option Text) (name : Text) (limit : ℕ) (IsOf : Text → Plan → Type 0) (plan : Plan) : Type 0 where
+  unread : IsUnread found name limit plan → WithFile found name limit IsOf plan
+  of_file : IsOfFile found limit IsOf plan → WithFile found name limit IsOf plan
 
 -- ---- `play`
 
@@ -148,7 +149,7 @@ FormatIsSteady ws files = (p : ProgramTree) → IsFormatted ws files p → IsPla
 
 -- a file that is not there, and a script whose second line is broken
 not_there : IsPlan (codes "play" ∷ codes "none" ∷ codes "{}/{}" ∷ []) (λ name. None) (absent (codes "none"))
-not_there = inl refl
+not_there = unread refl
 
-broken_line : IsPlan (codes "play" ∷ codes "s" ∷ codes "{}/{}" ∷ []) (λ name. Some (codes "tag a\ncell c {}/{} 01\n")) (no_script 2)
-broken_line = inr (record { bytes = _; there = refl; short = omega arith; follows = refl })
+broken_line : Plays (codes "{}/{}") (codes "tag a\ncell c {}/{} 01\n") (no_script 2)
+broken_line = refl
