@@ -5,16 +5,13 @@ use Rattle.lam_syntax.specs.Tree.{ProgramTree, program_tree}
 use Rattle.lam_lexer.specs.declared.token.Token.{Token}
 use Rattle.lam_lexer.specs.declared.fault.LexFault.{LexFault}
 use Rattle.lam_lexer.specs.declared.fault.LexFault.TheVariants as lexer
-use Rattle.lam_lexer.specs.Lexed.{Lexed}
 use Rattle.lam_lexer.specs.Reading.{IsFault}
-use Rattle.lam_grammar.specs.Program.{SpellsProgram}
 use Rattle.lam_parser.specs.declared.ParseFault.{ParseFault}
 use Rattle.lam_parser.specs.declared.ParseFault.TheVariants as parser
 use Rattle.lam_parser.specs.Answers.{Parses}
 use Rattle.lam_kinds.specs.declared.fault.TypeFault.{TypeFault}
 use Rattle.lam_kinds.specs.declared.fault.TypeFault.TheVariants as types
 use Rattle.lam_kinds.specs.Breaks.{Break}
-use Rattle.lam_kinds.specs.Values as kinds
 use Rattle.lam_types.specs.Meets as meets
 use Rattle.lam_types.specs.Program.{first_type_break}
 use Rattle.region_check.specs.declared.RegionFault.{RegionFault}

@@ -1,14 +1,13 @@
 -- Bytes spell one program or have one first fault.
-use Rattle.std.proofs.Common.{◌≡◌, ℕ, ◌+◌, ◌<◌, ◌≤◌, ◌⊎◌, inl, inr, List, [], ◌∷◌, refl, sym, ap, subst, ◌∙◌, arith, Option, Some, None}
+use Rattle.std.proofs.Common.{◌≡◌, ℕ, ◌+◌, ◌<◌, ◌≤◌, inl, inr, List, [], ◌∷◌, refl, sym, ap, subst, ◌∙◌, arith, Option, Some, None}
 use Rattle.std.proofs.lemmas.Bool.{cond_below, cond_above, cases_lt}
 use Rattle.grammar_laws.specs.Texts.{capped, Continues, IsUnexpected, IsTooDeep}
 use Rattle.grammar_laws.proofs.Spelling.{moves}
 use Rattle.grammar_laws.proofs.Theorem.{value_once, unexpected_means_nothing, too_deep_means_nothing}
 use Rattle.lam_syntax.specs.Tree.{ProgramTree}
 use Rattle.lam_lexer.specs.declared.token.Token.{Token}
-use Rattle.lam_lexer.specs.declared.fault.LexFault.{LexFault}
 use Rattle.lam_lexer.proofs.Laws.{lexed_once, lexed_never, fault_once}
-use Rattle.lam_grammar.specs.Meaning.{Value, nothing, word, items_value}
+use Rattle.lam_grammar.specs.Meaning.{nothing, word, items_value}
 use Rattle.lam_grammar.specs.Program.{lam, program, SpellsProgram}
 use Rattle.lam_grammar.specs.Examples.{examples}
 use Rattle.lam_grammar.proofs.Passes.{sound}
@@ -19,7 +18,7 @@ use Rattle.region_check.specs.Breaks as region
 use Rattle.region_check.specs.Breaks.{first_region_break}
 use Rattle.lam_front.specs.declared.fault.Flaw.TheVariants.{Unexpected, TooDeep}
 use Rattle.lam_front.specs.declared.fault.ProgramFault.{ProgramFault}
-use Rattle.lam_front.specs.declared.fault.ProgramFault.TheVariants.{NotUtf8, At}
+use Rattle.lam_front.specs.declared.fault.ProgramFault.TheVariants.{At}
 use Rattle.lam_front.specs.Faults.{lexical, mistyped, illegal}
 use Rattle.lam_front.specs.Programs.{IsLexed, IsSpelt, IsMisspelt, no_text, bad_token, unexpected, too_deep, IsFine, IsBroken, misspelt, breaks_type, breaks_region}
 

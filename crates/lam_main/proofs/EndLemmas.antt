@@ -1,5 +1,5 @@
 -- From the plan of an answer to how the call ended.
-use Rattle.std.proofs.Common.{◌≡◌, ◌≢◌, ◌≤◌, ◌⊎◌, inl, inr, ℕ, List, [], ◌∷◌, ◌++◌, length, take, Option, Some, None, Result, Ok, Err, String, string_bytes, refl, sym, ap, subst, ◌∙◌, arith}
+use Rattle.std.proofs.Common.{◌≡◌, ◌⊎◌, inl, inr, ℕ, [], length, Option, Result, Ok, Err, IfErr, String, string_bytes, refl, sym, ap, subst, ◌∙◌, arith}
 use Rattle.std.specs.declared.alloc.Global.{Global}
 use Rattle.std.specs.Prelude.{Vec}
 use Rattle.lam_io.specs.Outside.{Took, TookFront}
@@ -10,8 +10,9 @@ use Rattle.lam_main.specs.declared.halt.Halt.TheVariants.{NoMemory as no_memory,
 use Rattle.lam_front.specs.declared.fault.ProgramFault.{ProgramFault}
 use Rattle.lam_front.specs.declared.fault.ProgramFault.TheVariants.{NotUtf8, At, NoMemory as no_memory_of_it}
 use Rattle.lam_main.specs.Words.{Text}
-use Rattle.lam_main.specs.Plan.{Plan, prints, no_program, IsUnread, IsOfFile, WithFile, unread, of_file}
-use Rattle.lam_main.specs.Answer.{AsPlanned, IsAnswer, stop_of, ended, Halts, Gives, IsRead, IsPlanned}
+use Rattle.lam_main.specs.Plan.{Plan, prints, no_program, WithFile, unread, of_file, Formats, misspelt, Checks, broken}
+use Rattle.lam_front.specs.Programs.{IsMisspelt, IsBroken}
+use Rattle.lam_main.specs.Answer.{AsPlanned, IsAnswer, stop_of, halt_of, ended, Halts, Gives, IsRead, IsPlanned}
 
 -- ---- a file that was read
 
@@ -37,14 +38,9 @@ not_from_file found name limit IsOf (TooLong it) h = unread h
 -- ---- how the call ended
 
 module _ (old new : Option Text) where
-  nothing_taken : TookFront old new [] → Took old new []
-  nothing_taken h = let e : take h.0 [] ≡ [] = take_none h.0 in subst (λ (xs : Text). Took old new xs) e h.2
-    where
-      take_none : (n : ℕ) → take n [] ≡ []
-      take_none n = refl
-
-  front_of_any : (text : Text) → Took old new [] → TookFront old new text
-  front_of_any text h = (0, omega arith, h)
+  -- no front is left out of nothing
+  no_front : (text : Text) → text ≡ [] → TookFront old new text → ⊥
+  no_front text t h = let e : length text ≡ 0 = ap length t in omega (arith, h.1, e)
 
   -- a plan that prints nothing where memory ran out or the shelf failed
   answered : (status : Status) (plan : Plan) → (plan.status ≡ NoMemory → plan.text ≡ []) → (plan.status ≡ ShelfFault → plan.text ≡ []) → AsPlanned status plan old new → IsAnswer status plan old new
@@ -64,7 +60,7 @@ module _ (old new : Option Text) where
   unplanned : (status : Status) (other plan : Plan) → (other.status ≡ NoMemory) ⊎ (other.status ≡ ShelfFault) → other.text ≡ [] → AsPlanned status other old new → IsAnswer status plan old new
   unplanned NoMemory other plan s t h = subst (λ (xs : Text). Took old new xs) t h.1
   unplanned ShelfFault other plan s t h = subst (λ (xs : Text). Took old new xs) t h.1
-  unplanned SinkFault other plan s t h = front_of_any plan.text (nothing_taken (subst (λ (xs : Text). TookFront old new xs) t h))
+  unplanned SinkFault other plan s t h = absurd (no_front other.text t h)
   unplanned Done other plan s t h = absurd (elim s [ inl e ↦ let x : Done ≡ NoMemory = h.0 ∙ e in cc | inr e ↦ let x : Done ≡ ShelfFault = h.0 ∙ e in cc ])
   unplanned Words other plan s t h = absurd (elim s [ inl e ↦ let x : Words ≡ NoMemory = h.0 ∙ e in cc | inr e ↦ let x : Words ≡ ShelfFault = h.0 ∙ e in cc ])
   unplanned Program other plan s t h = absurd (elim s [ inl e ↦ let x : Program ≡ NoMemory = h.0 ∙ e in cc | inr e ↦ let x : Program ≡ ShelfFault = h.0 ∙ e in cc ])
@@ -78,7 +74,7 @@ module _ (old new : Option Text) where
     planned_as : (status : Status) (plan : Plan) → IsPlan plan → AsPlanned status plan old new → IsPlanned status IsPlan old new
     planned_as NoMemory plan p h = tt
     planned_as ShelfFault plan p h = tt
-    planned_as SinkFault plan p h = inr (plan, p, h)
+    planned_as SinkFault plan p h = (plan, p, h)
     planned_as Done plan p h = (plan, p, h)
     planned_as Words plan p h = (plan, p, h)
     planned_as Program plan p h = (plan, p, h)
@@ -91,7 +87,7 @@ module _ (old new : Option Text) where
     unplanned_end : (status : Status) (other : Plan) → (other.status ≡ NoMemory) ⊎ (other.status ≡ ShelfFault) → other.text ≡ [] → AsPlanned status other old new → IsPlanned status IsPlan old new
     unplanned_end NoMemory other s t h = tt
     unplanned_end ShelfFault other s t h = tt
-    unplanned_end SinkFault other s t h = inl (nothing_taken (subst (λ (xs : Text). TookFront old new xs) t h))
+    unplanned_end SinkFault other s t h = absurd (no_front other.text t h)
     unplanned_end Done other s t h = absurd (elim s [ inl e ↦ let x : Done ≡ NoMemory = h.0 ∙ e in cc | inr e ↦ let x : Done ≡ ShelfFault = h.0 ∙ e in cc ])
     unplanned_end Words other s t h = absurd (elim s [ inl e ↦ let x : Words ≡ NoMemory = h.0 ∙ e in cc | inr e ↦ let x : Words ≡ ShelfFault = h.0 ∙ e in cc ])
     unplanned_end Program other s t h = absurd (elim s [ inl e ↦ let x : Program ≡ NoMemory = h.0 ∙ e in cc | inr e ↦ let x : Program ≡ ShelfFault = h.0 ∙ e in cc ])
@@ -147,3 +143,49 @@ module _ (old new : Option Text) where
   status_of Missing plan a b c h = h.0
   status_of Budget plan a b c h = h.0
   status_of AllWait plan a b c h = h.0
+
+  -- the shelf failed only where reading said so
+  no_shelf_fault : {P : Type 0} (plan : Plan) → (plan.status ≡ ShelfFault → ⊥) → AsPlanned ShelfFault plan old new → P
+  no_shelf_fault plan n h = absurd (n (sym h.0))
+
+  fault_is_no_shelf_fault : (fault : ProgramFault) → (no_program fault).status ≡ ShelfFault → ⊥
+  fault_is_no_shelf_fault NotUtf8 e = cc
+  fault_is_no_shelf_fault (At flaw at) e = cc
+  fault_is_no_shelf_fault no_memory_of_it e = cc
+
+  shelf_failed : {P : Type 0} (answer : Result (String Global) Halt) → AsPlanned ShelfFault (ended answer) old new → IfErr answer (λ halt. halt ≡ ShelfFailed → P) → P
+  shelf_failed (Ok text) h f = no_shelf_fault (prints (string_bytes text)) (λ e. cc) h
+  shelf_failed (Err no_memory) h f = no_shelf_fault (stop_of no_memory) (λ e. cc) h
+  shelf_failed (Err ShelfFailed) h f = f refl
+  shelf_failed (Err (Word index)) h f = no_shelf_fault (stop_of (Word index)) (λ e. cc) h
+  shelf_failed (Err (Script line)) h f = no_shelf_fault (stop_of (Script line)) (λ e. cc) h
+  shelf_failed (Err (Fault fault)) h f = no_shelf_fault (no_program fault) (fault_is_no_shelf_fault fault) h
+  shelf_failed (Err (Absent name)) h f = no_shelf_fault (stop_of (Absent name)) (λ e. cc) h
+  shelf_failed (Err (TooLong name)) h f = no_shelf_fault (stop_of (TooLong name)) (λ e. cc) h
+
+  pub shelf_failed_as : {P : Type 0} (status : Status) (answer : Result (String Global) Halt) → AsPlanned status (ended answer) old new → IfErr answer (λ halt. halt ≡ ShelfFailed → P) → status ≡ ShelfFault → P
+  shelf_failed_as status answer h f e = shelf_failed answer (subst (λ (x : Status). AsPlanned x (ended answer) old new) e h) f
+
+-- ---- programs
+
+halted : (IsPlan : Plan → Type 0) (f : ProgramFault) (halt : Halt) → Halts (halt_of f) IsPlan → halt ≡ halt_of f → Halts halt IsPlan
+halted IsPlan f halt h q = subst (λ (x : Halt). Halts x IsPlan) (sym q) h
+
+without_memory : (IsPlan : Plan → Type 0) (f : ProgramFault) → f ≡ no_memory_of_it → Halts (halt_of f) IsPlan
+without_memory IsPlan f e = subst (λ (x : ProgramFault). Halts (halt_of x) IsPlan) (sym e) tt
+
+misspelt_halts : (bytes : Text) (f : ProgramFault) → IsMisspelt bytes f → Halts (halt_of f) (Formats bytes)
+misspelt_halts bytes NotUtf8 m = misspelt NotUtf8 m refl
+misspelt_halts bytes (At flaw at) m = misspelt (At flaw at) m refl
+misspelt_halts bytes no_memory_of_it m = tt
+
+broken_halts : (bytes : Text) (f : ProgramFault) → IsBroken bytes f → Halts (halt_of f) (Checks bytes)
+broken_halts bytes NotUtf8 m = broken NotUtf8 m refl
+broken_halts bytes (At flaw at) m = broken (At flaw at) m refl
+broken_halts bytes no_memory_of_it m = tt
+
+pub not_formatted : (bytes : Text) (f : ProgramFault) (halt : Halt) → (f ≡ no_memory_of_it) ⊎ IsMisspelt bytes f → halt ≡ halt_of f → Halts halt (Formats bytes)
+not_formatted bytes f halt h q = halted (Formats bytes) f halt (elim h [ inl e ↦ without_memory (Formats bytes) f e | inr m ↦ misspelt_halts bytes f m ]) q
+
+pub not_checked : (bytes : Text) (f : ProgramFault) (halt : Halt) → (f ≡ no_memory_of_it) ⊎ IsBroken bytes f → halt ≡ halt_of f → Halts halt (Checks bytes)
+not_checked bytes f halt h q = halted (Checks bytes) f halt (elim h [ inl e ↦ without_memory (Checks bytes) f e | inr m ↦ broken_halts bytes f m ]) q

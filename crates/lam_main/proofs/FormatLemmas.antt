@@ -1,5 +1,5 @@
 -- what `format` prints is read as the same program
-use Rattle.std.proofs.Common.{◌≡◌, List, Result, Ok, ℕ, refl, sym, subst}
+use Rattle.std.proofs.Common.{List, Result, ℕ, refl, sym, subst}
 use Rattle.lam_io.specs.Outside.{Files}
 use Rattle.lam_syntax.specs.Tree.{ProgramTree}
 use Rattle.lam_print.specs.Canon.{canon}

@@ -1,5 +1,5 @@
 -- a script that words and files name is played
-use Rattle.std.proofs.Common.{◌≡◌, List, Result, Ok, Err, ℕ, refl, sym, ap, subst, ◌∙◌}
+use Rattle.std.proofs.Common.{List, Result, ℕ, sym, ap, subst, ◌∙◌}
 use Rattle.flow_labels.specs.declared.Label.{Label}
 use Rattle.lam_io.specs.Outside.{Files}
 use Rattle.play_script.specs.Script.{Play}

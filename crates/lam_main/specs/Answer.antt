@@ -1,5 +1,5 @@
 -- How a call's status, and what the sink took, answer to the plan.
-use Rattle.std.specs.Prelude.{◌≡◌, ◌≤◌, ◌⊎◌, ℕ, [], length, Option, Some, Result, Ok, Err, String, string_bytes}
+use Rattle.std.specs.Prelude.{◌≡◌, ◌≤◌, ℕ, [], length, Option, Some, Result, Ok, Err, String, string_bytes}
 use Rattle.std.specs.declared.alloc.Global.{Global}
 use Rattle.std.specs.Prelude.{Vec}
 use Rattle.lam_io.specs.Outside.{Took, TookFront}
@@ -75,12 +75,10 @@ abbrev pub IsRead : Result (Vec ℕ Global) Halt → Option Text → Text → �
 IsRead (Ok bytes) found name limit = (found ≡ Some bytes.items) × (length bytes.items ≤ limit)
 IsRead (Err halt) found name limit = Halts halt (IsUnread found name limit)
 
--- The call ended as some plan says, unless memory ran out or the shelf failed; or the sink failed after a front of
--- its text.
+-- The call ended as some plan says, unless memory ran out or the shelf failed.
 abbrev pub IsPlanned : Status → (Plan → Type 0) → Option Text → Option Text → Type 0
 IsPlanned NoMemory IsPlan old new = Unit {0}
 IsPlanned ShelfFault IsPlan old new = Unit {0}
-IsPlanned SinkFault IsPlan old new = Took old new [] ⊎ ((plan : Plan) × IsPlan plan × TookFront old new plan.text)
 IsPlanned status IsPlan old new = (plan : Plan) × IsPlan plan × AsPlanned status plan old new
 
 -- the plan's text was printed, or a front of it until the sink failed

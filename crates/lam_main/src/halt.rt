@@ -10,6 +10,7 @@ use crate::Status;
 use itoa::Buffer;
 use lam_front::ProgramFault;
 use lam_io::{Sink, SinkFault, write_all};
+use std::alloc::AllocError;
 use tag_sets::NoMemory;
 
 /// Why a call does not print the text of its command.
@@ -34,6 +35,14 @@ impl From<NoMemory> for Halt {
     ghost from_gives = { λ _ e. e ≡ no_memory };
 
     fn from(_e: NoMemory) -> Halt {
+        Halt::NoMemory
+    }
+}
+
+impl From<AllocError> for Halt {
+    ghost from_gives = { λ _ e. e ≡ no_memory };
+
+    fn from(_e: AllocError) -> Halt {
         Halt::NoMemory
     }
 }
