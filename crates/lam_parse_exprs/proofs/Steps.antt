@@ -3,7 +3,7 @@ use Rattle.std.proofs.Common.{◌≡◌, ℕ, ◌<◌, Bool, true, false, Option
 use Rattle.grammar_laws.specs.Grammar.{rule, Reads, leaves}
 use Rattle.grammar_laws.specs.Texts.{limited}
 use Rattle.grammar_laws.specs.Stopping.{unexpected, too_deep, could, begins_next}
-use Rattle.grammar_laws.proofs.Stages.{weaken}
+use Rattle.grammar_laws.proofs.Stages.{At, weaken}
 use Rattle.lam_lexer.specs.declared.token.Token.{Token}
 use Rattle.lam_syntax.specs.Tree.{expr_node, name_expr}
 use Rattle.lam_grammar.specs.Table.{Rule, Sym, assign_part}
@@ -60,6 +60,15 @@ fails_more look q rest s i NoMemory h = tt
 -- the same of a rule that the next token begins
 pub begun_fails : {look : ℕ → Option Token} {r q : Rule} {s i k u : ℕ} {rest : List Sym} {prev : Value → Value} {done : List Value → List Value} {ok : Token → Type 0} → Part look r s i (rule q ∷ rest) prev done k u ok → begins_next lam q (look k) ≡ true → (b : Break) → Fails look (rule q ∷ []) u k b → Fails look (rule r ∷ []) s i b
 begun_fails {look} {q = q} {k = k} {u = u} {rest = rest} g f b h = next_fails g (rule_front q rest (look k) f) b (fails_more look q rest u k b h)
+
+not_at : (k at : ℕ) (ok : Token → Type 0) (w : Token) → k < at → At k ok (could at w)
+not_at k at ok w lt e = absurd (omega arith)
+
+-- in a loop, the same of the rule that is read again and again
+pub loop_begun_fails : {V : Type 0} {wrap : V → Value} {look : ℕ → Option Token} {r q : Rule} {s i k u : ℕ} {ok : Token → Type 0} {value : V → Value} → Loop V wrap look r q s i value k u ok → begins_next lam q (look k) ≡ true → (b : Break) → Fails look (rule q ∷ []) u k b → Fails look (rule r ∷ []) s i b
+loop_begun_fails {look = look} {q = q} {k = k} {u = u} {ok = ok} g f (Unexpected at wanted) h = (λ before. g.stops before (unexpected (is_barred wanted) at) tt h.0, λ before. g.stops before (could at (sample_of wanted)) (not_at k at ok (sample_of wanted) (unexpected_past look (rule q ∷ []) u k at wanted (rule_front q [] (look k) f) h)) h.1)
+loop_begun_fails g f (TooDeep at) h = λ before. g.stops before (too_deep at) tt h
+loop_begun_fails g f NoMemory h = tt
 
 -- another way to write what is still open
 pub loop_as : {V : Type 0} {wrap : V → Value} {look : ℕ → Option Token} {r q : Rule} {s i k u : ℕ} {ok : Token → Type 0} {value value' : V → Value} → ((os : V) → value os ≡ value' os) → Loop V wrap look r q s i value k u ok → Loop V wrap look r q s i value' k u ok

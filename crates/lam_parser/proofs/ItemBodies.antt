@@ -48,9 +48,9 @@ other_kind at kind.Fn h n = refl
 other_kind at _ h n = cc
 
 -- what begins an item and no class begins a function
-pub function_front : (rest : List Sym) (o : Option Token) → begins_next lam item o ≡ true → fits_at m.Class o ≡ false → front_at (fn_word ∷ rest) o ≡ true
-function_front rest None h n = cc
-function_front rest (Some w) h n = other_kind w.at w.kind h n
+pub function_front : (o : Option Token) → begins_next lam item o ≡ true → fits_at m.Class o ≡ false → front_at (fn_word ∷ ID ∷ paren_open ∷ rule params ∷ paren_close ∷ rule result_part ∷ rule block ∷ []) o ≡ true
+function_front None h n = cc
+function_front (Some w) h n = other_kind w.at w.kind h n
 
 pub result_type : (r : Option TypeExpr) → optional_type (type_or_nothing r) ≡ option_type_tree r
 result_type None = refl

@@ -12,4 +12,4 @@ returns-in_err-word-2-clause-reads c =
     let look = slice_get c.args.tokens.now in
     let none = rw c.in_default.is at c.in_ok-word.ensures.takes in
     let start = begun look item 0 c.args.at refl (function_body none) in
-    rw (p.1, p.2) (next_fails start (function_front _ (look c.args.at) c.requires.begun none.no) c.in_err-word-2.field-0.0 (c.in_err-word-2.ensures.takes _))
+    rw (p.1, p.2) (next_fails start (function_front (look c.args.at) c.requires.begun none.no) c.in_err-word-2.field-0.0 (c.in_err-word-2.ensures.takes _))
