@@ -6,3 +6,4 @@ pub mod Assignment
 pub mod Sums
 pub mod Blocks
 pub mod ItemBodies
+pub mod OneAnswer

@@ -4,7 +4,7 @@ use Rattle.grammar_laws.specs.Texts.{CouldStand, IsUnexpected, IsTooDeep, IsBarr
 use Rattle.lam_lexer.specs.declared.token.Token.{Token}
 use Rattle.lam_lexer.specs.declared.token.TokenKind.{TokenKind}
 use Rattle.lam_syntax.specs.declared.Program.{Program}
-use Rattle.lam_syntax.specs.Tree.{program_tree}
+use Rattle.lam_syntax.specs.Tree.{ProgramTree, program_tree}
 use Rattle.lam_grammar.specs.Table.{is_id, begins_expr, begins_stmt, begins_type, begins_item}
 use Rattle.lam_grammar.specs.Meaning.{nothing}
 use Rattle.lam_grammar.specs.Program.{lam, program, SpellsProgram}
@@ -53,3 +53,18 @@ Parses tokens (Ok p) = SpellsProgram tokens (program_tree p)
 Parses tokens (Err (Unexpected at wanted)) = (n : ℕ) × (at ≡ place tokens n) × IsUnexpected lam program nothing tokens n × IsWanted tokens n wanted
 Parses tokens (Err (TooDeep at)) = (n : ℕ) × (at ≡ place tokens n) × IsTooDeep lam program nothing tokens n
 Parses tokens (Err NoMemory) = Unit {0}
+
+-- Two answers agree, as far as memory sufficed: the same tree, or the same fault at the same place.
+abbrev pub Agree : Result Program ParseFault → Result Program ParseFault → Type 0
+Agree (Ok p) (Ok q) = program_tree p ≡ program_tree q
+Agree (Err (Unexpected at wanted)) (Err (Unexpected at' wanted')) = at ≡ at'
+Agree (Err (TooDeep at)) (Err (TooDeep at')) = at ≡ at'
+Agree (Err NoMemory) b = Unit {0}
+Agree a (Err NoMemory) = Unit {0}
+Agree a b = ⊥
+
+-- The answer is that program, if memory sufficed.
+abbrev pub IsReadAs : ProgramTree → Result Program ParseFault → Type 0
+IsReadAs t (Ok p) = program_tree p ≡ t
+IsReadAs t (Err NoMemory) = Unit {0}
+IsReadAs t (Err f) = ⊥

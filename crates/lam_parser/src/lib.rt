@@ -88,7 +88,7 @@ fn fault_of(tokens: &[Token], stopped: Break) -> ParseFault
 #[cfg(test)]
 mod tests {
     use super::*;
-    use lam_lexer::lex;
+    use lam_lexer::{TokenKind, lex};
     use lam_syntax::{Item, StmtKind};
     use std::test::Fail;
 
@@ -107,25 +107,22 @@ mod tests {
 
     #[test]
     fn programs_are_read(rt: HostRuntime) {
+        let class = "class Point { x: int; names: [[bytes]]; } fn main(): int { return 1; }";
+        let flat =
+            "fn f(a: int, b: Point) { let x: tag = a.b[1 + 2] == null || !b; x[a] = (-b); f(x, 1); throw a; }";
+        let nested = "fn f() { if (a) { } else { while (b) { return; } } sync (x) { return x; } }";
+        let region =
+            "fn f() { region (label{a; b}, caps{t+}) [x, y] { x.y = spawn(c) f(); } catch (e) { } }";
         assert_eq!(rt; items_of(&rt, ""), Ok(0));
-        assert_eq!(rt;
-            items_of(
-                &rt,
-                "class Point { x: int; y: int; } fn main(): int { return 1; }"
-            ),
-            Ok(2)
-        );
-        assert_eq!(rt;
-            items_of(
-                &rt,
-                "fn f(a: int, b: int) { let x: int = a; x = b; f(); if (a) { } else { throw a; } while (b) { return; } sync (x) { return x; } region (a, b) [x, a] { x = 1; } catch (e) { } }"
-            ),
-            Ok(1)
-        );
+        assert_eq!(rt; items_of(&rt, class), Ok(2));
+        assert_eq!(rt; items_of(&rt, flat), Ok(1));
+        assert_eq!(rt; items_of(&rt, nested), Ok(1));
+        assert_eq!(rt; items_of(&rt, region), Ok(1));
     }
 
     #[test]
     fn first_fault_of_a_program(rt: HostRuntime) {
+        let brace = Wanted::Mark(Mark::BraceOpen);
         assert_eq!(rt; items_of(&rt, "let"), unexpected(0, Wanted::Item));
         assert_eq!(rt; items_of(&rt, "fn 1"), unexpected(3, Wanted::Name));
         assert_eq!(rt;
@@ -138,7 +135,7 @@ mod tests {
         );
         assert_eq!(rt;
             items_of(&rt, "fn f() { if (1) { } else return; }"),
-            unexpected(25, Wanted::Mark(Mark::BraceOpen))
+            unexpected(25, brace)
         );
         assert_eq!(rt;
             items_of(&rt, "fn f() { x = ; }"),
@@ -155,16 +152,41 @@ mod tests {
     }
 
     #[test]
-    fn statements_keep_their_forms(rt: HostRuntime) -> Result<(), Fail> {
-        let tokens = lex(rt.alloc(), "fn f() { return 1; }")?;
+    fn depth_has_a_limit(rt: HostRuntime) {
+        let most = "fn f() { !!!!!!!!!!!!!!!!!!!!!!!!!!!!!!!!!!!!!!!!!!!!!!!!!!!!!!!!!!!!!!x; }";
+        let more = "fn f() { !!!!!!!!!!!!!!!!!!!!!!!!!!!!!!!!!!!!!!!!!!!!!!!!!!!!!!!!!!!!!!!x; }";
+        assert_eq!(rt; items_of(&rt, most), Ok(1));
+        assert_eq!(rt; items_of(&rt, more), Err(ParseFault::TooDeep { at: 72 }));
+    }
+
+    #[test]
+    fn tokens_beyond_their_end(rt: HostRuntime) -> Result<(), Fail> {
+        let mut tokens = lex(rt.alloc(), "")?;
+        tokens.push(Token {
+            at: 5,
+            kind: TokenKind::Comma,
+        })?;
+        let answer = parse(rt.alloc(), &tokens).map(|program| program.items.len());
+        assert_eq!(rt; answer, unexpected(5, Wanted::Mark(Mark::End)));
+        let answer = parse(rt.alloc(), &tokens[..0]).map(|program| program.items.len());
+        assert_eq!(rt; answer, unexpected(0, Wanted::Item));
+        Ok(())
+    }
+
+    #[test]
+    fn statements_keep_their_places(rt: HostRuntime) -> Result<(), Fail> {
+        let tokens = lex(rt.alloc(), "fn f() { (1); }")?;
         let program = parse(rt.alloc(), &tokens)?;
         assert_eq!(rt; program.items.len(), 1);
         let kept = match &program.items[0] {
             Item::Function(f) => match f.body.as_slice() {
-                [s] => matches!(&s.kind, StmtKind::Return(Some(_))) && s.at == 9,
+                [s] => match &s.kind {
+                    StmtKind::Do(e) => s.at == 9 && e.at == 10,
+                    _ => false,
+                },
                 _ => false,
             },
-            _ => false,
+            Item::Class(_) => false,
         };
         assert!(rt; kept);
         Ok(())
