@@ -1,24 +1,21 @@
 -- What stands behind an expression in a statement: `=` and a value, after a place, or nothing.
-use Rattle.std.proofs.Common.{◌≡◌, ℕ, ◌+◌, ◌<◌, ◌≤◌, Bool, true, false, cond, Option, Some, None, List, [], ◌∷◌, slice_get, refl, sym, ap, ◌∙◌, subst, arith, add-zero}
-use Rattle.grammar_laws.specs.Grammar.{mark, rule, pick, is_empty, production, Reads, nothing, token, part}
+use Rattle.std.proofs.Common.{◌≡◌, ℕ, ◌+◌, ◌<◌, Bool, true, false, cond, Option, Some, None, List, [], ◌∷◌, slice_get, refl, sym, ap, ◌∙◌, subst, arith, add-zero}
+use Rattle.grammar_laws.specs.Grammar.{rule, pick, is_empty, production, Reads, token, part}
 use Rattle.grammar_laws.specs.Texts.{limited}
 use Rattle.grammar_laws.specs.Stopping.{Stop, unexpected, too_deep, could, reached, place, fits_next, AtFirst, AfterLast, Stops, sample, skips, later, inside, after, barred}
 use Rattle.grammar_laws.proofs.Laws.{stands}
-use Rattle.grammar_laws.proofs.Stages.{Stage, At, at_past}
+use Rattle.grammar_laws.proofs.Stages.{At, at_past}
 use Rattle.lam_lexer.specs.declared.token.Token.{Token}
-use Rattle.lam_lexer.specs.declared.token.TokenKind.{TokenKind}
-use Rattle.lam_lexer.specs.declared.token.TokenKind.TheVariants as kind
 use Rattle.lam_grammar.specs.Table.{Rule, Sym, bodies, stmt, assign_part, expr, equals, semicolon}
-use Rattle.lam_grammar.specs.Meaning.{Value, word, permits, act}
-use Rattle.lam_grammar.specs.Meaning as meaning
+use Rattle.lam_grammar.specs.Meaning.{Value, word, permits}
 use Rattle.lam_grammar.specs.Program.{lam}
 use Rattle.lam_grammar.specs.Examples.{examples}
 use Rattle.lam_reading.specs.declared.marks.Mark.TheVariants as m
 use Rattle.lam_reading.specs.declared.breaks.Break.{Break}
 use Rattle.lam_reading.specs.declared.breaks.Break.TheVariants.{Unexpected, TooDeep, NoMemory}
 use Rattle.lam_reading.specs.declared.breaks.Wanted.TheVariants.{Place}
-use Rattle.lam_reading.specs.Classes.{class_of, fits_at, sample_of, is_barred}
-use Rattle.lam_reading.specs.Reading.{Gives, Fails, Taken, TakeFails}
+use Rattle.lam_reading.specs.Classes.{class_of, fits_at, sample_of}
+use Rattle.lam_reading.specs.Reading.{Gives, Fails, Taken}
 use Rattle.lam_reading.proofs.Rules.{Part}
 
 -- the body before a token `=`, and before each other one

@@ -1,11 +1,11 @@
 -- The statements of a block.
-use Rattle.std.proofs.Common.{◌≡◌, ℕ, ◌+◌, true, false, List, [], ◌∷◌, Option, slice_get, refl}
-use Rattle.grammar_laws.specs.Grammar.{mark, rule}
+use Rattle.std.proofs.Common.{◌≡◌, ℕ, true, false, List, [], ◌∷◌, slice_get, refl}
+use Rattle.grammar_laws.specs.Grammar.{rule}
 use Rattle.grammar_laws.specs.Stopping.{unexpected, could, wrong, opens}
 use Rattle.grammar_laws.proofs.Stages.{weaken}
 use Rattle.lam_lexer.specs.declared.token.Token.{Token}
 use Rattle.lam_syntax.specs.Tree.{StmtList}
-use Rattle.lam_grammar.specs.Table.{Rule, Sym, block, stmt, stmts, brace_close}
+use Rattle.lam_grammar.specs.Table.{block, stmt, stmts, brace_close}
 use Rattle.lam_grammar.specs.Meaning.{Value, stmts_value}
 use Rattle.lam_grammar.specs.Examples.{examples}
 use Rattle.lam_reading.specs.declared.marks.Mark.TheVariants as m

@@ -1,13 +1,13 @@
 -- From what reading comes to, to what the answer says of the tokens.
-use Rattle.std.proofs.Common.{◌≡◌, ℕ, ◌+◌, ◌<◌, ◌≤◌, ◌⊎◌, inl, inr, Bool, true, false, Option, Some, None, Result, Ok, Err, List, [], ◌∷◌, ◌++◌, length, take, slice_get, refl, sym, ap, ◌∙◌, arith, length-append}
-use Rattle.std.proofs.lemmas.Option.{slice_get-get_or, slice_get_past, slice_get_within}
+use Rattle.std.proofs.Common.{◌≡◌, ℕ, ◌<◌, ◌≤◌, inl, inr, true, false, Option, None, Ok, Err, List, [], ◌∷◌, ◌++◌, length, take, slice_get, refl, ap, ◌∙◌, arith, length-append}
+use Rattle.std.proofs.lemmas.Option.{slice_get-get_or, slice_get_past}
 use Rattle.std.proofs.lemmas.List.{length-take-le}
 use Rattle.grammar_laws.specs.Grammar.{Reads, free}
-use Rattle.grammar_laws.specs.Texts.{limited, capped, Spells, Continues, CouldStand, IsUnexpected, IsTooDeep, IsBarred}
+use Rattle.grammar_laws.specs.Texts.{limited, IsUnexpected, IsTooDeep}
 use Rattle.grammar_laws.specs.Stopping.{unexpected, too_deep, could, Stops}
 use Rattle.grammar_laws.proofs.Laws.{once, free_reads}
 use Rattle.grammar_laws.proofs.Spelling.{moves}
-use Rattle.grammar_laws.proofs.Completion.{at_taken, low, within_text}
+use Rattle.grammar_laws.proofs.Completion.{at_taken, low}
 use Rattle.grammar_laws.proofs.Theorem.{could_stand, is_unexpected, is_too_deep, is_not_barred, is_barred}
 use Rattle.lam_lexer.specs.declared.token.Token.{Token}
 use Rattle.lam_lexer.specs.declared.token.TokenKind.TheVariants.{End}

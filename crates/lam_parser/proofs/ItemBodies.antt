@@ -1,8 +1,8 @@
 -- By which body an item is read, and the items of a program.
 use Rattle.std.proofs.Common.{◌≡◌, ℕ, ◌+◌, true, false, Option, Some, None, List, [], ◌∷◌, slice_get, refl, ap, ◌∙◌}
-use Rattle.grammar_laws.specs.Grammar.{mark, rule, production, Reads, nothing, token}
+use Rattle.grammar_laws.specs.Grammar.{rule, production, Reads, nothing, token}
 use Rattle.grammar_laws.specs.Texts.{limited}
-use Rattle.grammar_laws.specs.Stopping.{begins_next, unexpected, could, wrong, opens}
+use Rattle.grammar_laws.specs.Stopping.{begins_next, could, wrong, opens}
 use Rattle.grammar_laws.proofs.Bodies.{chosen, picks_past_mark}
 use Rattle.grammar_laws.proofs.Stages.{weaken, joins, joins_stop}
 use Rattle.lam_lexer.specs.declared.token.Token.{Token}
@@ -10,7 +10,7 @@ use Rattle.lam_lexer.specs.declared.token.TokenKind.{TokenKind}
 use Rattle.lam_lexer.specs.declared.token.TokenKind.TheVariants as kind
 use Rattle.lam_syntax.specs.declared.TypeExpr.{TypeExpr}
 use Rattle.lam_syntax.specs.Tree.{ItemTree, option_type_tree}
-use Rattle.lam_grammar.specs.Table.{Sym, items, item, fields, params, result_part, block, class_word, fn_word, ID, brace_open, brace_close, paren_open, paren_close, end_of_text}
+use Rattle.lam_grammar.specs.Table.{items, item, fields, params, result_part, block, fn_word, ID, brace_open, brace_close, paren_open, paren_close}
 use Rattle.lam_grammar.specs.Meaning.{Value, word, items_value, optional_type}
 use Rattle.lam_grammar.specs.Meaning as meaning
 use Rattle.lam_grammar.specs.Program.{lam, program}

@@ -1,14 +1,14 @@
 -- The tokens have one answer.
-use Rattle.std.proofs.Common.{◌≡◌, ℕ, ◌+◌, ◌<◌, ◌≤◌, ◌⊎◌, inl, inr, Bool, true, false, cond, nat_lt, Option, Some, None, Result, Ok, Err, List, [], ◌∷◌, slice_get, refl, sym, ap, ◌∙◌, arith}
+use Rattle.std.proofs.Common.{◌≡◌, ℕ, ◌+◌, ◌<◌, ◌≤◌, inl, inr, Bool, true, false, cond, nat_lt, Result, Ok, Err, List, refl, sym, ap, ◌∙◌, arith}
 use Rattle.std.proofs.lemmas.Bool.{cond_below, cases_lt}
-use Rattle.grammar_laws.specs.Texts.{limited, capped, Spells, Continues, IsUnexpected, IsTooDeep}
+use Rattle.grammar_laws.specs.Texts.{capped, Continues, IsUnexpected, IsTooDeep}
 use Rattle.grammar_laws.proofs.Spelling.{moves}
 use Rattle.grammar_laws.proofs.Completion.{low, high}
 use Rattle.grammar_laws.proofs.Theorem.{value_once, unexpected_means_nothing, too_deep_means_nothing}
 use Rattle.lam_lexer.specs.declared.token.Token.{Token}
 use Rattle.lam_syntax.specs.declared.Program.{Program}
 use Rattle.lam_syntax.specs.Tree.{ProgramTree, program_tree}
-use Rattle.lam_grammar.specs.Meaning.{Value, nothing, word, items_value}
+use Rattle.lam_grammar.specs.Meaning.{nothing}
 use Rattle.lam_grammar.specs.Program.{lam, program, SpellsProgram}
 use Rattle.lam_grammar.specs.Examples.{examples}
 use Rattle.lam_grammar.proofs.Passes.{sound}

@@ -1,6 +1,6 @@
 -- By which body a statement is read.
-use Rattle.std.proofs.Common.{◌≡◌, ℕ, true, false, Option, Some, None, List, [], ◌∷◌, slice_get, refl, ap, ◌∙◌}
-use Rattle.grammar_laws.specs.Grammar.{mark, rule, production, pick}
+use Rattle.std.proofs.Common.{◌≡◌, ℕ, true, Some, List, [], ◌∷◌, slice_get, refl, ap, ◌∙◌}
+use Rattle.grammar_laws.specs.Grammar.{rule, production}
 use Rattle.grammar_laws.proofs.Bodies.{chosen, picks_past_mark}
 use Rattle.lam_lexer.specs.declared.token.Token.{Token}
 use Rattle.lam_lexer.specs.declared.token.TokenKind.{TokenKind}

@@ -1,5 +1,5 @@
 -- What was read, said otherwise.
-use Rattle.std.proofs.Common.{◌≡◌, ℕ, List, [], ◌∷◌, Option, subst}
+use Rattle.std.proofs.Common.{◌≡◌, ℕ, Option, subst}
 use Rattle.lam_lexer.specs.declared.token.Token.{Token}
 use Rattle.lam_grammar.specs.Table.{Rule}
 use Rattle.lam_grammar.specs.Meaning.{Value}

@@ -11,7 +11,7 @@ use Rattle.lam_syntax.specs.declared.Stmt.{Stmt}
 use Rattle.lam_syntax.specs.declared.Item.{Item}
 use Rattle.lam_syntax.specs.declared.Program.{Program}
 use Rattle.lam_syntax.specs.Tree.{id_tree, ids_tree, var_tree, vars_tree, type_tree, expr_tree, stmt_tree, stmts_tree, else_tree, item_tree, program_tree}
-use Rattle.lam_grammar.specs.Table.{Rule, variable, stmt, block, region_head, handler, else_part, result_part, captures, item}
+use Rattle.lam_grammar.specs.Table.{Rule, variable, stmt, block, region_head, handler, else_part, result_part, item}
 use Rattle.lam_grammar.specs.Meaning.{Value, nothing, word, id_of, ids_value, type_value, variable_value, variables_value, two_exprs, stmt_value, stmts_value, else_value, handler_value, item_value, items_value}
 use Rattle.lam_grammar.specs.Program.{lam, program}
 use Rattle.lam_reading.specs.declared.breaks.Break.{Break}

@@ -1,4 +1,3 @@
-use Rattle.std.proofs.Common.{arith}
 use Rattle.lam_reading.specs.declared.marks.Mark.TheVariants.{End}
 use Rattle.lam_parser.proofs.Faults.{past_answer, whole_answer}
 use Rattle.lam_parser.proofs.parse.Goals as goal

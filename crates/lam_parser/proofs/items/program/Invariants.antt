@@ -1,4 +1,4 @@
-use Rattle.std.proofs.Common.{◌≡◌, true, ◌≤◌, length, slice_get, ℕ, ◌-◌, List}
+use Rattle.std.proofs.Common.{◌≡◌, true, ◌≤◌, length, slice_get, ◌-◌, List}
 use Rattle.lam_syntax.specs.Tree.{ItemTree}
 use Rattle.lam_grammar.specs.Table.{item, items}
 use Rattle.lam_grammar.specs.Meaning.{items_value}

@@ -1,4 +1,4 @@
-use Rattle.std.proofs.Common.{◌≡◌, ◌+◌, sym, ap, ◌∙◌, subst, slice_get, refl, arith}
+use Rattle.std.proofs.Common.{slice_get, refl}
 use Rattle.std.proofs.lemmas.Result.{err_from_is_err_and}
 use Rattle.lam_grammar.specs.Table.{result_part}
 use Rattle.lam_reading.proofs.Rules.{rule_taken, rule_read, rule_fails, present, body_of, no_body_of, opened, left_out}

@@ -1,4 +1,4 @@
-use Rattle.std.proofs.Common.{◌≡◌, ◌+◌, sym, ap, ◌∙◌, subst, slice_get, refl, arith}
+use Rattle.std.proofs.Common.{◌+◌, sym, ap, ◌∙◌, subst, slice_get, refl, arith}
 use Rattle.std.proofs.lemmas.Result.{err_from_is_err_and}
 use Rattle.lam_syntax.specs.Tree.{expr_tree, stmts_tree, no_stmts, stmt_node}
 use Rattle.lam_syntax.proofs.Rows.{if_row, while_row, sync_row, region_row}

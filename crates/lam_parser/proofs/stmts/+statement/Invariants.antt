@@ -1,4 +1,4 @@
-use Rattle.std.proofs.Common.{◌≡◌, true, ◌<◌, ◌≤◌, length, slice_get, ℕ, ◌+◌, ◌-◌, ◌*◌}
+use Rattle.std.proofs.Common.{◌≡◌, true, ◌<◌, ◌≤◌, length, slice_get, ◌+◌, ◌-◌, ◌*◌}
 use Rattle.lam_syntax.specs.Tree.{StmtList}
 use Rattle.lam_grammar.specs.Table.{stmt, stmts}
 use Rattle.lam_grammar.specs.Meaning.{stmts_value}

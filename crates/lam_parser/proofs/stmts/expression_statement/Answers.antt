@@ -1,4 +1,4 @@
-use Rattle.std.proofs.Common.{◌≡◌, ◌+◌, sym, ◌∙◌, slice_get, refl, arith}
+use Rattle.std.proofs.Common.{sym, ◌∙◌, slice_get, refl, arith}
 use Rattle.std.proofs.lemmas.Result.{err_from_is_err_and}
 use Rattle.lam_grammar.specs.Table.{stmt, assign_part}
 use Rattle.lam_reading.proofs.Rules.{begun, mark_taken, rule_taken, maybe_taken, rule_read, mark_fails, rule_fails, left_out}

@@ -1,4 +1,4 @@
-use Rattle.std.proofs.Common.{◌≡◌, ◌+◌, sym, ◌∙◌, subst, slice_get, refl, arith}
+use Rattle.std.proofs.Common.{slice_get, refl}
 use Rattle.std.proofs.lemmas.Result.{err_from_is_err_and}
 use Rattle.lam_grammar.specs.Table.{region_head}
 use Rattle.lam_reading.proofs.Rules.{begun, mark_taken, rule_taken, rule_read, mark_fails, rule_fails}

@@ -1,4 +1,4 @@
-use Rattle.std.proofs.Common.{◌≡◌, ◌+◌, sym, ◌∙◌, subst, slice_get, refl, arith}
+use Rattle.std.proofs.Common.{◌+◌, subst, slice_get, refl}
 use Rattle.std.proofs.lemmas.Result.{err_from_is_err_and}
 use Rattle.lam_syntax.specs.Tree.{expr_tree}
 use Rattle.lam_grammar.specs.Table.{stmt}

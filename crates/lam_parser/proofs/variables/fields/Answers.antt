@@ -1,4 +1,4 @@
-use Rattle.std.proofs.Common.{◌≡◌, sym, ap, ◌∙◌, subst, slice_get, refl, [], arith}
+use Rattle.std.proofs.Common.{sym, ap, ◌∙◌, subst, slice_get, refl, [], arith}
 use Rattle.std.proofs.lemmas.Result.{err_from_is_err_and}
 use Rattle.lam_grammar.specs.Table.{variable, fields}
 use Rattle.lam_grammar.specs.Meaning.{variables_value}

@@ -1,4 +1,4 @@
-use Rattle.std.proofs.Common.{◌≤◌, length, slice_get, ℕ, ◌-◌, List}
+use Rattle.std.proofs.Common.{◌≤◌, length, slice_get, ◌-◌, List}
 use Rattle.lam_syntax.specs.Tree.{VarTree}
 use Rattle.lam_grammar.specs.Table.{fields}
 use Rattle.lam_grammar.specs.Meaning.{variables_value}

@@ -1,4 +1,4 @@
-use Rattle.std.proofs.Common.{◌≤◌, length, slice_get, ℕ, ◌-◌, List}
+use Rattle.std.proofs.Common.{◌≤◌, length, slice_get, ◌-◌, List}
 use Rattle.lam_syntax.specs.Tree.{IdTree}
 use Rattle.lam_grammar.specs.Table.{names, names_tail}
 use Rattle.lam_grammar.specs.Meaning.{ids_value}
