@@ -51,4 +51,22 @@ mod tests {
         assert_eq!(rt; end(&rt, "é \"a\n\""), Err(LexFault::OpenText { at: 3 }));
         assert_eq!(rt; end(&rt, "\"\\"), Err(LexFault::BadEscape { at: 1 }));
     }
+
+    #[test]
+    fn longest_mark_is_read(rt: HostRuntime) -> Result<(), Fail> {
+        let tokens = lex(rt.alloc(), "<== a/b")?;
+        assert_eq!(rt; tokens.len(), 6);
+        assert_eq!(rt; tokens[1].at, 2);
+        assert!(rt; matches!(tokens[0].kind, TokenKind::LessEqual));
+        assert!(rt; matches!(tokens[1].kind, TokenKind::Assign));
+        assert!(rt; matches!(tokens[3].kind, TokenKind::Slash));
+        Ok(())
+    }
+
+    #[test]
+    fn strange_characters_are_named(rt: HostRuntime) {
+        assert_eq!(rt; end(&rt, "\0"), Err(LexFault::BadChar { at: 0 }));
+        assert_eq!(rt; end(&rt, "\u{feff}x"), Err(LexFault::BadChar { at: 0 }));
+        assert_eq!(rt; end(&rt, "a &b"), Err(LexFault::BadChar { at: 2 }));
+    }
 }
