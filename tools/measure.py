@@ -46,17 +46,31 @@ def steps_script(lines):
     return '\n'.join(text) + '\n'
 
 
-def program(size):
-    """Functions of ordinary statements, up to so many bytes."""
+LOOP = ('  while (i < len(ys)) {\n    if (ys[i] > x && i % 2 == 0) {\n      sum = sum + ys[i] * 3 - (x - 1);\n'
+        '    } else {\n      sum = sum - 1;\n    }\n    i = i + 1;\n  }\n')
+
+
+def program(size, last='sum'):
+    """Functions of ordinary statements, up to so many bytes; what the last one returns."""
     parts, total, n = [], 0, 0
-    while total < size - 400:
-        part = (f'fn f{n}(x: int, ys: [int]): int {{\n  let sum: int = 0;\n  let i: int = 0;\n'
-                '  while (i < len(ys)) {\n    if (ys[i] > x && i % 2 == 0) {\n      sum = sum + ys[i] * 3 - (x - 1);\n'
-                '    } else {\n      sum = sum - 1;\n    }\n    i = i + 1;\n  }\n  return sum;\n}\n\n')
+    while total < size - 2000:
+        part = f'fn f{n}(x: int, ys: [int]): int {{\n  let sum: int = 0;\n  let i: int = 0;\n{LOOP * 6}  return sum;\n}}\n\n'
         parts.append(part)
         total += len(part)
         n += 1
+    parts[-1] = parts[-1].replace('return sum;', f'return {last};')
     return ''.join(parts)[:-1], n
+
+
+def classes(count, fields):
+    body = ''.join(f'a{n:x}:int;' for n in range(fields))
+    return ''.join(f'class C{n:x}{{{body}}}' for n in range(count))
+
+
+def regions(count):
+    each = 'region(label{;},caps{})[]{}catch(e){}'
+    per = 64
+    return ''.join(f'fn f{n}(){{{each * per}}}' for n in range(count // per))
 
 
 def table(title, rows):
@@ -93,6 +107,14 @@ def measure_program(command, folder):
             f.write(text)
         seconds, status = best_time([command, 'p'], folder)
         rows.append((name, len(text), seconds, status))
+    if command == 'check':
+        full = program(1048576, last='none')[0]
+        for name, text in [('1,024 classes of 64 fields', classes(1024, 64)), ('512 classes of 224 fields', classes(512, 224)),
+                           ('4,096 regions', regions(4096)), ('a break at the end', full), ('one region too many', regions(4096 + 64))]:
+            with open(os.path.join(folder, 'p'), 'w') as f:
+                f.write(text)
+            seconds, status = best_time([command, 'p'], folder)
+            rows.append((name, len(text), seconds, status))
     table(f'`lam {command}`', rows)
 
 
