@@ -23,11 +23,32 @@ fn counts_without_bound(rt: HostRuntime) -> Result<(), Fail> {
 }
 
 #[test]
-fn each_cut_of_a_book_is_refused(rt: HostRuntime) -> Result<(), Fail> {
+fn truncated_book(rt: HostRuntime) -> Result<(), Fail> {
+    let text = b"lam book 1\n0 8\n";
+    for len in 0..11 {
+        let cut = read_book(rt.alloc(), &text[..len]).err();
+        assert_eq!(rt; cut, Some(BookFault::BadHead));
+    }
+    for len in 12..15 {
+        let cut = read_book(rt.alloc(), &text[..len]).err();
+        assert_eq!(rt; cut, Some(BookFault::BadLine { line: 2 }));
+    }
+    Ok(())
+}
+
+#[test]
+fn the_head_is_a_book(rt: HostRuntime) -> Result<(), Fail> {
+    let turns = read_book(rt.alloc(), b"lam book 1\n")?;
+    assert_eq!(rt; turns.as_slice().len(), 0);
+    Ok(())
+}
+
+#[test]
+fn each_cut_of_a_line_is_refused(rt: HostRuntime) -> Result<(), Fail> {
     let text = b"lam book 1\n0 8\n11 20\n";
-    for len in 0..text.len() {
-        let read = read_book(rt.alloc(), &text[..len]);
-        assert_eq!(rt; read.is_ok(), len == 11 || len == 15);
+    for len in 16..text.len() {
+        let cut = read_book(rt.alloc(), &text[..len]).err();
+        assert_eq!(rt; cut, Some(BookFault::BadLine { line: 3 }));
     }
     Ok(())
 }
