@@ -18,7 +18,7 @@ ghost use Rattle.lam_io.specs.Outside.{Rose, AllStay, OthersStay, IsRead, Took, 
 pub use device::{DirShelf, StdSink};
 pub use memory::{MemShelf, MemSink, OpenGate};
 use std::alloc::{AllocError, AllocFailed, Global};
-use tag_sets::NoMemory;
+use want_of_memory::NoMemory;
 
 /// What reading a file gave: its bytes, or that it is not there or is longer than the limit.
 #[derive(Debug, Drop)]

@@ -10,7 +10,7 @@ ghost use Rattle.lam_io.specs.Memory.{NamesDiffer, file_in, is_listed, shelf_fai
 use crate::{Gate, Got, Shelf, ShelfFault, Sink, SinkFault};
 use std::alloc::Global;
 use std::marker::Model;
-use tag_sets::NoMemory;
+use want_of_memory::NoMemory;
 
 /// Counts a call, and its fault where the call's number is listed.
 fn next_fails(calls: &mut u64, failing: &[u64], faults: &mut u64) -> bool

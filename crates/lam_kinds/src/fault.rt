@@ -9,7 +9,7 @@ ghost use Rattle.lam_kinds.specs.declared.fault.TypeFault.TheVariants.{NoMemory 
 use crate::types::{Got, TypeRef, Want, comparable, got_type, one_type, plain_types, suits};
 use lam_syntax::TypeExpr;
 use std::alloc::{AllocError, AllocFailed, Global};
-use tag_sets::NoMemory;
+use want_of_memory::NoMemory;
 
 /// Why a program is not typed. `at` is the position of the smallest construct at fault.
 #[derive(Drop)]

@@ -20,10 +20,10 @@ pub enum LexFault {
     NoMemory,
 }
 
-impl From<tag_sets::NoMemory> for LexFault {
+impl From<want_of_memory::NoMemory> for LexFault {
     ghost from_gives = { λ _ e. e ≡ no_memory };
 
-    fn from(_: tag_sets::NoMemory) -> Self {
+    fn from(_: want_of_memory::NoMemory) -> Self {
         LexFault::NoMemory
     }
 }

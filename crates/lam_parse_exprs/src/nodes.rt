@@ -10,7 +10,7 @@ use lam_lexer::{Token, TokenKind};
 use lam_reading::name_of;
 use lam_syntax::{CapItem, Expr, ExprKind, TypeExpr};
 use std::alloc::Global;
-use tag_sets::NoMemory;
+use want_of_memory::NoMemory;
 
 /// The text of an identifier. Other tokens have none.
 fn spelling(alloc: Global, kind: &TokenKind) -> Result<String, NoMemory>

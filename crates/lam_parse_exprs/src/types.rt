@@ -9,7 +9,7 @@ use lam_lexer::{Token, TokenKind};
 use lam_reading::{Break, Mark, Wanted, take, take_if};
 use lam_syntax::{TypeExpr, TypeKind};
 use std::alloc::{AllocError, Global};
-use tag_sets::NoMemory;
+use want_of_memory::NoMemory;
 
 /// The type that is written from a token on, and the index of the token behind it.
 ///

@@ -11,7 +11,7 @@ use crate::words::{
     close_group, open_group, put, put_comma, put_name, put_number, put_spaced, put_text,
 };
 use lam_syntax::{BinaryOp, CapItem, Expr, ExprKind, Id, TypeExpr, TypeKind, UnaryOp, Var};
-use tag_sets::NoMemory;
+use want_of_memory::NoMemory;
 
 /// The place of an operand of `.` and `[`.
 const OPERAND: u8 = 0;

@@ -10,7 +10,7 @@ use crate::exprs::{put_type, put_var, put_vars};
 use crate::stmts::put_block;
 use crate::words::{put, put_gap, put_line, put_name};
 use lam_syntax::{Class, Function, Item, Program, TypeExpr, Var};
-use tag_sets::NoMemory;
+use want_of_memory::NoMemory;
 
 fn put_fields(out: &mut String, fields: &[Var]) -> Result<(), NoMemory>
     ensures { OnOk result (Puts (string_bytes out.old) (string_bytes out.new) (canon.lay_fields (view.vars_tree fields.now))) }

@@ -9,7 +9,7 @@ ghost use Rattle.lam_print.specs.Printing.{Puts};
 use crate::exprs::{WHOLE, put_expr, put_names, put_var};
 use crate::words::{put, put_line, put_name};
 use lam_syntax::{Expr, Stmt, StmtKind};
-use tag_sets::NoMemory;
+use want_of_memory::NoMemory;
 
 /// A block whose braces stand in so many open blocks.
 #[cycle(stmt)]

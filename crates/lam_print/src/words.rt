@@ -9,7 +9,7 @@ ghost use Rattle.lam_print.specs.Canon.{name, opened, closed, comma, spaced, gap
 ghost use Rattle.lam_print.specs.Printing.{Puts};
 
 use lam_syntax::Id;
-use tag_sets::NoMemory;
+use want_of_memory::NoMemory;
 
 /// Writes some text.
 pub fn put(out: &mut String, text: &str) -> Result<(), NoMemory>

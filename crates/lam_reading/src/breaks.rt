@@ -32,10 +32,10 @@ pub enum Break {
     NoMemory,
 }
 
-impl From<tag_sets::NoMemory> for Break {
+impl From<want_of_memory::NoMemory> for Break {
     ghost from_gives = { λ _ e. e ≡ no_memory };
 
-    fn from(_: tag_sets::NoMemory) -> Self {
+    fn from(_: want_of_memory::NoMemory) -> Self {
         Break::NoMemory
     }
 }

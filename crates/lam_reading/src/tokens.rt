@@ -11,7 +11,7 @@ use crate::{Break, Mark, is_mark, wanted_of};
 use lam_lexer::{Token, TokenKind};
 use lam_syntax::{Expr, Id};
 use std::alloc::Global;
-use tag_sets::NoMemory;
+use want_of_memory::NoMemory;
 
 /// The greatest depth sum that a token may have.
 const LIMIT: u64 = 128;

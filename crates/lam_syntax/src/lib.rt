@@ -9,11 +9,6 @@
 //! types as plain data, with a view from each type here, and every definition of the language is on that mirror.
 #![tactic(auto)]
 
-mod copying;
-mod sameness;
-
-pub use sameness::same_tree;
-
 /// A name, and the position of its first byte.
 #[derive(Drop)]
 pub struct Id {
@@ -229,61 +224,4 @@ pub enum Item {
 #[derive(Drop)]
 pub struct Program {
     pub items: Vec<Item>,
-}
-
-#[cfg(test)]
-mod tests {
-    use super::*;
-    use std::alloc::{AllocError, Global};
-    use std::test::Fail;
-
-    fn id(alloc: Global, at: u64, name: &str) -> Result<Id, AllocError> {
-        Ok(Id {
-            at,
-            name: String::from_str(alloc, name)?,
-        })
-    }
-
-    /// `fn f(x: int): int { return x; }`, the result's name as given, from a position on.
-    fn function(alloc: Global, at: u64, of: &str) -> Result<Program, Fail> {
-        let mut params = Vec::new(alloc);
-        params.push(Var {
-            name: id(alloc, at, "x")?,
-            ty: TypeExpr {
-                at,
-                kind: TypeKind::Int,
-            },
-        })?;
-        let value = Expr {
-            at,
-            kind: ExprKind::Name(String::from_str(alloc, of)?),
-        };
-        let mut body = Vec::new(alloc);
-        body.push(Stmt {
-            at,
-            kind: StmtKind::Return(Some(value)),
-        })?;
-        let mut items = Vec::new(alloc);
-        items.push(Item::Function(Function {
-            at,
-            name: id(alloc, at, "f")?,
-            params,
-            result: Some(TypeExpr {
-                at,
-                kind: TypeKind::Int,
-            }),
-            body,
-        }))?;
-        Ok(Program { items })
-    }
-
-    #[test]
-    fn copies_are_the_same(rt: HostRuntime) -> Result<(), Fail> {
-        let program = function(rt.alloc(), 0, "x")?;
-        let copy = program.copy()?;
-        assert!(rt; same_tree(&program, &copy));
-        assert!(rt; same_tree(&copy, &function(rt.alloc(), 7, "x")?));
-        assert!(rt; !same_tree(&copy, &function(rt.alloc(), 0, "y")?));
-        Ok(())
-    }
 }

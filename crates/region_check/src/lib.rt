@@ -22,7 +22,7 @@ pub use checked::Checked;
 use indexmap::IndexSet;
 use lam_syntax::{CapItem, Expr, ExprKind, Id, Item, Stmt, StmtKind};
 use std::alloc::{AllocError, AllocFailed, Global};
-use tag_sets::NoMemory;
+use want_of_memory::NoMemory;
 pub use whole::regions;
 
 /// Why a program breaks the region rules. `at` is the position of the name or the word at fault.

@@ -21,26 +21,11 @@ ghost use Rattle.tag_sets.specs.Tags.{IsLeast, tags_of, least, lesser, apart};
 use rising::{
     add_tag, find_missing, find_missing_both, has_tag, merged_tags, missing_tags, sorted_tags,
 };
-use std::alloc::{AllocError, AllocFailed, Global};
+use std::alloc::Global;
 use std::cmp::Ordering;
 use std::hash::{Hash, Hasher};
 use std::marker::Model;
-
-/// Memory was refused. It stands alone, so that no other failure hides behind it.
-#[derive(Clone, Copy, Debug, PartialEq, Eq)]
-pub struct NoMemory;
-
-impl From<AllocError> for NoMemory {
-    fn from(_e: AllocError) -> NoMemory {
-        NoMemory
-    }
-}
-
-impl<T: Drop> From<AllocFailed<T>> for NoMemory {
-    fn from(_e: AllocFailed<T>) -> NoMemory {
-        NoMemory
-    }
-}
+pub use want_of_memory::NoMemory;
 
 /// A tag, named by its number. The smaller number is the lesser tag.
 #[derive(Clone, Copy, Debug, PartialEq, Eq, PartialOrd, Ord, Hash)]

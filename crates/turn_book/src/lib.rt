@@ -22,7 +22,7 @@ ghost use Rattle.turn_book.specs.declared.BookFault.TheVariants.{NoMemory as no_
 use crate::lines::{push_line, read_lines, stretch_len};
 use std::alloc::{AllocError, AllocFailed, Global};
 use std::marker::Model;
-use tag_sets::NoMemory;
+use want_of_memory::NoMemory;
 
 /// Why a text is no book. Of several breaks in one line the first in this order is named.
 #[derive(Clone, Copy, Debug, PartialEq, Eq)]

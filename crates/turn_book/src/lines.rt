@@ -10,7 +10,7 @@ use crate::BookFault;
 use crate::numbers::number_of;
 use itoa::Buffer;
 use std::alloc::Global;
-use tag_sets::NoMemory;
+use want_of_memory::NoMemory;
 
 /// The most turns that a book has.
 const MOST: usize = 1_000_000;

@@ -1,6 +1,0 @@
-use Rattle.lam_syntax.proofs.Lists.{same_lengths}
-use Rattle.lam_syntax.proofs.Views.{unplaced_vars-list}
-use Rattle.lam_syntax.proofs.sameness.same_vars.Goals as goal
-
-pub returns-then-a-b : goal.returns-then-a-b
-returns-then-a-b c = same_lengths unplaced_vars-list _ _ c.if-a-b.true
