@@ -8,6 +8,7 @@
 #![tactic(auto)]
 
 mod rising;
+mod shared;
 
 ghost use Rattle.std.specs.Prelude.{◌≡◌, nat_eq, ◌↔◌, Some, IsTrue, IsNone, IfSome, IfOk, OnOk, OnErr};
 ghost use Rattle.std.specs.FinSet as set;
@@ -16,11 +17,13 @@ ghost use Rattle.std.specs.Cmp.Rules.{comparing, hashing};
 ghost use Rattle.std.specs.Cmp.Lexicographic.{pointwise, slice_cmp};
 ghost use Rattle.std.specs.Ordering.{on, nat_cmp, as_partial_cmp};
 ghost use Rattle.std.specs.Hash as fed;
+ghost use Rattle.tag_sets.specs.Rising.{IsRising};
 ghost use Rattle.tag_sets.specs.Tags.{IsLeast, tags_of, least, lesser, apart};
 
 use rising::{
-    add_tag, find_missing, find_missing_both, has_tag, merged_tags, missing_tags, sorted_tags,
+    find_missing, find_missing_both, has_tag, merged_tags, missing_tags, sorted_tags, tags_with,
 };
+use shared::SharedTags;
 use std::alloc::Global;
 use std::cmp::Ordering;
 use std::hash::{Hash, Hasher};
@@ -44,7 +47,7 @@ impl Model for TagId {
 /// A finite set of tags, compared and hashed by its tags in increasing order.
 #[derive(Debug, Drop)]
 pub struct TagSet {
-    tags: Vec<TagId>,
+    tags: SharedTags,
 }
 
 impl Model for TagSet {
@@ -56,9 +59,9 @@ impl Model for TagSet {
 
     ghost coded = { coded_tags };
 
-    ghost view = { λ s. from_list s.tags.items };
+    ghost view = { λ s. from_list s.tags };
 
-    ghost invariant = { λ s. IsRising s.tags.items };
+    ghost invariant = { λ s. IsRising s.tags };
 }
 
 impl PartialEq for TagSet {
@@ -115,7 +118,7 @@ impl TagSet {
         ensures { result ≡ set.empty }
     {
         TagSet {
-            tags: Vec::new(alloc),
+            tags: SharedTags::empty(alloc),
         }
     }
 
@@ -128,7 +131,8 @@ impl TagSet {
         ensures { IfOk result (λ s. s ≡ set.from_list tags.now) }
     {
         let tags = sorted_tags(alloc, tags)?;
-        Ok(TagSet { tags })
+        let set = TagSet::made(tags)?;
+        Ok(set)
     }
 
     /// The tags, in increasing order.
@@ -140,7 +144,7 @@ impl TagSet {
 
     /// The allocator that the set keeps, for what is made beside it.
     pub fn allocator(&self) -> Global {
-        *self.tags.allocator()
+        self.tags.allocator()
     }
 
     /// Whether a tag is in the set, by a binary search.
@@ -169,7 +173,7 @@ impl TagSet {
         ensures value { result ≡ least self.now }
         ensures none { IsNone result ↔ (self.now ≡ set.empty) }
     {
-        self.tags.first().copied()
+        self.tags.as_slice().first().copied()
     }
 
     /// The least tag of this set that the other lacks: `None` exactly where this is a subset of the other.
@@ -210,11 +214,12 @@ impl TagSet {
         ensures { IfOk result (λ s. s ≡ set.union self.now other.now) }
     {
         let tags = merged_tags(
-            *self.tags.allocator(),
+            self.tags.allocator(),
             self.tags.as_slice(),
             other.tags.as_slice(),
         )?;
-        Ok(TagSet { tags })
+        let set = TagSet::made(tags)?;
+        Ok(set)
     }
 
     /// The tags of this set that the other lacks.
@@ -226,22 +231,23 @@ impl TagSet {
         ensures { IfOk result (λ s. s ≡ set.difference self.now other.now) }
     {
         let tags = missing_tags(
-            *self.tags.allocator(),
+            self.tags.allocator(),
             self.tags.as_slice(),
             other.tags.as_slice(),
         )?;
-        Ok(TagSet { tags })
+        let set = TagSet::made(tags)?;
+        Ok(set)
     }
 
-    /// An equal set.
+    /// An equal set, which shares its tags with this one: no memory is taken.
     ///
     /// # Errors
     ///
-    /// `NoMemory` where memory is refused.
+    /// `NoMemory` where the set has 2 ^ 63 copies.
     pub fn copy(&self) -> Result<TagSet, NoMemory>
         ensures { IfOk result (λ s. s ≡ self.now) }
     {
-        let tags = Vec::from_slice(*self.tags.allocator(), self.tags.as_slice())?;
+        let tags = self.tags.copy()?;
         Ok(TagSet { tags })
     }
 
@@ -254,8 +260,30 @@ impl TagSet {
         ensures ok { OnOk result (self.new ≡ set.insert self.old tag) }
         ensures err { OnErr result (self.new ≡ self.old) }
     {
-        add_tag(&mut self.tags, tag)?;
+        if self.contains(tag) {
+            return Ok(());
+        }
+        let set = self.with_tag(tag)?;
+        *self = set;
         Ok(())
+    }
+
+    /// The set with one more tag.
+    fn with_tag(&self, tag: TagId) -> Result<TagSet, NoMemory>
+        ensures { IfOk result (λ s. s ≡ set.insert self.now tag) }
+    {
+        let tags = tags_with(self.tags.allocator(), self.tags.as_slice(), tag)?;
+        let set = TagSet::made(tags)?;
+        Ok(set)
+    }
+
+    /// The set whose tags in increasing order are these, which are not copied.
+    fn made(tags: Vec<TagId>) -> Result<TagSet, NoMemory>
+        requires { IsRising tags.items }
+        ensures { IfOk result (λ s. s ≡ set.from_list tags.items) }
+    {
+        let tags = SharedTags::from_vec(tags)?;
+        Ok(TagSet { tags })
     }
 }
 
