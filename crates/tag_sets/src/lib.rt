@@ -21,7 +21,8 @@ ghost use Rattle.tag_sets.specs.Rising.{IsRising};
 ghost use Rattle.tag_sets.specs.Tags.{IsLeast, tags_of, least, lesser, apart};
 
 use rising::{
-    find_missing, find_missing_both, has_tag, merged_tags, missing_tags, sorted_tags, tags_with,
+    equal_tags, find_missing, find_missing_both, has_tag, merged_tags, missing_tags, sorted_tags,
+    tags_with,
 };
 use shared::SharedTags;
 use std::alloc::Global;
@@ -122,6 +123,15 @@ impl TagSet {
         }
     }
 
+    /// The set of one tag. Takes no memory.
+    pub fn one(alloc: Global, tag: TagId) -> TagSet
+        ensures { result ≡ set.insert set.empty tag }
+    {
+        TagSet {
+            tags: SharedTags::one(alloc, tag),
+        }
+    }
+
     /// The set of the given tags, in time `n log n`. Repeats count once, and the order does not matter.
     ///
     /// # Errors
@@ -130,6 +140,9 @@ impl TagSet {
     pub fn from_slice(alloc: Global, tags: &[TagId]) -> Result<TagSet, NoMemory>
         ensures { IfOk result (λ s. s ≡ set.from_list tags.now) }
     {
+        if let [tag] = tags {
+            return Ok(TagSet::one(alloc, *tag));
+        }
         let tags = sorted_tags(alloc, tags)?;
         let set = TagSet::made(tags)?;
         Ok(set)
@@ -165,7 +178,7 @@ impl TagSet {
     pub fn same(&self, other: &TagSet) -> bool
         ensures { IsTrue result ↔ (self.now ≡ other.now) }
     {
-        self.tags.as_slice() == other.tags.as_slice()
+        equal_tags(self.tags.as_slice(), other.tags.as_slice())
     }
 
     /// The least tag, where the set has one.
@@ -205,7 +218,8 @@ impl TagSet {
         lesser(self.first_missing(other), other.first_missing(self))
     }
 
-    /// The tags that are in this set, in the other or in both.
+    /// The tags that are in this set, in the other or in both. Where one of the two is a subset of the other, the
+    /// answer shares the other's tags.
     ///
     /// # Errors
     ///
@@ -213,6 +227,12 @@ impl TagSet {
     pub fn union(&self, other: &TagSet) -> Result<TagSet, NoMemory>
         ensures { IfOk result (λ s. s ≡ set.union self.now other.now) }
     {
+        if other.is_subset(self) {
+            return self.copy();
+        }
+        if self.is_subset(other) {
+            return other.copy();
+        }
         let tags = merged_tags(
             self.tags.allocator(),
             self.tags.as_slice(),
@@ -272,6 +292,9 @@ impl TagSet {
     fn with_tag(&self, tag: TagId) -> Result<TagSet, NoMemory>
         ensures { IfOk result (λ s. s ≡ set.insert self.now tag) }
     {
+        if self.tags.as_slice().is_empty() {
+            return Ok(TagSet::one(self.tags.allocator(), tag));
+        }
         let tags = tags_with(self.tags.allocator(), self.tags.as_slice(), tag)?;
         let set = TagSet::made(tags)?;
         Ok(set)
@@ -295,22 +318,5 @@ fn lesser(a: Option<TagId>, b: Option<TagId>) -> Option<TagId>
         (None, b) => b,
         (Some(x), None) => Some(x),
         (Some(x), Some(y)) => { if y < x { Some(y) } else { Some(x) } }
-    }
-}
-
-#[cfg(test)]
-mod tests {
-    use super::*;
-
-    #[test]
-    fn three_one_three_is_the_set_of_one_and_three(rt: HostRuntime) -> Result<(), NoMemory> {
-        let alloc = rt.alloc();
-        let set = TagSet::from_slice(alloc, &[TagId(3), TagId(1), TagId(3)])?;
-        assert_eq!(rt; set.tags(), [TagId(1), TagId(3)].as_slice());
-        let with_two = set.union(&TagSet::from_slice(alloc, &[TagId(2)])?)?;
-        assert_eq!(rt; with_two.tags(), [TagId(1), TagId(2), TagId(3)].as_slice());
-        let without_one = set.minus(&TagSet::from_slice(alloc, &[TagId(1)])?)?;
-        assert_eq!(rt; without_one.tags(), [TagId(3)].as_slice());
-        Ok(())
     }
 }
