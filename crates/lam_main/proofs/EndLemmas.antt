@@ -1,15 +1,13 @@
 -- From the answer of a command to how the call ended.
-use Rattle.std.proofs.Common.{◌≡◌, ℕ, [], Option, Some, None, Result, Ok, Err, IsErr, IfErr, String, string_bytes, refl, sym, subst, ◌∙◌}
+use Rattle.std.proofs.Common.{◌≡◌, ℕ, [], Option, None, Result, Ok, Err, IsErr, IfErr, String, string_bytes, refl, sym, subst, ◌∙◌}
 use Rattle.std.specs.declared.alloc.Global.{Global}
-use Rattle.lam_io.specs.Outside.{Files, AllStay, Took, Rose}
+use Rattle.lam_io.specs.Outside.{Files, AllStay, Took}
 use Rattle.lam_io.specs.declared.SinkFault.{SinkFault as Failure}
 use Rattle.lam_words.specs.Words.{Text, Request}
 use Rattle.lam_plan.specs.declared.Status.{Status}
 use Rattle.lam_plan.specs.declared.Status.TheVariants.{Done, NoMemory, ShelfFault, SinkFault}
 use Rattle.lam_plan.specs.Plan.{Plan, no_word}
-use Rattle.lam_plan.specs.Answer.{outside, IsPrinted, IsWritten, AsPlanned, IsPlanned}
-use Rattle.lam_plan.specs.Answer.IsPrinted.{whole, front}
-use Rattle.lam_plan.specs.Answer.IsPlanned.{by_plan, out_of_memory, shelf_failed}
+use Rattle.lam_plan.specs.Answer.{outside, IsPrinted, whole, front, AsPlanned, IsPlanned, by_plan, without_memory, without_shelf}
 use Rattle.lam_plan.proofs.AnswerLemmas.{no_file_written}
 use Rattle.lam_main.specs.declared.halt.Refusal.{Refusal}
 use Rattle.lam_main.specs.declared.halt.Refusal.TheVariants.{Word, Script, NotUtf8, Flawed, Absent, TooLong}
@@ -49,7 +47,7 @@ printed_of (Err failure) plan old new h = front refl h
 -- a fault of the sink was no status of the plan
 pub sink_failed : {P : Type 0} (printed : Result Status Failure) (plan : Plan) (old new : Option Text) → IsPlain plan.status → Prints printed plan old new → (IsErr printed → P) → ended printed ≡ SinkFault → P
 sink_failed (Ok status) plan old new plain h rose e = absurd (plain.sink (sym h.0 ∙ e))
-sink_failed (Err failure) plan old new plain h rose e = rose tt
+sink_failed (Err failure) plan old new plain h rose e = rose refl
 
 no_memory_printed : (status planned : Status) (text : Text) (old new : Option Text) → IsPlain planned → IsPrinted status planned text old new → status ≡ NoMemory → ⊥
 no_memory_printed status planned text old new plain (whole e t) is = plain.memory (sym e ∙ is)
@@ -85,8 +83,8 @@ module _ (status : Status) (old new : Option Text) where
     pub planned_of : (answer : Result (String Global) Halt) → Gives answer IsPlan before after → Ends status answer old new → IsPlanned status IsPlan (outside before old) (outside after new)
     planned_of (Ok text) g h = by_plan (record { status = Done; text = string_bytes text; writes = g.0 }) g.1 (record { printed = h; files = g.2 })
     planned_of (Err (Refused refusal)) g h = by_plan (refuses refusal) g.0 (record { printed = h; files = no_file_written (refuses refusal).writes before after (refusals refusal).no_file g.1 })
-    planned_of (Err no_memory) g h = out_of_memory h.0
-    planned_of (Err ShelfFailed) g h = shelf_failed h.0
+    planned_of (Err no_memory) g h = without_memory h.0
+    planned_of (Err ShelfFailed) g h = without_shelf h.0
 
 -- ---- words that are in no form
 
@@ -95,4 +93,4 @@ refused_word status before after old new at answer is stay h = record { printed 
 
 pub words_first : (status : Status) (before after : Files) (old new : Option Text) (request : Result Request ℕ) (answer : Result (String Global) Halt) → IfErr request (λ at. answer ≡ Err (Refused (Word at))) → (IsErr request → AllStay before after) → Ends status answer old new → IfErr request (λ at. AsPlanned status (no_word at) (outside before old) (outside after new))
 words_first status before after old new (Ok r) answer first stay h = tt
-words_first status before after old new (Err at) answer first stay h = refused_word status before after old new at answer first (stay tt) h
+words_first status before after old new (Err at) answer first stay h = refused_word status before after old new at answer first (stay refl) h

@@ -1,10 +1,9 @@
 -- What a sink took of the parts of a text.
-use Rattle.std.proofs.Common.{◌≡◌, ℕ, ◌+◌, ◌<◌, zero, suc, List, [], ◌∷◌, ◌++◌, length, take, drop, get_or, Option, Some, None, Result, Ok, Err, IsErr, ap, sym, subst, refl, ◌∙◌, append_assoc, append-nil, arith, length-append, codes, decimal}
+use Rattle.std.proofs.Common.{◌≡◌, ℕ, ◌+◌, ◌<◌, zero, suc, List, [], ◌∷◌, ◌++◌, length, take, drop, get_or, Option, Some, None, ap, sym, subst, refl, ◌∙◌, append_assoc, append-nil, arith, length-append, codes}
 use Rattle.std.specs.Borrow.{Bor}
 use Rattle.std.proofs.Math.Seq.{take-append-add}
 use Rattle.std.proofs.lemmas.List.{take-append-le}
 use Rattle.lam_io.specs.Outside.{Took, TookFront}
-use Rattle.lam_io.specs.declared.SinkFault.{SinkFault as Failure}
 use Rattle.lam_words.specs.Words.{Text}
 use Rattle.lam_plan.specs.declared.Status.{Status}
 use Rattle.lam_plan.specs.Codes.{code_of}
@@ -32,15 +31,20 @@ joined_append : (xs ys : List Text) → joined (xs ++ ys) ≡ joined xs ++ joine
 joined_append [] ys = refl
 joined_append (x ∷ xs) ys = ap (λ (r : Text). x ++ r) (joined_append xs ys) ∙ sym (append_assoc x (joined xs) (joined ys))
 
-joined_take : (parts : List (Bor Text)) (i : ℕ) (d : Bor Text) → i < length parts → joined (texts (take (i + 1) parts)) ≡ joined (texts (take i parts)) ++ (get_or parts i d).now
+joined_take : (parts : List (Bor Text)) (i : ℕ) (d : Bor Text) → i < length parts → joined (texts (take (suc i) parts)) ≡ joined (texts (take i parts)) ++ (get_or parts i d).now
 joined_take [] i d less = absurd (omega arith)
-joined_take (p ∷ ps) zero d less = append-nil
+joined_take (p ∷ ps) zero d less = append-nil p.now
 joined_take (p ∷ ps) (suc i) d less = ap (λ (r : Text). p.now ++ r) (joined_take ps i d (omega arith)) ∙ sym (append_assoc p.now (joined (texts (take i ps))) (get_or ps i d).now)
 
-pub one_more : (start old new : Option Text) (parts : List (Bor Text)) (i : ℕ) (part : Bor Text) → i < length parts → part ≡ get_or parts i part → Took start old (joined (texts (take i parts))) → Took old new part.now → Took start new (joined (texts (take (i + 1) parts)))
-one_more start old new parts i part less is before now =
-    let same : joined (texts (take (i + 1) parts)) ≡ joined (texts (take i parts)) ++ part.now = joined_take parts i part less ∙ ap (λ (p : Bor Text). joined (texts (take i parts)) ++ p.now) (sym is) in
-    subst (λ (t : Text). Took start new t) (sym same) (took_more start old new (joined (texts (take i parts))) part.now before now)
+one_part : (parts : List (Bor Text)) (i : ℕ) (d : Bor Text) → i < length parts → joined (texts (take (i + 1) parts)) ≡ joined (texts (take i parts)) ++ (get_or parts i d).now
+one_part parts i d less =
+    let next : i + 1 ≡ suc i = omega arith in
+    ap (λ (n : ℕ). joined (texts (take n parts))) next ∙ joined_take parts i d less
+
+-- some first parts were taken, and then the next
+pub one_more : (start old new : Option Text) (parts : List (Bor Text)) (i : ℕ) (d : Bor Text) → i < length parts → Took start old (joined (texts (take i parts))) → Took old new (get_or parts i d).now → Took start new (joined (texts (take (i + 1) parts)))
+one_more start old new parts i d less before now =
+    subst (λ (t : Text). Took start new t) (sym (one_part parts i d less)) (took_more start old new (joined (texts (take i parts))) (get_or parts i d).now before now)
 
 split : (parts : List (Bor Text)) (i : ℕ) → joined (texts parts) ≡ joined (texts (take i parts)) ++ joined (texts (drop i parts))
 split parts zero = refl
@@ -48,12 +52,11 @@ split [] (suc i) = refl
 split (p ∷ ps) (suc i) = ap (λ (r : Text). p.now ++ r) (split ps i) ∙ sym (append_assoc p.now (joined (texts (take i ps))) (joined (texts (drop i ps))))
 
 -- some first parts were taken, and then a front of the next
-pub front_of_part : (start old new : Option Text) (parts : List (Bor Text)) (i : ℕ) (part : Bor Text) → i < length parts → part ≡ get_or parts i part → Took start old (joined (texts (take i parts))) → TookFront old new part.now → TookFront start new (joined (texts parts))
-front_of_part start old new parts i part less is before now =
-    let same : joined (texts (take (i + 1) parts)) ≡ joined (texts (take i parts)) ++ part.now = joined_take parts i part less ∙ ap (λ (p : Bor Text). joined (texts (take i parts)) ++ p.now) (sym is) in
+pub front_of_part : (start old new : Option Text) (parts : List (Bor Text)) (i : ℕ) (d : Bor Text) → i < length parts → Took start old (joined (texts (take i parts))) → TookFront old new (get_or parts i d).now → TookFront start new (joined (texts parts))
+front_of_part start old new parts i d less before now =
     subst (λ (t : Text). TookFront start new t) (sym (split parts (i + 1)))
     (front_before start new (joined (texts (take (i + 1) parts))) (joined (texts (drop (i + 1) parts)))
-    (subst (λ (t : Text). TookFront start new t) (sym same) (front_after start old new (joined (texts (take i parts))) part.now before now)))
+    (subst (λ (t : Text). TookFront start new t) (sym (one_part parts i d less)) (front_after start old new (joined (texts (take i parts))) (get_or parts i d).now before now)))
 
 -- ---- the line of a refusal
 
@@ -62,20 +65,21 @@ line_joined [] = refl
 line_joined (p ∷ ps) = ap (λ (r : Text). p ++ r) (line_joined ps) ∙ sym (append_assoc p (joined ps) (10 ∷ []))
 
 -- the three texts of a line: its head, its parts, and the line feed
-pub whole_line : (status : Status) (parts : List Text) → joined (codes "lam: " ∷ decimal (code_of status) ∷ codes " " ∷ []) ++ (joined parts ++ 10 ∷ []) ≡ (refused status parts).text
-whole_line status parts = grouped (codes "lam: ") (decimal (code_of status)) (codes " ") (joined parts ++ 10 ∷ []) ∙ sym (ap (λ (r : Text). codes "lam: " ++ (decimal (code_of status) ++ (codes " " ++ r))) (line_joined parts))
-  where
-    grouped : (a b c rest : Text) → joined (a ∷ b ∷ c ∷ []) ++ rest ≡ a ++ (b ++ (c ++ rest))
-    grouped a b c rest = append_assoc a (b ++ (c ++ [])) rest ∙ ap (λ (r : Text). a ++ r) (append_assoc b (c ++ []) rest ∙ ap (λ (r : Text). b ++ r) (ap (λ (r : Text). r ++ rest) append-nil))
+whole_line : (status : Status) (parts : List Text) (mark number : Text) → mark ≡ codes "lam: " → number ≡ (48 + code_of status) ∷ 32 ∷ [] → (mark ++ (number ++ [])) ++ (joined parts ++ 10 ∷ []) ≡ (refused status parts).text
+whole_line status parts mark number one two =
+    (λ i. (one i ++ (two i ++ [])) ++ (joined parts ++ 10 ∷ []))
+    ∙ ap (λ (r : Text). codes "lam: " ++ (((48 + code_of status) ∷ 32 ∷ []) ++ r)) (sym (line_joined parts))
 
-pub took_line : (start first second new : Option Text) (head parts : Text) → Took start first head → Took first second parts → Took second new (10 ∷ []) → Took start new (head ++ (parts ++ 10 ∷ []))
-took_line start first second new head parts h k l = took_more start first new head (parts ++ 10 ∷ []) h (took_more first second new parts (10 ∷ []) k l)
+module _ (status : Status) (parts : List Text) (mark number : Text) (one : mark ≡ codes "lam: ") (two : number ≡ (48 + code_of status) ∷ 32 ∷ []) (start first second new : Option Text) where
+  pub took_line : Took start first (mark ++ (number ++ [])) → Took first second (joined parts) → Took second new (10 ∷ []) → Took start new (refused status parts).text
+  took_line h k l = subst (λ (t : Text). Took start new t) (whole_line status parts mark number one two) (took_more start first new (mark ++ (number ++ [])) (joined parts ++ 10 ∷ []) h (took_more first second new (joined parts) (10 ∷ []) k l))
 
-pub front_of_head : (start new : Option Text) (head parts : Text) → TookFront start new head → TookFront start new (head ++ (parts ++ 10 ∷ []))
-front_of_head start new head parts h = front_before start new head (parts ++ 10 ∷ []) h
+  pub front_of_feed : Took start first (mark ++ (number ++ [])) → Took first second (joined parts) → TookFront second new (10 ∷ []) → TookFront start new (refused status parts).text
+  front_of_feed h k l = subst (λ (t : Text). TookFront start new t) (whole_line status parts mark number one two) (front_after start first new (mark ++ (number ++ [])) (joined parts ++ 10 ∷ []) h (front_after first second new (joined parts) (10 ∷ []) k l))
 
-pub front_of_parts : (start first new : Option Text) (head parts : Text) → Took start first head → TookFront first new parts → TookFront start new (head ++ (parts ++ 10 ∷ []))
-front_of_parts start first new head parts h k = front_after start first new head (parts ++ 10 ∷ []) h (front_before first new parts (10 ∷ []) k)
+module _ (status : Status) (parts : List Text) (mark number : Text) (one : mark ≡ codes "lam: ") (two : number ≡ (48 + code_of status) ∷ 32 ∷ []) (start first new : Option Text) where
+  pub front_of_parts : Took start first (mark ++ (number ++ [])) → TookFront first new (joined parts) → TookFront start new (refused status parts).text
+  front_of_parts h k = subst (λ (t : Text). TookFront start new t) (whole_line status parts mark number one two) (front_after start first new (mark ++ (number ++ [])) (joined parts ++ 10 ∷ []) h (front_before first new (joined parts) (10 ∷ []) k))
 
-pub front_of_feed : (start first second new : Option Text) (head parts : Text) → Took start first head → Took first second parts → TookFront second new (10 ∷ []) → TookFront start new (head ++ (parts ++ 10 ∷ []))
-front_of_feed start first second new head parts h k l = front_after start first new head (parts ++ 10 ∷ []) h (front_after first second new parts (10 ∷ []) k l)
+  pub front_of_head : TookFront start new (mark ++ (number ++ [])) → TookFront start new (refused status parts).text
+  front_of_head h = subst (λ (t : Text). TookFront start new t) (whole_line status parts mark number one two) (front_before start new (mark ++ (number ++ [])) (joined parts ++ 10 ∷ []) h)

@@ -1,5 +1,5 @@
 -- What the answers of a command mean as plans.
-use Rattle.std.specs.Prelude.{◌≡◌, ◌≤◌, ℕ, [], length, Option, Some, None, Result, Ok, Err, String, string_bytes, Vec}
+use Rattle.std.specs.Prelude.{◌≡◌, ◌≤◌, ℕ, [], length, Option, Some, Result, Ok, Err, String, string_bytes, Vec}
 use Rattle.std.specs.declared.alloc.Global.{Global}
 use Rattle.lam_io.specs.Outside.{Files, AllStay, Took}
 use Rattle.lam_front.specs.declared.fault.ProgramFault.{ProgramFault}

@@ -38,29 +38,36 @@ pub(crate) fn print_refusal<O: Sink>(out: &mut O, refusal: &Refusal) -> Result<S
         Refusal::NotUtf8 => print_line(out, Status::Program, &[b"NotUtf8".as_slice()]),
         Refusal::Flawed { flaw, at } => {
             let at = digits.format(*at).as_bytes();
-            print_line(out, Status::Program, &[flaw.name().as_bytes(), b" at ".as_slice(), at])
+            print_line(
+                out,
+                Status::Program,
+                &[flaw.name().as_bytes(), b" at ".as_slice(), at],
+            )
         }
         Refusal::Absent(name) => {
-            print_line(out, Status::Missing, &[b"Absent ".as_slice(), name.as_bytes()])
+            print_line(
+                out,
+                Status::Missing,
+                &[b"Absent ".as_slice(), name.as_bytes()],
+            )
         }
         Refusal::TooLong(name) => {
-            print_line(out, Status::Missing, &[b"TooLong ".as_slice(), name.as_bytes()])
+            print_line(
+                out,
+                Status::Missing,
+                &[b"TooLong ".as_slice(), name.as_bytes()],
+            )
         }
     }
 }
 
 /// Prints the line of a refusal from its parts, behind the number of its status, and gives the status.
-fn print_line<O: Sink>(
-    out: &mut O,
-    status: Status,
-    parts: &[&[u8]],
-) -> Result<Status, SinkFault>
+fn print_line<O: Sink>(out: &mut O, status: Status, parts: &[&[u8]]) -> Result<Status, SinkFault>
     ensures printed { Prints result (refused status (texts parts.now)) (O.taken out.old) (O.taken out.new) }
     ensures failed { OnErr result (Rose (O.faults out.old) (O.faults out.new)) }
 {
-    let mut digits = Buffer::new();
-    let number = digits.format(status.code()).as_bytes();
-    print_parts(out, &[b"lam: ".as_slice(), number, b" ".as_slice()])?;
+    let number = [b'0' + status.code(), b' '];
+    print_parts(out, &[b"lam: ".as_slice(), number.as_slice()])?;
     print_parts(out, parts)?;
     write_all(out, b"\n")?;
     Ok(status)

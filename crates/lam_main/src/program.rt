@@ -16,7 +16,11 @@ use std::alloc::Global;
 const PROGRAM_LIMIT: u64 = 1_048_576;
 
 /// The canonical text of the program in a file.
-pub(crate) fn format<H: Shelf>(alloc: Global, shelf: &mut H, program: String) -> Result<String, Halt>
+pub(crate) fn format<H: Shelf>(
+    alloc: Global,
+    shelf: &mut H,
+    program: String,
+) -> Result<String, Halt>
     ensures gives { IsTrue (H.tells shelf.old) → Gives result (WithFile (H.files shelf.old (string_bytes program)) (string_bytes program) program_limit Formats) (H.files shelf.old) (H.files shelf.new) }
     ensures stay { IsTrue (H.tells shelf.old) → AllStay (H.files shelf.old) (H.files shelf.new) }
     ensures failed { IfErr result (λ halt. halt ≡ Halt.ShelfFailed → Rose (H.faults shelf.old) (H.faults shelf.new)) }

@@ -1,14 +1,11 @@
 -- From what became of a plan to how the call answers to it.
-use Rattle.std.proofs.Common.{◌≡◌, [], Option, Some, None, List, ℕ, subst}
+use Rattle.std.proofs.Common.{◌≡◌, [], Option, Some, None, subst}
 use Rattle.lam_io.specs.Outside.{Files, AllStay, Took}
 use Rattle.lam_words.specs.Words.{Text}
 use Rattle.lam_plan.specs.declared.Status.{Status}
 use Rattle.lam_plan.specs.declared.Status.TheVariants.{NoMemory, ShelfFault, SinkFault}
 use Rattle.lam_plan.specs.Plan.{Plan}
-use Rattle.lam_plan.specs.Answer.{Outside, IsPrinted, IsWritten, OthersKept, written, AsPlanned, IsAnswer, IsPlanned}
-use Rattle.lam_plan.specs.Answer.IsPrinted.{whole, front}
-use Rattle.lam_plan.specs.Answer.IsAnswer as answers
-use Rattle.lam_plan.specs.Answer.IsPlanned as plans
+use Rattle.lam_plan.specs.Answer.{Outside, IsPrinted, whole, front, IsWritten, OthersKept, written, AsPlanned, IsAnswer, as_planned, out_of_memory, shelf_failed, IsPlanned, by_plan, without_memory, without_shelf}
 
 -- where no file changed, no other did
 pub stay_kept : (name : Option Text) (old new : Files) → AllStay old new → OthersKept name old new
@@ -20,9 +17,9 @@ no_file_written writes old new none stay = subst (λ (w : Option (Text × Text))
 
 -- the call answers to the one plan
 pub answers_to : (status : Status) (IsPlan : Plan → Type 0) (old new : Outside) (plan : Plan) → ((p : Plan) → IsPlan p → p ≡ plan) → (status ≡ NoMemory → Took old.taken new.taken []) → (status ≡ ShelfFault → Took old.taken new.taken []) → AllStay old.files new.files → IsPlanned status IsPlan old new → IsAnswer status plan old new
-answers_to status IsPlan old new plan one memory shelf stay (plans.by_plan p is as) = answers.as_planned (subst (λ (q : Plan). AsPlanned status q old new) (one p is) as)
-answers_to status IsPlan old new plan one memory shelf stay (plans.out_of_memory e) = answers.out_of_memory e (memory e) (stay_kept (written plan) old.files new.files stay)
-answers_to status IsPlan old new plan one memory shelf stay (plans.shelf_failed e) = answers.shelf_failed e (shelf e) (stay_kept (written plan) old.files new.files stay)
+answers_to status IsPlan old new plan one memory shelf stay (by_plan p is does) = as_planned (subst (λ (q : Plan). AsPlanned status q old new) (one p is) does)
+answers_to status IsPlan old new plan one memory shelf stay (without_memory e) = out_of_memory e (memory e) (stay_kept (written plan) old.files new.files stay)
+answers_to status IsPlan old new plan one memory shelf stay (without_shelf e) = shelf_failed e (shelf e) (stay_kept (written plan) old.files new.files stay)
 
 printed_status : (status planned : Status) (text : Text) (old new : Option Text) → (status ≡ SinkFault → ⊥) → IsPrinted status planned text old new → status ≡ planned
 printed_status status planned text old new sink (whole e t) = e
@@ -30,6 +27,6 @@ printed_status status planned text old new sink (front e t) = absurd (sink e)
 
 -- a call that met no fault ended as planned
 pub status_of : (status : Status) (plan : Plan) (old new : Outside) → (status ≡ NoMemory → ⊥) → (status ≡ ShelfFault → ⊥) → (status ≡ SinkFault → ⊥) → IsAnswer status plan old new → status ≡ plan.status
-status_of status plan old new memory shelf sink (answers.as_planned as) = printed_status status plan.status plan.text old.taken new.taken sink as.printed
-status_of status plan old new memory shelf sink (answers.out_of_memory e t k) = absurd (memory e)
-status_of status plan old new memory shelf sink (answers.shelf_failed e t k) = absurd (shelf e)
+status_of status plan old new memory shelf sink (as_planned does) = printed_status status plan.status plan.text old.taken new.taken sink does.printed
+status_of status plan old new memory shelf sink (out_of_memory e t k) = absurd (memory e)
+status_of status plan old new memory shelf sink (shelf_failed e t k) = absurd (shelf e)

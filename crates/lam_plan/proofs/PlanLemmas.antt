@@ -1,10 +1,10 @@
 -- Words and files have at most one plan.
-use Rattle.std.proofs.Common.{◌≡◌, ◌<◌, ◌≤◌, ℕ, List, length, Option, Some, None, Result, Ok, Err, sym, ap, subst, ◌∙◌, arith}
+use Rattle.std.proofs.Common.{◌≡◌, ◌<◌, ◌≤◌, ℕ, length, Option, Some, None, Result, Ok, Err, sym, ap, subst, ◌∙◌, arith}
 use Rattle.lam_io.specs.Outside.{Files}
 use Rattle.lam_print.specs.Canon.{canon}
 use Rattle.lam_front.proofs.Once.{one_spelt, spelt_or_misspelt, one_misspelt, fine_or_broken, one_broken}
 use Rattle.lam_words.specs.Words.{Text, Request, play, check, format, request_of}
-use Rattle.lam_plan.specs.Plan.{Plan, prints, no_program, IsUnread, IsOfFile, WithFile, unread, of_file, Plays, Formats, canonical, misspelt, Checks, fine, broken, IsPlanOf, IsPlan, PlansAreOne, script_limit, program_limit}
+use Rattle.lam_plan.specs.Plan.{Plan, prints, no_program, IsUnread, IsOfFile, WithFile, unread, of_file, Plays, Formats, canonical, misspelt, Checks, fine, broken, IsPlanOf, PlansAreOne, script_limit, program_limit}
 
 one_unread : (found : Option Text) (name : Text) (limit : ℕ) (p q : Plan) → IsUnread found name limit p → IsUnread found name limit q → p ≡ q
 one_unread None name limit p q h k = h ∙ sym k

@@ -49,5 +49,5 @@ pub data IsAnswer (status : Status) (plan : Plan) (old new : Outside) : Type 0 w
 -- the call did what some plan says, unless memory ran out or the shelf failed
 pub data IsPlanned (status : Status) (IsPlan : Plan → Type 0) (old new : Outside) : Type 0 where
   by_plan : (plan : Plan) → IsPlan plan → AsPlanned status plan old new → IsPlanned status IsPlan old new
-  out_of_memory : status ≡ NoMemory → IsPlanned status IsPlan old new
-  shelf_failed : status ≡ ShelfFault → IsPlanned status IsPlan old new
+  without_memory : status ≡ NoMemory → IsPlanned status IsPlan old new
+  without_shelf : status ≡ ShelfFault → IsPlanned status IsPlan old new

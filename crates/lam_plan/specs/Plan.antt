@@ -1,5 +1,5 @@
 -- What a call of given words does with given files, and how it ends, where nothing fails.
-use Rattle.std.specs.Prelude.{◌≡◌, ◌<◌, ◌≤◌, ℕ, Bool, false, List, [], ◌∷◌, ◌++◌, length, Option, Some, None, Result, Ok, Err, chars, codes, decimal, refl}
+use Rattle.std.specs.Prelude.{◌≡◌, ◌<◌, ◌≤◌, ℕ, ◌+◌, Bool, false, List, [], ◌∷◌, ◌++◌, length, Option, Some, None, Result, Ok, Err, chars, codes, decimal, refl}
 use Rattle.flow_labels.specs.LabelText.{label_of}
 use Rattle.flow_labels.specs.declared.Label.{Label}
 use Rattle.flow_labels.specs.declared.texts.LabelFault.{LabelFault}
@@ -38,9 +38,9 @@ abbrev pub line : List Text → Text
 line [] = 10 ∷ []
 line (part ∷ parts) = part ++ line parts
 
--- a refusal: a line of its status's number and its parts
+-- a refusal: a line of its status's number, which is one digit, and its parts
 abbrev pub refused : Status → List Text → Plan
-refused status parts = record { status = status; text = line (codes "lam: " ∷ decimal (code_of status) ∷ codes " " ∷ parts); writes = None }
+refused status parts = record { status = status; text = line (codes "lam: " ∷ ((48 + code_of status) ∷ 32 ∷ []) ∷ parts); writes = None }
 
 abbrev pub no_word : ℕ → Plan
 no_word index = refused Words (codes "word " ∷ decimal index ∷ [])
@@ -170,8 +170,8 @@ abbrev pub FormatIsSteady : List Text → Files → Type 0
 FormatIsSteady ws files = (p : ProgramTree) → IsFormatted ws files p → IsPlan ws files (prints (canon p)) × IsReadAgain (canon p) p
 
 -- the lines of refusals
-word_line : (no_word 0).text ≡ codes "lam: 2 word 0\n"
-word_line = refl
+text_line : (no_program NotUtf8).text ≡ codes "lam: 3 NotUtf8\n"
+text_line = refl
 
 absent_line : (absent (codes "none")).text ≡ codes "lam: 6 Absent none\n"
 absent_line = refl

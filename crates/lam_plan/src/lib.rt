@@ -6,7 +6,7 @@
 //! store may fail, and memory may run out.
 #![tactic(auto)]
 
-ghost use Rattle.std.specs.Prelude.{◌≡◌};
+ghost use Rattle.std.specs.Prelude.{◌≡◌, ◌≤◌};
 ghost use Rattle.lam_plan.specs.Codes.{code_of};
 ghost use Rattle.lam_plan.specs.Plan.{PlansAreOne};
 
@@ -40,7 +40,8 @@ pub enum Status {
 impl Status {
     /// The number that the process ends with.
     pub fn code(&self) -> u8
-        ensures { result ≡ code_of self.now }
+        ensures value { result ≡ code_of self.now }
+        ensures small { result ≤ 10 }
     {
         match self {
             Status::Done => 0,
