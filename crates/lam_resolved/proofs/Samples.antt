@@ -7,7 +7,9 @@ use Rattle.lam_builtins.specs.declared.Builtin.TheVariants.{Len}
 use Rattle.lam_builtins.specs.Types.{int, object, array}
 use Rattle.lam_builtins.specs.Builtins.{builtin_named}
 use Rattle.resolved_tree.specs.Tree.{number_value, local_value, binary_of, field_of, element_of, call_of, builtin_of, new_object, new_array, label_of, caps_of, args_end, args_more, Block, let_slot, while_block, return_value, sync_block, region_block, set_local, set_field, set_element, block_end, block_more, ResolvedTree}
+use Rattle.resolved_tree.specs.Regions.{AreNumbered}
 use Rattle.lam_resolved.specs.Resolved.{then_some, resolved}
+use Rattle.lam_resolved.specs.Names.{names_of, program_named}
 
 -- ---- trees, whose positions are all 0
 
@@ -128,3 +130,15 @@ resolved_sample =
 pub sample_resolves : resolved sample ≡ Some resolved_sample
 unfolding then_some resolved builtin_named sample point last main id ty ex var name number then resolved_sample last_block main_block sync_part region_part
 sample_resolves = refl
+
+-- with its names put back, it is the program
+
+pub sample_named : program_named (names_of sample) resolved_sample ≡ sample
+unfolding sample point last main id ty ex var name number then resolved_sample last_block main_block sync_part region_part
+sample_named = refl
+
+-- the outer region is number 0, the inner one number 1
+
+pub sample_numbered : AreNumbered resolved_sample
+unfolding resolved_sample last_block main_block sync_part region_part
+sample_numbered = refl
