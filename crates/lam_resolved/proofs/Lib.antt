@@ -1,2 +1,6 @@
 pub mod Samples
 pub mod Has
+pub mod SameTypes
+pub mod Finding
+pub mod Scopes
+pub mod Exprs
