@@ -20,6 +20,13 @@ next {A} {B} {o} {f} {P} {Q} h k =
     let r = k h.it h.holds in
     record { it = r.it; is = ap (λ (o : Option A). then_some o f) h.is ∙ r.is; holds = r.holds }
 
+pub from : {A B : Type 0} {o : Option A} {Q : B → Type 0} (f : A → Option B) (a : A) → o ≡ Some a → Has (f a) Q → Has (then_some o f) Q
+unfolding then_some
+from {A} {B} {o} {Q} f a e h = record { it = h.it; is = ap (λ (o : Option A). then_some o f) e ∙ h.is; holds = h.holds }
+
+pub with_is : {A : Type 0} {o : Option A} {P : A → Type 0} → Has o P → Has o (λ a. P a × (o ≡ Some a))
+with_is h = record { it = h.it; is = h.is; holds = (h.holds, h.is) }
+
 pub weaker : {A : Type 0} {o : Option A} {P Q : A → Type 0} → Has o P → ((a : A) → P a → Q a) → Has o Q
 weaker h k = record { it = h.it; is = h.is; holds = k h.it h.holds }
 

@@ -48,8 +48,8 @@ last =
       params = var (codes "p") (class_type (codes "point")) ∷ var (codes "n") int_type ∷ [];
       result = Some (ty int_type);
       body =
-        then (while_stmt (ex (binary_expr Lt (name (codes "n")) (number 9))) (then (let_stmt (var (codes "m") int_type) (name (codes "n"))) (then (assign_stmt (name (codes "n")) (name (codes "m"))) no_stmts)))
-        (then (return_stmt (Some (name (codes "n")))) no_stmts);
+          then (while_stmt (ex (binary_expr Lt (name (codes "n")) (number 9))) (then (let_stmt (var (codes "m") int_type) (name (codes "n"))) (then (assign_stmt (name (codes "n")) (name (codes "m"))) no_stmts)))
+          (then (return_stmt (Some (name (codes "n")))) no_stmts);
     })
 
 -- fn main(): int {
@@ -72,19 +72,19 @@ main =
       params = [];
       result = Some (ty int_type);
       body =
-        then (let_stmt (var (codes "p") (class_type (codes "point"))) (ex (new_class_expr (id (codes "point")))))
-        (then (let_stmt (var (codes "k") int_type) (number 2))
-        (then
-        (sync_stmt (name (codes "p"))
-        (then (assign_stmt (ex (field_expr (ex (field_expr (name (codes "p")) (id (codes "next")))) (id (codes "x")))) (ex (call_expr (id (codes "last")) (exprs (name (codes "p")) (exprs (name (codes "k")) no_exprs))))) no_stmts))
-        (then
-        (region_stmt (ex (label_expr no_exprs no_exprs)) (ex (caps_expr [])) (id (codes "k") ∷ id (codes "p") ∷ [])
-        (then (region_stmt (ex (label_expr no_exprs no_exprs)) (ex (caps_expr [])) (id (codes "p") ∷ []) no_stmts (id (codes "d")) no_stmts)
-        (then (let_stmt (var (codes "a") (array_type (ty (class_type (codes "point"))))) (ex (new_array_expr (ty (class_type (codes "point"))) (name (codes "k")))))
-        (then (assign_stmt (ex (element_expr (name (codes "a")) (number 0))) (name (codes "p"))) no_stmts)))
-        (id (codes "e"))
-        (then (let_stmt (var (codes "n") int_type) (ex (call_expr (id (codes "len")) (exprs (name (codes "p")) no_exprs)))) (then (assign_stmt (name (codes "k")) (name (codes "e"))) no_stmts)))
-        (then (return_stmt (Some (name (codes "k")))) no_stmts))));
+          then (let_stmt (var (codes "p") (class_type (codes "point"))) (ex (new_class_expr (id (codes "point")))))
+          (then (let_stmt (var (codes "k") int_type) (number 2))
+          (then
+          (sync_stmt (name (codes "p"))
+          (then (assign_stmt (ex (field_expr (ex (field_expr (name (codes "p")) (id (codes "next")))) (id (codes "x")))) (ex (call_expr (id (codes "last")) (exprs (name (codes "p")) (exprs (name (codes "k")) no_exprs))))) no_stmts))
+          (then
+          (region_stmt (ex (label_expr no_exprs no_exprs)) (ex (caps_expr [])) (id (codes "k") ∷ id (codes "p") ∷ [])
+          (then (region_stmt (ex (label_expr no_exprs no_exprs)) (ex (caps_expr [])) (id (codes "p") ∷ []) no_stmts (id (codes "d")) no_stmts)
+          (then (let_stmt (var (codes "a") (array_type (ty (class_type (codes "point"))))) (ex (new_array_expr (ty (class_type (codes "point"))) (name (codes "k")))))
+          (then (assign_stmt (ex (element_expr (name (codes "a")) (number 0))) (name (codes "p"))) no_stmts)))
+          (id (codes "e"))
+          (then (let_stmt (var (codes "n") int_type) (ex (call_expr (id (codes "len")) (exprs (name (codes "p")) no_exprs)))) (then (assign_stmt (name (codes "k")) (name (codes "e"))) no_stmts)))
+          (then (return_stmt (Some (name (codes "k")))) no_stmts))));
     })
 
 pub sample : ProgramTree
@@ -123,8 +123,8 @@ resolved_sample =
     record {
       classes = (int ∷ object 0 ∷ []) ∷ [];
       functions =
-        record { name = codes "last"; params = object 0 ∷ int ∷ []; result = Some int; slots = object 0 ∷ int ∷ int ∷ []; body = last_block } ∷
-        record { name = codes "main"; params = []; result = Some int; slots = object 0 ∷ int ∷ object 0 ∷ []; body = main_block } ∷ [];
+          record { name = codes "last"; params = object 0 ∷ int ∷ []; result = Some int; slots = object 0 ∷ int ∷ int ∷ []; body = last_block } ∷
+          record { name = codes "main"; params = []; result = Some int; slots = object 0 ∷ int ∷ object 0 ∷ []; body = main_block } ∷ [];
     }
 
 pub sample_resolves : resolved sample ≡ Some resolved_sample
