@@ -4,3 +4,5 @@ pub mod SameTypes
 pub mod Finding
 pub mod Scopes
 pub mod Exprs
+pub mod Parts
+pub mod ScopeSteps
