@@ -124,7 +124,7 @@ as_type cs g t u e n = subst (λ (g : Given). SameGiven cs g (a_value u)) (sym e
 -- ---- expressions
 
 -- the type that a value of a type has by number
-value_type_is : (cs : List (Word × Unit {0})) (t : ValueType) (g : ResolvedGiven) → SameGiven cs (a_value t) g → (u : ResolvedType) × Shape cs t u × (g ≡ a_value u)
+pub value_type_is : (cs : List (Word × Unit {0})) (t : ValueType) (g : ResolvedGiven) → SameGiven cs (a_value t) g → (u : ResolvedType) × Shape cs t u × (g ≡ a_value u)
 value_type_is cs t g (u, e, k) = (u, shape cs t u e, k)
 
 module _ (d : Decls) (t : Tables) (p : Heads) (w : Words) (tied : AreTied d t p w.classes w.fields w.functions) where

@@ -6,3 +6,4 @@ pub mod Scopes
 pub mod Exprs
 pub mod Parts
 pub mod ScopeSteps
+pub mod Stmts
