@@ -17,14 +17,14 @@ use Rattle.resolved_tree.specs.Tree.{ResolvedType, ResolvedGiven, ResolvedPlace,
 use Rattle.resolved_tree.specs.Typing.{Heads, Use, a_local, a_monitor, Scope, with_use, locals_of, is_object, FitsBy, Gives, Stands, IsFree, Returning, in_region, in_function, Returns, use_of, after, IsStatement, IsBlock, IsOther, ends, block_ends, other_ends}
 use Rattle.resolved_tree.specs.Regions.{regions_in, regions_of, regions_or, count_up}
 use Rattle.lam_resolved.specs.Resolved.{then_some, found, numbered, resolve_type, types_of, Tables, Local, Locals, with_local, locals_from, Value, value_as, resolve, State, state_as, next_slot, Step, step_as, Closed, closed_as, resolve_value, assignment, resolve_captures, slots_of, taken_over, resolve_stmt, resolve_stmt_form, resolve_else, resolve_stmts}
-use Rattle.lam_resolved.specs.Names.{slot_words, block_words, else_words, region_words, block_region_words, else_region_words, Words, with_slots, word_at, words_at, id_as, type_named, var_named, captures_named, type_at, expr_named, value_named, expr_as, stmt_as, stmt_named, block_named, other_named}
+use Rattle.lam_resolved.specs.Names.{id_words, slot_words, block_words, else_words, region_words, block_region_words, else_region_words, Words, with_slots, word_at, words_at, id_as, type_named, var_named, captures_named, type_at, expr_named, value_named, expr_as, stmt_as, stmt_named, block_named, other_named}
 use Rattle.lam_resolved.proofs.Has.{Has, done, next, from, with_is, weaker, some_is}
 use Rattle.lam_resolved.proofs.Finding.{word_is, words_are}
 use Rattle.lam_resolved.proofs.SameTypes.{Shape, shape, SameGiven, fits_same}
 use Rattle.lam_resolved.proofs.Scopes.{AreTied, IsLocalAt, InScope}
 use Rattle.lam_resolved.proofs.Exprs.{IsTypeFrom, declared_type, type_reads, IsValue, IsStanding, expr_is, stands_is, value_type_is}
-use Rattle.lam_resolved.proofs.Parts.{IsPart, Starts, get_left, get_right, part_left, part_right, part_head, part_tail, part_at, starts_whole, starts_left, Grows, grows_none, grows_then, grows_slot, length_grows, starts_before, length_more, slot_taken, count_up_both, numbers_both}
-use Rattle.lam_resolved.proofs.ScopeSteps.{in_later, is_free, in_monitor, in_let, AreCaptures, captures_are, in_captures}
+use Rattle.lam_resolved.proofs.Parts.{IsPart, Starts, get_left, get_right, part_left, part_right, part_head, part_tail, part_at, part_whole, starts_whole, starts_left, Grows, grows_none, grows_then, grows_slot, length_grows, starts_before, length_more, slot_taken, count_up_both, numbers_both}
+use Rattle.lam_resolved.proofs.ScopeSteps.{in_later, is_free, in_monitor, in_let, below_locals, AreCaptures, captures_are, in_captures}
 
 -- ---- what may be returned
 
@@ -77,7 +77,9 @@ module _ (p : Heads) (w : Words) (rs : List (List Word)) where
 
   -- the scope after a statement
   pub record GoesOn (cs : List (Word × Unit {0})) (i : Bool) (own : List Word) (names : Names) (env : Scope) (ws : List Word) (form : StmtForm) (s : Step) : Type 0 where
-    pub scope : (whole : List ResolvedType) → Starts s.state.slots whole → InScope cs i (own_after own form) (names_after names form) s.locals (length s.state.slots) (after whole env s.it) ws
+    pub env_after : Scope
+    pub scope : InScope cs i (own_after own form) (names_after names form) s.locals (length s.state.slots) env_after ws
+    pub is_after : (whole : List ResolvedType) → Starts s.state.slots whole → after whole env s.it ≡ env_after
 
 -- ---- the arms
 
@@ -102,6 +104,13 @@ object_given : (cs : List (Word × Unit {0})) (g : Given) (h : ResolvedGiven) �
 object_given cs (a_value (object x)) h s (u, e, k) = (u, k, ap is_object (shape cs (object x) u e).2)
 object_given cs (a_value (array t)) h s (u, e, k) = (u, k, ap is_object (shape cs (array t) u e).2)
 object_given cs _ h s k = absurd cc
+
+past_locals : (ts : List ResolvedType) (n : ℕ) → length ts ≤ n → locals_of ts n ≡ None
+past_locals ts n le = by (locals_of ts n) refl
+  where
+    by : (o : Option Use) → locals_of ts n ≡ o → locals_of ts n ≡ None
+    by None e = e
+    by (Some u) e = absurd (let lt = below_locals ts n u e in omega (arith, lt, le))
 
 same_value : (t u : ResolvedType) → ◌≡◌ {A = ResolvedGiven} (a_value t) (a_value u) → t ≡ u
 same_value t u e = cc
@@ -138,10 +147,11 @@ module _ (d : Decls) (t : Tables) (p : Heads) (w : Words) (tied : AreTied d t p 
             ap (λ a. let_stmt (unplaced_var x) a) y.reads;
         },
         record {
-          scope = λ whole s.
-            subst (λ (o : Option ResolvedType). InScope t.names i (with_name own x.name.word) (with_name_typed names x.name.word (written x.ty)) (with_local ls x.name.word n u) (length (st.slots ++ u ∷ [])) (use_of o env n) ws) (sym (slot_taken st u whole s))
-            (subst (λ m. InScope t.names i (with_name own x.name.word) (with_name_typed names x.name.word (written x.ty)) (with_local ls x.name.word n u) m (with_use env n (a_local u)) ws) (sym (length_more st.slots u))
-            (in_let t.names i own names ls n env ws c x.name.word (written x.ty) u new k.1 named));
+          env_after = with_use env n (a_local u);
+          scope =
+            subst (λ m. InScope t.names i (with_name own x.name.word) (with_name_typed names x.name.word (written x.ty)) (with_local ls x.name.word n u) m (with_use env n (a_local u)) ws) (sym (length_more st.slots u))
+            (in_let t.names i own names ls n env ws c x.name.word (written x.ty) u new k.1 named);
+          is_after = λ whole s. ap (λ o. use_of o env n) (slot_taken st u whole s);
         })))
 
     -- a statement without slots and regions of its own
@@ -156,9 +166,11 @@ module _ (d : Decls) (t : Tables) (p : Heads) (w : Words) (tied : AreTied d t p 
           reads = λ whole _. reads whole;
         },
         record {
-          scope = λ whole _.
-            subst (λ (o : List Word). InScope t.names i o (names_after names form) ls (length st.slots) (after whole env s) ws) (sym own_is)
-            (subst (λ (m : Names). InScope t.names i own m ls (length st.slots) (after whole env s) ws) (sym names_are) (subst (λ (f : Scope). InScope t.names i own names ls (length st.slots) f ws) (sym (env_is whole)) c));
+          env_after = env;
+          scope =
+            subst (λ (o : List Word). InScope t.names i o (names_after names form) ls (length st.slots) env ws) (sym own_is)
+            (subst (λ (m : Names). InScope t.names i own m ls (length st.slots) env ws) (sym names_are) c);
+          is_after = λ whole _. env_is whole;
         })
 
     throw_is : (e : ExprTree) → StandsWords d names (exactly int) e → Reaches i own e → Has (resolve_stmt_form t ls st (throw_stmt e)) (λ s. Fine (throw_stmt e) s)
@@ -227,7 +239,7 @@ module _ (d : Decls) (t : Tables) (p : Heads) (w : Words) (tied : AreTied d t p 
           typed = λ whole s. (y.fits, x.typed whole s);
           reads = λ whole s. ap (λ q. while_stmt q (block_named rs (with_slots w ws) whole a.it)) y.reads ∙ ap (λ q. while_stmt (unplaced_expr e) q) (x.reads whole s);
         },
-        record { scope = λ whole s. same_scope a.state (block_words body) (block_region_words body) x.grows })))
+        record { env_after = env; scope = same_scope a.state (block_words body) (block_region_words body) x.grows; is_after = λ whole s. refl })))
 
     if_is : (e : ExprTree) (first : StmtList) (other : ElseTree) → StandsWords d names (exactly bool) e → Reaches i own e → Has (resolve_stmts t ls st first) (λ a. IsClosed p w rs ret env ws st first a) →
         ((a : State) → Grows st a (block_words first) (block_region_words first) → Has (resolve_else t ls a other) (λ b. IsClosedElse p w rs ret env ws a other b)) →
@@ -246,7 +258,7 @@ module _ (d : Decls) (t : Tables) (p : Heads) (w : Words) (tied : AreTied d t p 
             ap (λ q. if_stmt (unplaced_expr e) q (other_named rs (with_slots w ws) whole b.it)) (x.reads whole (starts_before a.state b.state (else_words other) (else_region_words other) whole z.grows s)) ∙
             ap (λ q. if_stmt (unplaced_expr e) (unplaced_stmts first) q) (z.reads whole s);
         },
-        record { scope = λ whole s. same_scope b.state (block_words first ++ else_words other) (block_region_words first ++ else_region_words other) g }))))
+        record { env_after = env; scope = same_scope b.state (block_words first ++ else_words other) (block_region_words first ++ else_region_words other) g; is_after = λ whole s. refl }))))
 
     sync_is : (e : ExprTree) (body : StmtList) → StandsWords d names any_object e → Reaches i own e →
         ((u : ResolvedType) → Has (resolve_stmts t ls (next_slot st u) body) (λ a. IsClosed p w rs ret (with_use env (length st.slots) (a_monitor u)) ws (next_slot st u) body a)) →
@@ -266,4 +278,143 @@ module _ (d : Decls) (t : Tables) (p : Heads) (w : Words) (tied : AreTied d t p 
             (k.0, (slot_taken st k.0 whole (starts_before (next_slot st k.0) a.state (block_words body) (block_region_words body) whole x.grows s), is_free t.names i own names ls (length st.slots) env ws c), subst (λ (g : ResolvedGiven). Gives p env v.it g) k.1 y.typed, k.2, x.typed whole s);
           reads = λ whole s. ap (λ q. sync_stmt q (block_named rs (with_slots w ws) whole a.it)) y.reads ∙ ap (λ q. sync_stmt (unplaced_expr e) q) (x.reads whole s);
         },
-        record { scope = λ whole s. same_scope a.state ([] ∷ block_words body) (block_region_words body) grows }))))
+        record { env_after = env; scope = same_scope a.state ([] ∷ block_words body) (block_region_words body) grows; is_after = λ whole s. refl }))))
+
+    -- a region: its body at the head of its unit, and its catch block after the body and the catch name
+    region_is : (l k : ExprTree) (xs : List IdTree) (body : StmtList) (x : IdTree) (handler : StmtList) → StandsWords d names (exactly label) l → StandsWords d names (exactly caps) k → AllInScope names xs → IsNew x.word names →
+        Reaches i own l → Reaches i own k → AreReached i own xs → IsPart rs st.regions (region_words (region_stmt l k xs body x handler)) →
+        ((cs : Locals) → InScope t.names true (words xs) names (locals_from 0 (taken_over cs)) (length (types_of (taken_over cs))) (locals_of (types_of (taken_over cs))) (id_words xs ++ (block_words body ++ x.word ∷ block_words handler)) →
+            IsPart (id_words xs ++ (block_words body ++ x.word ∷ block_words handler)) (length (types_of (taken_over cs))) (block_words body) → IsPart rs (st.regions + 1) (block_region_words body) →
+            Has (resolve_stmts t (locals_from 0 (taken_over cs)) (state_as (types_of (taken_over cs)) (st.regions + 1)) body)
+            (λ a. IsClosed p w rs in_region (locals_of (types_of (taken_over cs))) (id_words xs ++ (block_words body ++ x.word ∷ block_words handler)) (state_as (types_of (taken_over cs)) (st.regions + 1)) body a)) →
+        ((cs : Locals) (a : State) → InScope t.names true (with_name (words xs) x.word) (with_name_typed names x.word int) (with_local (locals_from 0 (taken_over cs)) x.word (length a.slots) int) (length (next_slot a int).slots) (with_use (locals_of (types_of (taken_over cs))) (length a.slots) (a_local int)) (id_words xs ++ (block_words body ++ x.word ∷ block_words handler)) →
+            IsPart (id_words xs ++ (block_words body ++ x.word ∷ block_words handler)) (length (next_slot a int).slots) (block_words handler) → IsPart rs a.regions (block_region_words handler) →
+            Has (resolve_stmts t (with_local (locals_from 0 (taken_over cs)) x.word (length a.slots) int) (next_slot a int) handler)
+            (λ b. IsClosed p w rs in_region (with_use (locals_of (types_of (taken_over cs))) (length a.slots) (a_local int)) (id_words xs ++ (block_words body ++ x.word ∷ block_words handler)) (next_slot a int) handler b)) →
+        Has (resolve_stmt_form t ls st (region_stmt l k xs body x handler)) (λ s. Fine (region_stmt l k xs body x handler) s)
+    region_is l k xs body x handler hl hk hxs new rl rk rxs part go_body go_handler =
+        let inside : List Word = id_words xs ++ (block_words body ++ x.word ∷ block_words handler) in
+        let regions : List (List Word) = block_region_words body ++ block_region_words handler in
+        let inside_is : words_at rs st.regions ≡ inside = words_are rs st.regions inside (part_head rs st.regions inside regions part) in
+        let regions_part : IsPart rs (st.regions + 1) regions = part_tail rs st.regions inside regions part in
+        next (stands_is d t p w tied i own names ls (length st.slots) env ws c (exactly label) (exactly label) l refl hl rl) (λ u y.
+        next (stands_is d t p w tied i own names ls (length st.slots) env ws c (exactly caps) (exactly caps) k refl hk rk) (λ v z.
+        next (captures_are t.names i own names ls (length st.slots) env ws c xs hxs rxs) (λ cs q.
+        let ts : List ResolvedType = types_of (taken_over cs) in
+        let count : length (id_words xs) ≡ length ts = ap length (sym q.named) ∙ length-map (taken_over cs) (λ v. v.0) ∙ sym (length-map (taken_over cs) (λ v. v.1)) in
+        let first_state : State = state_as ts (st.regions + 1) in
+        let own_part : IsPart inside (length ts) (block_words body ++ x.word ∷ block_words handler) =
+          part_at inside (0 + length (id_words xs)) (length ts) (block_words body ++ x.word ∷ block_words handler) (omega (arith, count)) (part_right inside 0 (id_words xs) (block_words body ++ x.word ∷ block_words handler) (part_whole inside)) in
+        let head_scope = in_captures t.names names env ws inside xs cs q (part_left inside 0 (id_words xs) (block_words body ++ x.word ∷ block_words handler) (part_whole inside)) in
+        next (go_body cs head_scope (part_left inside (length ts) (block_words body) (x.word ∷ block_words handler) own_part) (part_left rs (st.regions + 1) (block_region_words body) (block_region_words handler) regions_part)) (λ a m.
+        let n = length a.state.slots in
+        let n_is : n ≡ length ts + length (block_words body) = length_grows first_state a.state (block_words body) (block_region_words body) m.grows in
+        let catch_part : IsPart inside n (x.word ∷ block_words handler) = part_at inside (length ts + length (block_words body)) n (x.word ∷ block_words handler) (sym n_is) (part_right inside (length ts) (block_words body) (x.word ∷ block_words handler) own_part) in
+        let catch_named : slice_get inside n ≡ Some x.word = part_head inside n x.word (block_words handler) catch_part in
+        let later = in_later t.names true (words xs) names (locals_from 0 (taken_over cs)) (length ts) (locals_of ts) inside head_scope n (omega (arith, n_is)) in
+        let catch_scope = in_let t.names true (words xs) names (locals_from 0 (taken_over cs)) n (locals_of ts) inside later x.word int int new refl catch_named in
+        next
+        (go_handler cs a.state
+        (subst (λ m. InScope t.names true (with_name (words xs) x.word) (with_name_typed names x.word int) (with_local (locals_from 0 (taken_over cs)) x.word n int) m (with_use (locals_of ts) n (a_local int)) inside) (sym (length_more a.state.slots int)) catch_scope)
+        (part_at inside (n + 1) (length (next_slot a.state int).slots) (block_words handler) (sym (length_more a.state.slots int)) (part_tail inside n x.word (block_words handler) catch_part))
+        (part_at rs (st.regions + 1 + length (block_region_words body)) a.state.regions (block_region_words handler) (sym m.grows.regions_are) (part_right rs (st.regions + 1) (block_region_words body) (block_region_words handler) regions_part)))
+        (λ b o.
+        let grows = grows_then first_state a.state b.state (block_words body) (x.word ∷ block_words handler) (block_region_words body) (block_region_words handler) m.grows (grows_slot a.state b.state int x.word (block_words handler) (block_region_words handler) o.grows) in
+        let own_slots : List ResolvedType = b.state.slots in
+        let to_catch : Starts (next_slot a.state int).slots own_slots = starts_before (next_slot a.state int) b.state (block_words handler) (block_region_words handler) own_slots o.grows (starts_whole own_slots) in
+        let to_body : Starts a.state.slots own_slots = starts_left a.state.slots (int ∷ []) own_slots to_catch in
+        done _
+        (record {
+          grows = record { more = []; slots_are = sym (append-nil st.slots); count = refl; regions_are = (let g = grows.regions_are in omega (arith, g)) };
+          numbers =
+            ap (λ ns. st.regions ∷ ns) (numbers_both (st.regions + 1) a.state.regions (block_region_words body) (block_region_words handler) (regions_of a.it) (regions_of b.it) m.numbers o.numbers m.grows.regions_are ∙ ap (λ f. count_up f (length regions)) one_more);
+          ends_so = refl;
+          typed = λ whole _.
+            (ts, grows.more, y.fits, z.fits, q.captured, grows.slots_are, m.typed own_slots to_body, (slot_taken a.state int own_slots to_catch, past_locals ts n (omega (arith, n_is))), o.typed own_slots (starts_whole own_slots));
+          reads = λ whole _.
+            ap
+            (λ (iw : List Word). region_stmt (expr_named (with_slots w ws) u.it) (expr_named (with_slots w ws) v.it) (captures_named ws (slots_of cs)) (block_named rs (with_slots w iw) own_slots a.it) (id_as (word_at iw n)) (block_named rs (with_slots w iw) own_slots b.it))
+            inside_is ∙
+            ap (λ e. region_stmt e (expr_named (with_slots w ws) v.it) (captures_named ws (slots_of cs)) (block_named rs (with_slots w inside) own_slots a.it) (id_as (word_at inside n)) (block_named rs (with_slots w inside) own_slots b.it)) y.reads ∙
+            ap (λ e. region_stmt (unplaced_expr l) e (captures_named ws (slots_of cs)) (block_named rs (with_slots w inside) own_slots a.it) (id_as (word_at inside n)) (block_named rs (with_slots w inside) own_slots b.it)) z.reads ∙
+            ap (λ e. region_stmt (unplaced_expr l) (unplaced_expr k) e (block_named rs (with_slots w inside) own_slots a.it) (id_as (word_at inside n)) (block_named rs (with_slots w inside) own_slots b.it)) q.reads ∙
+            ap (λ e. region_stmt (unplaced_expr l) (unplaced_expr k) (unplaced_ids xs) e (id_as (word_at inside n)) (block_named rs (with_slots w inside) own_slots b.it)) (m.reads own_slots to_body) ∙
+            ap (λ (e : Word). region_stmt (unplaced_expr l) (unplaced_expr k) (unplaced_ids xs) (unplaced_stmts body) (id_as e) (block_named rs (with_slots w inside) own_slots b.it)) (word_is inside n x.word catch_named) ∙
+            ap (λ e. region_stmt (unplaced_expr l) (unplaced_expr k) (unplaced_ids xs) (unplaced_stmts body) (unplaced_id x) e) (o.reads own_slots (starts_whole own_slots));
+        },
+        record { env_after = env; scope = c; is_after = λ whole _. refl }))))))
+      where
+        one_more : st.regions + 1 ≡ suc st.regions
+        one_more = omega arith
+
+  -- ---- statements and blocks
+
+  mutual
+    stmt_is : (form : StmtForm) (i : Bool) (own : List Word) (names : Names) (ls : Locals) (st : State) (env : Scope) (ws : List Word) (ret : Returning) (c : InScope t.names i own names ls (length st.slots) env ws) →
+        IsPart ws (length st.slots) (slot_words form) → IsPart rs st.regions (region_words form) → ReturnsAs t.names i res ret → IsStmt d res names form → IsLegalForm i own form →
+        Has (resolve_stmt_form t ls st form) (λ s. Fine i own names ls st env ws ret c form s)
+    stmt_is (let_stmt x e) i own names ls st env ws ret c part rpart may (new, declared, h) r = let_is i own names ls st env ws ret c x e new declared h r part
+    stmt_is (if_stmt e first other) i own names ls st env ws ret c part rpart may (h, a, b) (r, u, v) =
+        if_is i own names ls st env ws ret c e first other h r
+        (block_is first i own names ls st env ws ret c (part_left ws (length st.slots) (block_words first) (else_words other) part) (part_left rs st.regions (block_region_words first) (else_region_words other) rpart) may a u)
+        (λ s g.
+        else_is other i own names ls s env ws ret (same_scope i own names ls st env ws ret c s (block_words first) (block_region_words first) g)
+        (part_at ws (length st.slots + length (block_words first)) (length s.slots) (else_words other) (sym (length_grows st s (block_words first) (block_region_words first) g)) (part_right ws (length st.slots) (block_words first) (else_words other) part))
+        (part_at rs (st.regions + length (block_region_words first)) s.regions (else_region_words other) (sym g.regions_are) (part_right rs st.regions (block_region_words first) (else_region_words other) rpart)) may b v)
+    stmt_is (while_stmt e body) i own names ls st env ws ret c part rpart may (h, a) (r, u) = while_is i own names ls st env ws ret c e body h r (block_is body i own names ls st env ws ret c part rpart may a u)
+    stmt_is (return_stmt e) i own names ls st env ws ret c part rpart may h r = return_is i own names ls st env ws ret c e h r may
+    stmt_is (throw_stmt e) i own names ls st env ws ret c part rpart may h r = throw_is i own names ls st env ws ret c e h r
+    stmt_is (sync_stmt e body) i own names ls st env ws ret c part rpart may (h, a) (r, u) =
+        sync_is i own names ls st env ws ret c e body h r
+        (λ ty.
+        block_is body i own names ls (next_slot st ty) (with_use env (length st.slots) (a_monitor ty)) ws ret
+        (subst (λ n. InScope t.names i own names ls n (with_use env (length st.slots) (a_monitor ty)) ws) (sym (length_more st.slots ty)) (in_monitor t.names i own names ls (length st.slots) env ws c ty))
+        (part_at ws (length st.slots + 1) (length (next_slot st ty).slots) (block_words body) (sym (length_more st.slots ty)) (part_tail ws (length st.slots) [] (block_words body) part)) rpart may a u)
+    stmt_is (region_stmt l k xs body x handler) i own names ls st env ws ret c part rpart may (h, j, q, a, new, b, f) (r, u, v, g, y, z) =
+        region_is i own names ls st env ws ret c l k xs body x handler h j q new r u v rpart
+        (λ cs s p q.
+        block_is body true (words xs) names (locals_from 0 (taken_over cs)) (state_as (types_of (taken_over cs)) (st.regions + 1)) (locals_of (types_of (taken_over cs))) (id_words xs ++ (block_words body ++ x.word ∷ block_words handler)) in_region s p q refl a y)
+        (λ cs m s p q.
+        block_is handler true (with_name (words xs) x.word) (with_name_typed names x.word int) (with_local (locals_from 0 (taken_over cs)) x.word (length m.slots) int) (next_slot m int) (with_use (locals_of (types_of (taken_over cs))) (length m.slots) (a_local int)) (id_words xs ++ (block_words body ++ x.word ∷ block_words handler)) in_region s p q refl b z)
+    stmt_is (do_stmt e) i own names ls st env ws ret c part rpart may (g, h) r = do_is i own names ls st env ws ret c e g h r
+    stmt_is (assign_stmt q e) i own names ls st env ws ret c part rpart may (ty, place, g, h) (r, u) = assign_is i own names ls st env ws ret c q e ty place g h r u
+
+    else_is : (other : ElseTree) (i : Bool) (own : List Word) (names : Names) (ls : Locals) (st : State) (env : Scope) (ws : List Word) (ret : Returning) (c : InScope t.names i own names ls (length st.slots) env ws) →
+        IsPart ws (length st.slots) (else_words other) → IsPart rs st.regions (else_region_words other) → ReturnsAs t.names i res ret → IsElse d res names other → IsLegalElse i own other →
+        Has (resolve_else t ls st other) (λ b. IsClosedElse p w rs ret env ws st other b)
+    else_is no_else i own names ls st env ws ret c part rpart may h r =
+        done _ (record { grows = grows_none st; numbers = refl; ends_so = λ before. none before; typed = λ whole s. tt; reads = λ whole s. refl })
+      where
+        none : (b : Bool) → (b && false) ≡ false
+        none true = refl
+        none false = refl
+    else_is (else_block body) i own names ls st env ws ret c part rpart may h r =
+        next (block_is body i own names ls st env ws ret c part rpart may h r) (λ a x.
+        done _ (record { grows = x.grows; numbers = x.numbers; ends_so = λ before. ap (λ q. before && q) (x.ends_so false ∙ sym (ends_is body)); typed = x.typed; reads = λ whole s. ap else_block (x.reads whole s) }))
+
+    pub block_is : (body : StmtList) (i : Bool) (own : List Word) (names : Names) (ls : Locals) (st : State) (env : Scope) (ws : List Word) (ret : Returning) (c : InScope t.names i own names ls (length st.slots) env ws) →
+        IsPart ws (length st.slots) (block_words body) → IsPart rs st.regions (block_region_words body) → ReturnsAs t.names i res ret → IsBlockWords d res names body → IsLegalBlock i own body →
+        Has (resolve_stmts t ls st body) (λ b. IsClosed p w rs ret env ws st body b)
+    block_is no_stmts i own names ls st env ws ret c part rpart may h r =
+        done _ (record { grows = grows_none st; numbers = refl; ends_so = λ before. refl; typed = λ whole s. tt; reads = λ whole s. refl })
+    block_is (stmts (stmt_node at form) rest) i own names ls st env ws ret c part rpart may (h, hs) (r, rs') =
+        next (stmt_is form i own names ls st env ws ret c (part_left ws (length st.slots) (slot_words form) (block_words rest) part) (part_left rs st.regions (region_words form) (block_region_words rest) rpart) may h r) (λ a x.
+        let goes = x.1 in
+        let g = x.0.grows in
+        next
+        (block_is rest i (own_after own form) (names_after names form) a.locals a.state goes.env_after ws ret goes.scope
+        (part_at ws (length st.slots + length (slot_words form)) (length a.state.slots) (block_words rest) (sym (length_grows st a.state (slot_words form) (region_words form) g)) (part_right ws (length st.slots) (slot_words form) (block_words rest) part))
+        (part_at rs (st.regions + length (region_words form)) a.state.regions (block_region_words rest) (sym g.regions_are) (part_right rs st.regions (region_words form) (block_region_words rest) rpart)) may hs rs')
+        (λ b y.
+        done _
+        (record {
+          grows = grows_then st a.state b.state (slot_words form) (block_words rest) (region_words form) (block_region_words rest) g y.grows;
+          numbers = numbers_both st.regions a.state.regions (region_words form) (block_region_words rest) (regions_in a.it) (regions_of b.it) x.0.numbers y.numbers g.regions_are;
+          ends_so = λ before. ap (λ q. block_ends q b.it) x.0.ends_so ∙ y.ends_so (ends_form form);
+          typed = λ whole s.
+            let first = starts_before a.state b.state (block_words rest) (block_region_words rest) whole y.grows s in
+            (x.0.typed whole first, subst (λ (f : Scope). IsBlock p whole ret f b.it) (sym (goes.is_after whole first)) (y.typed whole s));
+          reads = λ whole s.
+            let first = starts_before a.state b.state (block_words rest) (block_region_words rest) whole y.grows s in
+            ap (λ q. stmts (stmt_as q) (block_named rs (with_slots w ws) whole b.it)) (x.0.reads whole first) ∙ ap (λ q. stmts (stmt_as (unplaced_stmt_form form)) q) (y.reads whole s);
+        })))
