@@ -7,3 +7,7 @@ pub mod Exprs
 pub mod Parts
 pub mod ScopeSteps
 pub mod Stmts
+pub mod Declares
+pub mod Programs
+pub mod NewSlots
+pub mod Laws

@@ -96,6 +96,10 @@ count_up_both n (suc k) l =
     let j : suc n + k ≡ n + suc k = omega arith in
     ap (count_up n) i ∙ ap (λ ns. n ∷ ns) (count_up_both (suc n) k l ∙ ap (λ m. count_up (suc n) k ++ count_up m l) j)
 
+pub length-count_up : (n k : ℕ) → length (count_up n k) ≡ k
+length-count_up n zero = refl
+length-count_up n (suc k) = ap suc (length-count_up (suc n) k)
+
 -- the numbers of two pieces are those of both
 pub numbers_both : (n m : ℕ) (rs qs : List (List Word)) (a b : List ℕ) → a ≡ count_up n (length rs) → b ≡ count_up m (length qs) → m ≡ n + length rs → a ++ b ≡ count_up n (length (rs ++ qs))
 numbers_both n m rs qs a b e f k =

@@ -23,10 +23,10 @@ use Rattle.lam_resolved.proofs.Scopes.{IsLocalAt, InScope}
 
 -- ---- numbers and words
 
-same_number : (m n : ℕ) → nat_eq m n ≡ true → m ≡ n
+pub same_number : (m n : ℕ) → nat_eq m n ≡ true → m ≡ n
 same_number m n e = grind (arith, nat_tests, e)
 
-number_self : (n : ℕ) → nat_eq n n ≡ true
+pub number_self : (n : ℕ) → nat_eq n n ≡ true
 number_self n = grind (arith, nat_tests)
 
 number_apart : (m n : ℕ) → m < n → nat_eq m n ≡ false
@@ -281,8 +281,8 @@ pub in_captures : (cs : List (Word × Unit {0})) (names : Names) (env : Scope) (
     InScope cs true (words xs) names (locals_from 0 (taken_over caps)) (length (types_of (taken_over caps))) (locals_of (types_of (taken_over caps))) ws
 in_captures cs names env outer ws xs caps h part = record {
   reached = λ x ty f r.
-    weaker (capture_reached cs names caps 0 x ty h.typed f (ap (λ (own : List Word). has own x) h.named ∙ r))
-    (λ l p. local_from cs (taken_over caps) ws x ty l (subst (λ (own : List Word). IsPart ws 0 own) (sym h.named) part) p.0 p.1);
+      weaker (capture_reached cs names caps 0 x ty h.typed f (ap (λ (own : List Word). has own x) h.named ∙ r))
+      (λ l p. local_from cs (taken_over caps) ws x ty l (subst (λ (own : List Word). IsPart ws 0 own) (sym h.named) part) p.0 p.1);
   unknown = λ x f. capture_unknown cs names caps 0 x h.typed f;
   below = below_locals (types_of (taken_over caps));
 }

@@ -134,44 +134,46 @@ module _ (d : Decls) (t : Tables) (p : Heads) (w : Words) (tied : AreTied d t p 
         let n = length st.slots in
         let named : slice_get ws n ≡ Some x.name.word = part_head ws n x.name.word [] part in
         next (with_is (declared_type d t p w tied x.ty declared)) (λ u k. next (stands_is d t p w tied i own names ls n env ws c (exactly (written x.ty)) (exactly u) e k.1 h r) (λ v y.
-        done _
-        (record {
-          grows = grows_slot st (next_slot st u) u x.name.word [] [] (grows_none (next_slot st u));
-          numbers = refl;
-          ends_so = refl;
-          typed = λ whole s. (u, (slot_taken st u whole s, is_free t.names i own names ls n env ws c), y.fits);
-          reads = λ whole s.
-            ap (λ (a : Word). let_stmt (var_named w.classes a (type_at whole n)) (expr_named (with_slots w ws) v.it)) (word_is ws n x.name.word named) ∙
-            ap (λ o. let_stmt (var_named w.classes x.name.word (unwrap_or o int)) (expr_named (with_slots w ws) v.it)) (slot_taken st u whole s) ∙
-            ap (λ a. let_stmt (record { name = unplaced_id x.name; ty = a }) (expr_named (with_slots w ws) v.it)) (type_reads d t p w tied x.ty u k.0) ∙
-            ap (λ a. let_stmt (unplaced_var x) a) y.reads;
-        },
-        record {
-          env_after = with_use env n (a_local u);
-          scope =
-            subst (λ m. InScope t.names i (with_name own x.name.word) (with_name_typed names x.name.word (written x.ty)) (with_local ls x.name.word n u) m (with_use env n (a_local u)) ws) (sym (length_more st.slots u))
-            (in_let t.names i own names ls n env ws c x.name.word (written x.ty) u new k.1 named);
-          is_after = λ whole s. ap (λ o. use_of o env n) (slot_taken st u whole s);
-        })))
+        done _ (
+          record {
+            grows = grows_slot st (next_slot st u) u x.name.word [] [] (grows_none (next_slot st u));
+            numbers = refl;
+            ends_so = refl;
+            typed = λ whole s. (u, (slot_taken st u whole s, is_free t.names i own names ls n env ws c), y.fits);
+            reads = λ whole s.
+                ap (λ (a : Word). let_stmt (var_named w.classes a (type_at whole n)) (expr_named (with_slots w ws) v.it)) (word_is ws n x.name.word named) ∙
+                ap (λ o. let_stmt (var_named w.classes x.name.word (unwrap_or o int)) (expr_named (with_slots w ws) v.it)) (slot_taken st u whole s) ∙
+                ap (λ a. let_stmt (record { name = unplaced_id x.name; ty = a }) (expr_named (with_slots w ws) v.it)) (type_reads d t p w tied x.ty u k.0) ∙
+                ap (λ a. let_stmt (unplaced_var x) a) y.reads;
+          },
+          record {
+            env_after = with_use env n (a_local u);
+            scope =
+                subst (λ m. InScope t.names i (with_name own x.name.word) (with_name_typed names x.name.word (written x.ty)) (with_local ls x.name.word n u) m (with_use env n (a_local u)) ws) (sym (length_more st.slots u))
+                (in_let t.names i own names ls n env ws c x.name.word (written x.ty) u new k.1 named);
+            is_after = λ whole s. ap (λ o. use_of o env n) (slot_taken st u whole s);
+          },
+        )))
 
     -- a statement without slots and regions of its own
     plain_step : (form : StmtForm) (s : Statement) → slot_words form ≡ [] → region_words form ≡ [] → own_after own form ≡ own → names_after names form ≡ names → regions_in s ≡ [] → ends s ≡ ends_form form → ((whole : List ResolvedType) → after whole env s ≡ env) →
         ((whole : List ResolvedType) → IsStatement p whole ret env s) → ((whole : List ResolvedType) → stmt_named rs (with_slots w ws) whole s ≡ unplaced_stmt_form form) → Fine form (step_as s ls st)
-    plain_step form s e f own_is names_are g ends_so env_is typed reads =
-        (record {
-          grows = subst (λ (l : List Word). Grows st st l (region_words form)) (sym e) (subst (λ (l : List (List Word)). Grows st st [] l) (sym f) (grows_none st));
-          numbers = g ∙ ap (λ (l : List (List Word)). count_up st.regions (length l)) (sym f);
-          ends_so = ends_so;
-          typed = λ whole _. typed whole;
-          reads = λ whole _. reads whole;
-        },
-        record {
-          env_after = env;
-          scope =
+    plain_step form s e f own_is names_are g ends_so env_is typed reads = (
+      record {
+        grows = subst (λ (l : List Word). Grows st st l (region_words form)) (sym e) (subst (λ (l : List (List Word)). Grows st st [] l) (sym f) (grows_none st));
+        numbers = g ∙ ap (λ (l : List (List Word)). count_up st.regions (length l)) (sym f);
+        ends_so = ends_so;
+        typed = λ whole _. typed whole;
+        reads = λ whole _. reads whole;
+      },
+      record {
+        env_after = env;
+        scope =
             subst (λ (o : List Word). InScope t.names i o (names_after names form) ls (length st.slots) env ws) (sym own_is)
             (subst (λ (m : Names). InScope t.names i own m ls (length st.slots) env ws) (sym names_are) c);
-          is_after = λ whole _. env_is whole;
-        })
+        is_after = λ whole _. env_is whole;
+      },
+    )
 
     throw_is : (e : ExprTree) → StandsWords d names (exactly int) e → Reaches i own e → Has (resolve_stmt_form t ls st (throw_stmt e)) (λ s. Fine (throw_stmt e) s)
     throw_is e h r =
@@ -231,15 +233,16 @@ module _ (d : Decls) (t : Tables) (p : Heads) (w : Words) (tied : AreTied d t p 
         Has (resolve_stmt_form t ls st (while_stmt e body)) (λ s. Fine (while_stmt e body) s)
     while_is e body h r go =
         next (stands_is d t p w tied i own names ls (length st.slots) env ws c (exactly bool) (exactly bool) e refl h r) (λ v y. next go (λ a x.
-        done _
-        (record {
-          grows = x.grows;
-          numbers = x.numbers;
-          ends_so = refl;
-          typed = λ whole s. (y.fits, x.typed whole s);
-          reads = λ whole s. ap (λ q. while_stmt q (block_named rs (with_slots w ws) whole a.it)) y.reads ∙ ap (λ q. while_stmt (unplaced_expr e) q) (x.reads whole s);
-        },
-        record { env_after = env; scope = same_scope a.state (block_words body) (block_region_words body) x.grows; is_after = λ whole s. refl })))
+        done _ (
+          record {
+            grows = x.grows;
+            numbers = x.numbers;
+            ends_so = refl;
+            typed = λ whole s. (y.fits, x.typed whole s);
+            reads = λ whole s. ap (λ q. while_stmt q (block_named rs (with_slots w ws) whole a.it)) y.reads ∙ ap (λ q. while_stmt (unplaced_expr e) q) (x.reads whole s);
+          },
+          record { env_after = env; scope = same_scope a.state (block_words body) (block_region_words body) x.grows; is_after = λ whole s. refl },
+        )))
 
     if_is : (e : ExprTree) (first : StmtList) (other : ElseTree) → StandsWords d names (exactly bool) e → Reaches i own e → Has (resolve_stmts t ls st first) (λ a. IsClosed p w rs ret env ws st first a) →
         ((a : State) → Grows st a (block_words first) (block_region_words first) → Has (resolve_else t ls a other) (λ b. IsClosedElse p w rs ret env ws a other b)) →
@@ -247,18 +250,19 @@ module _ (d : Decls) (t : Tables) (p : Heads) (w : Words) (tied : AreTied d t p 
     if_is e first other h r go go_on =
         next (stands_is d t p w tied i own names ls (length st.slots) env ws c (exactly bool) (exactly bool) e refl h r) (λ v y. next go (λ a x. next (go_on a.state x.grows) (λ b z.
         let g = grows_then st a.state b.state (block_words first) (else_words other) (block_region_words first) (else_region_words other) x.grows z.grows in
-        done _
-        (record {
-          grows = g;
-          numbers = numbers_both st.regions a.state.regions (block_region_words first) (else_region_words other) (regions_of a.it) (regions_or b.it) x.numbers z.numbers x.grows.regions_are;
-          ends_so = ap (λ q. q && other_ends b.it) (x.ends_so false ∙ sym (ends_is first)) ∙ z.ends_so (tree_ends first);
-          typed = λ whole s. (y.fits, x.typed whole (starts_before a.state b.state (else_words other) (else_region_words other) whole z.grows s), z.typed whole s);
-          reads = λ whole s.
-            ap (λ q. if_stmt q (block_named rs (with_slots w ws) whole a.it) (other_named rs (with_slots w ws) whole b.it)) y.reads ∙
-            ap (λ q. if_stmt (unplaced_expr e) q (other_named rs (with_slots w ws) whole b.it)) (x.reads whole (starts_before a.state b.state (else_words other) (else_region_words other) whole z.grows s)) ∙
-            ap (λ q. if_stmt (unplaced_expr e) (unplaced_stmts first) q) (z.reads whole s);
-        },
-        record { env_after = env; scope = same_scope b.state (block_words first ++ else_words other) (block_region_words first ++ else_region_words other) g; is_after = λ whole s. refl }))))
+        done _ (
+          record {
+            grows = g;
+            numbers = numbers_both st.regions a.state.regions (block_region_words first) (else_region_words other) (regions_of a.it) (regions_or b.it) x.numbers z.numbers x.grows.regions_are;
+            ends_so = ap (λ q. q && other_ends b.it) (x.ends_so false ∙ sym (ends_is first)) ∙ z.ends_so (tree_ends first);
+            typed = λ whole s. (y.fits, x.typed whole (starts_before a.state b.state (else_words other) (else_region_words other) whole z.grows s), z.typed whole s);
+            reads = λ whole s.
+                ap (λ q. if_stmt q (block_named rs (with_slots w ws) whole a.it) (other_named rs (with_slots w ws) whole b.it)) y.reads ∙
+                ap (λ q. if_stmt (unplaced_expr e) q (other_named rs (with_slots w ws) whole b.it)) (x.reads whole (starts_before a.state b.state (else_words other) (else_region_words other) whole z.grows s)) ∙
+                ap (λ q. if_stmt (unplaced_expr e) (unplaced_stmts first) q) (z.reads whole s);
+          },
+          record { env_after = env; scope = same_scope b.state (block_words first ++ else_words other) (block_region_words first ++ else_region_words other) g; is_after = λ whole s. refl },
+        ))))
 
     sync_is : (e : ExprTree) (body : StmtList) → StandsWords d names any_object e → Reaches i own e →
         ((u : ResolvedType) → Has (resolve_stmts t ls (next_slot st u) body) (λ a. IsClosed p w rs ret (with_use env (length st.slots) (a_monitor u)) ws (next_slot st u) body a)) →
@@ -269,28 +273,29 @@ module _ (d : Decls) (t : Tables) (p : Heads) (w : Words) (tied : AreTied d t p 
         from _ k.0 (ap given_type k.1)
         (next (go k.0) (λ a x.
         let grows = grows_slot st a.state k.0 [] (block_words body) (block_region_words body) x.grows in
-        done _
-        (record {
-          grows = grows;
-          numbers = x.numbers;
-          ends_so = refl;
-          typed = λ whole s.
-            (k.0, (slot_taken st k.0 whole (starts_before (next_slot st k.0) a.state (block_words body) (block_region_words body) whole x.grows s), is_free t.names i own names ls (length st.slots) env ws c), subst (λ (g : ResolvedGiven). Gives p env v.it g) k.1 y.typed, k.2, x.typed whole s);
-          reads = λ whole s. ap (λ q. sync_stmt q (block_named rs (with_slots w ws) whole a.it)) y.reads ∙ ap (λ q. sync_stmt (unplaced_expr e) q) (x.reads whole s);
-        },
-        record { env_after = env; scope = same_scope a.state ([] ∷ block_words body) (block_region_words body) grows; is_after = λ whole s. refl }))))
+        done _ (
+          record {
+            grows = grows;
+            numbers = x.numbers;
+            ends_so = refl;
+            typed = λ whole s.
+                (k.0, (slot_taken st k.0 whole (starts_before (next_slot st k.0) a.state (block_words body) (block_region_words body) whole x.grows s), is_free t.names i own names ls (length st.slots) env ws c), subst (λ (g : ResolvedGiven). Gives p env v.it g) k.1 y.typed, k.2, x.typed whole s);
+            reads = λ whole s. ap (λ q. sync_stmt q (block_named rs (with_slots w ws) whole a.it)) y.reads ∙ ap (λ q. sync_stmt (unplaced_expr e) q) (x.reads whole s);
+          },
+          record { env_after = env; scope = same_scope a.state ([] ∷ block_words body) (block_region_words body) grows; is_after = λ whole s. refl },
+        ))))
 
     -- a region: its body at the head of its unit, and its catch block after the body and the catch name
     region_is : (l k : ExprTree) (xs : List IdTree) (body : StmtList) (x : IdTree) (handler : StmtList) → StandsWords d names (exactly label) l → StandsWords d names (exactly caps) k → AllInScope names xs → IsNew x.word names →
         Reaches i own l → Reaches i own k → AreReached i own xs → IsPart rs st.regions (region_words (region_stmt l k xs body x handler)) →
         ((cs : Locals) → InScope t.names true (words xs) names (locals_from 0 (taken_over cs)) (length (types_of (taken_over cs))) (locals_of (types_of (taken_over cs))) (id_words xs ++ (block_words body ++ x.word ∷ block_words handler)) →
-            IsPart (id_words xs ++ (block_words body ++ x.word ∷ block_words handler)) (length (types_of (taken_over cs))) (block_words body) → IsPart rs (st.regions + 1) (block_region_words body) →
-            Has (resolve_stmts t (locals_from 0 (taken_over cs)) (state_as (types_of (taken_over cs)) (st.regions + 1)) body)
-            (λ a. IsClosed p w rs in_region (locals_of (types_of (taken_over cs))) (id_words xs ++ (block_words body ++ x.word ∷ block_words handler)) (state_as (types_of (taken_over cs)) (st.regions + 1)) body a)) →
+        IsPart (id_words xs ++ (block_words body ++ x.word ∷ block_words handler)) (length (types_of (taken_over cs))) (block_words body) → IsPart rs (st.regions + 1) (block_region_words body) →
+        Has (resolve_stmts t (locals_from 0 (taken_over cs)) (state_as (types_of (taken_over cs)) (st.regions + 1)) body)
+        (λ a. IsClosed p w rs in_region (locals_of (types_of (taken_over cs))) (id_words xs ++ (block_words body ++ x.word ∷ block_words handler)) (state_as (types_of (taken_over cs)) (st.regions + 1)) body a)) →
         ((cs : Locals) (a : State) → InScope t.names true (with_name (words xs) x.word) (with_name_typed names x.word int) (with_local (locals_from 0 (taken_over cs)) x.word (length a.slots) int) (length (next_slot a int).slots) (with_use (locals_of (types_of (taken_over cs))) (length a.slots) (a_local int)) (id_words xs ++ (block_words body ++ x.word ∷ block_words handler)) →
-            IsPart (id_words xs ++ (block_words body ++ x.word ∷ block_words handler)) (length (next_slot a int).slots) (block_words handler) → IsPart rs a.regions (block_region_words handler) →
-            Has (resolve_stmts t (with_local (locals_from 0 (taken_over cs)) x.word (length a.slots) int) (next_slot a int) handler)
-            (λ b. IsClosed p w rs in_region (with_use (locals_of (types_of (taken_over cs))) (length a.slots) (a_local int)) (id_words xs ++ (block_words body ++ x.word ∷ block_words handler)) (next_slot a int) handler b)) →
+        IsPart (id_words xs ++ (block_words body ++ x.word ∷ block_words handler)) (length (next_slot a int).slots) (block_words handler) → IsPart rs a.regions (block_region_words handler) →
+        Has (resolve_stmts t (with_local (locals_from 0 (taken_over cs)) x.word (length a.slots) int) (next_slot a int) handler)
+        (λ b. IsClosed p w rs in_region (with_use (locals_of (types_of (taken_over cs))) (length a.slots) (a_local int)) (id_words xs ++ (block_words body ++ x.word ∷ block_words handler)) (next_slot a int) handler b)) →
         Has (resolve_stmt_form t ls st (region_stmt l k xs body x handler)) (λ s. Fine (region_stmt l k xs body x handler) s)
     region_is l k xs body x handler hl hk hxs new rl rk rxs part go_body go_handler =
         let inside : List Word = id_words xs ++ (block_words body ++ x.word ∷ block_words handler) in
@@ -304,7 +309,7 @@ module _ (d : Decls) (t : Tables) (p : Heads) (w : Words) (tied : AreTied d t p 
         let count : length (id_words xs) ≡ length ts = ap length (sym q.named) ∙ length-map (taken_over cs) (λ v. v.0) ∙ sym (length-map (taken_over cs) (λ v. v.1)) in
         let first_state : State = state_as ts (st.regions + 1) in
         let own_part : IsPart inside (length ts) (block_words body ++ x.word ∷ block_words handler) =
-          part_at inside (0 + length (id_words xs)) (length ts) (block_words body ++ x.word ∷ block_words handler) (omega (arith, count)) (part_right inside 0 (id_words xs) (block_words body ++ x.word ∷ block_words handler) (part_whole inside)) in
+        part_at inside (0 + length (id_words xs)) (length ts) (block_words body ++ x.word ∷ block_words handler) (omega (arith, count)) (part_right inside 0 (id_words xs) (block_words body ++ x.word ∷ block_words handler) (part_whole inside)) in
         let head_scope = in_captures t.names names env ws inside xs cs q (part_left inside 0 (id_words xs) (block_words body ++ x.word ∷ block_words handler) (part_whole inside)) in
         next (go_body cs head_scope (part_left inside (length ts) (block_words body) (x.word ∷ block_words handler) own_part) (part_left rs (st.regions + 1) (block_region_words body) (block_region_words handler) regions_part)) (λ a m.
         let n = length a.state.slots in
@@ -323,26 +328,27 @@ module _ (d : Decls) (t : Tables) (p : Heads) (w : Words) (tied : AreTied d t p 
         let own_slots : List ResolvedType = b.state.slots in
         let to_catch : Starts (next_slot a.state int).slots own_slots = starts_before (next_slot a.state int) b.state (block_words handler) (block_region_words handler) own_slots o.grows (starts_whole own_slots) in
         let to_body : Starts a.state.slots own_slots = starts_left a.state.slots (int ∷ []) own_slots to_catch in
-        done _
-        (record {
-          grows = record { more = []; slots_are = sym (append-nil st.slots); count = refl; regions_are = (let g = grows.regions_are in omega (arith, g)) };
-          numbers =
-            ap (λ ns. st.regions ∷ ns) (numbers_both (st.regions + 1) a.state.regions (block_region_words body) (block_region_words handler) (regions_of a.it) (regions_of b.it) m.numbers o.numbers m.grows.regions_are ∙ ap (λ f. count_up f (length regions)) one_more);
-          ends_so = refl;
-          typed = λ whole _.
-            (ts, grows.more, y.fits, z.fits, q.captured, grows.slots_are, m.typed own_slots to_body, (slot_taken a.state int own_slots to_catch, past_locals ts n (omega (arith, n_is))), o.typed own_slots (starts_whole own_slots));
-          reads = λ whole _.
-            ap
-            (λ (iw : List Word). region_stmt (expr_named (with_slots w ws) u.it) (expr_named (with_slots w ws) v.it) (captures_named ws (slots_of cs)) (block_named rs (with_slots w iw) own_slots a.it) (id_as (word_at iw n)) (block_named rs (with_slots w iw) own_slots b.it))
-            inside_is ∙
-            ap (λ e. region_stmt e (expr_named (with_slots w ws) v.it) (captures_named ws (slots_of cs)) (block_named rs (with_slots w inside) own_slots a.it) (id_as (word_at inside n)) (block_named rs (with_slots w inside) own_slots b.it)) y.reads ∙
-            ap (λ e. region_stmt (unplaced_expr l) e (captures_named ws (slots_of cs)) (block_named rs (with_slots w inside) own_slots a.it) (id_as (word_at inside n)) (block_named rs (with_slots w inside) own_slots b.it)) z.reads ∙
-            ap (λ e. region_stmt (unplaced_expr l) (unplaced_expr k) e (block_named rs (with_slots w inside) own_slots a.it) (id_as (word_at inside n)) (block_named rs (with_slots w inside) own_slots b.it)) q.reads ∙
-            ap (λ e. region_stmt (unplaced_expr l) (unplaced_expr k) (unplaced_ids xs) e (id_as (word_at inside n)) (block_named rs (with_slots w inside) own_slots b.it)) (m.reads own_slots to_body) ∙
-            ap (λ (e : Word). region_stmt (unplaced_expr l) (unplaced_expr k) (unplaced_ids xs) (unplaced_stmts body) (id_as e) (block_named rs (with_slots w inside) own_slots b.it)) (word_is inside n x.word catch_named) ∙
-            ap (λ e. region_stmt (unplaced_expr l) (unplaced_expr k) (unplaced_ids xs) (unplaced_stmts body) (unplaced_id x) e) (o.reads own_slots (starts_whole own_slots));
-        },
-        record { env_after = env; scope = c; is_after = λ whole _. refl }))))))
+        done _ (
+          record {
+            grows = record { more = []; slots_are = sym (append-nil st.slots); count = refl; regions_are = (let g = grows.regions_are in omega (arith, g)) };
+            numbers =
+                ap (λ ns. st.regions ∷ ns) (numbers_both (st.regions + 1) a.state.regions (block_region_words body) (block_region_words handler) (regions_of a.it) (regions_of b.it) m.numbers o.numbers m.grows.regions_are ∙ ap (λ f. count_up f (length regions)) one_more);
+            ends_so = refl;
+            typed = λ whole _.
+                (ts, grows.more, y.fits, z.fits, q.captured, grows.slots_are, m.typed own_slots to_body, (slot_taken a.state int own_slots to_catch, past_locals ts n (omega (arith, n_is))), o.typed own_slots (starts_whole own_slots));
+            reads = λ whole _.
+                ap
+                (λ (iw : List Word). region_stmt (expr_named (with_slots w ws) u.it) (expr_named (with_slots w ws) v.it) (captures_named ws (slots_of cs)) (block_named rs (with_slots w iw) own_slots a.it) (id_as (word_at iw n)) (block_named rs (with_slots w iw) own_slots b.it))
+                inside_is ∙
+                ap (λ e. region_stmt e (expr_named (with_slots w ws) v.it) (captures_named ws (slots_of cs)) (block_named rs (with_slots w inside) own_slots a.it) (id_as (word_at inside n)) (block_named rs (with_slots w inside) own_slots b.it)) y.reads ∙
+                ap (λ e. region_stmt (unplaced_expr l) e (captures_named ws (slots_of cs)) (block_named rs (with_slots w inside) own_slots a.it) (id_as (word_at inside n)) (block_named rs (with_slots w inside) own_slots b.it)) z.reads ∙
+                ap (λ e. region_stmt (unplaced_expr l) (unplaced_expr k) e (block_named rs (with_slots w inside) own_slots a.it) (id_as (word_at inside n)) (block_named rs (with_slots w inside) own_slots b.it)) q.reads ∙
+                ap (λ e. region_stmt (unplaced_expr l) (unplaced_expr k) (unplaced_ids xs) e (id_as (word_at inside n)) (block_named rs (with_slots w inside) own_slots b.it)) (m.reads own_slots to_body) ∙
+                ap (λ (e : Word). region_stmt (unplaced_expr l) (unplaced_expr k) (unplaced_ids xs) (unplaced_stmts body) (id_as e) (block_named rs (with_slots w inside) own_slots b.it)) (word_is inside n x.word catch_named) ∙
+                ap (λ e. region_stmt (unplaced_expr l) (unplaced_expr k) (unplaced_ids xs) (unplaced_stmts body) (unplaced_id x) e) (o.reads own_slots (starts_whole own_slots));
+          },
+          record { env_after = env; scope = c; is_after = λ whole _. refl },
+        ))))))
       where
         one_more : st.regions + 1 ≡ suc st.regions
         one_more = omega arith
@@ -412,9 +418,9 @@ module _ (d : Decls) (t : Tables) (p : Heads) (w : Words) (tied : AreTied d t p 
           numbers = numbers_both st.regions a.state.regions (region_words form) (block_region_words rest) (regions_in a.it) (regions_of b.it) x.0.numbers y.numbers g.regions_are;
           ends_so = λ before. ap (λ q. block_ends q b.it) x.0.ends_so ∙ y.ends_so (ends_form form);
           typed = λ whole s.
-            let first = starts_before a.state b.state (block_words rest) (block_region_words rest) whole y.grows s in
-            (x.0.typed whole first, subst (λ (f : Scope). IsBlock p whole ret f b.it) (sym (goes.is_after whole first)) (y.typed whole s));
+              let first = starts_before a.state b.state (block_words rest) (block_region_words rest) whole y.grows s in
+              (x.0.typed whole first, subst (λ (f : Scope). IsBlock p whole ret f b.it) (sym (goes.is_after whole first)) (y.typed whole s));
           reads = λ whole s.
-            let first = starts_before a.state b.state (block_words rest) (block_region_words rest) whole y.grows s in
-            ap (λ q. stmts (stmt_as q) (block_named rs (with_slots w ws) whole b.it)) (x.0.reads whole first) ∙ ap (λ q. stmts (stmt_as (unplaced_stmt_form form)) q) (y.reads whole s);
+              let first = starts_before a.state b.state (block_words rest) (block_region_words rest) whole y.grows s in
+              ap (λ q. stmts (stmt_as q) (block_named rs (with_slots w ws) whole b.it)) (x.0.reads whole first) ∙ ap (λ q. stmts (stmt_as (unplaced_stmt_form form)) q) (y.reads whole s);
         })))
