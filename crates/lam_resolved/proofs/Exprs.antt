@@ -19,7 +19,7 @@ use Rattle.resolved_tree.specs.Typing.{Head, Heads, IsType, IsField, given_by, e
 use Rattle.lam_resolved.specs.Resolved.{then_some, Found, found, numbered, resolve_type, types_of, Tables, Local, Locals, Value, value_as, Args, args_as, field_read, element_read, builtin_value, called, resolve_caps, resolve, resolve_form, resolve_args}
 use Rattle.lam_resolved.specs.Names.{Words, with_slots, word_at, words_at, id_as, worded, type_named, caps_named, form_named, args_named, expr_named, expr_as}
 use Rattle.lam_resolved.proofs.Has.{Has, done, next, from, with_is, weaker, some_is}
-use Rattle.lam_resolved.proofs.Finding.{get_map, get_below, word_is, words_are, found_at, builtin_name}
+use Rattle.lam_resolved.proofs.Finding.{get_map, get_below, word_is, words_are, found_at, local_has, builtin_name}
 use Rattle.lam_resolved.proofs.SameTypes.{Shape, shape, SameGiven, SamePlace, SamePlaces, SameAnswer, fits_same, compares_same, answered_same, same_row}
 use Rattle.lam_resolved.proofs.Scopes.{IsClassAt, SameResult, IsFunctionAt, AreTied, IsLocalAt, InScope}
 
@@ -160,7 +160,7 @@ module _ (d : Decls) (t : Tables) (p : Heads) (w : Words) (tied : AreTied d t p 
     caps_are : (xs : List CapTree) → AreTagNames names xs → ReachesCaps i own xs → Has (resolve_caps ls xs) (λ cs. AreCaps xs cs)
     caps_are [] h r = done [] (record { typed = tt; reads = refl })
     caps_are (x ∷ xs) (h, hs) (r, rs) =
-        next (c.reached x.name.word tag h r) (λ l k. next (caps_are xs hs rs) (λ cs ks.
+        next (local_has ls x.name.word (c.reached x.name.word tag h r)) (λ l k. next (caps_are xs hs rs) (λ cs ks.
         done (record { slot = l.slot; plus = x.plus } ∷ cs)
         (record {
           typed = (k.in_scope ∙ ap (λ u. Some (a_local u)) (shape t.names tag l.ty k.typed), ks.typed);
@@ -274,7 +274,7 @@ module _ (d : Decls) (t : Tables) (p : Heads) (w : Words) (tied : AreTied d t p 
       form_is at (bool_expr b) g gives r = done _ (record { same = as_type t.names g _ _ gives refl; typed = refl; reads = refl })
       form_is at null_expr g gives r = done _ (record { same = subst (λ (g : Given). SameGiven t.names g a_null) (sym gives) refl; typed = refl; reads = refl })
       form_is at (name_expr x) g (ty, h, gives) r =
-          next (c.reached x ty h r) (λ l k. done _ (record { same = as_type t.names g ty l.ty gives k.typed; typed = (l.ty, k.in_scope, refl); reads = ap (λ (y : Word). expr_node 0 (name_expr y)) (word_is ws l.slot x k.named) }))
+          next (local_has ls x (c.reached x ty h r)) (λ l k. done _ (record { same = as_type t.names g ty l.ty gives k.typed; typed = (l.ty, k.in_scope, refl); reads = ap (λ (y : Word). expr_node 0 (name_expr y)) (word_is ws l.slot x k.named) }))
       form_is at (call_expr f args) g (s, first, named, h, gives) r = call_is at f args g s first (builtin_named f.word) refl named h gives (λ ps qs k h. args_are ps qs args first k h r)
       form_is at (new_class_expr x) g (fields, h, gives) r =
           next (with_is (tied.class_at x.word fields h)) (λ n k.

@@ -1,5 +1,5 @@
 -- Look-ups by name, with the number of what is found.
-use Rattle.std.proofs.Common.{◌≡◌, ℕ, zero, suc, ◌+◌, ◌<◌, Bool, true, false, cond, List, [], ◌∷◌, ◌++◌, length, map, Option, Some, None, refl, sym, ap, ◌∙◌, arith}
+use Rattle.std.proofs.Common.{◌≡◌, ℕ, zero, suc, ◌+◌, ◌<◌, Bool, true, false, cond, List, [], ◌∷◌, ◌++◌, length, map, Option, Some, None, refl, sym, ap, ◌∙◌, subst, arith}
 use Rattle.std.specs.Prelude.{slice_get, unwrap_or}
 use Rattle.std.specs.Str.{bytes_eq}
 use Rattle.std.proofs.lemmas.Slice.Eq.{bytes_eq-Decides}
@@ -7,7 +7,7 @@ use Rattle.lam_syntax.specs.Tree.{Word}
 use Rattle.lam_builtins.specs.declared.Builtin.{Builtin}
 use Rattle.lam_builtins.specs.Builtins.{row, builtins, named_in, builtin_named}
 use Rattle.lam_kinds.specs.Tables.{find}
-use Rattle.lam_resolved.specs.Resolved.{Found, found_from, found}
+use Rattle.lam_resolved.specs.Resolved.{then_some, Found, found_from, found, Local, Locals, local_named}
 use Rattle.lam_resolved.specs.Names.{word_at, words_at}
 use Rattle.lam_resolved.proofs.Has.{Has, done, some_is}
 
@@ -63,6 +63,19 @@ found_is n x (k ∷ es) a e = by (bytes_eq x k.0) e (λ e. found_is (n + 1) x es
     by : (b : Bool) → cond b (Some k.1) (find x es) ≡ Some a → (find x es ≡ Some a → Has (found_from (n + 1) x es) (λ f. f.it ≡ a)) → Has (cond b (Some (record { number = n; it = k.1 })) (found_from (n + 1) x es)) (λ f. f.it ≡ a)
     by true e again = done _ (some_is k.1 a e)
     by false e again = again e
+
+-- a local that `find` finds
+found_local : (n : ℕ) (ls : Locals) (x : Word) → then_some (found_from n x ls) (λ l. Some l.it) ≡ find x ls
+unfolding then_some
+found_local n [] x = refl
+found_local n (k ∷ ls) x = by (bytes_eq x k.0) (found_local (n + 1) ls x)
+  where
+    by : (b : Bool) → then_some (found_from (n + 1) x ls) (λ l. Some l.it) ≡ find x ls → then_some (cond b (Some (record { number = n; it = k.1 })) (found_from (n + 1) x ls)) (λ l. Some l.it) ≡ cond b (Some k.1) (find x ls)
+    by true e = refl
+    by false e = e
+
+pub local_has : {P : Local → Type 0} (ls : Locals) (x : Word) → Has (find x ls) P → Has (local_named ls x) P
+local_has {P} ls x h = subst (λ (o : Option Local). Has o P) (sym (found_local 0 ls x)) h
 
 -- ---- the built-in call of a name has that name
 

@@ -1,6 +1,6 @@
 -- The laws of a checked program's resolution.
-use Rattle.std.proofs.Common.{◌≡◌, Option, Some, None, sym, subst}
-use Rattle.std.specs.Prelude.{IsSomeAnd}
+use Rattle.std.proofs.Common.{◌≡◌, Option, Some, None, refl, sym, subst}
+use Rattle.std.specs.Prelude.{IsSome, IsSomeAnd}
 use Rattle.lam_syntax.specs.Tree.{ProgramTree}
 use Rattle.lam_syntax.specs.Unplaced.{unplaced}
 use Rattle.lam_types.specs.Judgement.{IsTyped}
@@ -19,6 +19,9 @@ some_and : {A : Type 0} (o : Option A) (P Q : A → Type 0) → Has o P → ((a 
 some_and o P Q h k = subst (λ (o : Option _). IsSomeAnd o Q) (sym h.is) (k h.it h.holds)
 
 module _ (p : ProgramTree) (typed : IsTyped p) (legal : IsRegionLegal p) where
+  pub resolves : IsSome (resolved p)
+  resolves = let h = program_is p typed legal in subst (λ (o : Option ResolvedTree). IsSome o) (sym h.is) refl
+
   pub resolves_typed : IsSomeAnd (resolved p) (λ r. IsTypedTree r)
   resolves_typed = some_and (resolved p) (λ r. IsResolvedFrom p r) (λ r. IsTypedTree r) (program_is p typed legal) (λ r h. h.typed)
 

@@ -17,7 +17,7 @@ use Rattle.resolved_tree.specs.Typing.{Use, a_local, a_monitor, Scope, with_use,
 use Rattle.lam_resolved.specs.Resolved.{then_some, numbered, resolve_type, resolve_vars, types_of, Local, Locals, with_local, locals_from, resolve_captures, slots_of, taken_over}
 use Rattle.lam_resolved.specs.Names.{id_as, word_at, captures_named, var_words}
 use Rattle.lam_resolved.proofs.Has.{Has, done, next, known, weaker, back, some_is}
-use Rattle.lam_resolved.proofs.Finding.{same_word, get_map, get_below, word_is}
+use Rattle.lam_resolved.proofs.Finding.{same_word, get_map, get_below, word_is, local_has}
 use Rattle.lam_resolved.proofs.Parts.{IsPart, Starts}
 use Rattle.lam_resolved.proofs.Scopes.{IsLocalAt, InScope}
 
@@ -247,7 +247,7 @@ pub captures_are : (cs : List (Word × Unit {0})) (i : Bool) (own : List Word) (
     Has (resolve_captures ls xs) (λ caps. AreCaptures cs names env ws xs caps)
 captures_are cs i own names ls n env ws c [] h r = done [] (record { named = refl; typed = tt; captured = tt; reads = refl })
 captures_are cs i own names ls n env ws c (x ∷ xs) ((ty, f), h) (r, rs) =
-    next (c.reached x.word ty f r) (λ l k. next (captures_are cs i own names ls n env ws c xs h rs) (λ caps ks.
+    next (local_has ls x.word (c.reached x.word ty f r)) (λ l k. next (captures_are cs i own names ls n env ws c xs h rs) (λ caps ks.
     done ((x.word, l) ∷ caps)
     (record {
       named = ap (λ (l : List Word). x.word ∷ l) ks.named;

@@ -5,7 +5,7 @@
 //! names are put back. `resolves` has the laws that join the two to the checker; `lam_resolve` computes the tree.
 #![tactic(auto)]
 
-ghost use Rattle.std.specs.Prelude.{◌≡◌, IsSomeAnd};
+ghost use Rattle.std.specs.Prelude.{◌≡◌, IsSome, IsSomeAnd};
 ghost use Rattle.lam_syntax.specs.Unplaced.{unplaced};
 ghost use Rattle.resolved_tree.specs.Typing.{IsTypedTree};
 ghost use Rattle.resolved_tree.specs.Regions.{AreNumbered};
@@ -20,6 +20,7 @@ use region_check::Checked;
 /// below the number of their unit's slots, the regions are numbered by place, and the tree is the program: with the
 /// names put back it is the same but for positions. The call does nothing; its contract is the law.
 pub fn resolves(c: &Checked)
+    ensures some { IsSome (resolved (checked_tree c.now)) }
     ensures typed { IsSomeAnd (resolved (checked_tree c.now)) (λ r. IsTypedTree r) }
     ensures slots { IsSomeAnd (resolved (checked_tree c.now)) (λ r. SlotsDiffer r) }
     ensures regions { IsSomeAnd (resolved (checked_tree c.now)) (λ r. AreNumbered r) }

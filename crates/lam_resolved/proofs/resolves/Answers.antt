@@ -1,6 +1,9 @@
 use Rattle.region_check.specs.Seen.{checked_tree}
-use Rattle.lam_resolved.proofs.Laws.{resolves_typed, resolves_slots, resolves_regions, resolves_reads}
+use Rattle.lam_resolved.proofs.Laws.{resolves, resolves_typed, resolves_slots, resolves_regions, resolves_reads}
 use Rattle.lam_resolved.proofs.resolves.Goals as goal
+
+pub returns-clause-some : goal.returns-clause-some
+returns-clause-some c = resolves (checked_tree c.args.c.now) c.program-tree.ensures.typed c.program-tree.ensures.legal
 
 pub returns-clause-typed : goal.returns-clause-typed
 returns-clause-typed c = resolves_typed (checked_tree c.args.c.now) c.program-tree.ensures.typed c.program-tree.ensures.legal
