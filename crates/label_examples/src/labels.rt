@@ -1,8 +1,9 @@
-//! Each call once on its happy path, and the printed texts.
+//! Labels: each call once on its happy path, and the printed texts.
 
-use crate::{
-    Form, Label, LabelFault, NameFault, Rule, TagNames, bad_place, label_form, label_text,
-    mint_rule, parse_label, read_rule, read_sets, same_rule, sets_text, tag_text, write_rule,
+use flow_labels::{
+    Form, Label, LabelFault, NameFault, Rule, TagNames, bad_place, flows, label_form, label_text,
+    mint_rule, parse_label, push_label, read_rule, read_sets, rule_text, same_rule, seen,
+    sets_text, tag_text, write_rule,
 };
 use std::test::Fail;
 use tag_sets::TagId;
@@ -29,6 +30,9 @@ fn a_label_is_read_and_written(rt: HostRuntime) -> Result<(), Fail> {
     let names = three_names(&rt)?;
     let label = parse_label("{b,a,b}/{t}", &names)?.copy()?;
     assert_eq!(rt; label_text(&label, &names)?.as_str(), "{a,b}/{t}");
+    let mut text = String::from_str(rt.alloc(), "at ")?;
+    push_label(&mut text, &label, &names)?;
+    assert_eq!(rt; text.as_str(), "at {a,b}/{t}");
     let none = TagNames::new(rt.alloc());
     assert_eq!(rt; label_text(&label, &none)?.as_str(), "{#0,#1}/{#2}");
     assert_eq!(rt; tag_text(TagId(12), &names)?.as_str(), "#12");
@@ -73,6 +77,8 @@ fn a_rule_names_its_least_tag(rt: HostRuntime) -> Result<(), Fail> {
         Some(Rule::ReadS)
     );
     assert_eq!(rt; write_rule(&secret, &public).map(|d| d.tag), Some(TagId(0)));
+    assert_eq!(rt; rule_text(Rule::WriteS), "WriteS");
+    assert!(rt; flows(&public, &secret) && seen(&public, &secret) && !seen(&secret, &public));
     assert_eq!(rt; mint_rule(&public), None);
     assert_eq!(rt; same_rule(&public, &public), None);
     Ok(())
