@@ -1,12 +1,16 @@
--- Types, what an expression gives, and what a place takes.
+-- Types, what an expression gives, and what a place takes. The names C of classes are words in a program's text, and
+-- numbers once names are resolved.
 use Rattle.std.specs.Prelude.{ℕ, Bool, true, false, List, Option, Some, None}
 use Rattle.std.specs.Str.{bytes_eq}
 use Rattle.lam_syntax.specs.Tree.{Word, TypeTree, type_node, TypeForm, int_type, bool_type, bytes_type, tag_type, label_type, caps_type, file_type, dir_type, pipe_type, thread_type, class_type, array_type}
 
-pub data ValueType : Type 0 where
-  int bool bytes tag label caps file dir pipe thread : ValueType
-  object : (class : Word) → ValueType
-  array : (element : ValueType) → ValueType
+pub data TypeBy (C : Type 0) : Type 0 where
+  int bool bytes tag label caps file dir pipe thread : TypeBy C
+  object : (class : C) → TypeBy C
+  array : (element : TypeBy C) → TypeBy C
+
+abbrev pub ValueType : Type 0
+ValueType = TypeBy Word
 
 -- the type that is written, whatever its positions
 abbrev mutual
@@ -61,33 +65,39 @@ same_type (array t) (array u) = same_type t u
 same_type _ _ = false
 
 -- `null` is of each type but int and bool
-abbrev pub nullable : ValueType → Bool
+abbrev pub nullable : {C : Type 0} → TypeBy C → Bool
 nullable int = false
 nullable bool = false
 nullable _ = true
 
 -- what an expression gives: a value of a type, `null`, or nothing (a call without a result)
-pub data Given : Type 0 where
-  a_value : (t : ValueType) → Given
-  a_null : Given
-  nothing : Given
+pub data GivenBy (C : Type 0) : Type 0 where
+  a_value : (t : TypeBy C) → GivenBy C
+  a_null : GivenBy C
+  nothing : GivenBy C
 
-abbrev pub given_type : Given → Option ValueType
+abbrev pub Given : Type 0
+Given = GivenBy Word
+
+abbrev pub given_type : {C : Type 0} → GivenBy C → Option (TypeBy C)
 given_type (a_value t) = Some t
 given_type a_null = None
 given_type nothing = None
 
 -- what a place takes: one type, or several
-pub data Place : Type 0 where
-  exactly : (t : ValueType) → Place
+pub data PlaceBy (C : Type 0) : Type 0 where
+  exactly : (t : TypeBy C) → PlaceBy C
   -- before `.`
-  any_class : Place
+  any_class : PlaceBy C
   -- before `[`, and in `len`
-  any_array : Place
+  any_array : PlaceBy C
   -- a class or an array: in `sync` and `copy`
-  any_object : Place
+  any_object : PlaceBy C
   -- a class, an array, a file, a directory or a pipe: in `label_of`
-  any_labelled : Place
+  any_labelled : PlaceBy C
+
+abbrev pub Place : Type 0
+Place = PlaceBy Word
 
 abbrev pub accepts : Place → ValueType → Bool
 accepts (exactly t) u = same_type t u
@@ -106,7 +116,7 @@ accepts any_labelled pipe = true
 accepts any_labelled _ = false
 
 -- `null` does not fit where several types do
-abbrev pub accepts_null : Place → Bool
+abbrev pub accepts_null : {C : Type 0} → PlaceBy C → Bool
 accepts_null (exactly t) = nullable t
 accepts_null _ = false
 
