@@ -1,0 +1,5 @@
+pub mod Equal
+pub mod Threads
+pub mod Builtins
+pub mod Ops
+pub mod Next
