@@ -10,7 +10,8 @@ use Rattle.std.specs.Map.{lookup}
 use Rattle.tag_sets.specs.Tags.{tags_of}
 use Rattle.flow_labels.specs.declared.Label.{Label}
 use Rattle.lam_value.specs.declared.names.Name.{Name}
-use Rattle.lam_value.specs.Names.{label_cmp, coded_label}
+use Rattle.lam_value.specs.NameParts.{coded_label}
+use Rattle.lam_value.specs.Names.{label_cmp}
 
 pub record Home : Type 0 where
   pub maker : Label

@@ -1,5 +1,6 @@
 pub mod Homes
 pub mod Maps
+pub mod NameParts
 pub mod Names
 pub mod Shapes
 pub mod Texts

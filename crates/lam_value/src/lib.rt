@@ -26,5 +26,7 @@ pub use byte_text::ByteText;
 pub use counters::Counters;
 pub use names::Name;
 pub use shapes::{Kind, Shape};
-pub use text::{bytes_text, value_text, values_text};
+pub use text::{
+    bytes_text, push_bytes, push_name, push_value, push_values, value_text, values_text,
+};
 pub use values::{Value, Values, same_value};
