@@ -1,7 +1,6 @@
 //! The code of a program.
 
-ghost use Rattle.std.specs.Prelude.{◌≡◌, slice_get, length};
-ghost use Rattle.std.specs.Option.{option_copied};
+ghost use Rattle.std.specs.Prelude.{◌≡◌, ◌<◌, ◌^◌, length};
 ghost use Rattle.lam_bytecode.specs.Codes.{IsCode, code_of, unit_named, is_named};
 
 use crate::unit::{CodeUnit, Kinds, UnitKind};
