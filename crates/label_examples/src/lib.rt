@@ -1,12 +1,21 @@
-//! Worked examples of tags, labels and capabilities, as tests of the crates' public calls.
+//! Worked examples of what stands below the commands: sets, labels and capabilities, scripts and their runs, the text
+//! of a schedule, numbers in decimal, and the files and outputs of the outside.
 //!
-//! They stand above the crates that they test, so that no crate below them is proved a second time for its
-//! tests.
+//! A contract leaves want of memory free; these tests run each call once with ample memory. The expected values come
+//! from the descriptions of the formats, never from the code. Each is short, since it is proved before it runs.
 #![tactic(auto)]
 
 #[cfg(test)]
+mod books;
+#[cfg(test)]
 mod caps;
 #[cfg(test)]
+mod io;
+#[cfg(test)]
 mod labels;
+#[cfg(test)]
+mod numbers;
+#[cfg(test)]
+mod scripts;
 #[cfg(test)]
 mod sets;

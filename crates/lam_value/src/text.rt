@@ -6,8 +6,8 @@ ghost use Rattle.lam_value.specs.Texts.{hex_digit, escaped, all_escaped, bytes_t
 
 use crate::names::Name;
 use crate::values::Value;
+use decimal_text::{push_int, push_number};
 use flow_labels::{Form, TagNames, push_label, push_sets, push_tag};
-use itoa::Buffer;
 use std::alloc::Global;
 use tag_sets::NoMemory;
 
@@ -105,22 +105,6 @@ fn push_rest(text: &mut String, rest: &[Value], names: &TagNames) -> Result<(), 
         text.push(',')?;
         push_value(text, value, names)?;
     }
-    Ok(())
-}
-
-fn push_int(text: &mut String, n: i64) -> Result<(), NoMemory>
-    ensures { OnOk result (string_bytes text.new ≡ string_bytes text.old ++ signed_decimal n) }
-{
-    let mut digits = Buffer::new();
-    text.push_str(digits.format(n))?;
-    Ok(())
-}
-
-fn push_number(text: &mut String, n: u64) -> Result<(), NoMemory>
-    ensures { OnOk result (string_bytes text.new ≡ string_bytes text.old ++ decimal n) }
-{
-    let mut digits = Buffer::new();
-    text.push_str(digits.format(n))?;
     Ok(())
 }
 
