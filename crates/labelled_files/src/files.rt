@@ -488,7 +488,7 @@ fn draw_number(counters: &mut Counters, name: &Name) -> Result<(), NoMemory>
     ensures ok { OnOk result (counters.new ≡ counted counters.old (home_of name.now.maker name.now.own)) }
     ensures err { OnErr result (counters.new ≡ counters.old) }
 {
-    counters.draw(&name.maker, &name.own, name.n)
+    counters.draw(name.maker(), name.own(), name.n())
 }
 
 /// Draws a target's number, and lets the target go, for which there is no directory.

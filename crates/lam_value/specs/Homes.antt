@@ -11,7 +11,8 @@ use Rattle.tag_sets.specs.Tags.{tags_of}
 use Rattle.flow_labels.specs.declared.Label.{Label}
 use Rattle.flow_labels.specs.Flow.{flows}
 use Rattle.lam_value.specs.declared.names.Name.{Name}
-use Rattle.lam_value.specs.Names.{label_cmp, name_cmp, coded_label}
+use Rattle.lam_value.specs.NameParts.{coded_label}
+use Rattle.lam_value.specs.Names.{label_cmp, name_cmp}
 
 pub record Home : Type 0 where
   pub maker : Label

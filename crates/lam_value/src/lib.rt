@@ -30,5 +30,7 @@ pub use names::Name;
 pub use same_lists::same_values;
 pub use sameness::{Labelled, Same, Whole, same_maps};
 pub use shapes::{Kind, Shape};
-pub use text::{bytes_text, value_text, values_text};
+pub use text::{
+    bytes_text, push_bytes, push_name, push_value, push_values, value_text, values_text,
+};
 pub use values::{Value, Values, same_value};

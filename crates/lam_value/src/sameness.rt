@@ -49,7 +49,7 @@ impl Labelled for Name {
     ghost label_of = { λ n. n.own };
 
     fn label(&self) -> &Label {
-        &self.own
+        self.own()
     }
 
     ghost label_follows = { λ x y e. middle (label_eq x.maker y.maker) (label_eq x.own y.own) (nat_eq x.n y.n) e };
