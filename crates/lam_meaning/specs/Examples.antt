@@ -92,8 +92,8 @@ fails_twice =
     program_of (int ∷ [])
     (block_more (let_slot 0 (number_value (pos 1)))
     (block_more (region_block 0 (label_of args_end args_end) (caps_of []) (0 ∷ []) (int ∷ int ∷ [])
-      (block_more (set_local 0 (binary_of Div (local_value 0) (number_value (pos 0)))) block_end) 1
-      (block_more (set_local 0 (binary_of Div (number_value (pos 1)) (number_value (pos 0)))) block_end))
+    (block_more (set_local 0 (binary_of Div (local_value 0) (number_value (pos 0)))) block_end) 1
+    (block_more (set_local 0 (binary_of Div (number_value (pos 1)) (number_value (pos 0)))) block_end))
     (returns (local_value 0))))
 
 caught_and_suppressed : asks_made fails_twice 0 0 [] no_caps (Entered ∷ Done ∷ Done ∷ []) ≡ ask.Enter public_label no_caps 0 (Int (pos 1) ∷ []) ∷ ask.Caught Zero ∷ ask.Suppressed Zero ∷ ask.End (outcome.Value (Int (pos 1))) ∷ []
