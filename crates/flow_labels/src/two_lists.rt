@@ -240,19 +240,32 @@ pub fn sets_text(
     ensures { IfOk result (λ t. string_bytes t ≡ sets_text form names.now first.now second.now) }
 {
     let mut text = String::new(names.allocator());
+    push_sets(&mut text, form, first, second, names)?;
+    Ok(text)
+}
+
+/// Writes the text of two sets of tags at the end of a text.
+pub fn push_sets(
+    text: &mut String,
+    form: Form,
+    first: &TagSet,
+    second: &TagSet,
+    names: &TagNames,
+) -> Result<(), NoMemory>
+    ensures { OnOk result (string_bytes text.new ≡ string_bytes text.old ++ sets_text form names.now first.now second.now) }
+{
     match form {
         Form::Label => {
-            push_braced(&mut text, first.tags(), names)?;
+            push_braced(text, first.tags(), names)?;
             text.push('/')?;
         }
         Form::Caps => {
             text.push('+')?;
-            push_braced(&mut text, first.tags(), names)?;
+            push_braced(text, first.tags(), names)?;
             text.push('-')?;
         }
     }
-    push_braced(&mut text, second.tags(), names)?;
-    Ok(text)
+    push_braced(text, second.tags(), names)
 }
 
 /// The name of a tag, or `#` and its number where it has none.
@@ -285,7 +298,8 @@ fn push_names(text: &mut String, tags: &[TagId], names: &TagNames) -> Result<(),
     Ok(())
 }
 
-fn push_tag(text: &mut String, tag: TagId, names: &TagNames) -> Result<(), NoMemory>
+/// Writes the name of a tag, or `#` and its number, at the end of a text.
+pub fn push_tag(text: &mut String, tag: TagId, names: &TagNames) -> Result<(), NoMemory>
     ensures { OnOk result (string_bytes text.new ≡ string_bytes text.old ++ tag_text names.now tag) }
 {
     match names.name(tag) {

@@ -1,1 +1,1 @@
-pub mod Law
+pub mod Samples

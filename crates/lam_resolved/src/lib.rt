@@ -1,19 +1,5 @@
-//! The resolved view of a checked program.
+//! A checked program with its names resolved.
 //!
-//! `specs/Resolved.antt` gives a program's tree with its names resolved: locals by slot, fields, classes, units and
-//! regions by number, and with each reading the type that it wants. The meaning of a program and the compiler's scheme
-//! are on these trees, so that they need no scopes. It exists for every checked program: that is the law that
-//! `resolves` states.
+//! `specs/Resolved.antt` says what a program resolves to: a tree of `resolved_tree`, in which locals stand by slot, and
+//! fields, classes, functions and regions by number.
 #![tactic(auto)]
-
-ghost use Rattle.lam_resolved.specs.Resolved.{IsResolved};
-ghost use Rattle.region_check.specs.Seen.{checked_tree};
-
-use region_check::Checked;
-
-/// A checked program resolves. The call does nothing; its contract is the law.
-pub fn resolves(c: &Checked)
-    ensures { IsResolved (checked_tree c.now) }
-{
-    let _tree = c.program();
-}

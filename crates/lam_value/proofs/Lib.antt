@@ -1,3 +1,4 @@
+pub mod SameLemmas
 pub mod Keys
 pub mod Maps
 pub mod Rows

@@ -1,3 +1,4 @@
+pub mod Alike
 pub mod Homes
 pub mod Maps
 pub mod Names
