@@ -111,7 +111,7 @@ fn copies_what_it_wrote(alloc: Global, heap: &mut Heap) -> Result<bool, Fail> {
     let name = array_of_one(alloc, heap)?;
     let wrote = write_first(heap, &name, 9);
     let other = copy_of(alloc, heap, &name)?;
-    Ok(wrote & holds(heap, &other, 9) & (other.n == 1))
+    Ok(wrote & holds(heap, &other, 9) & (other.n() == 1))
 }
 
 #[test]
