@@ -79,13 +79,13 @@ impl Shape {
     }
 }
 
-/// So many first values of a kind.
+/// So many first values of a kind, in a list that has its room from the start.
 fn zeros(alloc: Global, kind: Kind, len: u64) -> Result<Values, NoMemory>
     ensures { IfOk result (λ vs. vs ≡ slots_of (Shape.Array kind len)) }
 {
-    let mut slots = Values::new(alloc);
+    let mut slots = Vec::with_capacity(alloc, len as usize)?;
     for _ in 0..len {
         slots.push(kind.zero())?;
     }
-    Ok(slots)
+    Ok(Values::from_vec(slots))
 }
