@@ -1,1 +1,9 @@
 pub mod Samples
+pub mod Has
+pub mod SameTypes
+pub mod Finding
+pub mod Scopes
+pub mod Exprs
+pub mod Parts
+pub mod ScopeSteps
+pub mod Stmts

@@ -8,6 +8,7 @@ use Rattle.lam_builtins.specs.declared.Builtin.{Builtin}
 use Rattle.lam_builtins.specs.Types.{ValueType, int, bool, bytes, tag, label, caps, file, dir, pipe, thread, object, array, written, a_value, a_null, nothing, given_type}
 use Rattle.lam_builtins.specs.Operators.{operator_type, unary_type}
 use Rattle.lam_builtins.specs.Builtins.{answered, row_by, builtin_named}
+use Rattle.lam_kinds.specs.Tables.{find}
 use Rattle.resolved_tree.specs.Tree.{ResolvedType, ResolvedGiven, CapSlot, Expression, number_value, text_value, bool_value, null_value, local_value, unary_of, binary_of, field_of, element_of, call_of, builtin_of, new_object, new_array, label_of, caps_of, spawn_of, Expressions, args_end, args_more, Statement, let_slot, if_block, while_block, return_value, throw_value, sync_block, region_block, do_value, set_local, set_field, set_element, Block, block_end, block_more, OtherBlock, no_other, other_block, ResolvedFunction, ResolvedTree}
 use Rattle.resolved_tree.specs.Typing.{Head, given_by}
 
@@ -110,9 +111,6 @@ abbrev pub locals_from : ℕ → List (Word × ResolvedType) → Locals
 locals_from n [] = []
 locals_from n (v ∷ vs) = (v.0, record { slot = n; ty = v.1 }) ∷ locals_from (n + 1) vs
 
-abbrev pub local_named : Locals → Word → Option Local
-local_named ls x = then_some (found x ls) (λ l. Some l.it)
-
 -- an expression, and what it gives
 pub record Value : Type 0 where
   pub it : Expression
@@ -149,7 +147,7 @@ called t None f args = then_some (found f t.functions) (λ h. Some (value_as (ca
 
 abbrev pub resolve_caps : Locals → List CapTree → Option (List CapSlot)
 resolve_caps ls [] = Some []
-resolve_caps ls (x ∷ xs) = then_some (local_named ls x.name.word) (λ l. then_some (resolve_caps ls xs) (λ cs. Some (record { slot = l.slot; plus = x.plus } ∷ cs)))
+resolve_caps ls (x ∷ xs) = then_some (find x.name.word ls) (λ l. then_some (resolve_caps ls xs) (λ cs. Some (record { slot = l.slot; plus = x.plus } ∷ cs)))
 
 abbrev mutual
   pub resolve : Tables → Locals → ExprTree → Option Value
@@ -165,7 +163,7 @@ abbrev mutual
   resolve_form t ls (text_expr bs) = Some (value_as (text_value bs) (a_value bytes))
   resolve_form t ls (bool_expr b) = Some (value_as (bool_value b) (a_value bool))
   resolve_form t ls null_expr = Some (value_as null_value a_null)
-  resolve_form t ls (name_expr x) = then_some (local_named ls x) (λ l. Some (value_as (local_value l.slot) (a_value l.ty)))
+  resolve_form t ls (name_expr x) = then_some (find x ls) (λ l. Some (value_as (local_value l.slot) (a_value l.ty)))
   resolve_form t ls (call_expr f args) = then_some (resolve_args t ls args) (λ args. called t (builtin_named f.word) f.word args)
   resolve_form t ls (new_class_expr c) = then_some (found c.word t.names) (λ n. Some (value_as (new_object n.number) (a_value (object n.number))))
   resolve_form t ls (new_array_expr ty n) =
@@ -223,7 +221,7 @@ assignment _ v = None
 -- the captured names, as they are outside
 abbrev pub resolve_captures : Locals → List IdTree → Option Locals
 resolve_captures ls [] = Some []
-resolve_captures ls (x ∷ xs) = then_some (local_named ls x.word) (λ l. then_some (resolve_captures ls xs) (λ cs. Some ((x.word, l) ∷ cs)))
+resolve_captures ls (x ∷ xs) = then_some (find x.word ls) (λ l. then_some (resolve_captures ls xs) (λ cs. Some ((x.word, l) ∷ cs)))
 
 abbrev pub slots_of : Locals → List ℕ
 slots_of cs = map (λ c. c.1.slot) cs

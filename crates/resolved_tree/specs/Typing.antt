@@ -234,22 +234,21 @@ abbrev mutual
   pub ends : Statement → Bool
   ends (return_value e) = true
   ends (throw_value e) = true
-  ends (if_block e body other) = block_ends body && other_ends other
+  ends (if_block e body other) = block_ends false body && other_ends other
   ends _ = false
 
-  -- by its last statement
-  pub block_ends : Block → Bool
-  block_ends block_end = false
-  block_ends (block_more s block_end) = ends s
-  block_ends (block_more s (block_more t rest)) = block_ends (block_more t rest)
+  -- a block ends as its last statement does, or else as what stands before it
+  pub block_ends : Bool → Block → Bool
+  block_ends before block_end = before
+  block_ends before (block_more s rest) = block_ends (ends s) rest
 
   pub other_ends : OtherBlock → Bool
   other_ends no_other = false
-  other_ends (other_block body) = block_ends body
+  other_ends (other_block body) = block_ends false body
 
 abbrev pub EndsWith : Option ResolvedType → Block → Type 0
 EndsWith None body = Unit {0}
-EndsWith (Some t) body = block_ends body ≡ true
+EndsWith (Some t) body = block_ends false body ≡ true
 
 -- the parameters take the first slots, and a function with a result returns one
 pub record IsFunction (p : Heads) (f : ResolvedFunction) : Type 0 where
