@@ -79,7 +79,7 @@ impl Shape {
     }
 }
 
-/// So many first values of a kind, in a list that has its room from the start.
+/// So many first values of a kind.
 fn zeros(alloc: Global, kind: Kind, len: u64) -> Result<Values, NoMemory>
     ensures { IfOk result (λ vs. vs ≡ slots_of (Shape.Array kind len)) }
 {
@@ -87,5 +87,5 @@ fn zeros(alloc: Global, kind: Kind, len: u64) -> Result<Values, NoMemory>
     for _ in 0..len {
         slots.push(kind.zero())?;
     }
-    Ok(Values::from_vec(slots))
+    Ok(slots)
 }
