@@ -3,4 +3,4 @@ use Rattle.lam_value.specs.Shapes.{zero_of}
 use Rattle.lam_value.proofs.shapes.zeros.Given as goal
 
 abbrev pub invariant-loop : goal.invariant-loop
-invariant-loop l = l.slots.items ≡ replicate l.counter (zero_of l.kind)
+invariant-loop l = l.slots ≡ replicate l.counter (zero_of l.kind)
