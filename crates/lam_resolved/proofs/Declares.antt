@@ -1,22 +1,21 @@
 -- The tables of a typed program exist, and tie its declarations to their numbers.
-use Rattle.std.proofs.Common.{◌≡◌, ℕ, zero, suc, ◌+◌, ◌<◌, Bool, true, false, cond, List, [], ◌∷◌, ◌++◌, length, map, Option, Some, None, refl, sym, ap, ◌∙◌, subst, arith}
+use Rattle.std.proofs.Common.{◌≡◌, ℕ, zero, suc, ◌+◌, Bool, true, false, cond, List, [], ◌∷◌, map, Option, Some, None, refl, sym, ap, ◌∙◌, subst, arith}
 use Rattle.std.specs.Prelude.{slice_get}
 use Rattle.std.specs.Str.{bytes_eq}
-use Rattle.lam_syntax.specs.Tree.{Word, TypeTree, type_node, TypeForm, int_type, bool_type, bytes_type, tag_type, label_type, caps_type, file_type, dir_type, pipe_type, thread_type, class_type, array_type, VarTree, ClassTree, FunctionTree, ItemTree, class_item, function_item, ProgramTree}
-use Rattle.lam_builtins.specs.Types.{ValueType, int, bool, bytes, tag, label, caps, file, dir, pipe, thread, object, array, written, Place, exactly}
-use Rattle.lam_builtins.specs.Builtins.{Signature, Answer}
-use Rattle.lam_kinds.specs.Tables.{Names, Fields, Decls, find, typed_names, fields_of, answer_of, places_of, signature_of, declared, declared_classes, declared_functions}
+use Rattle.lam_syntax.specs.Tree.{Word, TypeTree, type_node, int_type, bool_type, bytes_type, tag_type, label_type, caps_type, file_type, dir_type, pipe_type, thread_type, class_type, array_type, VarTree, FunctionTree, class_item, function_item, ProgramTree}
+use Rattle.lam_builtins.specs.Types.{ValueType, written}
+use Rattle.lam_builtins.specs.Builtins.{Signature}
+use Rattle.lam_kinds.specs.Tables.{Fields, find, typed_names, fields_of, answer_of, places_of, signature_of, declared, declared_classes, declared_functions}
 use Rattle.lam_exprs.specs.Judgement.{IsDeclared}
-use Rattle.lam_types.specs.Program.{result_type}
-use Rattle.lam_types.specs.Judgement.{AllDeclared, IsResult, IsItem, AllItems}
+use Rattle.lam_types.specs.Judgement.{AllDeclared, IsResult, AllItems}
 use Rattle.resolved_tree.specs.Tree.{ResolvedType}
 use Rattle.resolved_tree.specs.Typing.{Head, Heads, exact_places}
-use Rattle.lam_resolved.specs.Resolved.{then_some, Found, found_from, found, class_names, numbered, resolve_type, resolve_result, resolve_vars, types_of, Tables, resolve_classes, resolve_head, resolve_heads, tables_by, tables}
-use Rattle.lam_resolved.specs.Names.{class_words, field_words, var_words}
-use Rattle.lam_resolved.proofs.Has.{Has, done, next, from, with_is, known, weaker, back, some_is}
-use Rattle.lam_resolved.proofs.Finding.{same_word, found_is}
+use Rattle.lam_resolved.specs.Resolved.{then_some, Found, found_from, found, class_names, numbered, resolve_type, resolve_result, resolve_vars, types_of, Tables, resolve_classes, resolve_head, resolve_heads, tables}
+use Rattle.lam_resolved.specs.Names.{class_words, field_words}
+use Rattle.lam_resolved.proofs.Has.{Has, done, next, from, weaker, back, some_is}
+use Rattle.lam_resolved.proofs.Finding.{same_word}
 use Rattle.lam_resolved.proofs.SameTypes.{SamePlaces}
-use Rattle.lam_resolved.proofs.Scopes.{IsClassAt, SameResult, IsFunctionAt, AreTied}
+use Rattle.lam_resolved.proofs.Scopes.{SameResult, AreTied}
 use Rattle.lam_resolved.proofs.ScopeSteps.{SameVars, vars_named_same}
 
 -- ---- what is resolved is the same by words and by numbers

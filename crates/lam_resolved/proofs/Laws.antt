@@ -1,5 +1,5 @@
 -- The laws of a checked program's resolution.
-use Rattle.std.proofs.Common.{◌≡◌, Option, Some, None, refl, sym, subst}
+use Rattle.std.proofs.Common.{◌≡◌, Option, refl, sym, subst}
 use Rattle.std.specs.Prelude.{IsSome, IsSomeAnd}
 use Rattle.lam_syntax.specs.Tree.{ProgramTree}
 use Rattle.lam_syntax.specs.Unplaced.{unplaced}

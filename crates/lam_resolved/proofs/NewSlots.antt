@@ -1,14 +1,13 @@
 -- In a typed tree the slots in scope differ, and each is below the number of its unit's slots.
-use Rattle.std.proofs.Common.{◌≡◌, ◌≢◌, ℕ, zero, suc, ◌+◌, ◌<◌, ◌≤◌, Bool, true, false, cond, ◌||◌, List, [], ◌∷◌, ◌++◌, length, Option, Some, None, refl, sym, ap, ◌∙◌, subst, arith, length-append}
+use Rattle.std.proofs.Common.{◌≡◌, ℕ, zero, suc, ◌+◌, ◌<◌, ◌≤◌, Bool, true, false, cond, ◌||◌, List, [], ◌∷◌, length, Option, Some, None, refl, sym, ap, ◌∙◌, subst, arith, length-append}
 use Rattle.std.proofs.lemmas.Bool.Decides.{nat_tests}
 use Rattle.std.specs.Prelude.{nat_eq, slice_get}
 use Rattle.resolved_tree.specs.Tree.{ResolvedType, Statement, let_slot, if_block, while_block, return_value, throw_value, sync_block, region_block, do_value, set_local, set_field, set_element, Block, block_end, block_more, OtherBlock, no_other, other_block, ResolvedFunction, ResolvedTree}
-use Rattle.resolved_tree.specs.Typing.{Heads, Use, a_local, a_monitor, Scope, with_use, local_if, locals_of, IsFree, Returning, AreCaptured, use_of, after, IsStatement, IsBlock, IsOther, IsFunction, AreFunctions, IsTypedTree}
+use Rattle.resolved_tree.specs.Typing.{Heads, Use, a_local, a_monitor, Scope, with_use, local_if, locals_of, IsFree, Returning, AreCaptured, use_of, after, IsStatement, IsBlock, IsOther, AreFunctions, IsTypedTree}
 use Rattle.resolved_tree.specs.Regions.{count_up}
 use Rattle.resolved_tree.specs.Slots.{has_slot, IsNewSlot, AllInScope, scope_after, DeclaresNew, BlockDeclaresNew, OtherDeclaresNew, AllDeclareNew, SlotsDiffer}
-use Rattle.lam_resolved.proofs.Has.{some_is}
 use Rattle.lam_resolved.proofs.Finding.{get_below}
-use Rattle.lam_resolved.proofs.ScopeSteps.{same_number, number_self}
+use Rattle.lam_resolved.proofs.ScopeSteps.{same_number}
 
 -- the slots that have a use are those of the list
 record AreSlots (env : Scope) (scope : List ℕ) : Type 0 where

@@ -1,11 +1,11 @@
 -- Lists that stand in longer ones, and states that grow.
-use Rattle.std.proofs.Common.{◌≡◌, ℕ, zero, suc, ◌+◌, ◌<◌, ◌≤◌, List, [], ◌∷◌, ◌++◌, length, Option, Some, None, refl, sym, ap, ◌∙◌, subst, arith, append_assoc, length-append}
+use Rattle.std.proofs.Common.{◌≡◌, ℕ, zero, suc, ◌+◌, List, [], ◌∷◌, ◌++◌, length, Some, refl, sym, ap, ◌∙◌, subst, arith, append_assoc, length-append}
 use Rattle.std.specs.Prelude.{slice_get}
 use Rattle.std.proofs.lemmas.List.{append-nil}
 use Rattle.lam_syntax.specs.Tree.{Word}
 use Rattle.resolved_tree.specs.Tree.{ResolvedType}
 use Rattle.resolved_tree.specs.Regions.{count_up}
-use Rattle.lam_resolved.specs.Resolved.{State, state_as, next_slot}
+use Rattle.lam_resolved.specs.Resolved.{State, next_slot}
 
 -- a list stands in another from a place on
 pub record IsPart {A : Type 0} (xs : List A) (n : ℕ) (part : List A) : Type 0 where

@@ -1,29 +1,27 @@
 -- Each typed program that keeps the region rules resolves, to one that is typed without names, whose regions are
 -- numbered by place, and that reads as it was.
-use Rattle.std.proofs.Common.{◌≡◌, ℕ, zero, suc, ◌+◌, ◌<◌, ◌≤◌, Bool, true, false, List, [], ◌∷◌, ◌++◌, length, map, Option, Some, None, refl, sym, ap, ◌∙◌, subst, arith, length-append}
-use Rattle.std.specs.Prelude.{slice_get}
+use Rattle.std.proofs.Common.{◌≡◌, ℕ, ◌+◌, false, List, [], ◌∷◌, ◌++◌, length, map, Option, Some, None, refl, sym, ap, ◌∙◌, subst, arith}
 use Rattle.std.proofs.lemmas.List.{length-map}
-use Rattle.lam_syntax.specs.Tree.{Word, TypeTree, VarTree, ClassTree, FunctionTree, ItemTree, class_item, function_item, ProgramTree, StmtList}
-use Rattle.lam_syntax.specs.Unplaced.{unplaced_id, unplaced_type, unplaced_option_type, unplaced_var, unplaced_vars, unplaced_stmts, unplaced_item, unplaced}
-use Rattle.lam_builtins.specs.Types.{ValueType, written, Place}
-use Rattle.lam_kinds.specs.Tables.{Names, Decls, typed_names, declared}
+use Rattle.lam_syntax.specs.Tree.{Word, TypeTree, VarTree, FunctionTree, class_item, function_item, ProgramTree, StmtList}
+use Rattle.lam_syntax.specs.Unplaced.{unplaced_id, unplaced_option_type, unplaced_var, unplaced_vars, unplaced_item, unplaced}
+use Rattle.lam_builtins.specs.Types.{written}
+use Rattle.lam_kinds.specs.Tables.{Decls, typed_names, declared}
 use Rattle.lam_exprs.specs.Judgement.{IsDeclared}
-use Rattle.lam_types.specs.Endings.{ends as tree_ends}
 use Rattle.lam_types.specs.Program.{result_type}
-use Rattle.lam_types.specs.Judgement.{AllDeclared, IsResult, EndsWith as EndsWords, IsBlock as IsBlockWords, IsFunction as IsFunctionWords, IsItem, AllItems, IsTyped}
+use Rattle.lam_types.specs.Judgement.{AllDeclared, IsResult, EndsWith as EndsWords, IsFunction as IsFunctionWords, AllItems, IsTyped}
 use Rattle.region_check.specs.Legal.{IsLegalBlock, IsRegionLegal}
 use Rattle.resolved_tree.specs.Tree.{ResolvedType, Block, ResolvedFunction, ResolvedTree}
-use Rattle.resolved_tree.specs.Typing.{Head, Heads, head_of, heads_of, IsType, AreTypes, AreClasses, locals_of, Returning, in_region, in_function, IsBlock, block_ends, EndsWith, IsFunction, AreFunctions, IsTypedTree}
-use Rattle.resolved_tree.specs.Regions.{regions_of, function_regions, region_numbers, count_up, AreNumbered}
-use Rattle.lam_resolved.specs.Resolved.{then_some, class_names, numbered, resolve_type, resolve_result, resolve_vars, types_of, Tables, resolve_classes, resolve_head, resolve_heads, tables, locals_from, State, state_as, Closed, resolve_stmts, function_as, resolve_function, resolve_functions, resolved}
-use Rattle.lam_resolved.specs.Names.{Names as PutNames, a_class, a_function, block_words, block_region_words, id_words, var_words, item_order, class_words, field_words, function_words, all_region_words, names_of, Words, with_slots, id_as, type_named, var_named, block_named, vars_named, result_named, class_named, function_named, items_named, program_words, program_named}
-use Rattle.lam_resolved.proofs.Has.{Has, done, next, from, with_is, known, weaker, back, some_is}
-use Rattle.lam_resolved.proofs.Scopes.{SameResult, AreTied, InScope}
+use Rattle.resolved_tree.specs.Typing.{Head, Heads, head_of, AreTypes, AreClasses, locals_of, in_function, block_ends, EndsWith, IsFunction, AreFunctions, IsTypedTree}
+use Rattle.resolved_tree.specs.Regions.{regions_of, function_regions, count_up, AreNumbered}
+use Rattle.lam_resolved.specs.Resolved.{then_some, numbered, resolve_type, resolve_result, resolve_vars, types_of, Tables, resolve_classes, resolve_head, resolve_heads, locals_from, state_as, resolve_function, resolve_functions, resolved}
+use Rattle.lam_resolved.specs.Names.{block_words, block_region_words, var_words, item_order, class_words, field_words, function_words, all_region_words, names_of, Words, with_slots, block_named, vars_named, result_named, function_named, items_named, program_named}
+use Rattle.lam_resolved.proofs.Has.{Has, done, next, from, weaker, back, some_is}
+use Rattle.lam_resolved.proofs.Scopes.{AreTied}
 use Rattle.lam_resolved.proofs.Exprs.{IsTypeFrom, declared_type, type_reads}
-use Rattle.lam_resolved.proofs.Parts.{IsPart, starts_whole, part_left, part_right, part_at, part_whole, Grows, numbers_both, length-count_up}
+use Rattle.lam_resolved.proofs.Parts.{IsPart, starts_whole, part_left, part_right, part_at, part_whole, numbers_both, length-count_up}
 use Rattle.lam_resolved.proofs.ScopeSteps.{SameVars, vars_named_same, in_params}
-use Rattle.lam_resolved.proofs.Stmts.{SameReturn, ReturnsAs, ends_after, ends_is, IsClosed, block_is}
-use Rattle.lam_resolved.proofs.Declares.{vars_same, vars_exist, result_exists, tables_as, TablesOf, tables_exist, head_words, HeadFrom, head_from, heads_from, tied_tables}
+use Rattle.lam_resolved.proofs.Stmts.{SameReturn, ends_after, ends_is, block_is}
+use Rattle.lam_resolved.proofs.Declares.{vars_same, tables_as, tables_exist, head_words, head_from, heads_from, tied_tables}
 
 module _ (d : Decls) (t : Tables) (p : Heads) (w : Words) (tied : AreTied d t p w.classes w.fields w.functions) where
   -- a written type that has a number

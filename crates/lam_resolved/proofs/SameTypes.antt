@@ -1,14 +1,14 @@
 -- What is said of types by words is said of them by numbers.
-use Rattle.std.proofs.Common.{◌≡◌, ℕ, Bool, true, false, List, [], ◌∷◌, map, Option, Some, None, refl, sym, ap, ◌∙◌, subst}
+use Rattle.std.proofs.Common.{◌≡◌, ℕ, true, List, [], ◌∷◌, Some, refl, sym, ap, ◌∙◌, subst}
 use Rattle.lam_syntax.specs.Tree.{Word}
 use Rattle.lam_builtins.specs.declared.Builtin.{Builtin}
 use Rattle.lam_builtins.specs.declared.Builtin.TheVariants.{Len, Size, Byte, Slice, Cat, Text, Number, MyLabel, MyCaps, Root, LabelOf, Copy, Mint, Say, MakeFile, MakeDir, OpenFile, OpenDir, Remove, Read, Length, Append, Cut, MakePipe, Send, SendCaps, Receive, ReceiveCaps, Join}
-use Rattle.lam_builtins.specs.Types.{ValueType, int, bool, bytes, tag, label, caps, file, dir, pipe, thread, object, array, nullable, same_type, Given, a_value, a_null, nothing, Place, exactly, any_class, any_array, any_object, any_labelled, accepts, suits, comparable}
+use Rattle.lam_builtins.specs.Types.{ValueType, int, bool, bytes, tag, label, caps, file, dir, pipe, thread, object, array, nullable, Given, a_value, a_null, nothing, Place, exactly, any_class, any_array, any_object, any_labelled, accepts, suits, comparable}
 use Rattle.lam_builtins.specs.Builtins.{Answer, AnswerBy, answers, no_answer, as_first, answered, row, row_by}
 use Rattle.lam_exprs.proofs.Law.{type_back}
 use Rattle.resolved_tree.specs.Tree.{ResolvedType, ResolvedGiven, ResolvedPlace}
-use Rattle.resolved_tree.specs.Typing.{Takes, TakesNull, Fits, Compare, is_object, is_labelled, given_by}
-use Rattle.lam_resolved.specs.Resolved.{Found, found, numbered, then_some}
+use Rattle.resolved_tree.specs.Typing.{Takes, Fits, Compare, is_object, is_labelled}
+use Rattle.lam_resolved.specs.Resolved.{Found, found, numbered}
 use Rattle.lam_resolved.proofs.Has.{some_is, back}
 
 module _ (cs : List (Word × Unit {0})) where

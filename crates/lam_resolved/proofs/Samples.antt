@@ -1,12 +1,12 @@
 -- What a small program resolves to, computed.
-use Rattle.std.proofs.Common.{◌≡◌, ℕ, ℤ, pos, List, [], ◌∷◌, Option, Some, None, refl}
+use Rattle.std.proofs.Common.{◌≡◌, ℕ, pos, [], ◌∷◌, Some, refl}
 use Rattle.std.specs.Prelude.{codes}
 use Rattle.lam_syntax.specs.declared.BinaryOp.TheVariants.{Lt}
-use Rattle.lam_syntax.specs.Tree.{Word, IdTree, VarTree, TypeTree, type_node, TypeForm, int_type, class_type, array_type, ItemTree, class_item, function_item, ProgramTree, ExprTree, expr_node, ExprForm, binary_expr, field_expr, element_expr, number_expr, name_expr, call_expr, new_class_expr, new_array_expr, label_expr, caps_expr, ExprList, no_exprs, exprs, StmtTree, stmt_node, StmtForm, let_stmt, while_stmt, return_stmt, sync_stmt, region_stmt, assign_stmt, StmtList, no_stmts, stmts}
+use Rattle.lam_syntax.specs.Tree.{Word, IdTree, VarTree, TypeTree, type_node, TypeForm, int_type, class_type, array_type, ItemTree, class_item, function_item, ProgramTree, ExprTree, expr_node, ExprForm, binary_expr, field_expr, element_expr, number_expr, name_expr, call_expr, new_class_expr, new_array_expr, label_expr, caps_expr, no_exprs, exprs, stmt_node, StmtForm, let_stmt, while_stmt, return_stmt, sync_stmt, region_stmt, assign_stmt, StmtList, no_stmts, stmts}
 use Rattle.lam_builtins.specs.declared.Builtin.TheVariants.{Len}
 use Rattle.lam_builtins.specs.Types.{int, object, array}
 use Rattle.lam_builtins.specs.Builtins.{builtin_named}
-use Rattle.resolved_tree.specs.Tree.{number_value, local_value, binary_of, field_of, element_of, call_of, builtin_of, new_object, new_array, label_of, caps_of, args_end, args_more, Block, let_slot, while_block, return_value, sync_block, region_block, set_local, set_field, set_element, block_end, block_more, ResolvedTree}
+use Rattle.resolved_tree.specs.Tree.{number_value, local_value, binary_of, field_of, call_of, builtin_of, new_object, new_array, label_of, caps_of, args_end, args_more, Block, let_slot, while_block, return_value, sync_block, region_block, set_local, set_field, set_element, block_end, block_more, ResolvedTree}
 use Rattle.resolved_tree.specs.Regions.{AreNumbered}
 use Rattle.lam_resolved.specs.Resolved.{then_some, resolved}
 use Rattle.lam_resolved.specs.Names.{names_of, program_named}

@@ -1,24 +1,23 @@
 -- How a scope goes on: a name more, a slot more, the head of a unit.
-use Rattle.std.proofs.Common.{◌≡◌, ℕ, zero, suc, ◌+◌, ◌<◌, ◌≤◌, Bool, true, false, cond, ◌||◌, List, [], ◌∷◌, ◌++◌, length, map, Option, Some, None, refl, sym, ap, ◌∙◌, subst, arith}
-use Rattle.std.proofs.lemmas.List.{length-map}
+use Rattle.std.proofs.Common.{◌≡◌, ℕ, suc, ◌+◌, ◌<◌, ◌≤◌, Bool, true, false, cond, ◌||◌, List, [], ◌∷◌, ◌++◌, length, map, Option, Some, None, refl, sym, ap, ◌∙◌, subst, arith}
 use Rattle.std.proofs.lemmas.Bool.Decides.{nat_tests}
 use Rattle.std.specs.Prelude.{nat_eq, slice_get}
 use Rattle.std.specs.Str.{bytes_eq}
-use Rattle.lam_syntax.specs.Tree.{Word, IdTree, VarTree, TypeTree}
+use Rattle.lam_syntax.specs.Tree.{Word, IdTree, VarTree}
 use Rattle.lam_syntax.specs.Unplaced.{unplaced_ids}
 use Rattle.lam_builtins.specs.Types.{ValueType, written}
-use Rattle.lam_kinds.specs.Tables.{Names, Decls, find, typed_names}
+use Rattle.lam_kinds.specs.Tables.{Names, find, typed_names}
 use Rattle.lam_types.specs.Stmts.{with_local as with_name_typed}
 use Rattle.lam_types.specs.Judgement.{AllInScope}
 use Rattle.region_check.specs.Breaks.{has, with_name}
 use Rattle.region_check.specs.Legal.{IsReached, AreReached, words}
 use Rattle.resolved_tree.specs.Tree.{ResolvedType}
 use Rattle.resolved_tree.specs.Typing.{Use, a_local, a_monitor, Scope, with_use, local_if, locals_of, AreCaptured}
-use Rattle.lam_resolved.specs.Resolved.{then_some, numbered, resolve_type, resolve_vars, types_of, Local, Locals, with_local, locals_from, resolve_captures, slots_of, taken_over}
-use Rattle.lam_resolved.specs.Names.{id_as, word_at, captures_named, var_words}
-use Rattle.lam_resolved.proofs.Has.{Has, done, next, known, weaker, back, some_is}
+use Rattle.lam_resolved.specs.Resolved.{numbered, types_of, Local, Locals, with_local, locals_from, resolve_captures, slots_of, taken_over}
+use Rattle.lam_resolved.specs.Names.{id_as, captures_named, var_words}
+use Rattle.lam_resolved.proofs.Has.{Has, done, next, known, weaker, some_is}
 use Rattle.lam_resolved.proofs.Finding.{same_word, get_map, get_below, word_is, local_has}
-use Rattle.lam_resolved.proofs.Parts.{IsPart, Starts}
+use Rattle.lam_resolved.proofs.Parts.{IsPart}
 use Rattle.lam_resolved.proofs.Scopes.{IsLocalAt, InScope}
 
 -- ---- numbers and words

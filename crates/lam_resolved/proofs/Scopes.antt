@@ -1,5 +1,5 @@
 -- What ties a scope by names to the slots, and a program's declarations to their numbers.
-use Rattle.std.proofs.Common.{◌≡◌, ℕ, ◌<◌, Bool, List, [], ◌∷◌, map, Option, Some, None}
+use Rattle.std.proofs.Common.{◌≡◌, ℕ, ◌<◌, Bool, List, map, Option, Some, None}
 use Rattle.std.specs.Prelude.{slice_get}
 use Rattle.lam_syntax.specs.Tree.{Word}
 use Rattle.lam_builtins.specs.Types.{ValueType}

@@ -1,30 +1,30 @@
 -- Each typed statement that keeps the region rules resolves, to one that is typed without names, and that reads as it
 -- was; its slots and its regions are numbered by place.
-use Rattle.std.proofs.Common.{◌≡◌, ℕ, zero, suc, ◌+◌, ◌<◌, ◌≤◌, Bool, true, false, ◌&&◌, List, [], ◌∷◌, ◌++◌, length, map, Option, Some, None, refl, sym, ap, ◌∙◌, subst, arith, append_assoc, length-append}
+use Rattle.std.proofs.Common.{◌≡◌, ℕ, suc, ◌+◌, ◌≤◌, Bool, true, false, ◌&&◌, List, [], ◌∷◌, ◌++◌, length, Option, Some, None, refl, sym, ap, ◌∙◌, subst, arith}
 use Rattle.std.specs.Prelude.{slice_get, unwrap_or}
 use Rattle.std.proofs.lemmas.List.{length-map, append-nil}
-use Rattle.lam_syntax.specs.Tree.{Word, IdTree, VarTree, ExprTree, expr_node, ExprForm, binary_expr, unary_expr, field_expr, element_expr, number_expr, text_expr, bool_expr, null_expr, name_expr, call_expr, new_class_expr, new_array_expr, label_expr, caps_expr, spawn_expr, StmtTree, stmt_node, StmtForm, let_stmt, if_stmt, while_stmt, return_stmt, throw_stmt, sync_stmt, region_stmt, do_stmt, assign_stmt, StmtList, no_stmts, stmts, ElseTree, no_else, else_block}
-use Rattle.lam_syntax.specs.Unplaced.{unplaced_id, unplaced_ids, unplaced_type, unplaced_var, unplaced_expr, unplaced_option_expr, unplaced_stmt, unplaced_stmt_form, unplaced_stmts, unplaced_else}
-use Rattle.lam_builtins.specs.Types.{ValueType, int, bool, label, caps, object, array, written, Given, a_value, given_type, Place, exactly, any_object, suits}
-use Rattle.lam_kinds.specs.Tables.{Names, Decls, find}
-use Rattle.lam_exprs.specs.Judgement.{IsDeclared, Fits as FitsWords, IsGiven}
+use Rattle.lam_syntax.specs.Tree.{Word, IdTree, VarTree, ExprTree, expr_node, binary_expr, unary_expr, field_expr, element_expr, number_expr, text_expr, bool_expr, null_expr, name_expr, call_expr, new_class_expr, new_array_expr, label_expr, caps_expr, spawn_expr, StmtTree, stmt_node, StmtForm, let_stmt, if_stmt, while_stmt, return_stmt, throw_stmt, sync_stmt, region_stmt, do_stmt, assign_stmt, StmtList, no_stmts, stmts, ElseTree, no_else, else_block}
+use Rattle.lam_syntax.specs.Unplaced.{unplaced_id, unplaced_ids, unplaced_var, unplaced_expr, unplaced_option_expr, unplaced_stmt_form, unplaced_stmts, unplaced_else}
+use Rattle.lam_builtins.specs.Types.{ValueType, int, bool, label, caps, object, array, written, Given, a_value, given_type, exactly, any_object, suits}
+use Rattle.lam_kinds.specs.Tables.{Names, Decls}
+use Rattle.lam_exprs.specs.Judgement.{IsDeclared, IsGiven}
 use Rattle.lam_types.specs.Endings.{ends_form, ends_stmt, both_end, ends as tree_ends}
 use Rattle.lam_types.specs.Stmts.{with_local as with_name_typed, is_place}
 use Rattle.lam_types.specs.Judgement.{IsNew, Stands as StandsWords, Returns as ReturnsWords, AllInScope, after as names_after, IsStmt, IsElse, IsBlock as IsBlockWords}
 use Rattle.region_check.specs.Breaks.{with_name}
-use Rattle.region_check.specs.Legal.{Reaches, AreReached, ValueReaches, Differ, words, after as own_after, IsLegalForm, IsLegalElse, IsLegalBlock}
-use Rattle.resolved_tree.specs.Tree.{ResolvedType, ResolvedGiven, ResolvedPlace, Expression, number_value, text_value, bool_value, null_value, local_value, unary_of, binary_of, field_of, element_of, call_of, builtin_of, new_object, new_array, label_of, caps_of, spawn_of, Statement, let_slot, if_block, while_block, return_value, throw_value, sync_block, region_block, do_value, set_local, set_field, set_element, Block, block_end, block_more, OtherBlock, no_other, other_block}
-use Rattle.resolved_tree.specs.Typing.{Heads, Use, a_local, a_monitor, Scope, with_use, locals_of, is_object, FitsBy, Gives, Stands, IsFree, Returning, in_region, in_function, Returns, use_of, after, IsStatement, IsBlock, IsOther, ends, block_ends, other_ends}
+use Rattle.region_check.specs.Legal.{Reaches, AreReached, ValueReaches, words, after as own_after, IsLegalForm, IsLegalElse, IsLegalBlock}
+use Rattle.resolved_tree.specs.Tree.{ResolvedType, ResolvedGiven, Expression, local_value, field_of, element_of, Statement, return_value, throw_value, do_value, set_local, set_field, set_element, Block, OtherBlock}
+use Rattle.resolved_tree.specs.Typing.{Heads, Use, a_local, a_monitor, Scope, with_use, locals_of, is_object, FitsBy, Gives, Stands, Returning, in_region, in_function, Returns, use_of, after, IsStatement, IsBlock, IsOther, ends, block_ends, other_ends}
 use Rattle.resolved_tree.specs.Regions.{regions_in, regions_of, regions_or, count_up}
-use Rattle.lam_resolved.specs.Resolved.{then_some, found, numbered, resolve_type, types_of, Tables, Local, Locals, with_local, locals_from, Value, value_as, resolve, State, state_as, next_slot, Step, step_as, Closed, closed_as, resolve_value, assignment, resolve_captures, slots_of, taken_over, resolve_stmt, resolve_stmt_form, resolve_else, resolve_stmts}
-use Rattle.lam_resolved.specs.Names.{id_words, slot_words, block_words, else_words, region_words, block_region_words, else_region_words, Words, with_slots, word_at, words_at, id_as, type_named, var_named, captures_named, type_at, expr_named, value_named, expr_as, stmt_as, stmt_named, block_named, other_named}
-use Rattle.lam_resolved.proofs.Has.{Has, done, next, from, with_is, weaker, some_is}
+use Rattle.lam_resolved.specs.Resolved.{then_some, numbered, types_of, Tables, Locals, with_local, locals_from, Value, State, state_as, next_slot, Step, step_as, Closed, resolve_value, assignment, slots_of, taken_over, resolve_stmt_form, resolve_else, resolve_stmts}
+use Rattle.lam_resolved.specs.Names.{id_words, slot_words, block_words, else_words, region_words, block_region_words, else_region_words, Words, with_slots, word_at, words_at, id_as, var_named, captures_named, type_at, expr_named, value_named, stmt_as, stmt_named, block_named, other_named}
+use Rattle.lam_resolved.proofs.Has.{Has, done, next, from, with_is}
 use Rattle.lam_resolved.proofs.Finding.{word_is, words_are}
-use Rattle.lam_resolved.proofs.SameTypes.{Shape, shape, SameGiven, fits_same}
-use Rattle.lam_resolved.proofs.Scopes.{AreTied, IsLocalAt, InScope}
-use Rattle.lam_resolved.proofs.Exprs.{IsTypeFrom, declared_type, type_reads, IsValue, IsStanding, expr_is, stands_is, value_type_is}
-use Rattle.lam_resolved.proofs.Parts.{IsPart, Starts, get_left, get_right, part_left, part_right, part_head, part_tail, part_at, part_whole, starts_whole, starts_left, Grows, grows_none, grows_then, grows_slot, length_grows, starts_before, length_more, slot_taken, count_up_both, numbers_both}
-use Rattle.lam_resolved.proofs.ScopeSteps.{in_later, is_free, in_monitor, in_let, below_locals, AreCaptures, captures_are, in_captures}
+use Rattle.lam_resolved.proofs.SameTypes.{shape, SameGiven}
+use Rattle.lam_resolved.proofs.Scopes.{AreTied, InScope}
+use Rattle.lam_resolved.proofs.Exprs.{declared_type, type_reads, expr_is, stands_is}
+use Rattle.lam_resolved.proofs.Parts.{IsPart, Starts, part_left, part_right, part_head, part_tail, part_at, part_whole, starts_whole, starts_left, Grows, grows_none, grows_then, grows_slot, length_grows, starts_before, length_more, slot_taken, numbers_both}
+use Rattle.lam_resolved.proofs.ScopeSteps.{in_later, is_free, in_monitor, in_let, below_locals, captures_are, in_captures}
 
 -- ---- what may be returned
 

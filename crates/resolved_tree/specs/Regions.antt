@@ -1,6 +1,6 @@
 -- The numbers of the regions of a program, in order of appearance: an outer one before those inside of it.
 use Rattle.std.specs.Prelude.{◌≡◌, ℕ, zero, suc, List, [], ◌∷◌, ◌++◌, length}
-use Rattle.resolved_tree.specs.Tree.{Statement, let_slot, if_block, while_block, return_value, throw_value, sync_block, region_block, do_value, set_local, set_field, set_element, Block, block_end, block_more, OtherBlock, no_other, other_block, ResolvedFunction, ResolvedTree}
+use Rattle.resolved_tree.specs.Tree.{Statement, if_block, while_block, sync_block, region_block, Block, block_end, block_more, OtherBlock, no_other, other_block, ResolvedFunction, ResolvedTree}
 
 abbrev mutual
   pub regions_in : Statement → List ℕ

@@ -1,7 +1,7 @@
 -- The slots of a unit that are in scope differ, and each is below the number of the unit's slots.
 use Rattle.std.specs.Prelude.{◌≡◌, ℕ, ◌<◌, ◌≤◌, Bool, true, false, nat_eq, List, [], ◌∷◌, length}
 use Rattle.std.specs.List.{list_any}
-use Rattle.resolved_tree.specs.Tree.{Statement, let_slot, if_block, while_block, return_value, throw_value, sync_block, region_block, do_value, set_local, set_field, set_element, Block, block_end, block_more, OtherBlock, no_other, other_block, ResolvedFunction, ResolvedTree}
+use Rattle.resolved_tree.specs.Tree.{Statement, let_slot, if_block, while_block, sync_block, region_block, Block, block_end, block_more, OtherBlock, no_other, other_block, ResolvedFunction, ResolvedTree}
 use Rattle.resolved_tree.specs.Regions.{count_up}
 
 abbrev pub has_slot : List ℕ → ℕ → Bool

@@ -1,8 +1,8 @@
 -- Which resolved programs are typed: one rule for each form, by slots and numbers alone, and no names.
 use Rattle.std.specs.Prelude.{◌≡◌, ℕ, ◌<◌, Bool, true, false, ◌&&◌, if◌then◌else◌, nat_eq, List, [], ◌∷◌, ◌++◌, length, map, Option, Some, None, slice_get}
-use Rattle.lam_builtins.specs.Types.{TypeBy, int, bool, bytes, tag, label, caps, file, dir, pipe, thread, object, array, nullable, GivenBy, a_value, a_null, nothing, given_type, PlaceBy, exactly, any_class, any_array, any_object, any_labelled}
+use Rattle.lam_builtins.specs.Types.{int, bool, bytes, tag, label, caps, file, dir, pipe, thread, object, array, nullable, a_value, a_null, nothing, given_type, exactly, any_class, any_array, any_object, any_labelled}
 use Rattle.lam_builtins.specs.Operators.{operand, operator_type, unary_type}
-use Rattle.lam_builtins.specs.Builtins.{SignatureBy, answered, row_by}
+use Rattle.lam_builtins.specs.Builtins.{answered, row_by}
 use Rattle.resolved_tree.specs.Tree.{ResolvedType, ResolvedGiven, ResolvedPlace, CapSlot, Expression, number_value, text_value, bool_value, null_value, local_value, unary_of, binary_of, field_of, element_of, call_of, builtin_of, new_object, new_array, label_of, caps_of, spawn_of, Expressions, args_end, args_more, Statement, let_slot, if_block, while_block, return_value, throw_value, sync_block, region_block, do_value, set_local, set_field, set_element, Block, block_end, block_more, OtherBlock, no_other, other_block, ResolvedFunction, ResolvedTree}
 
 -- ---- what a program declares
