@@ -135,6 +135,7 @@ fn held_tags(tags: Vec<TagId>) -> Result<Held<ArcSlice<TagId>>, NoMemory>
     }
 }
 
+#[inline(always)]
 fn tags_of_held(tags: &Held<ArcSlice<TagId>>) -> &[TagId]
     ensures { result.now ≡ kept arc_slice_items tags.now }
 {
@@ -145,6 +146,7 @@ fn tags_of_held(tags: &Held<ArcSlice<TagId>>) -> &[TagId]
     }
 }
 
+#[inline(always)]
 fn holds_tag(tags: &Held<ArcSlice<TagId>>, tag: TagId) -> bool
     requires { IsRising (kept arc_slice_items tags.now) }
     ensures { result ≡ has (kept arc_slice_items tags.now) tag }
@@ -156,6 +158,7 @@ fn holds_tag(tags: &Held<ArcSlice<TagId>>, tag: TagId) -> bool
     }
 }
 
+#[inline(always)]
 fn missing_tag(tags: &Held<ArcSlice<TagId>>, others: &Held<ArcSlice<TagId>>) -> Option<TagId>
     requires tags { IsRising (kept arc_slice_items tags.now) }
     requires others { IsRising (kept arc_slice_items others.now) }
@@ -174,6 +177,7 @@ fn missing_tag(tags: &Held<ArcSlice<TagId>>, others: &Held<ArcSlice<TagId>>) -> 
     }
 }
 
+#[inline(always)]
 fn same_tags(tags: &Held<ArcSlice<TagId>>, others: &Held<ArcSlice<TagId>>) -> bool
     ensures { IsTrue result ↔ (kept arc_slice_items tags.now ≡ kept arc_slice_items others.now) }
 {
@@ -195,6 +199,7 @@ fn is_only(tag: TagId, tags: &Held<ArcSlice<TagId>>) -> bool
     }
 }
 
+#[inline(always)]
 fn held_again(tags: &Held<ArcSlice<TagId>>) -> Result<Held<ArcSlice<TagId>>, NoMemory>
     ensures { IfOk result (λ h. kept arc_slice_items h ≡ kept arc_slice_items tags.now) }
 {
