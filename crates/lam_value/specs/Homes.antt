@@ -1,10 +1,10 @@
 -- A home is a pair of a maker's label and an own label, and things are numbered home by home.
-use Rattle.std.specs.Prelude.{ℕ, ◌+◌, ◌++◌, ◌&&◌, ◌≡◌, ◌<◌, Bool, cond, IsTrue, nat_eq, nat_lt, List, [], ◌∷◌, map, Option, refl, unwrap_or, option_and_then, Some, length}
+use Rattle.std.specs.Prelude.{ℕ, ◌+◌, ◌++◌, ◌&&◌, ◌≡◌, ◌<◌, ◌≤◌, Bool, cond, IsTrue, nat_eq, nat_lt, List, [], ◌∷◌, map, Option, refl, unwrap_or, option_and_then, Some, length}
 use Rattle.std.specs.Coded.{Coded, code_by, coded×, coded_ℕ}
 use Rattle.std.specs.Ordering.{ordering_then}
 use Rattle.std.specs.declared.cmp.Ordering.{Ordering}
 use Rattle.std.specs.Cmp.Lexicographic.{pointwise}
-use Rattle.std.specs.FinMap.{FinMap, get, insert, code}
+use Rattle.std.specs.FinMap.{FinMap, get, insert, contains_key, code}
 use Rattle.std.specs.HashMap.{HashMap, IsUnique}
 use Rattle.std.specs.Map.{lookup}
 use Rattle.tag_sets.specs.Tags.{tags_of}
@@ -12,7 +12,7 @@ use Rattle.flow_labels.specs.declared.Label.{Label}
 use Rattle.flow_labels.specs.Flow.{flows}
 use Rattle.lam_value.specs.declared.names.Name.{Name}
 use Rattle.lam_value.specs.NameParts.{coded_label}
-use Rattle.lam_value.specs.Names.{label_cmp}
+use Rattle.lam_value.specs.Names.{label_cmp, name_cmp}
 
 pub record Home : Type 0 where
   pub maker : Label
@@ -50,6 +50,14 @@ counted m h = insert m h (count_in m h + 1)
 -- so many things of a home at least, and as many as before of each other home
 abbrev pub raised : Counts → Home → ℕ → Counts
 raised m h n = cond (nat_lt (count_in m h) n) (insert m h n) m
+
+-- the number of each name in a map is below its home's counter, so that the name of a home's next thing is not there
+abbrev pub AreCounted : {X : Type 0} → FinMap name_cmp X → Counts → Type 0
+AreCounted things m = (n : Name) → IsTrue (contains_key things n) → n.n < count_in m (home_of n.maker n.own)
+
+-- no home has made more than a home may make
+abbrev pub AreWithin : ℕ → Counts → Type 0
+AreWithin limit m = (h : Home) → count_in m h ≤ limit
 
 -- a home that is counted has made something
 abbrev pub IsAboveZero : Counts → Type 0
