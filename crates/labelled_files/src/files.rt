@@ -438,7 +438,7 @@ fn draw_alone(counters: &mut Counters, target: Target) -> Result<(), NoMemory>
     ensures ok { OnOk result (counters.new ≡ counted counters.old (home_of target.name.maker target.name.own)) }
     ensures err { OnErr result (counters.new ≡ counters.old) }
 {
-    counters.draw(&target.name.maker, &target.name.own)?;
+    counters.draw(target.name.maker(), target.name.own())?;
     Ok(())
 }
 
@@ -458,7 +458,7 @@ fn list_in(
 {
     let entry = Vec::from_slice(target.name.allocator(), entry)?;
     directory.reserve()?;
-    counters.draw(&target.name.maker, &target.name.own)?;
+    counters.draw(target.name.maker(), target.name.own())?;
     directory.join(entry, target);
     Ok(())
 }
