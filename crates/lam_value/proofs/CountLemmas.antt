@@ -46,7 +46,7 @@ count_raised m k n h = by (nat_lt (count_in m k) n) refl
     by false e = omega arith
 
 -- ---- within a limit
-within_insert : (limit : ℕ) (m : Counts) (k : Home) (n : ℕ) → AreWithin limit m → n ≤ limit → AreWithin limit (insert m k n)
+pub within_insert : (limit : ℕ) (m : Counts) (k : Home) (n : ℕ) → AreWithin limit m → n ≤ limit → AreWithin limit (insert m k n)
 within_insert limit m k n within le h = subst (λ x. x ≤ limit) (sym (count_insert m k n h)) (by (eq_by_cmp home_cmp h k))
   where
     by : (b : Bool) → cond b n (count_in m h) ≤ limit
@@ -70,7 +70,7 @@ within_none limit h = subst (λ n. n ≤ limit) (sym (ap (λ o. unwrap_or o 0) (
 pub counted_none : (X : Type 0) (m : Counts) → AreCounted (empty {X = X} {R = name_cmp}) m
 counted_none X m n lives = let no : false ≡ true = sym (ap is_some (get-empty name_cmp n)) ∙ lives in cc
 
-counted_put : {X : Type 0} (things : FinMap name_cmp X) (m : Counts) (k : Name) (x : X) → AreCounted things m → k.n < count_in m (home_of k.maker k.own) → AreCounted (insert things k x) m
+pub counted_put : {X : Type 0} (things : FinMap name_cmp X) (m : Counts) (k : Name) (x : X) → AreCounted things m → k.n < count_in m (home_of k.maker k.own) → AreCounted (insert things k x) m
 counted_put things m k x counts below n lives = by (eq_by_cmp name_cmp n k) refl (sym (ap is_some (get-insert name_total things k x n)) ∙ lives)
   where
     by : (b : Bool) → eq_by_cmp name_cmp n k ≡ b → is_some (cond b (Some x) (get things n)) ≡ true → n.n < count_in m (home_of n.maker n.own)

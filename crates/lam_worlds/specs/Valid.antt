@@ -10,24 +10,24 @@ use Rattle.flow_labels.specs.Flow.{public_label}
 use Rattle.capabilities.specs.declared.Caps.{Caps}
 use Rattle.lam_value.specs.declared.names.Name.{Name}
 use Rattle.lam_value.specs.Names.{name_cmp}
-use Rattle.lam_value.specs.Homes.{Home, Counts, AreCounted, AreWithin}
+use Rattle.lam_value.specs.Homes.{Home, Counts}
 use Rattle.lam_value.specs.declared.values.Value.{Value}
 use Rattle.lam_value.specs.declared.values.Value.TheVariants.{Int, Bool as Truth, Bytes, Nothing, Obj, Arr, File, Dir, Pipe, Thread, Tag, Lab, CapV}
 use Rattle.labelled_heap.specs.Things as heap
 use Rattle.labelled_heap.specs.Things.{slots_at}
-use Rattle.monitor_core.specs.declared.Holder.{Holder}
 use Rattle.monitor_core.specs.Held as monitors
 use Rattle.monitor_core.specs.Held.{takings, listings}
 use Rattle.labelled_files.specs.declared.directory.Target.{Target}
 use Rattle.labelled_files.specs.Entries.{Entries}
-use Rattle.labelled_files.specs.Trees.{Tree, lives_as, root_alone}
+use Rattle.labelled_files.specs.Trees as files
+use Rattle.labelled_files.specs.Trees.{lives_as, root_alone}
 use Rattle.labelled_files.specs.declared.directory.EntryKind.TheVariants as kind
 use Rattle.labelled_pipes.specs.declared.message.Message.{Message}
 use Rattle.labelled_pipes.specs.declared.message.Message.TheVariants as message
 use Rattle.labelled_pipes.specs.Queues as pipes
 use Rattle.lam_asks.specs.declared.answer.Outcome.{Outcome}
 use Rattle.lam_asks.specs.declared.answer.Outcome.TheVariants as outcome
-use Rattle.thread_steps.specs.Threads.{Frame, Inside, Phase, Bottom, Context} 
+use Rattle.thread_steps.specs.Threads.{Frame, Bottom, Context}
 use Rattle.thread_steps.specs.Threads as threads
 use Rattle.lam_worlds.specs.Worlds.{World, thread_at}
 use Rattle.lam_worlds.specs.Turns.{is_bottom}
@@ -88,20 +88,11 @@ OutcomeLives w (Some (outcome.Failed f)) = Unit {0}
 
 -- ---- the stores
 
-abbrev pub files_limit : ℕ
-files_limit = 65536
-
-pub record AreSoundFiles (t : Tree) : Type 0 where
-  pub counted_dirs : AreCounted t.dirs t.counts
-  pub counted_files : AreCounted t.files t.counts
-  pub within : AreWithin files_limit t.counts
-  pub root_is : t.root ≡ root_alone.root
-  pub root : IsTrue (lives_as kind.Dir t t.root)
-
 pub record AreSoundStores (w : World) : Type 0 where
   pub heap : heap.IsSound w.heap
   pub monitors : monitors.IsSound w.monitors
-  pub files : AreSoundFiles w.files
+  pub files : files.IsSound w.files
+  pub root : w.files.root ≡ root_alone.root
   pub pipes : pipes.IsSound w.pipes
 
 -- what stands in the stores lives, and the names of what lives have known tags
