@@ -33,7 +33,7 @@ use Rattle.lam_asks.specs.declared.ask.Ask.{Ask}
 use Rattle.lam_asks.specs.declared.ask.Ask.TheVariants.{Read, Write, New, CopyTo, Mint, Enter, Leave, Barred, Caught, Suppressed, MonEnter, MonLeave, MakeFile, MakeDir, OpenFile, OpenDir, Remove, FileRead, FileLength, Append, Cut, MakePipe, Send, SendCaps, Receive, ReceiveCaps, Spawn, Join, Say, End}
 use Rattle.thread_steps.specs.Threads.{Context}
 use Rattle.lam_worlds.specs.Worlds.{World, result_at}
-use Rattle.lam_worlds.specs.Deeds.{Effect, nothing, takes_tag, sets_slot, adds_thing, adds_copy, takes_monitor, gives_back, drops, adds_file, adds_dir, removes, appends, cuts, adds_pipe, sends, receives, adds_thread, Made, a_region, a_thing, a_file, a_dir, a_pipe, a_thread, Deed, answers, does, gives, makes, under, unless, full, on_thing}
+use Rattle.lam_worlds.specs.Deeds.{Effect, nothing, takes_tag, sets_slot, adds_thing, adds_copy, takes_monitor, gives_back, drops, adds_file, adds_dir, removes, appends, cuts, adds_pipe, sends, receives, adds_thread, a_region, a_thing, a_file, a_dir, a_pipe, a_thread, Deed, answers, does, gives, makes, under, unless, full, on_thing}
 
 -- the value in a slot; one that the thing does not have reads as null
 abbrev pub slot_at : Things → Name → ℕ → Value
