@@ -4,8 +4,10 @@
 //! Statements with blocks, which contain one another, are read by `lam_parser`.
 #![tactic(auto)]
 
+mod nodes;
 mod stmts;
 
+pub use nodes::{Handler, make_if, make_region, make_sync, make_while};
 pub use stmts::{
     Head, ReadStmt, captures, expression_statement, let_statement, region_head, return_statement,
     throw_statement,

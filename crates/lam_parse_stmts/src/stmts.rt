@@ -1,18 +1,19 @@
 //! `let`, `return`, `throw`, expressions as statements, assignments; and what a region begins with.
 
-ghost use Rattle.std.specs.Prelude.{◌≡◌, ◌<◌, ◌≤◌, length, IfOk};
+ghost use Rattle.std.specs.Prelude.{◌≡◌, ◌<◌, ◌≤◌, length, slice_get, IfOk};
 ghost use Rattle.lam_syntax.specs.Tree.{expr_tree};
-ghost use Rattle.lam_grammar.specs.Table.{captures};
-ghost use Rattle.lam_grammar.specs.Meaning.{is_place};
-ghost use Rattle.lam_reading.specs.Reading.{Taken};
+ghost use Rattle.lam_grammar.specs.Table.{captures, expr};
+ghost use Rattle.lam_grammar.specs.Meaning.{expr_value, is_place};
+ghost use Rattle.lam_reading.specs.Reading.{Gives, Taken};
 ghost use Rattle.lam_parse_parts.specs.Variables.{ReadsNames};
 ghost use Rattle.lam_parse_stmts.specs.Parts.{ReadsStmt, ReadsHead, NoWord};
 
+use crate::nodes::{make_assign, make_do, make_let, make_return, make_throw};
 use lam_lexer::Token;
 use lam_parse_exprs::expression;
 use lam_parse_parts::{names, variable};
-use lam_reading::{Break, Mark, Wanted, begins_expression, take, take_if};
-use lam_syntax::{Expr, ExprKind, Id, Stmt, StmtKind};
+use lam_reading::{Break, Mark, Read, Wanted, begins_expression, take, take_if};
+use lam_syntax::{Expr, ExprKind, Id, Stmt};
 use std::alloc::Global;
 
 /// A statement that was read, and the token after it.
@@ -36,11 +37,7 @@ pub fn let_statement(
     take(tokens, equals, depth, Mark::Assign)?;
     let value = expression(alloc, tokens, equals + 1, depth)?;
     take(tokens, value.next, depth, Mark::Semicolon)?;
-    let kind = StmtKind::Let {
-        var,
-        value: value.expr,
-    };
-    Ok((Stmt { at: word.at, kind }, value.next + 1))
+    Ok((make_let(word.at, var, value.expr), value.next + 1))
 }
 
 /// `return value;`, or `return;`
@@ -60,13 +57,11 @@ pub fn return_statement(
     let after_word = at + 1;
     if !begins_expression(tokens, after_word) {
         take(tokens, after_word, depth, Mark::Semicolon)?;
-        let kind = StmtKind::Return(None);
-        return Ok((Stmt { at: word.at, kind }, after_word + 1));
+        return Ok((make_return(word.at, None), after_word + 1));
     }
     let value = expression(alloc, tokens, after_word, depth)?;
     take(tokens, value.next, depth, Mark::Semicolon)?;
-    let kind = StmtKind::Return(Some(value.expr));
-    Ok((Stmt { at: word.at, kind }, value.next + 1))
+    Ok((make_return(word.at, Some(value.expr)), value.next + 1))
 }
 
 /// `throw value;`
@@ -85,8 +80,7 @@ pub fn throw_statement(
 {
     let value = expression(alloc, tokens, at + 1, depth)?;
     take(tokens, value.next, depth, Mark::Semicolon)?;
-    let kind = StmtKind::Throw(value.expr);
-    Ok((Stmt { at: word.at, kind }, value.next + 1))
+    Ok((make_throw(word.at, value.expr), value.next + 1))
 }
 
 /// The head of a region that was read, and the token after it.
@@ -148,37 +142,41 @@ pub fn expression_statement(
     ensures goes_on { IfOk result (λ x. (at < x.1) × (x.1 ≤ length tokens.now)) }
 {
     let left = expression(alloc, tokens, at, depth)?;
-    let equals = left.next;
-    let Some(_) = take_if(tokens, equals, depth, Mark::Assign)? else {
-        take(tokens, equals, depth, Mark::Semicolon)?;
-        let kind = StmtKind::Do(left.expr);
-        return Ok((
-            Stmt {
-                at: left.begin,
-                kind,
-            },
-            equals + 1,
-        ));
-    };
+    if let Some(equals) = take_if(tokens, left.next, depth, Mark::Assign)? {
+        return assignment(alloc, tokens, at, depth, left, equals);
+    }
+    take(tokens, left.next, depth, Mark::Semicolon)?;
+    let next = left.next + 1;
+    Ok((make_do(left), next))
+}
+
+/// ` = value;` behind a place.
+fn assignment(
+    alloc: Global,
+    tokens: &[Token],
+    at: usize,
+    depth: u64,
+    left: Read,
+    equals: &Token,
+) -> Result<ReadStmt, Break>
+    requires in_range { left.next < length tokens.now }
+    requires bounded { depth ≤ 128 }
+    requires begun { NoWord tokens.now at }
+    requires left { Gives (slice_get tokens.now) expr depth at (expr_value left.begin (expr_tree left.expr)) left.next depth }
+    requires behind { at < left.next }
+    requires equals { Taken tokens.now depth left.next Mark.Assign equals.now }
+    ensures reads { ReadsStmt tokens.now depth at result }
+    ensures goes_on { IfOk result (λ x. (at < x.1) × (x.1 ≤ length tokens.now)) }
+{
     if !is_place(&left.expr) {
         return Err(Break::Unexpected {
-            at: equals,
+            at: left.next,
             wanted: Wanted::Place,
         });
     }
-    let value = expression(alloc, tokens, equals + 1, depth)?;
+    let value = expression(alloc, tokens, left.next + 1, depth)?;
     take(tokens, value.next, depth, Mark::Semicolon)?;
-    let kind = StmtKind::Assign {
-        place: left.expr,
-        value: value.expr,
-    };
-    Ok((
-        Stmt {
-            at: left.begin,
-            kind,
-        },
-        value.next + 1,
-    ))
+    Ok((make_assign(left, value.expr), value.next + 1))
 }
 
 /// Names, fields and elements are places.

@@ -1,7 +1,7 @@
 -- What reading a part of a program gives.
-use Rattle.std.specs.Prelude.{◌≡◌, ℕ, List, [], ◌∷◌, Option, Some, None, Vec, Result, Ok, Err, slice_get}
+use Rattle.std.specs.Prelude.{ℕ, List, [], ◌∷◌, Option, Some, None, Vec, Result, Ok, Err, slice_get}
 use Rattle.std.specs.declared.alloc.Global.{Global}
-use Rattle.grammar_laws.specs.Grammar.{rule, Reads}
+use Rattle.grammar_laws.specs.Grammar.{Reads}
 use Rattle.grammar_laws.specs.Texts.{limited}
 use Rattle.lam_lexer.specs.declared.token.Token.{Token}
 use Rattle.lam_syntax.specs.declared.TypeExpr.{TypeExpr}
@@ -13,9 +13,9 @@ use Rattle.lam_grammar.specs.Table.{block, handler, else_part, result_part, item
 use Rattle.lam_grammar.specs.Meaning.{Value, nothing, word, type_value, stmts_value, else_value, handler_value, item_value, items_value}
 use Rattle.lam_grammar.specs.Program.{lam, program}
 use Rattle.lam_reading.specs.declared.breaks.Break.{Break}
-use Rattle.lam_reading.specs.Reading.{Gives, Fails}
+use Rattle.lam_reading.specs.Reading.{Fails}
 use Rattle.lam_parse_parts.specs.Variables.{ReadsPart}
-use Rattle.lam_parser.specs.declared.stmts.Catch.{Catch}
+use Rattle.lam_parse_stmts.specs.declared.nodes.Handler.{Handler}
 
 abbrev pub ReadsBlock : List Token → ℕ → ℕ → Result (Vec Stmt Global × ℕ) Break → Type 0
 ReadsBlock tokens s i x = ReadsPart (Vec Stmt Global) (λ v. stmts_value (stmts_tree v.items)) tokens block s i x
@@ -23,9 +23,8 @@ ReadsBlock tokens s i x = ReadsPart (Vec Stmt Global) (λ v. stmts_value (stmts_
 abbrev pub ReadsElse : List Token → ℕ → ℕ → Result (Option (Vec Stmt Global) × ℕ) Break → Type 0
 ReadsElse tokens s i x = ReadsPart (Option (Vec Stmt Global)) (λ v. else_value (else_tree v)) tokens else_part s i x
 
-abbrev pub ReadsHandler : List Token → ℕ → ℕ → Result Catch Break → Type 0
-ReadsHandler tokens s i (Ok x) = Gives (slice_get tokens) handler s i (handler_value (id_tree x.name) (stmts_tree x.body.items)) x.next s
-ReadsHandler tokens s i (Err b) = Fails (slice_get tokens) (rule handler ∷ []) s i b
+abbrev pub ReadsHandler : List Token → ℕ → ℕ → Result (Handler × ℕ) Break → Type 0
+ReadsHandler tokens s i x = ReadsPart Handler (λ h. handler_value (id_tree h.name) (stmts_tree h.body.items)) tokens handler s i x
 
 -- a type, or nothing
 abbrev pub type_or_nothing : Option TypeExpr → Value

@@ -9,11 +9,11 @@ use lam_lexer::Token;
 use lam_parse_exprs::parens;
 use lam_parse_parts::take_name;
 use lam_parse_stmts::{
-    ReadStmt, captures, expression_statement, let_statement, region_head, return_statement,
-    throw_statement,
+    Handler, ReadStmt, captures, expression_statement, let_statement, make_if, make_region,
+    make_sync, make_while, region_head, return_statement, throw_statement,
 };
 use lam_reading::{Break, Mark, Wanted, begins_statement, take, take_if};
-use lam_syntax::{Id, Stmt, StmtKind};
+use lam_syntax::Stmt;
 use std::alloc::Global;
 
 /// Statements that were read, and the token after them.
@@ -100,12 +100,7 @@ fn if_statement(
     let test = parens(alloc, tokens, at + 1, depth)?;
     let (yes, other) = block(alloc, tokens, test.next, depth)?;
     let (no, next) = else_part(alloc, tokens, other, depth)?;
-    let kind = StmtKind::If {
-        test: test.expr,
-        yes,
-        no,
-    };
-    Ok((Stmt { at: word.at, kind }, next))
+    Ok((make_if(word.at, test.expr, yes, no), next))
 }
 
 /// `else` and a block, or nothing.
@@ -145,11 +140,7 @@ fn while_statement(
 {
     let test = parens(alloc, tokens, at + 1, depth)?;
     let (body, next) = block(alloc, tokens, test.next, depth)?;
-    let kind = StmtKind::While {
-        test: test.expr,
-        body,
-    };
-    Ok((Stmt { at: word.at, kind }, next))
+    Ok((make_while(word.at, test.expr, body), next))
 }
 
 /// `sync (thing) { body }`
@@ -169,11 +160,7 @@ fn sync_statement(
 {
     let thing = parens(alloc, tokens, at + 1, depth)?;
     let (body, next) = block(alloc, tokens, thing.next, depth)?;
-    let kind = StmtKind::Sync {
-        thing: thing.expr,
-        body,
-    };
-    Ok((Stmt { at: word.at, kind }, next))
+    Ok((make_sync(word.at, thing.expr, body), next))
 }
 
 /// `region (label, caps) [captures] { body } catch (name) { handler }`
@@ -194,33 +181,22 @@ fn region_statement(
     let head = region_head(alloc, tokens, at + 1, depth)?;
     let (captures, brace) = captures(alloc, tokens, head.next, depth)?;
     let (body, word_catch) = block(alloc, tokens, brace, depth)?;
-    let caught = handler(alloc, tokens, word_catch, depth)?;
-    let kind = StmtKind::Region {
-        label: head.label,
-        caps: head.caps,
-        captures,
-        body,
-        catch_name: caught.name,
-        catch_body: caught.body,
-    };
-    Ok((Stmt { at: word.at, kind }, caught.next))
-}
-
-/// What a region does with a fault, as it was read, and the token after it.
-#[derive(Drop)]
-struct Catch {
-    name: Id,
-    body: Vec<Stmt>,
-    next: usize,
+    let (caught, next) = handler(alloc, tokens, word_catch, depth)?;
+    Ok((make_region(word.at, head, captures, body, caught), next))
 }
 
 /// `catch (name) { body }`
 #[cycle(statement)]
-fn handler(alloc: Global, tokens: &[Token], at: usize, depth: u64) -> Result<Catch, Break>
+fn handler(
+    alloc: Global,
+    tokens: &[Token],
+    at: usize,
+    depth: u64,
+) -> Result<(Handler, usize), Break>
     requires in_range { at ≤ length tokens.now }
     requires bounded { depth ≤ 128 }
     ensures reads { ReadsHandler tokens.now depth at result }
-    ensures goes_on { IfOk result (λ x. (at < x.next) × (x.next ≤ length tokens.now)) }
+    ensures goes_on { IfOk result (λ x. (at < x.1) × (x.1 ≤ length tokens.now)) }
 {
     take(tokens, at, depth, Mark::Catch)?;
     let paren = at + 1;
@@ -230,5 +206,5 @@ fn handler(alloc: Global, tokens: &[Token], at: usize, depth: u64) -> Result<Cat
     let close = name_at + 1;
     take(tokens, close, depth, Mark::ParenClose)?;
     let (body, next) = block(alloc, tokens, close + 1, depth)?;
-    Ok(Catch { name, body, next })
+    Ok((Handler { name, body }, next))
 }

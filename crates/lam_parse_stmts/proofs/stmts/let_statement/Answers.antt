@@ -47,4 +47,4 @@ returns-clause-reads c =
     let var = rule_taken c.in_ok-var.ensures.reads c.in_ok-var.ensures.goes_on.0 word in
     let equals = mark_taken c.in_ok-take.ensures.takes refl var in
     let value = rule_taken (with_sum c.in_ok-value.ensures.depth c.in_ok-value.ensures.reads) c.in_ok-value.ensures.goes_on.0 equals in
-    rule_read (mark_taken c.in_ok-take-2.ensures.takes refl value)
+    rw c.make_let.ensures (rule_read (mark_taken c.in_ok-take-2.ensures.takes refl value))
