@@ -1,0 +1,5 @@
+pub mod FlowLemmas
+pub mod PointLemmas
+pub mod AlikeLemmas
+pub mod EffectLemmas
+pub mod ThreadLemmas
