@@ -280,28 +280,28 @@ IsNoThing (Some (a_dir n)) = Unit {0}
 IsNoThing (Some (a_pipe n)) = Unit {0}
 IsNoThing (Some (a_thread t)) = Unit {0}
 
-abbrev next_thing : World → Home → Name
-next_thing w home = name_of home (count_in w.heap.counts home)
+abbrev next_thing : Things → Home → Name
+next_thing h home = name_of home (count_in h.counts home)
 
 -- what an unseen actor may do: what it makes in the heap is told by its content, and all else is unseen
-abbrev pub IsHidden : Label → World → Effect → Option Made → Type 0
-IsHidden o w nothing m = IsNoThing m
-IsHidden o w takes_tag m = (flows public_label o ≡ false) × IsNoThing m
-IsHidden o w (sets_slot n at v) m = (flows n.own o ≡ false) × IsNoThing m
-IsHidden o w (adds_thing home sort xs) m = (flows home.maker o ≡ false) × (m ≡ Some (a_thing (next_thing w home) xs))
-IsHidden o w (adds_copy n home) m = (flows home.maker o ≡ false) × (m ≡ Some (a_thing (next_thing w home) (slots_at w.heap n)))
-IsHidden o w (takes_monitor n) m = (flows n.own o ≡ false) × IsNoThing m
-IsHidden o w (gives_back n) m = (flows n.own o ≡ false) × IsNoThing m
-IsHidden o w (drops ns) m = AllByRecursion (λ (n : Name). flows n.own o ≡ false) ns × IsNoThing m
-IsHidden o w (adds_file d text home) m = (flows d.own o ≡ false) × (flows home.maker o ≡ false) × (flows home.own o ≡ false) × IsNoThing m
-IsHidden o w (adds_dir d text home) m = (flows d.own o ≡ false) × (flows home.maker o ≡ false) × (flows home.own o ≡ false) × IsNoThing m
-IsHidden o w (removes d text) m = (flows d.own o ≡ false) × IsNoThing m
-IsHidden o w (appends f bytes) m = (flows f.own o ≡ false) × IsNoThing m
-IsHidden o w (cuts f len) m = (flows f.own o ≡ false) × IsNoThing m
-IsHidden o w (adds_pipe home) m = (flows home.maker o ≡ false) × (flows home.own o ≡ false) × IsNoThing m
-IsHidden o w (sends p x) m = (flows p.own o ≡ false) × IsNoThing m
-IsHidden o w (receives p k) m = (flows p.own o ≡ false) × IsNoThing m
-IsHidden o w (adds_thread unit args caps) m = (flows public_label o ≡ false) × IsNoThing m
+abbrev pub IsHidden : Label → Things → Effect → Option Made → Type 0
+IsHidden o h nothing m = IsNoThing m
+IsHidden o h takes_tag m = (flows public_label o ≡ false) × IsNoThing m
+IsHidden o h (sets_slot n at v) m = (flows n.own o ≡ false) × IsNoThing m
+IsHidden o h (adds_thing home sort xs) m = (flows home.maker o ≡ false) × (m ≡ Some (a_thing (next_thing h home) xs))
+IsHidden o h (adds_copy n home) m = (flows home.maker o ≡ false) × (m ≡ Some (a_thing (next_thing h home) (slots_at h n)))
+IsHidden o h (takes_monitor n) m = (flows n.own o ≡ false) × IsNoThing m
+IsHidden o h (gives_back n) m = (flows n.own o ≡ false) × IsNoThing m
+IsHidden o h (drops ns) m = AllByRecursion (λ (n : Name). flows n.own o ≡ false) ns × IsNoThing m
+IsHidden o h (adds_file d text home) m = (flows d.own o ≡ false) × (flows home.maker o ≡ false) × (flows home.own o ≡ false) × IsNoThing m
+IsHidden o h (adds_dir d text home) m = (flows d.own o ≡ false) × (flows home.maker o ≡ false) × (flows home.own o ≡ false) × IsNoThing m
+IsHidden o h (removes d text) m = (flows d.own o ≡ false) × IsNoThing m
+IsHidden o h (appends f bytes) m = (flows f.own o ≡ false) × IsNoThing m
+IsHidden o h (cuts f len) m = (flows f.own o ≡ false) × IsNoThing m
+IsHidden o h (adds_pipe home) m = (flows home.maker o ≡ false) × (flows home.own o ≡ false) × IsNoThing m
+IsHidden o h (sends p x) m = (flows p.own o ≡ false) × IsNoThing m
+IsHidden o h (receives p k) m = (flows p.own o ≡ false) × IsNoThing m
+IsHidden o h (adds_thread unit args caps) m = (flows public_label o ≡ false) × IsNoThing m
 
 shown_none : (m : Option Made) (w : World) → IsNoThing m → w ≡ shown m w
 shown_none None w h = refl
@@ -316,7 +316,7 @@ shown_none (Some (a_thread t)) w h = refl
 unshown : (o : Label) (w u : World) (m : Option Made) → IsNoThing m → Alike o w u → Alike o u (shown m w)
 unshown o w u m h a = subst (Alike o u) (shown_none m w h) (alike_sym o w u a)
 
-pub hidden_shown : (o : Label) (code : CodeTree) (t : ℕ) (e : Effect) (w : World) (m : Option Made) → IsHidden o w e m → Alike o (effect_of code t e w) (shown m w)
+pub hidden_shown : (o : Label) (code : CodeTree) (t : ℕ) (e : Effect) (w : World) (m : Option Made) → IsHidden o w.heap e m → Alike o (effect_of code t e w) (shown m w)
 hidden_shown o code t nothing w m h = unshown o w w m h (alike_refl o w)
 hidden_shown o code t takes_tag w m h = unshown o w _ m h.1 (with_tags o w w _ _ (alike_refl o w) (λ s. not_both (flows public_label o) h.0 s))
 hidden_shown o code t (sets_slot n at v) w m h = unshown o w _ m h.1 (with_heaps o w w _ _ (alike_refl o w) (heap_slot_kept o w.heap n at v h.0))

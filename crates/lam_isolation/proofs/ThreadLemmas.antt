@@ -13,6 +13,7 @@ use Rattle.lam_value.specs.declared.values.Value.{Value}
 use Rattle.lam_value.specs.declared.values.Value.TheVariants.{Obj, Arr, Tag, CapV}
 use Rattle.lam_value.proofs.Keys.{name_exact}
 use Rattle.lam_asks.specs.declared.fault.Fault.{Fault}
+use Rattle.lam_asks.specs.declared.fault.Fault.TheVariants.{Denied}
 use Rattle.lam_asks.specs.declared.answer.Outcome.{Outcome}
 use Rattle.lam_asks.specs.declared.answer.Answer.{Answer}
 use Rattle.lam_asks.specs.declared.answer.Answer.TheVariants.{Done, Entered, Val, Refused, Failed}
@@ -22,7 +23,7 @@ use Rattle.lam_bytecode.specs.Codes.{CodeTree}
 use Rattle.thread_steps.specs.Equal.{same_names}
 use Rattle.thread_steps.specs.Threads.{Inside, Phase, Bottom, Body, Catch, Context, Thread}
 use Rattle.thread_steps.specs.Ops.{is_held, region_in}
-use Rattle.thread_steps.specs.Next.{entry, with_inside, with_held, given, without, held_by, catch_place, unit_number, catching, gains, done, entered, answered, result_after, takes}
+use Rattle.thread_steps.specs.Next.{entry, faulted, with_inside, with_held, given, without, held_by, catch_place, unit_number, catching, gains, done, entered, answered, result_after, takes}
 use Rattle.lam_worlds.specs.Deeds.{Made, a_region, a_thing, a_file, a_dir, a_pipe, a_thread}
 use Rattle.lam_worlds.specs.Turns.{is_bottom, lists, may_ask}
 use Rattle.lam_worlds.specs.Views.{is_seen}
@@ -66,11 +67,11 @@ threads_set o t xs ys th th' a b all e f stacks results =
 
 pub filter-append : {X : Type 0} (p : X → Bool) (xs ys : List X) → filter p (xs ++ ys) ≡ filter p xs ++ filter p ys
 filter-append p [] ys = refl
-filter-append p (x ∷ xs) ys = go (p x)
+filter-append {X} p (x ∷ xs) ys = go (p x) (filter-append p xs ys)
   where
-    go : (b : Bool) → cond b (x ∷ filter p (xs ++ ys)) (filter p (xs ++ ys)) ≡ cond b (x ∷ filter p xs) (filter p xs) ++ filter p ys
-    go true = ap (λ l. x ∷ l) (filter-append p xs ys)
-    go false = filter-append p xs ys
+    go : (b : Bool) → filter p (xs ++ ys) ≡ filter p xs ++ filter p ys → cond b (x ∷ filter p (xs ++ ys)) (filter p (xs ++ ys)) ≡ cond b (x ∷ filter p xs) (filter p xs) ++ filter p ys
+    go true e = ap (λ (l : List X). x ∷ l) e
+    go false e = e
 
 -- ---- contexts
 
@@ -252,15 +253,15 @@ entered_hidden o code c after (ask.Enter l k r vs) m hid h =
 entered_hidden o code c after a m hid h = absurd h
 
 heirs_hidden : (o : Label) (code : CodeTree) (c : Context) (ds : List Context) (m : Option Made) → flows c.label o ≡ false → NoRegion m → AllByRecursion (IsHeir c) ds → filter (is_seen o) ds ≡ filter (is_seen o) (new_contexts code m)
-heirs_hidden o code c ds m hid no h = none_seen o c ds hid h ∙ ap (filter (is_seen o)) (no_contexts code m no)
+heirs_hidden o code c ds m hid none h = none_seen o c ds hid h ∙ ap (filter (is_seen o)) (no_contexts code m none)
 
 -- in front of the contexts below, an unseen actor leaves what it makes, and nothing that is seen beside it
 pub front_hidden : (o : Label) (code : CodeTree) (c : Context) (after : Inside) (a : Ask) (x : Answer) (m : Option Made) → flows c.label o ≡ false → IsSafe c → KeepsOwn c.label a x → Fits c a x m → filter (is_seen o) (front code c after a x) ≡ filter (is_seen o) (new_contexts code m)
 front_hidden o code c after a Done m hid s own fits = heirs_hidden o code c _ m hid fits (done_heirs code c after a s own)
 front_hidden o code c after a Entered m hid s own fits = entered_hidden o code c after a m hid fits
-front_hidden o code c after a (Val v) m hid s own fits = heirs_hidden o code c _ m hid fits (heir_gains a v c _ (heir_inside c _ s), tt)
-front_hidden o code c after a (Refused d) m hid s own fits = heirs_hidden o code c _ m hid fits (heir_inside c _ s, tt)
-front_hidden o code c after a (Failed f) m hid s own fits = heirs_hidden o code c _ m hid fits (heir_inside c _ s, tt)
+front_hidden o code c after a (Val v) m hid s own fits = heirs_hidden o code c (gains a v (given c after v) ∷ []) m hid fits (heir_gains a v c (given c after v) (heir_inside c _ s), tt)
+front_hidden o code c after a (Refused d) m hid s own fits = heirs_hidden o code c (with_inside c (faulted c.inside Denied) ∷ []) m hid fits (heir_inside c _ s, tt)
+front_hidden o code c after a (Failed f) m hid s own fits = heirs_hidden o code c (with_inside c (faulted c.inside f) ∷ []) m hid fits (heir_inside c _ s, tt)
 
 -- ---- contexts stay safe
 
@@ -282,7 +283,7 @@ entered_safe code c after a s = ((heir_inside c after s).safe, tt)
 pub front_safe : (code : CodeTree) (c : Context) (after : Inside) (a : Ask) (x : Answer) → IsSafe c → KeepsOwn c.label a x → AllSafe (front code c after a x)
 front_safe code c after a Done s own = heirs_safe c _ (done_heirs code c after a s own)
 front_safe code c after a Entered s own = entered_safe code c after a s
-front_safe code c after a (Val v) s own = ((heir_gains a v c _ (heir_inside c _ s)).safe, tt)
+front_safe code c after a (Val v) s own = ((heir_gains a v c (given c after v) (heir_inside c _ s)).safe, tt)
 front_safe code c after a (Refused d) s own = ((heir_inside c _ s).safe, tt)
 front_safe code c after a (Failed f) s own = ((heir_inside c _ s).safe, tt)
 
