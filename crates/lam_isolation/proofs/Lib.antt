@@ -5,3 +5,5 @@ pub mod EffectLemmas
 pub mod ThreadLemmas
 pub mod RowLemmas
 pub mod SameLemmas
+pub mod TurnLemmas
+pub mod DownLemmas
