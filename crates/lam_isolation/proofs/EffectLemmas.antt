@@ -1,12 +1,11 @@
 -- What an effect does to what is seen: a hidden one shows what it makes and nothing else, and the same effect keeps
 -- worlds alike.
 use Rattle.std.proofs.Common.{◌≡◌, ℕ, zero, suc, ◌+◌, Bool, true, false, List, [], ◌∷◌, ◌++◌, Option, Some, None, length, refl, sym, ap, ◌∙◌, subst, arith, length-append}
-use Rattle.std.specs.Prelude.{cond, slice_get, slice_set, is_some, filter, unwrap_or}
+use Rattle.std.specs.Prelude.{cond, slice_get, slice_set, filter, unwrap_or}
 use Rattle.std.specs.List.{AllByRecursion}
 use Rattle.std.specs.FinMap.{FinMap, get, insert}
 use Rattle.flow_labels.specs.declared.Label.{Label}
 use Rattle.flow_labels.specs.Flow.{flows, public_label}
-use Rattle.capabilities.specs.declared.Caps.{Caps}
 use Rattle.lam_value.specs.declared.names.Name.{Name}
 use Rattle.lam_value.specs.declared.values.Value.{Value}
 use Rattle.lam_value.specs.Names.{name_cmp}
@@ -17,7 +16,7 @@ use Rattle.labelled_heap.specs.Things as heap
 use Rattle.labelled_heap.specs.Things.{Things, slots_at, with_slot, with_thing, with_copy}
 use Rattle.monitor_core.specs.declared.Holder.{Holder}
 use Rattle.monitor_core.specs.Held.{Held, once_more, entered, one_less, held_by, left, dropped}
-use Rattle.labelled_files.specs.Entries.{Entries, without}
+use Rattle.labelled_files.specs.Entries.{without}
 use Rattle.labelled_files.specs.declared.directory.EntryKind.TheVariants as kind
 use Rattle.labelled_files.specs.Trees as tree
 use Rattle.labelled_files.specs.Trees.{Tree, with_file, with_dir, without_entry, with_more, with_first, next_name, joined}
@@ -27,12 +26,12 @@ use Rattle.labelled_pipes.specs.Queues.{Queues, with_pipe, with_sent, with_recei
 use Rattle.lam_bytecode.specs.Codes.{CodeTree}
 use Rattle.thread_steps.specs.Threads.{Context, Thread}
 use Rattle.thread_steps.specs.Next.{started, first_context}
-use Rattle.lam_worlds.specs.Worlds.{World, contexts_in, result_in}
+use Rattle.lam_worlds.specs.Worlds.{World}
 use Rattle.lam_worlds.specs.Deeds.{Effect, nothing, takes_tag, sets_slot, adds_thing, adds_copy, takes_monitor, gives_back, drops, adds_file, adds_dir, removes, appends, cuts, adds_pipe, sends, receives, adds_thread, effect_of, Made, a_region, a_thing, a_file, a_dir, a_pipe, a_thread}
 use Rattle.lam_worlds.specs.Views.{is_seen, shows}
 use Rattle.lam_isolation.proofs.FlowLemmas.{not_both}
 use Rattle.lam_isolation.proofs.PointLemmas.{IsPoint, insert_point, remove_point, same_point, point_kept, point_same, same_trans, same_sym}
-use Rattle.lam_isolation.proofs.AlikeLemmas.{own_seen, maker_seen, SameNames, SameHomes, AlikeHeaps, AlikeTrees, AlikeQueues, SameStacks, SameResults, AlikeThreads, Alike, alike_refl, alike_sym, alike_trans, with_heaps, with_monitors, with_trees, with_queues, with_threads, with_tags}
+use Rattle.lam_isolation.proofs.AlikeLemmas.{own_seen, maker_seen, SameNames, SameHomes, AlikeHeaps, AlikeTrees, AlikeQueues, SameStacks, SameResults, AlikeThreads, Alike, alike_refl, alike_sym, with_heaps, with_monitors, with_trees, with_queues, with_threads, with_tags}
 
 -- ---- changes at one name
 

@@ -1,9 +1,9 @@
 -- Flows go on, and what a test that nothing fails says of labels.
-use Rattle.std.proofs.Common.{◌≡◌, ℕ, Bool, true, false, List, [], ◌∷◌, ◌++◌, Option, Some, None, refl, sym, ap, ◌∙◌}
+use Rattle.std.proofs.Common.{◌≡◌, ℕ, Bool, true, false, [], ◌∷◌, ◌++◌, Option, Some, None, refl, sym, ap, ◌∙◌}
 use Rattle.std.specs.Prelude.{◌&&◌, ◌||◌, not}
 use Rattle.std.proofs.Math.Bool.{true≢false}
 use Rattle.std.specs.Cmp.{nat_cmp_total}
-use Rattle.std.specs.FinSet.{empty, contains, difference, is_subset, is_subset-contains, contains-is_subset, contains-difference, contains-union}
+use Rattle.std.specs.FinSet.{contains, difference, is_subset, is_subset-contains, contains-is_subset, contains-difference, contains-union}
 use Rattle.tag_sets.specs.Tags.{Tags, least, apart}
 use Rattle.tag_sets.proofs.TagLemmas.{same_tags, least-none, none-is_subset, empty-least, subset_itself}
 use Rattle.flow_labels.specs.declared.Label.{Label}

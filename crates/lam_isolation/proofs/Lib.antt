@@ -7,3 +7,4 @@ pub mod RowLemmas
 pub mod SameLemmas
 pub mod TurnLemmas
 pub mod DownLemmas
+pub mod WholeLemmas

@@ -1,12 +1,12 @@
 -- Each ask once: what its deed makes and changes, where the acting context is unseen and where it is seen.
-use Rattle.std.proofs.Common.{◌≡◌, ℕ, ◌+◌, Bool, true, false, List, [], ◌∷◌, ◌++◌, Option, Some, None, length, refl, sym, ap, ◌∙◌, subst}
-use Rattle.std.specs.Prelude.{not, take, drop}
+use Rattle.std.proofs.Common.{◌≡◌, Bool, true, false, List, [], ◌∷◌, ◌++◌, Option, Some, None, refl, sym, ap, ◌∙◌, subst}
+use Rattle.std.specs.Prelude.{not}
 use Rattle.std.specs.List.{AllByRecursion}
 use Rattle.std.proofs.Math.Bool.{true≢false}
 use Rattle.flow_labels.specs.declared.Label.{Label}
 use Rattle.flow_labels.specs.declared.Denied.{Denied}
 use Rattle.flow_labels.specs.Flow.{flows, public_label}
-use Rattle.flow_labels.specs.Failing.{Test, first_failing, read_test, write_test, mint_test, same_test}
+use Rattle.flow_labels.specs.Failing.{Test, first_failing, read_test, write_test, same_test}
 use Rattle.capabilities.specs.Changes.{change_test, covers_test}
 use Rattle.lam_value.specs.declared.names.Name.{Name}
 use Rattle.lam_value.specs.declared.values.Value.{Value}
@@ -21,8 +21,7 @@ use Rattle.lam_asks.specs.declared.fault.Fault.{Fault}
 use Rattle.lam_asks.specs.declared.fault.Fault.TheVariants.{Null, Child}
 use Rattle.lam_asks.specs.declared.answer.Outcome.{Outcome}
 use Rattle.lam_asks.specs.declared.answer.Outcome.TheVariants as outcome
-use Rattle.lam_asks.specs.declared.answer.Answer.{Answer}
-use Rattle.lam_asks.specs.declared.answer.Answer.TheVariants.{Done, Entered, Val, Refused, Failed}
+use Rattle.lam_asks.specs.declared.answer.Answer.TheVariants.{Done, Val, Refused, Failed}
 use Rattle.lam_asks.specs.declared.ask.Ask.{Ask}
 use Rattle.lam_asks.specs.declared.ask.Ask.TheVariants.{Read, Write, New, CopyTo, Mint, Enter, Leave, Barred, Caught, Suppressed, MonEnter, MonLeave, MakeFile, MakeDir, OpenFile, OpenDir, Remove, FileRead, FileLength, Append, Cut, MakePipe, Send, SendCaps, Receive, ReceiveCaps, Spawn, Join, Say, End}
 use Rattle.thread_steps.specs.Threads.{Context}
@@ -33,7 +32,7 @@ use Rattle.lam_worlds.specs.Turns.{may_ask, lists}
 use Rattle.lam_worlds.specs.Views.{goes_down}
 use Rattle.lam_isolation.proofs.FlowLemmas.{flows_refl, flows_trans, hidden_up, each_passes, read_passes, write_passes, same_passes, mint_passes}
 use Rattle.lam_isolation.proofs.EffectLemmas.{IsHidden, IsOpen}
-use Rattle.lam_isolation.proofs.ThreadLemmas.{IsSafe, IsOwn, KeepsOwn, NoRegion, Fits, listed_own, bottom_is}
+use Rattle.lam_isolation.proofs.ThreadLemmas.{IsSafe, IsOwn, KeepsOwn, NoRegion, Fits, listed_own}
 
 -- ---- what a deed stands under
 

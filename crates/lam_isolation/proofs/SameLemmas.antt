@@ -1,5 +1,5 @@
 -- What a seen actor is answered is told by what is seen.
-use Rattle.std.proofs.Common.{◌≡◌, ℕ, ◌+◌, Bool, true, false, List, [], ◌∷◌, ◌++◌, Option, Some, None, length, take, drop, refl, sym, ap, ◌∙◌}
+use Rattle.std.proofs.Common.{◌≡◌, ℕ, true, List, [], ◌++◌, Option, Some, None, length, take, drop, refl, sym, ap, ◌∙◌}
 use Rattle.std.specs.Prelude.{pos, not, nat_eq, is_some, unwrap_or, slice_get, if◌then◌else◌}
 use Rattle.std.specs.Map.{lookup}
 use Rattle.flow_labels.specs.declared.Label.{Label}
@@ -11,7 +11,7 @@ use Rattle.lam_value.specs.declared.names.Name.{Name}
 use Rattle.lam_value.specs.declared.values.Value.{Value}
 use Rattle.lam_value.specs.declared.values.Value.TheVariants.{Int, Bytes, Nothing, Obj, Arr, File, Dir, Pipe, Thread, Tag}
 use Rattle.lam_value.specs.Shapes.{slots_of}
-use Rattle.lam_value.specs.Homes.{Home, home_of, name_of, count_in}
+use Rattle.lam_value.specs.Homes.{Home, home_of, name_of}
 use Rattle.labelled_heap.specs.Things.{sort_of}
 use Rattle.monitor_core.specs.declared.Holder.{Holder}
 use Rattle.monitor_core.specs.Held.{count_of}
@@ -23,12 +23,12 @@ use Rattle.labelled_pipes.specs.declared.message.Message.{Message}
 use Rattle.labelled_pipes.specs.declared.message.MessageKind.TheVariants as sort_of_message
 use Rattle.labelled_pipes.specs.Messages.{front_of}
 use Rattle.lam_asks.specs.declared.fault.Fault.TheVariants.{Deep, HomeFull}
-use Rattle.lam_asks.specs.declared.answer.Answer.TheVariants.{Val, Refused}
+use Rattle.lam_asks.specs.declared.answer.Answer.TheVariants.{Val}
 use Rattle.lam_asks.specs.declared.ask.Ask.{Ask}
 use Rattle.lam_asks.specs.declared.ask.Ask.TheVariants.{Read, Write, New, CopyTo, Mint, Enter, Leave, Barred, Caught, Suppressed, MonEnter, MonLeave, MakeFile, MakeDir, OpenFile, OpenDir, Remove, FileRead, FileLength, Append, Cut, MakePipe, Send, SendCaps, Receive, ReceiveCaps, Spawn, Join, Say, End}
 use Rattle.thread_steps.specs.Threads.{Context}
 use Rattle.lam_worlds.specs.Worlds.{World}
-use Rattle.lam_worlds.specs.Deeds.{Effect, takes_tag, takes_monitor, adds_thing, adds_copy, adds_file, adds_dir, adds_pipe, adds_thread, removes, receives, Made, a_thing, a_file, a_dir, a_pipe, a_thread, Deed, answers, does, gives, makes, unless_denied, under, unless, full, on_thing}
+use Rattle.lam_worlds.specs.Deeds.{Effect, takes_tag, takes_monitor, adds_thing, adds_copy, adds_file, adds_dir, adds_pipe, adds_thread, removes, receives, a_thing, a_file, a_dir, a_pipe, a_thread, Deed, answers, does, gives, makes, unless_denied, under, unless, full, on_thing}
 use Rattle.lam_worlds.specs.Serving.{reference, renamed, file_faults, opened, absent, received, joined, serve}
 use Rattle.lam_isolation.proofs.FlowLemmas.{flows_trans, each_passes, read_passes, same_passes, mint_passes}
 use Rattle.lam_isolation.proofs.AlikeLemmas.{Alike}

@@ -1,8 +1,8 @@
 -- What an answer does to the acting thread: its context stays behind with its label or is left, and a region's context
 -- alone is new.
-use Rattle.std.proofs.Common.{◌≡◌, ℕ, zero, suc, ◌+◌, Bool, true, false, List, [], ◌∷◌, ◌++◌, Option, Some, None, length, refl, sym, ap, ◌∙◌, subst}
+use Rattle.std.proofs.Common.{◌≡◌, ℕ, zero, suc, ◌+◌, Bool, true, false, List, [], ◌∷◌, ◌++◌, Option, Some, None, length, refl, sym, ap, ◌∙◌}
 use Rattle.std.specs.Prelude.{cond, slice_get, slice_set, is_some, filter, ◌||◌}
-use Rattle.std.specs.List.{AllByRecursion, list_any}
+use Rattle.std.specs.List.{AllByRecursion}
 use Rattle.std.specs.Cmp.{Equal-is}
 use Rattle.flow_labels.specs.declared.Label.{Label}
 use Rattle.flow_labels.specs.Flow.{flows, public_label}
@@ -23,9 +23,9 @@ use Rattle.lam_bytecode.specs.Codes.{CodeTree}
 use Rattle.thread_steps.specs.Equal.{same_names}
 use Rattle.thread_steps.specs.Threads.{Inside, Phase, Bottom, Body, Catch, Context, Thread}
 use Rattle.thread_steps.specs.Ops.{is_held, region_in}
-use Rattle.thread_steps.specs.Next.{entry, faulted, with_inside, with_held, given, without, held_by, catch_place, unit_number, catching, gains, done, entered, answered, result_after, takes}
+use Rattle.thread_steps.specs.Next.{entry, faulted, with_inside, with_held, given, without, held_by, catch_place, unit_number, catching, gains, done, entered, answered, result_after}
 use Rattle.lam_worlds.specs.Deeds.{Made, a_region, a_thing, a_file, a_dir, a_pipe, a_thread}
-use Rattle.lam_worlds.specs.Turns.{is_bottom, lists, may_ask}
+use Rattle.lam_worlds.specs.Turns.{is_bottom, may_ask}
 use Rattle.lam_worlds.specs.Views.{is_seen}
 use Rattle.lam_isolation.proofs.FlowLemmas.{not_both}
 use Rattle.lam_isolation.proofs.AlikeLemmas.{SameStacks, SameResults, AlikeThreads}

@@ -5,20 +5,19 @@ use Rattle.std.specs.List.{AllByRecursion}
 use Rattle.flow_labels.specs.declared.Label.{Label}
 use Rattle.flow_labels.specs.Flow.{flows, public_label}
 use Rattle.lam_value.specs.declared.names.Name.{Name}
-use Rattle.lam_asks.specs.declared.answer.Outcome.{Outcome}
 use Rattle.lam_asks.specs.declared.ask.Ask.{Ask}
 use Rattle.lam_bytecode.specs.Codes.{CodeTree}
 use Rattle.thread_steps.specs.Threads.{Inside, Bottom, Context, Thread}
 use Rattle.thread_steps.specs.Next.{Next, goes, asks, stuck, next_of, with_inside, started, result_after, takes}
 use Rattle.lam_worlds.specs.Worlds.{World, thread_at, contexts_in, contexts_at, result_in, with_thread}
-use Rattle.lam_worlds.specs.Deeds.{Effect, nothing, takes_tag, sets_slot, adds_thing, adds_copy, takes_monitor, gives_back, drops, adds_file, adds_dir, removes, appends, cuts, adds_pipe, sends, receives, adds_thread, effect_of, Made, a_region, a_thing, a_file, a_dir, a_pipe, a_thread, Deed}
+use Rattle.lam_worlds.specs.Deeds.{Effect, nothing, takes_tag, sets_slot, adds_thing, adds_copy, takes_monitor, gives_back, drops, adds_file, adds_dir, removes, appends, cuts, adds_pipe, sends, receives, adds_thread, effect_of, Made, a_region, a_thing, a_file, a_dir, a_pipe, a_thread}
 use Rattle.lam_worlds.specs.Serving.{serve}
 use Rattle.lam_worlds.specs.Turns.{is_bottom, may_ask, waits, is_ready, Moment, goes_on, served, turn_by, turn_on, turn_in, step}
 use Rattle.lam_worlds.specs.Views.{is_seen, shows, is_noted}
-use Rattle.lam_worlds.specs.Valid.{IsListed, ContextLives, IsFirst, StandsOn, AreStacked, IsValidThread, IsValid}
+use Rattle.lam_worlds.specs.Valid.{IsListed, ContextLives, StandsOn, AreStacked, IsValid}
 use Rattle.lam_isolation.proofs.FlowLemmas.{both_true}
 use Rattle.lam_isolation.proofs.AlikeLemmas.{AlikeThreads, Alike, alike_refl, alike_sym, alike_trans, with_threads}
-use Rattle.lam_isolation.proofs.EffectLemmas.{IsHidden, hidden_shown, shown, shown_same, shown_kept, IsOpen, effect_same}
+use Rattle.lam_isolation.proofs.EffectLemmas.{IsHidden, hidden_shown, shown, shown_same, shown_kept, effect_same}
 use Rattle.lam_isolation.proofs.ThreadLemmas.{set_same, threads_set, filter-append, IsSafe, heir_inside, front, answered_front, new_contexts, front_hidden, AllSafe, safe_append, front_safe, result_kept}
 use Rattle.lam_isolation.proofs.RowLemmas.{served_proper}
 use Rattle.lam_isolation.proofs.SameLemmas.{serve_same}
@@ -120,9 +119,6 @@ pub record IsSafeWorld (w : World) : Type 0 where
 -- the contexts of an acting thread
 pub top_safe : (w : World) (t : ℕ) (th : Thread) (c : Context) (rest : List Context) → IsSafeWorld w → thread_at w t ≡ Some th → th.contexts ≡ c ∷ rest → IsSafe c × AllSafe rest
 top_safe w t th c rest s e f = subst AllSafe f (subst (λ x. AllSafe (contexts_in x)) e (s.contexts t))
-
-AllSafeAt : Option Thread → Type 0
-AllSafeAt x = AllSafe (contexts_in x)
 
 set_safe : (t : ℕ) (xs : List Thread) (a : Thread) → ((j : ℕ) → AllSafe (contexts_in (slice_get xs j))) → AllSafe a.contexts → (j : ℕ) → AllSafe (contexts_in (slice_get (slice_set xs t a) j))
 set_safe t [] a all here j = all j
@@ -277,8 +273,8 @@ went_pair o w w' t th th' c rest rest' i b =
     record {
       event = refl;
       alike = with_threads o w w' _ _ b.alike
-      (threads_set o t w.threads w'.threads th th' (private_to th c rest i) (private_to th' c rest' i) b.alike.threads b.at b.at'
-      (ap (λ r. cond (flows c.label o) (with_inside c i ∷ r) r) b.rests) b.results);
+          (threads_set o t w.threads w'.threads th th' (private_to th c rest i) (private_to th' c rest' i) b.alike.threads b.at b.at'
+          (ap (λ r. cond (flows c.label o) (with_inside c i ∷ r) r) b.rests) b.results);
     }
 
 asked_pair : (o : Label) (code : CodeTree) (w w' : World) (t : ℕ) (th th' : Thread) (c : Context) (rest rest' : List Context) (a : Ask) (i : Inside) → flows c.label o ≡ true → Beside o w w' t th th' rest rest' → Pair o (served code w t th c rest a i (serve w c a)) (served code w' t th' c rest' a i (serve w' c a))
@@ -288,7 +284,7 @@ asked_pair o code w w' t th th' c rest rest' a i seen b =
     let to' = takes code th' c rest' i a d.answer in
     let f = front code c i a d.answer in
     let stacks : filter (is_seen o) to.contexts ≡ filter (is_seen o) to'.contexts
-      = ap (filter (is_seen o)) (answered_front code c rest i a d.answer) ∙ filter-append (is_seen o) f rest ∙ ap (λ r. filter (is_seen o) f ++ r) b.rests ∙ sym (filter-append (is_seen o) f rest') ∙ sym (ap (filter (is_seen o)) (answered_front code c rest' i a d.answer)) in
+    = ap (filter (is_seen o)) (answered_front code c rest i a d.answer) ∙ filter-append (is_seen o) f rest ∙ ap (λ r. filter (is_seen o) f ++ r) b.rests ∙ sym (filter-append (is_seen o) f rest') ∙ sym (ap (filter (is_seen o)) (answered_front code c rest' i a d.answer)) in
     let moved = with_threads o w w' _ _ b.alike (threads_set o t w.threads w'.threads th th' to to' b.alike.threads b.at b.at' stacks (λ p. ap (λ r. result_after r a) (b.results p))) in
     let both = effect_same o code t d.effect (with_thread w t to) (with_thread w' t to') ((served_proper w c a).openly o seen) moved in
     let here : Pair o (served code w t th c rest a i d) (served code w' t th' c rest' a i d) = record { event = refl; alike = both } in
@@ -316,7 +312,7 @@ seen_pair o code w w' t m m' l h h' is is' =
     let two = first_two a.top a'.top _ _ lists in
     let gives' = subst (λ x. turn_by code w' t a'.thread x a'.rest (next_of code x) ≡ Some m') (sym two.0) a'.gives in
     let beside : Beside o w w' t a.thread a'.thread a.rest a'.rest
-      = record { alike = l; at = a.at; at' = a'.at; rests = two.1; results = λ p. sym (ap result_in a.at) ∙ l.threads.results p t ∙ ap result_in a'.at } in
+    = record { alike = l; at = a.at; at' = a'.at; rests = two.1; results = λ p. sym (ap result_in a.at) ∙ l.threads.results p t ∙ ap result_in a'.at } in
     pair_by o code w w' t a.thread a'.thread a.top a.rest a'.rest (next_of code a.top) m m' seen beside a.gives gives'
 
 pub turn_thread : (code : CodeTree) (w : World) (t : ℕ) (m : Moment) → step code w t ≡ Some m → m.event.thread ≡ t
