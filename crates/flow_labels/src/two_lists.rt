@@ -12,7 +12,7 @@ ghost use Rattle.flow_labels.specs.Reading.{start, step, after_list, after_lette
 ghost use Rattle.flow_labels.specs.declared.two_lists.TagFault.TheVariants.{NoMemory as no_memory};
 
 use crate::names::{TagNames, is_letter, is_word};
-use itoa::Buffer;
+use decimal_text::push_number;
 use std::alloc::{AllocError, AllocFailed, Global};
 use tag_sets::{NoMemory, TagId, TagSet};
 
@@ -304,16 +304,14 @@ pub fn push_tag(text: &mut String, tag: TagId, names: &TagNames) -> Result<(), N
 {
     match names.name(tag) {
         Some(name) => text.push_str(name)?,
-        None => push_number(text, tag.0)?,
+        None => push_unnamed(text, tag.0)?,
     }
     Ok(())
 }
 
-fn push_number(text: &mut String, number: u64) -> Result<(), NoMemory>
+fn push_unnamed(text: &mut String, number: u64) -> Result<(), NoMemory>
     ensures { OnOk result (string_bytes text.new ≡ string_bytes text.old ++ 35 ∷ decimal number) }
 {
-    let mut digits = Buffer::new();
     text.push('#')?;
-    text.push_str(digits.format(number))?;
-    Ok(())
+    push_number(text, number)
 }

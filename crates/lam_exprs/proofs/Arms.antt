@@ -5,15 +5,16 @@ use Rattle.lam_syntax.specs.declared.Expr.{Expr}
 use Rattle.lam_syntax.specs.declared.BinaryOp.{BinaryOp}
 use Rattle.lam_syntax.specs.declared.UnaryOp.{UnaryOp}
 use Rattle.lam_syntax.specs.Tree.{Word, IdTree, TypeTree, ExprTree, ExprForm, ExprList, expr_tree, binary_expr, unary_expr, field_expr, element_expr, new_array_expr, label_expr, spawn_expr, call_expr}
-use Rattle.lam_kinds.specs.Types.{ValueType, Given, a_value, Place, exactly, any_class, any_array, int, label, caps, array, written}
+use Rattle.lam_builtins.specs.Types.{ValueType, Given, a_value, Place, exactly, any_class, any_array, int, label, caps, array, written}
 use Rattle.lam_kinds.specs.Breaks.{Verdict, Fine, Stop, then_on}
-use Rattle.lam_kinds.specs.Builtins.{Signature}
+use Rattle.lam_builtins.specs.Builtins.{Signature}
 use Rattle.lam_kinds.specs.Tables.{Names, Decls, find, type_known}
 use Rattle.lam_kinds.specs.Values.{Breaks, Gives}
 use Rattle.lam_kinds.specs.declared.types.Got.{Got}
 use Rattle.lam_kinds.specs.declared.fault.TypeFault.{TypeFault}
 use Rattle.lam_kinds.proofs.Steps.{stops, goes_on}
-use Rattle.lam_exprs.specs.Exprs.{at_of, placed, operand, operator_type, unary_type, operate, found_field, field_type, element_of, given_of, form_given, args_given, tags_given, count, spawnable, started}
+use Rattle.lam_exprs.specs.Exprs.{at_of, placed, operate, found_field, field_type, element_of, given_of, form_given, args_given, tags_given, count, spawnable, started}
+use Rattle.lam_builtins.specs.Operators.{operand, operator_type, unary_type}
 
 module _ (d : Decls) (env : Names) (at : ℕ) (k : ExprForm) where
   of_form : (f : TypeFault) (form : ExprForm) → k ≡ form → Breaks f (form_given d env at form) → Breaks f (form_given d env at k)

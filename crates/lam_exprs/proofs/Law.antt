@@ -4,14 +4,15 @@ use Rattle.std.proofs.lemmas.Bool.Decides.{nat_tests}
 use Rattle.std.specs.Str.{bytes_eq}
 use Rattle.std.proofs.lemmas.Slice.Eq.{bytes_eq-Decides}
 use Rattle.lam_syntax.specs.Tree.{Word, IdTree, CapTree, TypeTree, type_node, TypeForm, int_type, bool_type, bytes_type, tag_type, label_type, caps_type, file_type, dir_type, pipe_type, thread_type, class_type, array_type, ExprTree, expr_node, ExprForm, binary_expr, unary_expr, field_expr, element_expr, number_expr, text_expr, bool_expr, null_expr, name_expr, call_expr, new_class_expr, new_array_expr, label_expr, caps_expr, spawn_expr, ExprList, no_exprs, exprs}
-use Rattle.lam_kinds.specs.Types.{ValueType, int, bool, bytes, tag, label, caps, file, dir, pipe, thread, object, array, written, Given, a_value, a_null, nothing, given_type, Place, exactly, any_class, any_array, suits, accepts, wanted_type, comparable, same_type}
+use Rattle.lam_builtins.specs.Types.{ValueType, int, bool, bytes, tag, label, caps, file, dir, pipe, thread, object, array, written, Given, a_value, a_null, nothing, given_type, Place, exactly, any_class, any_array, suits, accepts, wanted_type, comparable, same_type}
 use Rattle.lam_kinds.specs.Breaks.{Break, no_name, arity, Verdict, Fine, Stop, then_on, fit, unequal, mismatch_of}
-use Rattle.lam_kinds.specs.Builtins.{Answer, answers, no_answer, as_first, Signature, answered}
+use Rattle.lam_builtins.specs.Builtins.{Answer, answers, no_answer, as_first, Signature, answered}
 use Rattle.lam_kinds.specs.Tables.{Names, Fields, Decls, find, signature_named, type_known, form_known, named_if}
 use Rattle.lam_kinds.specs.Values.{Gives, Breaks, given}
 use Rattle.lam_kinds.specs.declared.types.Got.{Got}
 use Rattle.lam_kinds.specs.declared.fault.TypeFault.{TypeFault}
-use Rattle.lam_exprs.specs.Exprs.{at_of, placed, operand, operator_type, unary_type, operate, field_in, field_type, found_field, element_of, known, count, counted, called, spawnable, started, cap_tag, cap_tags, given_of, form_given, args_given, rest_given, tags_given}
+use Rattle.lam_exprs.specs.Exprs.{at_of, placed, operate, field_in, field_type, found_field, element_of, known, count, counted, called, spawnable, started, cap_tag, cap_tags, given_of, form_given, args_given, rest_given, tags_given}
+use Rattle.lam_builtins.specs.Operators.{operand, operator_type, unary_type}
 use Rattle.lam_exprs.specs.Judgement.{IsDeclared, IsDeclaredForm, Fits, Operates, AreTagNames, IsGiven, IsFormGiven, AreArgs, AreRest, AreTags}
 use Rattle.lam_exprs.specs.Meets.{IsFine}
 
@@ -235,7 +236,7 @@ array_back : (g : Given) → suits any_array g ≡ true → (t : ValueType) × (
 array_back (a_value (array t)) s = (t, refl)
 array_back _ s = absurd cc
 
-type_back : (t u : ValueType) → same_type t u ≡ true → t ≡ u
+pub type_back : (t u : ValueType) → same_type t u ≡ true → t ≡ u
 type_back int int e = refl
 type_back bool bool e = refl
 type_back bytes bytes e = refl

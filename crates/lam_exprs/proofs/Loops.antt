@@ -5,9 +5,9 @@ use Rattle.std.proofs.Math.Seq.{drop-cons}
 use Rattle.lam_syntax.specs.declared.Expr.{Expr}
 use Rattle.lam_syntax.specs.declared.CapItem.{CapItem}
 use Rattle.lam_syntax.specs.Tree.{ExprTree, ExprList, no_exprs, exprs, exprs_tree, expr_tree, CapTree, caps_tree, cap_tree}
-use Rattle.lam_kinds.specs.Types.{Given, nothing, Place, exactly, tag}
+use Rattle.lam_builtins.specs.Types.{Given, nothing, Place, exactly, tag}
 use Rattle.lam_kinds.specs.Breaks.{Verdict, Fine, Stop, then_on}
-use Rattle.lam_kinds.specs.Builtins.{Answer, answered}
+use Rattle.lam_builtins.specs.Builtins.{Answer, answered}
 use Rattle.lam_kinds.specs.Tables.{Names, Decls}
 use Rattle.lam_kinds.specs.Values.{Breaks, places, place}
 use Rattle.lam_kinds.specs.declared.types.Want.{Want}

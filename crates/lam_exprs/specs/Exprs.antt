@@ -1,13 +1,10 @@
 -- What an expression gives, or the first break in it: from left to right, an operator's own rule after its operands.
 use Rattle.std.specs.Prelude.{◌≡◌, ℕ, ◌+◌, Bool, true, false, if◌then◌else◌, is_some, nat_eq, List, [], ◌∷◌, length, Option, Some, None}
-use Rattle.lam_syntax.specs.declared.BinaryOp.{BinaryOp}
-use Rattle.lam_syntax.specs.declared.BinaryOp.TheVariants.{Or, And, Eq, Ne, Lt, Le, Gt, Ge, Add, Sub, Mul, Div, Rem}
-use Rattle.lam_syntax.specs.declared.UnaryOp.{UnaryOp}
-use Rattle.lam_syntax.specs.declared.UnaryOp.TheVariants.{Not, Neg}
 use Rattle.lam_syntax.specs.Tree.{Word, IdTree, CapTree, ExprTree, expr_node, ExprForm, binary_expr, unary_expr, field_expr, element_expr, number_expr, text_expr, bool_expr, null_expr, name_expr, call_expr, new_class_expr, new_array_expr, label_expr, caps_expr, spawn_expr, ExprList, no_exprs, exprs}
-use Rattle.lam_kinds.specs.Types.{ValueType, int, bool, bytes, tag, label, caps, thread, object, array, written, Given, a_value, a_null, nothing, Place, exactly, any_class, any_array, comparable}
+use Rattle.lam_builtins.specs.Types.{ValueType, int, bool, bytes, tag, label, caps, thread, object, array, written, Given, a_value, a_null, nothing, Place, exactly, any_class, any_array, comparable}
+use Rattle.lam_builtins.specs.Operators.{operand, operator_type, unary_type}
 use Rattle.lam_kinds.specs.Breaks.{Break, no_name, arity, no_field, Verdict, Fine, Stop, then_on, fit, unequal}
-use Rattle.lam_kinds.specs.Builtins.{Signature, answered}
+use Rattle.lam_builtins.specs.Builtins.{Signature, answered}
 use Rattle.lam_kinds.specs.Tables.{Names, Fields, Decls, find, signature_named, type_known, named_if}
 
 abbrev pub at_of : ExprTree → ℕ
@@ -16,28 +13,6 @@ at_of (expr_node at form) = at
 -- an expression at a place
 unfoldable pub placed : ℕ → Place → Verdict Given → Verdict Given
 placed at p v = then_on v (λ g. fit at p g)
-
--- the type of an operator's operands; `==` and `!=` compare
-abbrev pub operand : BinaryOp → Option ValueType
-operand Or = Some bool
-operand And = Some bool
-operand Eq = None
-operand Ne = None
-operand _ = Some int
-
--- the type of its result
-abbrev pub operator_type : BinaryOp → ValueType
-operator_type Add = int
-operator_type Sub = int
-operator_type Mul = int
-operator_type Div = int
-operator_type Rem = int
-operator_type _ = bool
-
--- of a prefix operator, both
-abbrev pub unary_type : UnaryOp → ValueType
-unary_type Not = bool
-unary_type Neg = int
 
 -- an operator's own rule
 abbrev pub operate : Option ValueType → ValueType → ℕ → ℕ → Given → Given → Verdict Given

@@ -2,8 +2,8 @@
 use Rattle.std.specs.Prelude.{zero, suc, ◌≡◌, ℕ, List, length, Option, Some, None, Result, Ok, Err}
 use Rattle.std.specs.Borrow.{Bor}
 use Rattle.lam_kinds.specs.Breaks.{Verdict, Fine}
-use Rattle.lam_kinds.specs.Builtins.{Signature, Answer}
-use Rattle.lam_kinds.specs.Types.{Place, Given}
+use Rattle.lam_builtins.specs.Builtins.{Signature, Answer}
+use Rattle.lam_builtins.specs.Types.{Place, Given}
 use Rattle.lam_kinds.specs.Values.{Breaks, option_signature}
 use Rattle.lam_kinds.specs.declared.tables.Callable.{Callable}
 use Rattle.lam_kinds.specs.declared.fault.TypeFault.{TypeFault}

@@ -10,14 +10,15 @@
 
 ghost use Rattle.std.specs.Prelude.{◌≡◌, IfOk, OnOk, length, Some};
 ghost use Rattle.lam_syntax.specs.Tree.{expr_tree, exprs_tree, id_tree, cap_tree, caps_tree, call_expr, label_expr, spawn_expr};
-ghost use Rattle.lam_kinds.specs.Types.{Given};
+ghost use Rattle.lam_builtins.specs.Types.{Given};
 ghost use Rattle.lam_kinds.specs.Tables.{find};
 ghost use Rattle.lam_kinds.specs.Values.{decls, names, value_type, option_type, given, place, places, answer, option_signature, Gives, Passes};
-ghost use Rattle.lam_exprs.specs.Exprs.{at_of, placed, operand, operator_type, unary_type, operate, field_type, found_field, element_of, known as known_name, count, counted, called, spawnable, started, cap_tag, cap_tags, given_of, form_given, args_given, tags_given};
+ghost use Rattle.lam_exprs.specs.Exprs.{at_of, placed, operate, field_type, found_field, element_of, known as known_name, count, counted, called, spawnable, started, cap_tag, cap_tags, given_of, form_given, args_given, tags_given};
+ghost use Rattle.lam_builtins.specs.Operators.{operand, operator_type, unary_type};
 ghost use Rattle.lam_exprs.specs.Judgement.{IsGiven};
 ghost use Rattle.lam_exprs.specs.Meets.{first_of, signature_as, GivesSignature, TakesAsMany, IsFine};
 
-use lam_kinds::builtins::answered;
+use lam_kinds::builtins::{answered, builtin_returns, builtin_wants};
 use lam_kinds::fault::{fit, unequal};
 use lam_kinds::tables::{find_name, known_type};
 use lam_kinds::types::{comparable, type_ref};
@@ -276,14 +277,14 @@ fn check_call<'a>(
 {
     match Builtin::named(name.name.as_str()) {
         Some(call) => {
-            let wants = call.wants();
+            let takes = builtin_wants(call);
             check_called(
                 alloc,
                 known,
                 env,
                 at,
-                &wants[..call.arity()],
-                call.returns(),
+                &takes[..call.arity()],
+                builtin_returns(call),
                 args,
             )
         }

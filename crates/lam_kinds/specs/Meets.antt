@@ -2,7 +2,7 @@
 use Rattle.std.specs.Prelude.{◌≡◌, List, [], ◌∷◌, ◌++◌, Option, Some, None, Result, Ok, Err}
 use Rattle.lam_syntax.specs.Tree.{Word, VarTree}
 use Rattle.lam_kinds.specs.Breaks.{Verdict, Fine}
-use Rattle.lam_kinds.specs.Builtins.{Signature}
+use Rattle.lam_builtins.specs.Builtins.{Signature}
 use Rattle.lam_kinds.specs.Tables.{Names, Fields, find, typed_name}
 use Rattle.lam_kinds.specs.Values.{Breaks, Table, class_entries, function_entries}
 use Rattle.lam_kinds.specs.declared.types.TypeRef.{TypeRef}

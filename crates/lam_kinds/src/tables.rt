@@ -7,10 +7,11 @@ ghost use Rattle.lam_kinds.specs.Values.{keyed, names, fields as field_map, clas
 ghost use Rattle.lam_kinds.specs.Meets.{Makes, Leaves, see_classes, see_functions, IsAddedField};
 ghost use Rattle.lam_kinds.specs.declared.fault.TypeFault.TheVariants.{NoMemory as no_memory};
 
-use crate::builtins::{Builtin, Returns};
+use crate::builtins::Returns;
 use crate::fault::TypeFault;
 use crate::types::{TypeRef, Want, type_ref};
 use indexmap::IndexMap;
+use lam_builtins::Builtin;
 use lam_syntax::{Class, Function, Id, Item, TypeExpr, TypeKind, Var};
 use std::alloc::Global;
 

@@ -1,8 +1,8 @@
 //! From the tokens of a text to the tree of its program.
 //!
 //! `parse` is the plain descent over the grammar's rules, one small function for each: items and their parts in `items`,
-//! statements and blocks in `stmts`, names with types and the lists of them in `variables`; types and expressions are
-//! read by `lam_parse_exprs`. It looks at one token ahead and copies no tokens. Items, statements and the other lists
+//! statements with blocks in `stmts`. What contains no block is read by `lam_parse_stmts`, expressions by
+//! `lam_parse_exprs`, types and names by `lam_parse_parts`. It looks at one token ahead and copies no tokens. Items, statements and the other lists
 //! are read by loops; blocks within blocks are read by calls within calls, at most 128 deep, since each counts in the
 //! depth sum.
 //!
@@ -18,7 +18,6 @@ ghost use Rattle.lam_parser.specs.Answers.{Parses, place};
 
 mod items;
 mod stmts;
-mod variables;
 
 use items::program;
 use lam_lexer::Token;

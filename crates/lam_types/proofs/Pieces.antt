@@ -2,7 +2,7 @@
 use Rattle.std.proofs.Common.{◌≡◌, ℕ, List, Option, Some, None, is_some, Result, Ok, Err, OnOk, Bor, refl, sym, ap, ◌∙◌, subst}
 use Rattle.lam_syntax.specs.declared.Stmt.{Stmt}
 use Rattle.lam_syntax.specs.Tree.{Word, IdTree, ExprTree, stmts_tree}
-use Rattle.lam_kinds.specs.Types.{ValueType, Given, given_type, exactly}
+use Rattle.lam_builtins.specs.Types.{ValueType, Given, given_type, exactly}
 use Rattle.lam_kinds.specs.Breaks.{Verdict, Fine, Stop, then_on, mismatch_of}
 use Rattle.lam_kinds.specs.Tables.{Names, Decls, find, fresh, twice_if}
 use Rattle.lam_kinds.specs.Values.{Breaks, Passes, names, keyed, value_type}

@@ -4,94 +4,72 @@ use flow_labels::Label;
 use labelled_files::{EntryKind, FileFault, Files};
 use lam_value::Name;
 use std::alloc::Global;
-use std::test::Fail;
 
 /// Makes a public file of the root.
-fn make(alloc: Global, files: &mut Files, entry: &[u8]) -> Result<Result<Name, FileFault>, Fail> {
+fn make_file(alloc: Global, files: &mut Files, entry: &[u8]) -> Option<Name> {
     let public = Label::public(alloc);
-    let root = files.root().copy()?;
-    Ok(files.make_file(&root, entry, &public, &public))
+    let root = files.root().copy().ok()?;
+    files.make_file(&root, entry, &public, &public).ok()
 }
 
-/// The new file `f` of the root.
-fn file_of(alloc: Global, files: &mut Files) -> Result<Name, Fail> {
-    match make(alloc, files, b"f")? {
-        Ok(name) => Ok(name),
-        Err(_) => Err(Fail::new("no file was made")),
-    }
+/// Puts 1,048,575 zeros and then two bytes at the end of a file, and says whether it could.
+fn fill(alloc: Global, files: &mut Files, name: &Name) -> Option<bool> {
+    let most = Vec::from_elem(alloc, 0u8, 1_048_575).ok()?;
+    let zeros = files.append(name, &most).is_ok();
+    let rest = files.append(name, b"xy").is_ok();
+    Some(zeros & rest)
 }
 
-/// Makes a file 1,048,575 zeros long, and then puts two bytes more.
-fn fill(alloc: Global, files: &mut Files, name: &Name) -> Result<(), Fail> {
-    let most = Vec::from_elem(alloc, 0u8, 1_048_575)?;
-    files.append(name, &most)?;
-    files.append(name, b"xy")?;
-    Ok(())
-}
-
+/// Whether a file is a mebibyte long, and ends in `x`.
 fn is_long(files: &Files, name: &Name) -> bool {
-    files.length(name) == 1_048_576
-}
-
-fn ends_in_x(files: &Files, name: &Name) -> bool {
-    files.read(name, 1_048_575, 9) == b"x".as_slice()
+    files.length(name) == 1_048_576 && files.read(name, 1_048_575, 9) == b"x".as_slice()
 }
 
 /// Whether a long file keeps a mebibyte, and `x` as its last byte.
-fn keeps_a_mebibyte(alloc: Global, files: &mut Files) -> Result<bool, Fail> {
-    let name = file_of(alloc, files)?;
-    fill(alloc, files, &name)?;
-    Ok(is_long(files, &name) & ends_in_x(files, &name))
+fn keeps_a_mebibyte(alloc: Global) -> Option<bool> {
+    let mut files = Files::new(alloc).ok()?;
+    let name = make_file(alloc, &mut files, b"f")?;
+    let filled = fill(alloc, &mut files, &name)?;
+    Some(filled & is_long(&files, &name))
 }
 
 #[test]
-fn file_keeps_a_mebibyte(rt: HostRuntime) -> Result<(), Fail> {
-    let mut files = Files::new(rt.alloc())?;
-    assert!(rt; keeps_a_mebibyte(rt.alloc(), &mut files)?);
-    Ok(())
+fn file_keeps_a_mebibyte(rt: HostRuntime) {
+    assert!(rt; keeps_a_mebibyte(rt.alloc()) == Some(true));
 }
 
 /// Whether the first three of four bytes stay after a cut to three.
-fn keeps_three(alloc: Global, files: &mut Files) -> Result<bool, Fail> {
-    let name = file_of(alloc, files)?;
-    files.append(&name, b"abcd")?;
+fn keeps_three(alloc: Global) -> Option<bool> {
+    let mut files = Files::new(alloc).ok()?;
+    let name = make_file(alloc, &mut files, b"f")?;
+    let wrote = files.append(&name, b"abcd").is_ok();
     files.cut(&name, 3);
-    Ok(files.read(&name, 0, 9) == b"abc".as_slice())
+    Some(wrote & (files.read(&name, 0, 9) == b"abc".as_slice()))
 }
 
 #[test]
-fn a_cut_keeps_the_front(rt: HostRuntime) -> Result<(), Fail> {
-    let mut files = Files::new(rt.alloc())?;
-    assert!(rt; keeps_three(rt.alloc(), &mut files)?);
-    Ok(())
+fn a_cut_keeps_the_front(rt: HostRuntime) {
+    assert!(rt; keeps_three(rt.alloc()) == Some(true));
 }
 
-/// Whether no file of this name is made, for this cause.
-fn refuses(alloc: Global, files: &mut Files, entry: &[u8], why: FileFault) -> Result<bool, Fail> {
-    match make(alloc, files, entry)? {
-        Ok(_) => Ok(false),
-        Err(fault) => Ok(fault == why),
-    }
+/// Why no public file of the root can be made.
+fn fault_of(files: &Files, public: &Label, entry: &[u8]) -> Option<FileFault> {
+    files.first_fault(files.root(), entry, public, public)
 }
 
-/// Whether an entry is made once alone.
-fn makes_once(alloc: Global, files: &mut Files) -> Result<bool, Fail> {
-    file_of(alloc, files)?;
-    refuses(alloc, files, b"f", FileFault::Exists)
-}
-
-#[test]
-fn an_entry_is_there_once(rt: HostRuntime) -> Result<(), Fail> {
-    let mut files = Files::new(rt.alloc())?;
-    assert!(rt; makes_once(rt.alloc(), &mut files)?);
-    Ok(())
+/// Whether an entry is made once alone, and one with a slash never.
+fn refuses(alloc: Global) -> Option<bool> {
+    let public = Label::public(alloc);
+    let mut files = Files::new(alloc).ok()?;
+    make_file(alloc, &mut files, b"f")?;
+    let again = fault_of(&files, &public, b"f") == Some(FileFault::Exists);
+    let slash = fault_of(&files, &public, b"a/b") == Some(FileFault::BadName);
+    Some(again & slash & fault_of(&files, &public, b"g").is_none())
 }
 
 #[test]
-fn a_slash_is_in_no_entry(rt: HostRuntime) -> Result<(), Fail> {
-    let mut files = Files::new(rt.alloc())?;
-    assert!(rt; refuses(rt.alloc(), &mut files, b"a/b", FileFault::BadName)?);
-    Ok(())
+fn an_entry_is_there_once(rt: HostRuntime) {
+    assert!(rt; refuses(rt.alloc()) == Some(true));
 }
 
 /// Whether the root has a file of this name.
@@ -101,65 +79,65 @@ fn is_listed(files: &Files, entry: &[u8]) -> bool {
         .is_some()
 }
 
-fn is_file(files: &Files, name: &Name) -> bool {
-    files.lives(name, EntryKind::File)
-}
-
 /// Takes an entry out of the root.
-fn unlist(files: &mut Files, entry: &[u8]) -> Result<bool, Fail> {
-    let root = files.root().copy()?;
-    Ok(files.remove(&root, entry))
+fn unlist(files: &mut Files, entry: &[u8]) -> Option<bool> {
+    let root = files.root().copy().ok()?;
+    Some(files.remove(&root, entry))
 }
 
 /// Whether an entry goes and its file stays.
-fn outlives_its_entry(alloc: Global, files: &mut Files) -> Result<bool, Fail> {
-    let name = file_of(alloc, files)?;
-    let before = is_listed(files, b"f");
-    let removed = unlist(files, b"f")?;
-    let after = is_listed(files, b"f");
-    Ok(before & removed & !after & is_file(files, &name))
+fn outlives_its_entry(alloc: Global) -> Option<bool> {
+    let mut files = Files::new(alloc).ok()?;
+    let name = make_file(alloc, &mut files, b"f")?;
+    let before = is_listed(&files, b"f");
+    let removed = unlist(&mut files, b"f")?;
+    let after = is_listed(&files, b"f");
+    Some(before & removed & !after & files.lives(&name, EntryKind::File))
 }
 
 #[test]
-fn a_removed_entry_leaves_its_file(rt: HostRuntime) -> Result<(), Fail> {
-    let mut files = Files::new(rt.alloc())?;
-    assert!(rt; outlives_its_entry(rt.alloc(), &mut files)?);
-    Ok(())
+fn a_removed_entry_leaves_its_file(rt: HostRuntime) {
+    assert!(rt; outlives_its_entry(rt.alloc()) == Some(true));
 }
 
-/// The new directory `d` of the root.
-fn directory_of(alloc: Global, files: &mut Files) -> Result<Name, Fail> {
+/// Makes a public directory of the root.
+fn make_dir(files: &mut Files, public: &Label, entry: &[u8]) -> Option<Name> {
+    let root = files.root().copy().ok()?;
+    files.make_dir(&root, entry, public, public).ok()
+}
+
+/// Whether a new directory is no file, and gets the number after the root's.
+fn makes_a_directory(alloc: Global) -> Option<bool> {
     let public = Label::public(alloc);
-    let root = files.root().copy()?;
-    match files.make_dir(&root, b"d", &public, &public) {
-        Ok(name) => Ok(name),
-        Err(_) => Err(Fail::new("no directory was made")),
-    }
-}
-
-/// Whether a new directory is no file.
-fn makes_a_directory(alloc: Global, files: &mut Files) -> Result<bool, Fail> {
-    let name = directory_of(alloc, files)?;
-    Ok(files.lives(&name, EntryKind::Dir) & !is_file(files, &name))
+    let mut files = Files::new(alloc).ok()?;
+    let name = make_dir(&mut files, &public, b"d")?;
+    let kind = files.lives(&name, EntryKind::Dir) & !files.lives(&name, EntryKind::File);
+    Some(kind & (name.n() == 1) & (files.next(&public, &public) == 2))
 }
 
 #[test]
-fn a_directory_is_no_file(rt: HostRuntime) -> Result<(), Fail> {
-    let mut files = Files::new(rt.alloc())?;
-    assert!(rt; makes_a_directory(rt.alloc(), &mut files)?);
-    Ok(())
+fn a_directory_is_no_file(rt: HostRuntime) {
+    assert!(rt; makes_a_directory(rt.alloc()) == Some(true));
 }
 
-/// Whether a copy has the root's file.
-fn is_copied(alloc: Global, files: &mut Files) -> Result<bool, Fail> {
-    let name = file_of(alloc, files)?;
-    let copy = files.copy()?;
-    Ok(is_file(&copy, &name))
+/// Whether two have equal files and directories, and equal ones where the public observer sees.
+fn are_same(a: &Files, b: &Files, public: &Label) -> bool {
+    a.facts();
+    a.same(b) & a.same_seen(b, public) & a.same_counters(b, public)
+}
+
+/// Whether files are equal to their copy, until one of the two is written.
+fn is_copied(alloc: Global) -> Option<bool> {
+    let public = Label::public(alloc);
+    let mut files = Files::new(alloc).ok()?;
+    let name = make_file(alloc, &mut files, b"f")?;
+    let copy = files.copy().ok()?;
+    let before = are_same(&files, &copy, &public);
+    let wrote = files.append(&name, b"x").is_ok();
+    Some(before & wrote & !are_same(&files, &copy, &public))
 }
 
 #[test]
-fn copied_files_are_equal(rt: HostRuntime) -> Result<(), Fail> {
-    let mut files = Files::new(rt.alloc())?;
-    assert!(rt; is_copied(rt.alloc(), &mut files)?);
-    Ok(())
+fn copied_files_are_equal(rt: HostRuntime) {
+    assert!(rt; is_copied(rt.alloc()) == Some(true));
 }

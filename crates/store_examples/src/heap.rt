@@ -1,17 +1,19 @@
 //! Cells, and objects and arrays.
 
+ghost use Rattle.std.specs.Prelude.{◌<◌, IsTrue, length};
+ghost use Rattle.labelled_heap.specs.Things.{slots_at};
+
 use flow_labels::Label;
-use labelled_heap::{Cells, Heap};
+use labelled_heap::{Cells, Heap, Sort};
 use lam_value::{Kind, Name, Shape, Value};
 use std::alloc::Global;
-use std::test::Fail;
 
 /// Adds a public cell.
-fn add(alloc: Global, cells: &mut Cells, value: i64) -> Result<u32, Fail> {
+fn add(cells: &mut Cells, public: Label, value: i64) -> Option<u32> {
     if cells.count() >= 65_536 {
-        return Err(Fail::new("no room"));
+        return None;
     }
-    Ok(cells.add(Label::public(alloc), value)?)
+    cells.add(public, value).ok()
 }
 
 /// Writes a cell, if it is there.
@@ -21,116 +23,124 @@ fn set(cells: &mut Cells, cell: u32, value: i64) {
     }
 }
 
-/// What a cell holds, or 0 where it is not there.
-fn value_of(cells: &Cells, cell: u32) -> i64 {
-    if cell < cells.count() {
-        cells.get(cell)
-    } else {
-        0
-    }
+/// Whether a cell is there and holds a number.
+fn cell_holds(cells: &Cells, cell: u32, value: i64) -> bool {
+    cell < cells.count() && cells.get(cell) == value
+}
+
+/// Whether a cell is there and its label has no tag.
+fn is_public(cells: &Cells, cell: u32) -> bool {
+    cell < cells.count() && cells.label(cell).s.first().is_none()
 }
 
 /// Whether a write changes its own cell alone.
-fn writes_one(alloc: Global, cells: &mut Cells) -> Result<bool, Fail> {
-    let first = add(alloc, cells, 5)?;
-    let second = add(alloc, cells, -6)?;
-    set(cells, second, i64::MIN);
-    Ok((value_of(cells, first) == 5) & (value_of(cells, second) == i64::MIN))
+fn writes_one(alloc: Global) -> Option<bool> {
+    let mut cells = Cells::new(alloc);
+    let first = add(&mut cells, Label::public(alloc), 5)?;
+    let second = add(&mut cells, Label::public(alloc), -6)?;
+    set(&mut cells, second, i64::MIN);
+    let wrote = cell_holds(&cells, first, 5) & cell_holds(&cells, second, i64::MIN);
+    Some(wrote & is_public(&cells, second) & cells.find(2).is_none())
 }
 
 #[test]
-fn a_cell_is_written_alone(rt: HostRuntime) -> Result<(), Fail> {
-    let mut cells = Cells::new(rt.alloc());
-    assert!(rt; writes_one(rt.alloc(), &mut cells)?);
-    Ok(())
+fn a_cell_is_written_alone(rt: HostRuntime) {
+    assert!(rt; writes_one(rt.alloc()) == Some(true));
 }
 
 /// Makes a public array of one number.
-fn array_of_one(alloc: Global, heap: &mut Heap) -> Result<Name, Fail> {
-    let public = Label::public(alloc);
+fn make_one(heap: &mut Heap, public: &Label) -> Option<Name> {
     let shape = Shape::Array {
         kind: Kind::Int,
         len: 1,
     };
-    match heap.make(&public, &public, shape) {
-        Ok(name) => Ok(name),
-        Err(_) => Err(Fail::new("nothing was made")),
-    }
+    heap.make(public, public, shape).ok()
 }
 
 /// Makes a public copy of a thing, if it lives.
-fn copy_of(alloc: Global, heap: &mut Heap, name: &Name) -> Result<Name, Fail> {
-    let public = Label::public(alloc);
+fn copy_one(heap: &mut Heap, public: &Label, name: &Name) -> Option<Name> {
     if !heap.lives(name) {
-        return Err(Fail::new("nothing to copy"));
+        return None;
     }
-    match heap.copy_to(name, &public, &public) {
-        Ok(name) => Ok(name),
-        Err(_) => Err(Fail::new("nothing was copied")),
-    }
+    heap.copy_to(name, public, public).ok()
 }
 
-/// Writes a number into the first slot, and says whether 0 stood there.
-fn write_first(heap: &mut Heap, name: &Name, n: i64) -> bool {
-    if !heap.lives(name) || heap.size(name) == 0 {
-        return false;
-    }
-    match heap.write(name, 0, Value::Int(n)) {
-        Value::Int(old) => old == 0,
-        _ => false,
+/// Whether a thing lives and has a slot.
+fn has_slot(heap: &Heap, name: &Name) -> bool
+    ensures { IsTrue result → 0 < length (slots_at heap.now name.now) }
+{
+    heap.lives(name) && heap.size(name) > 0
+}
+
+/// Writes a number into the first slot.
+fn write_first(heap: &mut Heap, name: &Name, n: i64) {
+    if has_slot(heap, name) {
+        heap.write(name, 0, Value::Int(n));
     }
 }
 
 /// Whether a number stands in the first slot.
 fn holds(heap: &Heap, name: &Name, n: i64) -> bool {
-    if !heap.lives(name) || heap.size(name) == 0 {
-        return false;
-    }
-    match heap.read(name, 0) {
-        Value::Int(held) => *held == n,
-        _ => false,
-    }
+    has_slot(heap, name) && is_number(heap.read(name, 0), n)
 }
 
-/// Whether what is written is read.
-fn reads_what_it_wrote(alloc: Global, heap: &mut Heap) -> Result<bool, Fail> {
-    let name = array_of_one(alloc, heap)?;
-    let wrote = write_first(heap, &name, 9);
-    Ok(wrote & holds(heap, &name, 9))
+fn is_number(value: &Value, n: i64) -> bool {
+    matches!(value, Value::Int(held) if *held == n)
 }
 
-#[test]
-fn what_is_written_is_read(rt: HostRuntime) -> Result<(), Fail> {
-    let mut heap = Heap::new(rt.alloc());
-    assert!(rt; reads_what_it_wrote(rt.alloc(), &mut heap)?);
-    Ok(())
-}
-
-/// Whether a copy has what was written, and the next number.
-fn copies_what_it_wrote(alloc: Global, heap: &mut Heap) -> Result<bool, Fail> {
-    let name = array_of_one(alloc, heap)?;
-    let wrote = write_first(heap, &name, 9);
-    let other = copy_of(alloc, heap, &name)?;
-    Ok(wrote & holds(heap, &other, 9) & (other.n == 1))
+/// Whether what is written is read, and stands in the list of slots.
+fn reads_what_it_wrote(alloc: Global) -> Option<bool> {
+    let public = Label::public(alloc);
+    let mut heap = Heap::new(alloc);
+    let name = make_one(&mut heap, &public)?;
+    write_first(&mut heap, &name, 9);
+    Some(holds(&heap, &name, 9) & (heap.slots(&name).len() == 1))
 }
 
 #[test]
-fn a_copy_has_what_was_written(rt: HostRuntime) -> Result<(), Fail> {
-    let mut heap = Heap::new(rt.alloc());
-    assert!(rt; copies_what_it_wrote(rt.alloc(), &mut heap)?);
-    Ok(())
+fn what_is_written_is_read(rt: HostRuntime) {
+    assert!(rt; reads_what_it_wrote(rt.alloc()) == Some(true));
 }
 
-/// Whether a heap's copy holds the same.
-fn is_copied(alloc: Global, heap: &mut Heap) -> Result<bool, Fail> {
-    let name = array_of_one(alloc, heap)?;
-    let copy = heap.copy()?;
-    Ok(holds(&copy, &name, 0))
+/// Whether a thing is an array of numbers.
+fn is_array(heap: &Heap, name: &Name) -> bool {
+    matches!(heap.sort(name), Some(Sort::Array(Kind::Int)))
+}
+
+/// Whether a copy has what was written, is an array too and gets the next number.
+fn copies_what_it_wrote(alloc: Global) -> Option<bool> {
+    let public = Label::public(alloc);
+    let mut heap = Heap::new(alloc);
+    let name = make_one(&mut heap, &public)?;
+    write_first(&mut heap, &name, 9);
+    let other = copy_one(&mut heap, &public, &name)?;
+    let numbered = (other.n() == 1) & (heap.next(&public, &public) == 2);
+    Some(numbered & holds(&heap, &other, 9) & is_array(&heap, &other))
 }
 
 #[test]
-fn a_copied_heap_is_equal(rt: HostRuntime) -> Result<(), Fail> {
-    let mut heap = Heap::new(rt.alloc());
-    assert!(rt; is_copied(rt.alloc(), &mut heap)?);
-    Ok(())
+fn a_copy_has_what_was_written(rt: HostRuntime) {
+    assert!(rt; copies_what_it_wrote(rt.alloc()) == Some(true));
+}
+
+/// Whether two heaps are equal, and equal where the public observer sees.
+fn are_same(a: &Heap, b: &Heap, public: &Label) -> bool {
+    a.facts();
+    a.same(b) & a.same_seen(b, public) & a.same_counters(b, public)
+}
+
+/// Whether a heap is equal to its copy, until one of the two is written.
+fn is_copied(alloc: Global) -> Option<bool> {
+    let public = Label::public(alloc);
+    let mut heap = Heap::new(alloc);
+    let name = make_one(&mut heap, &public)?;
+    let copy = heap.copy().ok()?;
+    let before = are_same(&heap, &copy, &public);
+    write_first(&mut heap, &name, 9);
+    Some(before & !are_same(&heap, &copy, &public))
+}
+
+#[test]
+fn a_copied_heap_is_equal(rt: HostRuntime) {
+    assert!(rt; is_copied(rt.alloc()) == Some(true));
 }

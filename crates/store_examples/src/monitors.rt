@@ -2,63 +2,79 @@
 
 use flow_labels::Label;
 use lam_value::Name;
-use monitor_core::{Monitors, TAKINGS_LIMIT};
+use monitor_core::{Holder, Monitors, TAKINGS_LIMIT};
 use std::alloc::Global;
-use std::test::Fail;
-use tag_sets::NoMemory;
 
 /// The monitor of the first public thing.
-fn first(alloc: Global) -> Result<Name, NoMemory> {
+fn first(alloc: Global) -> Option<Name> {
     let public = Label::public(alloc);
-    Name::of(&public, &public, 0)
+    Name::of(&public, &public, 0).ok()
 }
 
 /// A thread takes a monitor, and it is said whether it could.
-fn take(monitors: &mut Monitors, name: &Name, thread: u32) -> Result<bool, NoMemory> {
+fn take(monitors: &mut Monitors, name: &Name, thread: u32) -> bool {
     if !monitors.is_free_for(name, thread) || monitors.takings(name) >= TAKINGS_LIMIT {
-        return Ok(false);
+        return false;
     }
-    monitors.enter(name, thread)?;
-    Ok(true)
+    monitors.enter(name, thread).is_ok()
+}
+
+/// Whether a thread holds a monitor so often.
+fn is_held(monitors: &Monitors, name: &Name, thread: u32, count: u64) -> bool {
+    monitors.holder(name) == Some(Holder { thread, count })
+}
+
+/// Whether a monitor is taken again by its own thread alone.
+fn is_taken_again(alloc: Global) -> Option<bool> {
+    let name = first(alloc)?;
+    let mut monitors = Monitors::new(alloc);
+    let own = take(&mut monitors, &name, 0);
+    let other = take(&mut monitors, &name, 1);
+    let again = take(&mut monitors, &name, 0);
+    Some(own & !other & again & is_held(&monitors, &name, 0, 2))
 }
 
 #[test]
-fn monitor_is_reentrant(rt: HostRuntime) -> Result<(), Fail> {
-    let name = first(rt.alloc())?;
-    let mut monitors = Monitors::new(rt.alloc());
-    assert!(rt; take(&mut monitors, &name, 0)?);
-    assert!(rt; !take(&mut monitors, &name, 1)?);
-    assert!(rt; take(&mut monitors, &name, 0)?);
-    assert_eq!(rt; monitors.takings(&name), 2u64);
-    Ok(())
+fn monitor_is_reentrant(rt: HostRuntime) {
+    assert!(rt; is_taken_again(rt.alloc()) == Some(true));
 }
 
-#[test]
-fn a_dropped_monitor_is_free(rt: HostRuntime) -> Result<(), Fail> {
-    let name = first(rt.alloc())?;
-    let mut monitors = Monitors::new(rt.alloc());
-    assert!(rt; take(&mut monitors, &name, 0)?);
-    monitors.drop_all(0, &[name.copy()?]);
-    assert!(rt; monitors.is_free_for(&name, 1));
-    Ok(())
-}
-
-#[test]
-fn another_thread_leaves_in_vain(rt: HostRuntime) -> Result<(), Fail> {
-    let name = first(rt.alloc())?;
-    let mut monitors = Monitors::new(rt.alloc());
-    assert!(rt; take(&mut monitors, &name, 0)?);
+/// Whether another thread leaves in vain, and the holder's exits free a monitor.
+fn is_left(alloc: Global) -> Option<bool> {
+    let name = first(alloc)?;
+    let mut monitors = Monitors::new(alloc);
+    let took = take(&mut monitors, &name, 0);
     monitors.leave(&name, 1);
-    assert!(rt; !monitors.is_free_for(&name, 1));
-    Ok(())
+    let held = is_held(&monitors, &name, 0, 1);
+    let listed = [name.copy().ok()?];
+    monitors.drop_all(0, &listed);
+    Some(took & held & monitors.is_free_for(&name, 1))
 }
 
 #[test]
-fn copied_monitors_are_equal(rt: HostRuntime) -> Result<(), Fail> {
-    let name = first(rt.alloc())?;
-    let mut monitors = Monitors::new(rt.alloc());
-    assert!(rt; take(&mut monitors, &name, 3)?);
-    let copy = monitors.copy()?;
-    assert_eq!(rt; copy.takings(&name), 1u64);
-    Ok(())
+fn a_dropped_monitor_is_free(rt: HostRuntime) {
+    assert!(rt; is_left(rt.alloc()) == Some(true));
+}
+
+/// Whether two have the same monitors held, and the same where the public observer sees.
+fn are_same(a: &Monitors, b: &Monitors, public: &Label) -> bool {
+    a.facts();
+    a.same(b) & a.same_seen(b, public)
+}
+
+/// Whether monitors are equal to their copy, until one of the two is left.
+fn is_copied(alloc: Global) -> Option<bool> {
+    let public = Label::public(alloc);
+    let name = first(alloc)?;
+    let mut monitors = Monitors::new(alloc);
+    let took = take(&mut monitors, &name, 3);
+    let copy = monitors.copy().ok()?;
+    let before = are_same(&monitors, &copy, &public);
+    monitors.leave(&name, 3);
+    Some(took & before & !are_same(&monitors, &copy, &public))
+}
+
+#[test]
+fn copied_monitors_are_equal(rt: HostRuntime) {
+    assert!(rt; is_copied(rt.alloc()) == Some(true));
 }

@@ -5,36 +5,34 @@ use flow_labels::Label;
 use labelled_pipes::{Message, MessageKind, PipeFault, Pipes};
 use lam_value::{ByteText, Name};
 use std::alloc::Global;
-use std::test::Fail;
 use tag_sets::{NoMemory, TagId, TagSet};
 
-/// A number, low byte first.
-fn text_of(alloc: Global, n: u64) -> Result<ByteText, NoMemory> {
+/// A message of a number, low byte first.
+fn number(alloc: Global, n: u64) -> Result<Message, NoMemory> {
     let bytes = [(n % 256) as u8, (n / 256 % 256) as u8];
-    ByteText::from_slice(alloc, &bytes)
+    Ok(Message::Bytes(ByteText::from_slice(alloc, &bytes)?))
 }
 
 /// Sends 1,025 numbers, from 0 on.
 fn send_numbers(alloc: Global, pipes: &mut Pipes, pipe: &Name) -> Result<(), NoMemory> {
     for n in 0..1025u64 {
-        let text = text_of(alloc, n)?;
-        pipes.send(pipe, Message::Bytes(text))?;
+        pipes.send(pipe, number(alloc, n)?)?;
     }
     Ok(())
 }
 
-fn gives_number(pipes: &mut Pipes, pipe: &Name, text: &ByteText) -> bool {
+/// Whether a pipe gives this message of bytes.
+fn gives(pipes: &mut Pipes, pipe: &Name, message: &Message) -> bool {
     match pipes.receive(pipe, MessageKind::Bytes) {
-        Some(Message::Bytes(got)) => got.same(text),
-        _ => false,
+        Some(got) => got.same(message),
+        None => false,
     }
 }
 
 /// How many of the numbers from 0 to 1023 come in their turn.
 fn numbers_given(alloc: Global, pipes: &mut Pipes, pipe: &Name) -> Result<u64, NoMemory> {
     for n in 0..1024u64 {
-        let text = text_of(alloc, n)?;
-        if !gives_number(pipes, pipe, &text) {
+        if !gives(pipes, pipe, &number(alloc, n)?) {
             return Ok(n);
         }
     }
@@ -42,129 +40,112 @@ fn numbers_given(alloc: Global, pipes: &mut Pipes, pipe: &Name) -> Result<u64, N
 }
 
 /// Makes a public pipe.
-fn pipe_of(alloc: Global, pipes: &mut Pipes) -> Result<Name, Fail> {
-    let public = Label::public(alloc);
-    match pipes.make(&public, &public) {
-        Ok(pipe) => Ok(pipe),
-        Err(_) => Err(Fail::new("no pipe was made")),
-    }
-}
-
-fn is_empty(pipes: &mut Pipes, pipe: &Name) -> bool {
-    pipes.receive(pipe, MessageKind::Bytes).is_none()
+fn make_one(pipes: &mut Pipes, public: &Label) -> Option<Name> {
+    pipes.make(public, public).ok()
 }
 
 /// Whether of 1,025 numbers the first 1,024 come, in order, and then nothing.
-fn keeps_1024(alloc: Global, pipes: &mut Pipes) -> Result<bool, Fail> {
-    let pipe = pipe_of(alloc, pipes)?;
-    send_numbers(alloc, pipes, &pipe)?;
-    let given = numbers_given(alloc, pipes, &pipe)?;
-    Ok((given == 1024) & is_empty(pipes, &pipe))
+fn keeps_1024(alloc: Global) -> Option<bool> {
+    let mut pipes = Pipes::new(alloc);
+    let pipe = make_one(&mut pipes, &Label::public(alloc))?;
+    send_numbers(alloc, &mut pipes, &pipe).ok()?;
+    let given = numbers_given(alloc, &mut pipes, &pipe).ok()?;
+    let rest = pipes.receive(&pipe, MessageKind::Bytes);
+    Some((given == 1024) & rest.is_none())
 }
 
 #[test]
-fn pipe_keeps_1024_messages(rt: HostRuntime) -> Result<(), Fail> {
-    let mut pipes = Pipes::new(rt.alloc());
-    assert!(rt; keeps_1024(rt.alloc(), &mut pipes)?);
-    Ok(())
+fn pipe_keeps_1024_messages(rt: HostRuntime) {
+    assert!(rt; keeps_1024(rt.alloc()) == Some(true));
 }
 
-/// One capability.
-fn caps_of(alloc: Global) -> Result<Caps, NoMemory> {
+/// A message of one capability.
+fn caps(alloc: Global) -> Result<Message, NoMemory> {
     let plus = TagSet::from_slice(alloc, &[TagId(3)])?;
-    Ok(Caps::of(plus, TagSet::empty(alloc)))
+    Ok(Message::Caps(Caps::of(plus, TagSet::empty(alloc))))
 }
 
-/// Sends one capability.
-fn send_caps(alloc: Global, pipes: &mut Pipes, pipe: &Name) -> Result<(), NoMemory> {
-    let caps = caps_of(alloc)?;
-    pipes.send(pipe, Message::Caps(caps))
-}
-
-fn gives_caps(pipes: &mut Pipes, pipe: &Name, caps: &Caps) -> bool {
-    match pipes.receive(pipe, MessageKind::Caps) {
-        Some(Message::Caps(got)) => got.same(caps),
-        _ => false,
-    }
+/// Makes a public pipe in which one capability waits.
+fn pipe_of_caps(alloc: Global, pipes: &mut Pipes) -> Option<Name> {
+    let pipe = make_one(pipes, &Label::public(alloc))?;
+    let message = caps(alloc).ok()?;
+    pipes.send(&pipe, message).ok()?;
+    Some(pipe)
 }
 
 /// Whether sent capabilities are not taken as bytes, and then come.
-fn keeps_caps(alloc: Global, pipes: &mut Pipes) -> Result<bool, Fail> {
-    let pipe = pipe_of(alloc, pipes)?;
-    send_caps(alloc, pipes, &pipe)?;
-    let caps = caps_of(alloc)?;
-    let no_bytes = is_empty(pipes, &pipe);
-    Ok(no_bytes & gives_caps(pipes, &pipe, &caps))
+fn keeps_caps(alloc: Global) -> Option<bool> {
+    let mut pipes = Pipes::new(alloc);
+    let pipe = pipe_of_caps(alloc, &mut pipes)?;
+    let no_bytes = pipes.front(&pipe, MessageKind::Bytes).is_none();
+    let got = pipes.receive(&pipe, MessageKind::Caps)?;
+    Some(no_bytes & got.same(&caps(alloc).ok()?) & (got.kind() == MessageKind::Caps))
 }
 
 #[test]
-fn capabilities_are_no_bytes(rt: HostRuntime) -> Result<(), Fail> {
-    let mut pipes = Pipes::new(rt.alloc());
-    assert!(rt; keeps_caps(rt.alloc(), &mut pipes)?);
-    Ok(())
+fn capabilities_are_no_bytes(rt: HostRuntime) {
+    assert!(rt; keeps_caps(rt.alloc()) == Some(true));
 }
 
-/// Makes 4,096 public pipes.
-fn fill_home(pipes: &mut Pipes, public: &Label) -> Result<(), Fail> {
+/// Makes 4,096 public pipes, and says whether it could.
+fn fill_home(pipes: &mut Pipes, public: &Label) -> bool {
     for _ in 0..4096u64 {
         if pipes.make(public, public).is_err() {
-            return Err(Fail::new("no pipe was made"));
+            return false;
         }
     }
-    Ok(())
+    true
 }
 
 /// Whether a home with 4,096 pipes makes no more.
 fn is_full(pipes: &mut Pipes, public: &Label) -> bool {
-    match pipes.make(public, public) {
-        Err(PipeFault::HomeFull) => true,
-        _ => false,
-    }
+    matches!(pipes.make(public, public), Err(PipeFault::HomeFull))
 }
 
 /// Whether a home makes 4,096 pipes and no more.
-fn fills_a_home(alloc: Global, pipes: &mut Pipes) -> Result<bool, Fail> {
+fn fills_a_home(alloc: Global) -> bool {
     let public = Label::public(alloc);
-    fill_home(pipes, &public)?;
-    Ok(is_full(pipes, &public))
+    let mut pipes = Pipes::new(alloc);
+    let filled = fill_home(&mut pipes, &public);
+    filled & is_full(&mut pipes, &public) & (pipes.next(&public, &public) == 4096)
 }
 
 #[test]
-fn a_home_makes_4096_pipes(rt: HostRuntime) -> Result<(), Fail> {
-    let mut pipes = Pipes::new(rt.alloc());
-    assert!(rt; fills_a_home(rt.alloc(), &mut pipes)?);
-    Ok(())
+fn a_home_makes_4096_pipes(rt: HostRuntime) {
+    assert!(rt; fills_a_home(rt.alloc()));
 }
 
-/// Whether capabilities wait in a pipe.
-fn has_caps(pipes: &Pipes, pipe: &Name) -> bool {
-    pipes.front(pipe, MessageKind::Caps).is_some()
+/// Whether two have equal pipes, and equal ones where the public observer sees.
+fn are_same(a: &Pipes, b: &Pipes, public: &Label) -> bool {
+    a.facts();
+    a.same(b) & a.same_seen(b, public) & a.same_counters(b, public)
 }
 
-/// Whether what waits in a pipe waits in its copy.
-fn is_copied(alloc: Global, pipes: &mut Pipes) -> Result<bool, Fail> {
-    let pipe = pipe_of(alloc, pipes)?;
-    send_caps(alloc, pipes, &pipe)?;
-    let copy = pipes.copy()?;
-    Ok(has_caps(&copy, &pipe))
+/// Whether pipes are equal to their copy, until one message is taken.
+fn is_copied(alloc: Global) -> Option<bool> {
+    let public = Label::public(alloc);
+    let mut pipes = Pipes::new(alloc);
+    let pipe = pipe_of_caps(alloc, &mut pipes)?;
+    let copy = pipes.copy().ok()?;
+    let before = are_same(&pipes, &copy, &public);
+    let taken = pipes.receive(&pipe, MessageKind::Caps);
+    let after = are_same(&pipes, &copy, &public);
+    Some(before & taken.is_some() & !after & copy.lives(&pipe))
 }
 
 #[test]
-fn copied_pipes_are_equal(rt: HostRuntime) -> Result<(), Fail> {
-    let mut pipes = Pipes::new(rt.alloc());
-    assert!(rt; is_copied(rt.alloc(), &mut pipes)?);
-    Ok(())
+fn copied_pipes_are_equal(rt: HostRuntime) {
+    assert!(rt; is_copied(rt.alloc()) == Some(true));
 }
 
-/// Whether a copied message is bytes as it was.
+/// Whether a copied message is equal.
 fn copies_bytes(alloc: Global) -> Result<bool, NoMemory> {
-    let message = Message::Bytes(text_of(alloc, 7)?);
+    let message = number(alloc, 7)?;
     let copy = message.copy()?;
-    Ok(copy.kind() == MessageKind::Bytes)
+    Ok(copy.same(&message))
 }
 
 #[test]
-fn a_copied_message_is_of_its_kind(rt: HostRuntime) -> Result<(), Fail> {
-    assert!(rt; copies_bytes(rt.alloc())?);
-    Ok(())
+fn a_copied_message_is_equal(rt: HostRuntime) {
+    assert!(rt; copies_bytes(rt.alloc()) == Ok(true));
 }

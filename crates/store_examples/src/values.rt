@@ -2,11 +2,10 @@
 
 use flow_labels::{Label, TagNames};
 use lam_value::{
-    ByteText, Counters, Kind, Name, Shape, Value, Values, bytes_text, same_value, value_text,
+    Counters, Kind, Name, Shape, Value, Values, bytes_text, same_value, same_values, value_text,
     values_text,
 };
 use std::alloc::Global;
-use std::test::Fail;
 use tag_sets::{NoMemory, TagId, TagSet};
 
 /// The label `{#0}/{}`.
@@ -18,58 +17,41 @@ fn secret(alloc: Global) -> Result<Label, NoMemory> {
     })
 }
 
-/// The name of thing 3 of a public maker's secret things.
-fn thing(alloc: Global) -> Result<Name, NoMemory> {
-    let own = secret(alloc)?;
-    Name::of(&Label::public(alloc), &own, 3)
-}
-
 /// Whether a value has this text, where no tag has a name.
 fn shows(alloc: Global, value: &Value, want: &str) -> Result<bool, NoMemory> {
-    let names = TagNames::new(alloc);
-    let text = value_text(value, &names)?;
+    let text = value_text(value, &TagNames::new(alloc))?;
     Ok(text.as_str() == want)
 }
 
-#[test]
-fn plain_values(rt: HostRuntime) -> Result<(), Fail> {
-    let names = TagNames::new(rt.alloc());
+/// Whether four plain values have their texts.
+fn shows_plain(alloc: Global) -> Result<bool, NoMemory> {
     let values = [
         Value::Int(-5),
         Value::Bool(true),
         Value::Nothing,
         Value::Thread(7),
     ];
-    let text = values_text(&values, &names)?;
-    assert_eq!(rt; text.as_str(), "-5,true,null,t7");
-    Ok(())
+    let text = values_text(&values, &TagNames::new(alloc))?;
+    Ok(text.as_str() == "-5,true,null,t7")
+}
+
+/// Whether bytes are escaped.
+fn shows_bytes(alloc: Global) -> Result<bool, NoMemory> {
+    let text = bytes_text(alloc, b"a\"\\\x00\xff")?;
+    Ok(text.as_str() == "\"a\\\"\\\\\\x00\\xff\"")
 }
 
 #[test]
-fn bytes_are_escaped(rt: HostRuntime) -> Result<(), Fail> {
-    let text = bytes_text(rt.alloc(), b"a\"\\\x00\xff")?;
-    assert_eq!(rt; text.as_str(), "\"a\\\"\\\\\\x00\\xff\"");
-    Ok(())
+fn plain_values_have_their_texts(rt: HostRuntime) {
+    assert!(rt; shows_plain(rt.alloc()) == Ok(true));
+    assert!(rt; shows_bytes(rt.alloc()) == Ok(true));
 }
 
-/// An array of a public maker.
+/// An array of a public maker, of length 2.
 fn array(alloc: Global) -> Result<Value, NoMemory> {
-    let name = thing(alloc)?;
+    let own = secret(alloc)?;
+    let name = Name::of(&Label::public(alloc), &own, 3)?;
     Ok(Value::Arr { name, len: 2 })
-}
-
-#[test]
-fn an_array_shows_its_length(rt: HostRuntime) -> Result<(), Fail> {
-    let value = array(rt.alloc())?;
-    assert!(rt; shows(rt.alloc(), &value, "arr<{}/{}|{#0}/{}|3>[2]")?);
-    Ok(())
-}
-
-#[test]
-fn a_label_shows_its_tags(rt: HostRuntime) -> Result<(), Fail> {
-    let value = Value::Lab(secret(rt.alloc())?);
-    assert!(rt; shows(rt.alloc(), &value, "{#0}/{}")?);
-    Ok(())
 }
 
 /// A description of capabilities.
@@ -79,33 +61,29 @@ fn both_sets(alloc: Global) -> Result<Value, NoMemory> {
     Ok(Value::CapV { plus, minus })
 }
 
-#[test]
-fn capabilities_show_both_sets(rt: HostRuntime) -> Result<(), Fail> {
-    let value = both_sets(rt.alloc())?;
-    assert!(rt; shows(rt.alloc(), &value, "+{#1}-{#1,#2}")?);
-    Ok(())
+/// Whether labels, names and capabilities show their tags.
+fn shows_tags(alloc: Global) -> Result<bool, NoMemory> {
+    let label = shows(alloc, &Value::Lab(secret(alloc)?), "{#0}/{}")?;
+    let name = shows(alloc, &array(alloc)?, "arr<{}/{}|{#0}/{}|3>[2]")?;
+    let sets = shows(alloc, &both_sets(alloc)?, "+{#1}-{#1,#2}")?;
+    Ok(label & name & sets)
 }
 
-/// Whether a copy of a value is equal to it.
-fn is_copied(value: &Value) -> Result<bool, NoMemory> {
+#[test]
+fn tags_are_shown(rt: HostRuntime) {
+    assert!(rt; shows_tags(rt.alloc()) == Ok(true));
+}
+
+/// Whether a copy of a value is equal to it, and another value is not.
+fn is_copied(alloc: Global) -> Result<bool, NoMemory> {
+    let value = array(alloc)?;
     let copy = value.copy()?;
-    Ok(same_value(value, &copy))
+    Ok(same_value(&value, &copy) & !same_value(&value, &Value::Nothing))
 }
 
 #[test]
-fn a_copied_value_is_equal(rt: HostRuntime) -> Result<(), Fail> {
-    let value = array(rt.alloc())?;
-    assert!(rt; is_copied(&value)?);
-    Ok(())
-}
-
-/// The slots of a new array of two numbers.
-fn two_slots(alloc: Global) -> Result<Values, NoMemory> {
-    let shape = Shape::Array {
-        kind: Kind::Int,
-        len: 2,
-    };
-    shape.copy()?.into_slots(alloc)
+fn a_copied_value_is_equal(rt: HostRuntime) {
+    assert!(rt; is_copied(rt.alloc()) == Ok(true));
 }
 
 /// Whether a slot was there and held 0; now it holds 7.
@@ -116,52 +94,69 @@ fn sets(slots: &mut Values, at: u64) -> bool {
     }
 }
 
-#[test]
-fn an_array_begins_with_first_values(rt: HostRuntime) -> Result<(), Fail> {
-    let mut slots = two_slots(rt.alloc())?;
-    assert!(rt; sets(&mut slots, 1));
-    assert!(rt; !sets(&mut slots, 1));
-    assert!(rt; !sets(&mut slots, 2));
-    Ok(())
+/// Whether the two slots of a new array of numbers hold 0 each.
+fn begins_with_zeros(alloc: Global) -> Result<bool, NoMemory> {
+    let shape = Shape::Array {
+        kind: Kind::Int,
+        len: 2,
+    };
+    let copy = shape.copy()?;
+    let same = copy.same(&shape);
+    let mut slots = copy.into_slots(alloc)?;
+    Ok(same & sets(&mut slots, 1) & !sets(&mut slots, 1) & !sets(&mut slots, 2))
 }
 
 #[test]
-fn copied_slots_are_equal(rt: HostRuntime) -> Result<(), Fail> {
-    let mut slots = two_slots(rt.alloc())?;
+fn an_array_begins_with_first_values(rt: HostRuntime) {
+    assert!(rt; begins_with_zeros(rt.alloc()) == Ok(true));
+}
+
+/// Whether a list is equal to its copy, until one value more stands in it.
+fn list_is_copied(alloc: Global) -> Result<bool, NoMemory> {
+    let mut slots = Values::new(alloc);
     slots.push(Value::Nothing)?;
-    assert_eq!(rt; slots.copy()?.len(), 3u64);
-    Ok(())
+    let copy = slots.copy()?;
+    let before = slots.same(&copy) & same_values(slots.as_slice(), copy.as_slice());
+    slots.push(Value::Int(1))?;
+    Ok(before & !slots.same(&copy) & (slots.len() == 2) & slots.get(1).is_some())
 }
 
-/// The next number of a home.
-fn draw(counters: &mut Counters, maker: &Label, own: &Label) -> Result<u64, Fail> {
-    if counters.next(maker, own) >= 100 {
-        return Err(Fail::new("too many"));
-    }
-    Ok(counters.draw(maker, own)?)
+#[test]
+fn a_copied_list_is_equal(rt: HostRuntime) {
+    assert!(rt; list_is_copied(rt.alloc()) == Ok(true));
+}
+
+/// Takes the next number of a home, which is this one.
+fn draw(counters: &mut Counters, maker: &Label, own: &Label, number: u64) -> bool {
+    number < 100 && counters.next(maker, own) == number && counters.draw(maker, own, number).is_ok()
 }
 
 /// Whether two homes of one maker count apart.
-fn count_apart(counters: &mut Counters, maker: &Label, own: &Label) -> Result<bool, Fail> {
-    let first = draw(counters, maker, own)?;
-    let second = draw(counters, maker, own)?;
-    let other = draw(counters, maker, maker)?;
-    Ok((first == 0) & (second == 1) & (other == 0))
+fn count_apart(counters: &mut Counters, maker: &Label, own: &Label) -> bool {
+    let first = draw(counters, maker, own, 0);
+    let second = draw(counters, maker, own, 1);
+    first & second & draw(counters, maker, maker, 0)
+}
+
+/// Whether two have equal counters, and equal ones where the public observer sees.
+fn are_same(a: &Counters, b: &Counters, public: &Label) -> bool {
+    a.facts();
+    a.same(b) & a.same_seen(b, public)
+}
+
+/// Whether homes count apart, and counters are equal to their copy until one of the two is raised.
+fn counts(alloc: Global) -> Result<bool, NoMemory> {
+    let public = Label::public(alloc);
+    let mut counters = Counters::new(alloc);
+    let apart = count_apart(&mut counters, &public, &secret(alloc)?);
+    let copy = counters.copy()?;
+    let before = are_same(&counters, &copy, &public);
+    counters.raise(&public, &public, 9)?;
+    let raised = counters.next(&public, &public) == 9;
+    Ok(apart & before & raised & !are_same(&counters, &copy, &public))
 }
 
 #[test]
-fn each_home_counts_for_itself(rt: HostRuntime) -> Result<(), Fail> {
-    let own = secret(rt.alloc())?;
-    let mut counters = Counters::new(rt.alloc());
-    assert!(rt; count_apart(&mut counters, &Label::public(rt.alloc()), &own)?);
-    Ok(())
-}
-
-#[test]
-fn copied_counters_are_equal(rt: HostRuntime) -> Result<(), Fail> {
-    let public = Label::public(rt.alloc());
-    let mut counters = Counters::new(rt.alloc());
-    draw(&mut counters, &public, &public)?;
-    assert_eq!(rt; counters.copy()?.next(&public, &public), 1u64);
-    Ok(())
+fn each_home_counts_for_itself(rt: HostRuntime) {
+    assert!(rt; counts(rt.alloc()) == Ok(true));
 }

@@ -20,10 +20,7 @@ ghost use Rattle.std.specs.Hash as fed;
 ghost use Rattle.tag_sets.specs.Rising.{IsRising};
 ghost use Rattle.tag_sets.specs.Tags.{IsLeast, tags_of, least, lesser, apart};
 
-use rising::{
-    equal_tags, find_missing, find_missing_both, has_tag, merged_tags, missing_tags, sorted_tags,
-    tags_with,
-};
+use rising::{find_missing_both, merged_tags, missing_tags, sorted_tags, tags_with};
 use shared::SharedTags;
 use std::alloc::Global;
 use std::cmp::Ordering;
@@ -71,7 +68,7 @@ impl PartialEq for TagSet {
     ghost laws = { Prim.search (comparing, rules) };
 
     fn eq(&self, other: &TagSet) -> bool {
-        self.tags() == other.tags()
+        self.same(other)
     }
 }
 
@@ -164,7 +161,7 @@ impl TagSet {
     pub fn contains(&self, tag: TagId) -> bool
         ensures { result ≡ set.contains self.now tag }
     {
-        has_tag(self.tags.as_slice(), tag)
+        self.tags.holds(tag)
     }
 
     /// Whether each tag of this set is in the other.
@@ -178,7 +175,7 @@ impl TagSet {
     pub fn same(&self, other: &TagSet) -> bool
         ensures { IsTrue result ↔ (self.now ≡ other.now) }
     {
-        equal_tags(self.tags.as_slice(), other.tags.as_slice())
+        self.tags.same(&other.tags)
     }
 
     /// The least tag, where the set has one.
@@ -195,7 +192,7 @@ impl TagSet {
         ensures none { IsNone result ↔ IsTrue (set.is_subset self.now other.now) }
         ensures least { IfSome result (IsLeast (set.difference self.now other.now)) }
     {
-        find_missing(self.tags.as_slice(), other.tags.as_slice())
+        self.tags.first_missing(&other.tags)
     }
 
     /// The least tag of this set that is in neither of the others.

@@ -3,10 +3,12 @@
 //! A `TagSet` is made once and copied often, and most sets have one tag or none. So one tag stands in the
 //! list itself, where it takes no memory; more stand in one slice that all copies have in common.
 
-ghost use Rattle.std.specs.Prelude.{◌≡◌, [], ◌∷◌, IfOk};
+ghost use Rattle.std.specs.Prelude.{◌≡◌, ◌↔◌, not, [], ◌∷◌, find, IsTrue, IfOk};
 ghost use Rattle.std.specs.Arc.{arc_slice_items};
 ghost use Rattle.tag_sets.specs.Kept.{kept};
+ghost use Rattle.tag_sets.specs.Rising.{IsRising, has};
 
+use crate::rising::{equal_tags, find_missing, has_tag};
 use crate::{NoMemory, TagId};
 use std::alloc::Global;
 use std::marker::Model;
@@ -83,6 +85,30 @@ impl SharedTags {
         tags_of_held(&self.held)
     }
 
+    /// Whether a tag is in the list.
+    pub(crate) fn holds(&self, tag: TagId) -> bool
+        requires { IsRising self.now }
+        ensures { result ≡ has self.now tag }
+    {
+        holds_tag(&self.held, tag)
+    }
+
+    /// The first of the tags that is not among the others.
+    pub(crate) fn first_missing(&self, others: &SharedTags) -> Option<TagId>
+        requires tags { IsRising self.now }
+        requires others { IsRising others.now }
+        ensures { result ≡ find (λ t. not (has others.now t)) self.now }
+    {
+        missing_tag(&self.held, &others.held)
+    }
+
+    /// Whether two lists are equal.
+    pub(crate) fn same(&self, others: &SharedTags) -> bool
+        ensures { IsTrue result ↔ (self.now ≡ others.now) }
+    {
+        same_tags(&self.held, &others.held)
+    }
+
     /// An equal list, which takes no memory.
     ///
     /// # Errors
@@ -109,6 +135,7 @@ fn held_tags(tags: Vec<TagId>) -> Result<Held<ArcSlice<TagId>>, NoMemory>
     }
 }
 
+#[inline(always)]
 fn tags_of_held(tags: &Held<ArcSlice<TagId>>) -> &[TagId]
     ensures { result.now ≡ kept arc_slice_items tags.now }
 {
@@ -119,6 +146,60 @@ fn tags_of_held(tags: &Held<ArcSlice<TagId>>) -> &[TagId]
     }
 }
 
+#[inline(always)]
+fn holds_tag(tags: &Held<ArcSlice<TagId>>, tag: TagId) -> bool
+    requires { IsRising (kept arc_slice_items tags.now) }
+    ensures { result ≡ has (kept arc_slice_items tags.now) tag }
+{
+    match tags {
+        Held::Empty => false,
+        Held::One(only) => *only == tag,
+        Held::Shared(slice) => has_tag(slice.as_slice(), tag),
+    }
+}
+
+#[inline(always)]
+fn missing_tag(tags: &Held<ArcSlice<TagId>>, others: &Held<ArcSlice<TagId>>) -> Option<TagId>
+    requires tags { IsRising (kept arc_slice_items tags.now) }
+    requires others { IsRising (kept arc_slice_items others.now) }
+    ensures { result ≡ find (λ t. not (has (kept arc_slice_items others.now) t)) (kept arc_slice_items tags.now) }
+{
+    match tags {
+        Held::Empty => None,
+        Held::One(tag) => {
+            if holds_tag(others, *tag) {
+                None
+            } else {
+                Some(*tag)
+            }
+        }
+        Held::Shared(slice) => find_missing(slice.as_slice(), tags_of_held(others)),
+    }
+}
+
+#[inline(always)]
+fn same_tags(tags: &Held<ArcSlice<TagId>>, others: &Held<ArcSlice<TagId>>) -> bool
+    ensures { IsTrue result ↔ (kept arc_slice_items tags.now ≡ kept arc_slice_items others.now) }
+{
+    match tags {
+        Held::Empty => tags_of_held(others).is_empty(),
+        Held::One(tag) => is_only(*tag, others),
+        Held::Shared(slice) => equal_tags(slice.as_slice(), tags_of_held(others)),
+    }
+}
+
+/// Whether a tag is the only one.
+fn is_only(tag: TagId, tags: &Held<ArcSlice<TagId>>) -> bool
+    ensures { IsTrue result ↔ (tag ∷ [] ≡ kept arc_slice_items tags.now) }
+{
+    match tags {
+        Held::Empty => false,
+        Held::One(only) => tag == *only,
+        Held::Shared(slice) => equal_tags(from_ref(&tag), slice.as_slice()),
+    }
+}
+
+#[inline(always)]
 fn held_again(tags: &Held<ArcSlice<TagId>>) -> Result<Held<ArcSlice<TagId>>, NoMemory>
     ensures { IfOk result (λ h. kept arc_slice_items h ≡ kept arc_slice_items tags.now) }
 {

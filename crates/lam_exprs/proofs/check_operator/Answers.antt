@@ -1,10 +1,11 @@
 use Rattle.std.proofs.Common.{◌≡◌, subst, Option}
 use Rattle.std.proofs.lemmas.Result.{err_from_is_err_and}
-use Rattle.lam_kinds.specs.Types.{ValueType, exactly}
+use Rattle.lam_builtins.specs.Types.{ValueType, exactly}
 use Rattle.lam_kinds.specs.Breaks.{fit}
 use Rattle.lam_kinds.specs.Values.{Breaks, given, value_type}
 use Rattle.lam_kinds.proofs.Steps.{stops, goes_on}
-use Rattle.lam_exprs.specs.Exprs.{operate, operator_type}
+use Rattle.lam_exprs.specs.Exprs.{operate}
+use Rattle.lam_builtins.specs.Operators.{operator_type}
 use Rattle.lam_exprs.proofs.check_operator.Goals as goal
 
 pub returns-in_err-fit-in-Some : goal.returns-in_err-fit-in-Some

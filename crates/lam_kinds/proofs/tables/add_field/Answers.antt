@@ -2,7 +2,7 @@ use Rattle.std.proofs.Common.{◌≡◌, refl, sym, ap, ◌∙◌, is_some, true
 use Rattle.std.specs.Map.{lookup}
 use Rattle.lam_syntax.specs.Tree.{Word, VarTree, var_tree}
 use Rattle.lam_kinds.specs.Tables.{Names, find, typed_name}
-use Rattle.lam_kinds.specs.Types.{ValueType}
+use Rattle.lam_builtins.specs.Types.{ValueType}
 use Rattle.lam_kinds.specs.Values.{names, value_type, keyed, Table}
 use Rattle.lam_kinds.specs.declared.types.TypeRef.{TypeRef}
 use Rattle.lam_kinds.proofs.TableLemmas.{has_see, see_push, field_added, field_there, key_is}

@@ -1,7 +1,7 @@
 use Rattle.std.proofs.Common.{◌≡◌, sym, ap, ◌∙◌, subst, is_some}
 use Rattle.lam_syntax.specs.Tree.{Word, id_tree}
 use Rattle.lam_kinds.specs.Breaks.{Verdict}
-use Rattle.lam_kinds.specs.Builtins.{builtin_named}
+use Rattle.lam_builtins.specs.Builtins.{builtin_named}
 use Rattle.lam_kinds.specs.Values.{Passes}
 use Rattle.lam_kinds.proofs.Adding.{declared_name}
 use Rattle.lam_kinds.proofs.tables.function_name.Goals as goal

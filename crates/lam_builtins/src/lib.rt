@@ -1,0 +1,156 @@
+//! The types of values, operators and built-in calls.
+//!
+//! `specs/Types` says which types there are, what an expression may give and what a place takes; a class in a type
+//! stands by its name or, once names are resolved, by its number. `specs/Operators` has the types of operators, and
+//! `specs/Builtins` is the one table of built-in calls: the name of each, its arguments and its result. The type
+//! checker, the meaning of a program, its bytecode and the machine all read these.
+#![tactic(auto)]
+
+ghost use Rattle.std.specs.Prelude.{◌≡◌, length};
+ghost use Rattle.std.specs.Str.{bytes_eq};
+ghost use Rattle.lam_builtins.specs.Builtins.{row, builtin_named, named_in as first_named};
+
+/// The built-in calls. `specs/Builtins.antt` has the table of their names, arguments and results.
+#[derive(Clone, Copy, Debug, PartialEq, Eq, Drop)]
+pub enum Builtin {
+    Len,
+    Size,
+    Byte,
+    Slice,
+    Cat,
+    Text,
+    Number,
+    MyLabel,
+    MyCaps,
+    Root,
+    LabelOf,
+    Copy,
+    Mint,
+    Say,
+    MakeFile,
+    MakeDir,
+    OpenFile,
+    OpenDir,
+    Remove,
+    Read,
+    Length,
+    Append,
+    Cut,
+    MakePipe,
+    Send,
+    SendCaps,
+    Receive,
+    ReceiveCaps,
+    Join,
+}
+
+const ALL: [Builtin; 29] = [
+    Builtin::Len,
+    Builtin::Size,
+    Builtin::Byte,
+    Builtin::Slice,
+    Builtin::Cat,
+    Builtin::Text,
+    Builtin::Number,
+    Builtin::MyLabel,
+    Builtin::MyCaps,
+    Builtin::Root,
+    Builtin::LabelOf,
+    Builtin::Copy,
+    Builtin::Mint,
+    Builtin::Say,
+    Builtin::MakeFile,
+    Builtin::MakeDir,
+    Builtin::OpenFile,
+    Builtin::OpenDir,
+    Builtin::Remove,
+    Builtin::Read,
+    Builtin::Length,
+    Builtin::Append,
+    Builtin::Cut,
+    Builtin::MakePipe,
+    Builtin::Send,
+    Builtin::SendCaps,
+    Builtin::Receive,
+    Builtin::ReceiveCaps,
+    Builtin::Join,
+];
+
+impl Builtin {
+    /// The built-in call of a name, if there is one.
+    #[tactic(auto, unfolding(crate::specs::Builtins::builtin_named))]
+    pub fn named(name: &str) -> Option<Builtin>
+        ensures { result ≡ builtin_named name.now }
+    {
+        named_in(name, &ALL)
+    }
+
+    /// Its name.
+    pub fn name(self) -> &'static str
+        ensures { result.now ≡ (row self).name }
+    {
+        match self {
+            Builtin::Len => "len",
+            Builtin::Size => "size",
+            Builtin::Byte => "byte",
+            Builtin::Slice => "slice",
+            Builtin::Cat => "cat",
+            Builtin::Text => "text",
+            Builtin::Number => "number",
+            Builtin::MyLabel => "my_label",
+            Builtin::MyCaps => "my_caps",
+            Builtin::Root => "root",
+            Builtin::LabelOf => "label_of",
+            Builtin::Copy => "copy",
+            Builtin::Mint => "mint",
+            Builtin::Say => "say",
+            Builtin::MakeFile => "make_file",
+            Builtin::MakeDir => "make_dir",
+            Builtin::OpenFile => "open_file",
+            Builtin::OpenDir => "open_dir",
+            Builtin::Remove => "remove",
+            Builtin::Read => "read",
+            Builtin::Length => "length",
+            Builtin::Append => "append",
+            Builtin::Cut => "cut",
+            Builtin::MakePipe => "make_pipe",
+            Builtin::Send => "send",
+            Builtin::SendCaps => "send_caps",
+            Builtin::Receive => "receive",
+            Builtin::ReceiveCaps => "receive_caps",
+            Builtin::Join => "join",
+        }
+    }
+
+    /// How many arguments it takes, at most three.
+    pub fn arity(self) -> usize
+        ensures { result ≡ length (row self).signature.takes }
+    {
+        match self {
+            Builtin::MyLabel | Builtin::MyCaps | Builtin::Root | Builtin::Mint => 0,
+            Builtin::Len | Builtin::Size | Builtin::Text | Builtin::Number => 1,
+            Builtin::LabelOf | Builtin::Say | Builtin::Length | Builtin::MakePipe => 1,
+            Builtin::Receive | Builtin::ReceiveCaps | Builtin::Join => 1,
+            Builtin::Slice | Builtin::MakeFile | Builtin::MakeDir | Builtin::Read => 3,
+            _ => 2,
+        }
+    }
+}
+
+// The first call of the name.
+fn named_in(name: &str, calls: &[Builtin]) -> Option<Builtin>
+    ensures { result ≡ first_named name.now calls.now }
+{
+    for call in calls {
+        if has_name(*call, name) {
+            return Some(*call);
+        }
+    }
+    None
+}
+
+fn has_name(call: Builtin, name: &str) -> bool
+    ensures { result ≡ bytes_eq name.now (row call).name }
+{
+    name.as_bytes() == call.name().as_bytes()
+}

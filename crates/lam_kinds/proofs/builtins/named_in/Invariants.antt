@@ -1,6 +1,0 @@
-use Rattle.std.proofs.Common.{◌≡◌, drop}
-use Rattle.lam_kinds.specs.Builtins.{named_in}
-use Rattle.lam_kinds.proofs.builtins.named_in.Given as goal
-
-abbrev pub invariant-loop-call : goal.invariant-loop-call
-invariant-loop-call l = named_in l.name l.calls ≡ named_in l.name (drop l.call-index l.calls)
