@@ -64,6 +64,9 @@ pub record Turned (code : CodeTree) (w : World) (t : ℕ) (th : Thread) (c : Con
   pub to : Thread
   pub effect : Effect
   pub world : m.world ≡ effect_of code t effect (with_thread w t to)
+  -- what stands on the contexts below
+  pub new : List Context
+  pub form : to.contexts ≡ new ++ rest
   pub safe : IsSafe c → AllSafe rest → AllSafe to.contexts
   pub unseen : IsSafe c → (o : Label) → flows c.label o ≡ false → Unseen o code w th rest to effect m.made
 
@@ -82,6 +85,8 @@ went code w t th c rest i =
       to = private_to th c rest i;
       effect = nothing;
       world = refl;
+      new = with_inside c i ∷ [];
+      form = refl;
       safe = λ s r. ((heir_inside c i s).safe, r);
       unseen = λ s o hid. record { stacks = unseen_head o (with_inside c i) rest hid; result = λ p. refl; effect = tt };
     }
@@ -96,6 +101,8 @@ asked code w t th c rest a i may =
       to = takes code th c rest i a d.answer;
       effect = d.effect;
       world = refl;
+      new = front code c i a d.answer;
+      form = answered_front code c rest i a d.answer;
       safe = λ s r. subst AllSafe (sym (answered_front code c rest i a d.answer)) (safe_append (front code c i a d.answer) rest (front_safe code c i a d.answer s p.own) r);
       unseen = λ s o hid. record {
         stacks = ap (filter (is_seen o)) (answered_front code c rest i a d.answer) ∙ filter-append (is_seen o) (front code c i a d.answer) rest ∙ ap (λ l. l ++ filter (is_seen o) rest) (front_hidden o code c i a d.answer d.made hid s p.own p.fits);
