@@ -45,18 +45,22 @@ fn make_one(pipes: &mut Pipes, public: &Label) -> Option<Name> {
 }
 
 /// Whether of 1,025 numbers the first 1,024 come, in order, and then nothing.
-fn keeps_1024(alloc: Global) -> Option<bool> {
-    let mut pipes = Pipes::new(alloc);
-    let pipe = make_one(&mut pipes, &Label::public(alloc))?;
-    send_numbers(alloc, &mut pipes, &pipe).ok()?;
-    let given = numbers_given(alloc, &mut pipes, &pipe).ok()?;
-    let rest = pipes.receive(&pipe, MessageKind::Bytes);
-    Some((given == 1024) & rest.is_none())
+fn keeps_1024(alloc: Global, pipes: &mut Pipes, pipe: &Name) -> Result<bool, NoMemory> {
+    send_numbers(alloc, pipes, pipe)?;
+    let given = numbers_given(alloc, pipes, pipe)?;
+    Ok((given == 1024) & pipes.receive(pipe, MessageKind::Bytes).is_none())
+}
+
+/// Whether a new pipe keeps 1,024 numbers.
+fn makes_and_keeps(alloc: Global, pipes: &mut Pipes) -> Option<bool> {
+    let pipe = make_one(pipes, &Label::public(alloc))?;
+    keeps_1024(alloc, pipes, &pipe).ok()
 }
 
 #[test]
 fn pipe_keeps_1024_messages(rt: HostRuntime) {
-    assert!(rt; keeps_1024(rt.alloc()) == Some(true));
+    let mut pipes = Pipes::new(rt.alloc());
+    assert!(rt; makes_and_keeps(rt.alloc(), &mut pipes) == Some(true));
 }
 
 /// A message of one capability.
@@ -65,26 +69,44 @@ fn caps(alloc: Global) -> Result<Message, NoMemory> {
     Ok(Message::Caps(Caps::of(plus, TagSet::empty(alloc))))
 }
 
-/// Makes a public pipe in which one capability waits.
-fn pipe_of_caps(alloc: Global, pipes: &mut Pipes) -> Option<Name> {
-    let pipe = make_one(pipes, &Label::public(alloc))?;
-    let message = caps(alloc).ok()?;
-    pipes.send(&pipe, message).ok()?;
-    Some(pipe)
+/// Whether what waits is no bytes, and comes as capabilities.
+fn gives_caps(pipes: &mut Pipes, pipe: &Name, message: &Message) -> bool {
+    let no_bytes = pipes.front(pipe, MessageKind::Bytes).is_none();
+    match pipes.receive(pipe, MessageKind::Caps) {
+        Some(got) => no_bytes & got.same(message) & (got.kind() == MessageKind::Caps),
+        None => false,
+    }
 }
 
-/// Whether sent capabilities are not taken as bytes, and then come.
-fn keeps_caps(alloc: Global) -> Option<bool> {
-    let mut pipes = Pipes::new(alloc);
-    let pipe = pipe_of_caps(alloc, &mut pipes)?;
-    let no_bytes = pipes.front(&pipe, MessageKind::Bytes).is_none();
-    let got = pipes.receive(&pipe, MessageKind::Caps)?;
-    Some(no_bytes & got.same(&caps(alloc).ok()?) & (got.kind() == MessageKind::Caps))
+/// Whether a message of capabilities is sent, and a copy of it comes.
+fn keeps_caps(pipes: &mut Pipes, pipe: &Name, message: &Message) -> Result<bool, NoMemory> {
+    pipes.send(pipe, message.copy()?)?;
+    Ok(gives_caps(pipes, pipe, message))
+}
+
+/// Whether two have equal pipes, and equal ones where the public observer sees.
+fn are_same(a: &Pipes, b: &Pipes, public: &Label) -> bool {
+    a.facts();
+    a.same(b) & a.same_seen(b, public) & a.same_counters(b, public)
+}
+
+/// Whether two are equal until a pipe is made in the first, which keeps capabilities.
+fn are_copies(pipes: &mut Pipes, copy: &Pipes, public: &Label, message: &Message) -> Option<bool> {
+    let before = are_same(pipes, copy, public);
+    let pipe = make_one(pipes, public)?;
+    let kept = keeps_caps(pipes, &pipe, message).ok()?;
+    let lives = pipes.lives(&pipe) & !copy.lives(&pipe);
+    Some(before & kept & lives & !are_same(pipes, copy, public))
 }
 
 #[test]
-fn capabilities_are_no_bytes(rt: HostRuntime) {
-    assert!(rt; keeps_caps(rt.alloc()) == Some(true));
+fn copied_pipes_are_equal(rt: HostRuntime) -> Result<(), NoMemory> {
+    let mut pipes = Pipes::new(rt.alloc());
+    let copy = pipes.copy()?;
+    let message = caps(rt.alloc())?;
+    let public = Label::public(rt.alloc());
+    assert!(rt; are_copies(&mut pipes, &copy, &public, &message) == Some(true));
+    Ok(())
 }
 
 /// Makes 4,096 public pipes, and says whether it could.
@@ -103,49 +125,13 @@ fn is_full(pipes: &mut Pipes, public: &Label) -> bool {
 }
 
 /// Whether a home makes 4,096 pipes and no more.
-fn fills_a_home(alloc: Global) -> bool {
-    let public = Label::public(alloc);
-    let mut pipes = Pipes::new(alloc);
-    let filled = fill_home(&mut pipes, &public);
-    filled & is_full(&mut pipes, &public) & (pipes.next(&public, &public) == 4096)
+fn fills_a_home(pipes: &mut Pipes, public: &Label) -> bool {
+    let filled = fill_home(pipes, public);
+    filled & is_full(pipes, public) & (pipes.next(public, public) == 4096)
 }
 
 #[test]
 fn a_home_makes_4096_pipes(rt: HostRuntime) {
-    assert!(rt; fills_a_home(rt.alloc()));
-}
-
-/// Whether two have equal pipes, and equal ones where the public observer sees.
-fn are_same(a: &Pipes, b: &Pipes, public: &Label) -> bool {
-    a.facts();
-    a.same(b) & a.same_seen(b, public) & a.same_counters(b, public)
-}
-
-/// Whether pipes are equal to their copy, until one message is taken.
-fn is_copied(alloc: Global) -> Option<bool> {
-    let public = Label::public(alloc);
-    let mut pipes = Pipes::new(alloc);
-    let pipe = pipe_of_caps(alloc, &mut pipes)?;
-    let copy = pipes.copy().ok()?;
-    let before = are_same(&pipes, &copy, &public);
-    let taken = pipes.receive(&pipe, MessageKind::Caps);
-    let after = are_same(&pipes, &copy, &public);
-    Some(before & taken.is_some() & !after & copy.lives(&pipe))
-}
-
-#[test]
-fn copied_pipes_are_equal(rt: HostRuntime) {
-    assert!(rt; is_copied(rt.alloc()) == Some(true));
-}
-
-/// Whether a copied message is equal.
-fn copies_bytes(alloc: Global) -> Result<bool, NoMemory> {
-    let message = number(alloc, 7)?;
-    let copy = message.copy()?;
-    Ok(copy.same(&message))
-}
-
-#[test]
-fn a_copied_message_is_equal(rt: HostRuntime) {
-    assert!(rt; copies_bytes(rt.alloc()) == Ok(true));
+    let mut pipes = Pipes::new(rt.alloc());
+    assert!(rt; fills_a_home(&mut pipes, &Label::public(rt.alloc())));
 }
