@@ -7,6 +7,7 @@ use flow_labels::Label;
 use labelled_heap::{Cells, Heap, Sort};
 use lam_value::{Kind, Name, Shape, Value};
 use std::alloc::Global;
+use tag_sets::NoMemory;
 
 /// Adds a public cell.
 fn add(cells: &mut Cells, public: Label, value: i64) -> Option<u32> {
@@ -34,18 +35,18 @@ fn is_public(cells: &Cells, cell: u32) -> bool {
 }
 
 /// Whether a write changes its own cell alone.
-fn writes_one(alloc: Global) -> Option<bool> {
-    let mut cells = Cells::new(alloc);
-    let first = add(&mut cells, Label::public(alloc), 5)?;
-    let second = add(&mut cells, Label::public(alloc), -6)?;
-    set(&mut cells, second, i64::MIN);
-    let wrote = cell_holds(&cells, first, 5) & cell_holds(&cells, second, i64::MIN);
-    Some(wrote & is_public(&cells, second) & cells.find(2).is_none())
+fn writes_one(alloc: Global, cells: &mut Cells) -> Option<bool> {
+    let first = add(cells, Label::public(alloc), 5)?;
+    let second = add(cells, Label::public(alloc), -6)?;
+    set(cells, second, i64::MIN);
+    let wrote = cell_holds(cells, first, 5) & cell_holds(cells, second, i64::MIN);
+    Some(wrote & is_public(cells, second) & cells.find(2).is_none())
 }
 
 #[test]
 fn a_cell_is_written_alone(rt: HostRuntime) {
-    assert!(rt; writes_one(rt.alloc()) == Some(true));
+    let mut cells = Cells::new(rt.alloc());
+    assert!(rt; writes_one(rt.alloc(), &mut cells) == Some(true));
 }
 
 /// Makes a public array of one number.
@@ -89,17 +90,9 @@ fn is_number(value: &Value, n: i64) -> bool {
 }
 
 /// Whether what is written is read, and stands in the list of slots.
-fn reads_what_it_wrote(alloc: Global) -> Option<bool> {
-    let public = Label::public(alloc);
-    let mut heap = Heap::new(alloc);
-    let name = make_one(&mut heap, &public)?;
-    write_first(&mut heap, &name, 9);
-    Some(holds(&heap, &name, 9) & (heap.slots(&name).len() == 1))
-}
-
-#[test]
-fn what_is_written_is_read(rt: HostRuntime) {
-    assert!(rt; reads_what_it_wrote(rt.alloc()) == Some(true));
+fn reads_what_it_wrote(heap: &mut Heap, name: &Name) -> bool {
+    write_first(heap, name, 9);
+    holds(heap, name, 9) & (heap.slots(name).len() == 1)
 }
 
 /// Whether a thing is an array of numbers.
@@ -107,20 +100,24 @@ fn is_array(heap: &Heap, name: &Name) -> bool {
     matches!(heap.sort(name), Some(Sort::Array(Kind::Int)))
 }
 
-/// Whether a copy has what was written, is an array too and gets the next number.
-fn copies_what_it_wrote(alloc: Global) -> Option<bool> {
-    let public = Label::public(alloc);
-    let mut heap = Heap::new(alloc);
-    let name = make_one(&mut heap, &public)?;
-    write_first(&mut heap, &name, 9);
-    let other = copy_one(&mut heap, &public, &name)?;
-    let numbered = (other.n() == 1) & (heap.next(&public, &public) == 2);
-    Some(numbered & holds(&heap, &other, 9) & is_array(&heap, &other))
+/// Whether a copy has what was written, is an array too and got the second number.
+fn is_like(heap: &Heap, name: &Name, public: &Label) -> bool {
+    let numbered = (name.n() == 1) & (heap.next(public, public) == 2);
+    numbered & holds(heap, name, 9) & is_array(heap, name)
+}
+
+/// Whether what is written is read, also from a copy.
+fn writes_and_copies(heap: &mut Heap, public: &Label) -> Option<bool> {
+    let name = make_one(heap, public)?;
+    let wrote = reads_what_it_wrote(heap, &name);
+    let other = copy_one(heap, public, &name)?;
+    Some(wrote & is_like(heap, &other, public))
 }
 
 #[test]
 fn a_copy_has_what_was_written(rt: HostRuntime) {
-    assert!(rt; copies_what_it_wrote(rt.alloc()) == Some(true));
+    let mut heap = Heap::new(rt.alloc());
+    assert!(rt; writes_and_copies(&mut heap, &Label::public(rt.alloc())) == Some(true));
 }
 
 /// Whether two heaps are equal, and equal where the public observer sees.
@@ -129,18 +126,17 @@ fn are_same(a: &Heap, b: &Heap, public: &Label) -> bool {
     a.same(b) & a.same_seen(b, public) & a.same_counters(b, public)
 }
 
-/// Whether a heap is equal to its copy, until one of the two is written.
-fn is_copied(alloc: Global) -> Option<bool> {
-    let public = Label::public(alloc);
-    let mut heap = Heap::new(alloc);
-    let name = make_one(&mut heap, &public)?;
-    let copy = heap.copy().ok()?;
-    let before = are_same(&heap, &copy, &public);
-    write_first(&mut heap, &name, 9);
-    Some(before & !are_same(&heap, &copy, &public))
+/// Whether two heaps are equal until something is made in the first.
+fn are_copies(heap: &mut Heap, copy: &Heap, public: &Label) -> bool {
+    let before = are_same(heap, copy, public);
+    let made = make_one(heap, public).is_some();
+    before & made & !are_same(heap, copy, public)
 }
 
 #[test]
-fn a_copied_heap_is_equal(rt: HostRuntime) {
-    assert!(rt; is_copied(rt.alloc()) == Some(true));
+fn a_copied_heap_is_equal(rt: HostRuntime) -> Result<(), NoMemory> {
+    let mut heap = Heap::new(rt.alloc());
+    let copy = heap.copy()?;
+    assert!(rt; are_copies(&mut heap, &copy, &Label::public(rt.alloc())));
+    Ok(())
 }
