@@ -5,6 +5,7 @@
 #![tactic(auto)]
 
 ghost use Rattle.lam_bytecode.specs.Codes.{CodeTree};
+ghost use Rattle.lam_turn_laws.specs.Tests.{RefusalsNameTheFirst, RefusalsChangeNothing};
 ghost use Rattle.lam_turn_laws.specs.Laws.{ContextsComeBack, FaultsAreHandled, ReleasesAreAllowed, CapsDoNotGrow};
 
 /// While a thread has more contexts than some, these stay as they are; when it next has as many, it has these.
@@ -29,4 +30,15 @@ pub fn releases_are_allowed()
 /// message just received, and those of a new context or thread, which the acting context holds.
 pub fn capabilities_do_not_grow()
     ensures { (code : CodeTree) → CapsDoNotGrow code }
+{}
+
+/// An ask is refused exactly where one of its tests fails, and the answer names the first rule that does, with its
+/// least tag.
+pub fn refusals_name_the_first()
+    ensures { RefusalsNameTheFirst }
+{}
+
+/// A refusal raises Denied in the acting context, a failure raises its fault there, and nothing else changes.
+pub fn refusals_change_nothing()
+    ensures { (code : CodeTree) → RefusalsChangeNothing code }
 {}
