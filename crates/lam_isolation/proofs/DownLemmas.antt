@@ -18,11 +18,9 @@ use Rattle.lam_worlds.specs.Turns.{is_ready, Moment, served, turn_by}
 use Rattle.lam_worlds.specs.Views.{goes_down, is_release, shows}
 use Rattle.lam_isolation.specs.Isolation.{IsEntryOrCopy, TwoAsksRelease}
 use Rattle.lam_isolation.proofs.FlowLemmas.{both_true, flows_trans}
+use Rattle.lam_isolation.proofs.ThreadLemmas.{some_inj}
 use Rattle.lam_isolation.proofs.RowLemmas.{may_release, served_proper}
 use Rattle.lam_isolation.proofs.TurnLemmas.{acts, only}
-
-some_inj : {X : Type 0} (a b : X) → Some a ≡ Some b → a ≡ b
-some_inj a b e = cc
 
 releaser : (a : Ask) (x : Answer) → may_release a ≡ true → IsEntryOrCopy (Asked a x)
 releaser (CopyTo r l) x e = tt

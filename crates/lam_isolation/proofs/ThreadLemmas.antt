@@ -46,7 +46,7 @@ length-set t [] a = refl
 length-set zero (x ∷ xs) a = refl
 length-set (suc t) (x ∷ xs) a = ap suc (length-set t xs a)
 
-some_inj : {X : Type 0} (a b : X) → Some a ≡ Some b → a ≡ b
+pub some_inj : {X : Type 0} (a b : X) → Some a ≡ Some b → a ≡ b
 some_inj a b e = cc
 
 pub set_same : (t : ℕ) (xs : List Thread) (a : Thread) → slice_get xs t ≡ Some a → slice_set xs t a ≡ xs

@@ -18,12 +18,9 @@ use Rattle.lam_worlds.specs.Valid.{IsListed, ContextLives, StandsOn, AreStacked,
 use Rattle.lam_isolation.proofs.FlowLemmas.{both_true}
 use Rattle.lam_isolation.proofs.AlikeLemmas.{AlikeThreads, Alike, alike_refl, alike_sym, alike_trans, with_threads}
 use Rattle.lam_isolation.proofs.EffectLemmas.{IsHidden, hidden_shown, shown, shown_same, shown_kept, effect_same}
-use Rattle.lam_isolation.proofs.ThreadLemmas.{set_same, threads_set, filter-append, IsSafe, heir_inside, front, answered_front, new_contexts, front_hidden, AllSafe, safe_append, front_safe, result_kept}
+use Rattle.lam_isolation.proofs.ThreadLemmas.{some_inj, set_same, threads_set, filter-append, IsSafe, heir_inside, front, answered_front, new_contexts, front_hidden, AllSafe, safe_append, front_safe, result_kept}
 use Rattle.lam_isolation.proofs.RowLemmas.{served_proper}
 use Rattle.lam_isolation.proofs.SameLemmas.{serve_same}
-
-some_inj : {X : Type 0} (a b : X) → Some a ≡ Some b → a ≡ b
-some_inj a b e = cc
 
 pub only : {X : Type 0} (b : Bool) (x y : X) → cond b (Some x) None ≡ Some y → (b ≡ true) × (x ≡ y)
 only true x y e = (refl, some_inj x y e)

@@ -24,12 +24,10 @@ use Rattle.lam_worlds.specs.Serving.{serve}
 use Rattle.lam_worlds.specs.Turns.{is_ready, Moment, served, turn_by}
 use Rattle.lam_worlds.specs.Views.{goes_down, is_release, used_by}
 use Rattle.lam_isolation.proofs.FlowLemmas.{each_passes}
+use Rattle.lam_isolation.proofs.ThreadLemmas.{some_inj}
 use Rattle.lam_isolation.proofs.RowLemmas.{under_by, unless_by, on_thing_by, served_proper}
 use Rattle.lam_isolation.proofs.TurnLemmas.{acts, only}
 use Rattle.lam_turn_laws.specs.Laws.{IsAllowed, ReleasesAreAllowed}
-
-some_inj : {X : Type 0} (a b : X) → Some a ≡ Some b → a ≡ b
-some_inj a b e = cc
 
 -- ---- rules
 

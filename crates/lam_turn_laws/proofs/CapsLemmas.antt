@@ -20,15 +20,12 @@ use Rattle.lam_worlds.specs.Deeds.{Effect, nothing, takes_tag, sets_slot, adds_t
 use Rattle.lam_worlds.specs.Serving.{serve}
 use Rattle.lam_worlds.specs.Turns.{is_ready, Moment, goes_on, served, turn_by}
 use Rattle.lam_isolation.proofs.FlowLemmas.{each_passes}
-use Rattle.lam_isolation.proofs.ThreadLemmas.{there, front, answered_front}
+use Rattle.lam_isolation.proofs.ThreadLemmas.{some_inj, there, front, answered_front}
 use Rattle.lam_isolation.proofs.RowLemmas.{under_by, unless_by, on_thing_by}
 use Rattle.lam_isolation.proofs.TurnLemmas.{acts, only}
 use Rattle.lam_turn_laws.specs.Laws.{granted, IsAfter, MayHold, CapsDoNotGrow}
 use Rattle.lam_turn_laws.proofs.BackLemmas.{at_after, set_there, effect_threads, still_there}
 use Rattle.lam_turn_laws.proofs.AllowedLemmas.{covers_passes}
-
-some_inj : {X : Type 0} (a b : X) → Some a ≡ Some b → a ≡ b
-some_inj a b e = cc
 
 -- ---- the contexts of the acting thread
 

@@ -21,11 +21,9 @@ use Rattle.lam_worlds.specs.Worlds.{World, thread_at, with_thread}
 use Rattle.lam_worlds.specs.Deeds.{Effect, nothing, effect_of, Made, Deed, answers, does, gives, makes, unless_denied, under, unless, on_thing}
 use Rattle.lam_worlds.specs.Serving.{opened, joined, serve}
 use Rattle.lam_worlds.specs.Turns.{is_ready, Moment, goes_on, served, turn_by}
+use Rattle.lam_isolation.proofs.ThreadLemmas.{some_inj}
 use Rattle.lam_isolation.proofs.TurnLemmas.{acts, only}
 use Rattle.lam_turn_laws.specs.Tests.{of_thing, tests_of, RefusalsNameTheFirst, OnlyFaults, RefusalsChangeNothing}
-
-some_inj : {X : Type 0} (a b : X) → Some a ≡ Some b → a ≡ b
-some_inj a b e = cc
 
 -- a refusal and a failure have no effect and make nothing, and an outcome is not written by them
 abbrev Quiet : Answer → Deed → Type 0
