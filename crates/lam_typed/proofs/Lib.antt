@@ -1,0 +1,5 @@
+pub mod Values
+pub mod Rows
+pub mod Locals
+pub mod Trees
+pub mod Expressions

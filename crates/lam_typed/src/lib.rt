@@ -1,0 +1,2 @@
+//! Typed programs never go wrong.
+#![tactic(auto)]
