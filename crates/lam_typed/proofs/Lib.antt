@@ -3,3 +3,5 @@ pub mod Rows
 pub mod Locals
 pub mod Trees
 pub mod Expressions
+pub mod Statements
+pub mod Threads
