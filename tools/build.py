@@ -93,9 +93,11 @@ class Progress:
         """Takes note of the crates that are being proved now."""
         with self.lock:
             at = time.monotonic()
-            self.since = {crate: self.since.get(crate, at) for crate in now & self.crates - self.done}
+            now &= self.crates - self.done
+            for crate in now:
+                self.since.setdefault(crate, at)
             if at - self.last > QUIET:
-                names = ', '.join(sorted(self.since)) or 'the sources are looked over'
+                names = ', '.join(sorted(now)) or 'the sources are looked over'
                 say(f'{self.so_far()}, {took(at - self.start)}; now {names}')
                 self.last = at
 
