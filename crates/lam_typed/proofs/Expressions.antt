@@ -1,36 +1,32 @@
 -- What a typed expression gives is of its type, and it meets no operand of another kind.
-use Rattle.std.proofs.Common.{◌≡◌, ℕ, zero, suc, ℤ, pos, negsuc, ◌+ℤ◌, ◌-ℤ◌, ◌*ℤ◌, Bool, true, false, List, [], ◌∷◌, Option, Some, None, refl, sym, ap, subst, map, length}
-use Rattle.std.specs.Prelude.{nat_lt, nat_le, int_lt, int_le, int_div, int_rem, slice_get}
-use Rattle.flow_labels.specs.declared.Label.{Label}
-use Rattle.lam_value.specs.declared.names.Name.{Name}
+use Rattle.std.proofs.Common.{◌≡◌, ℕ, zero, suc, ℤ, pos, negsuc, ◌+ℤ◌, ◌-ℤ◌, ◌*ℤ◌, List, [], ◌∷◌, Option, Some, refl, sym, ap, subst, map}
+use Rattle.std.specs.Prelude.{nat_le, int_div, int_rem, slice_get}
 use Rattle.lam_value.specs.declared.values.Value.{Value}
-use Rattle.lam_value.specs.declared.values.Value.TheVariants.{Int, Bool as Truth, Nothing, Obj, Arr, Tag, CapV}
+use Rattle.lam_value.specs.declared.values.Value.TheVariants.{Nothing, Obj, Arr, Tag, CapV}
 use Rattle.lam_value.specs.declared.shapes.Kind.{Kind}
 use Rattle.lam_value.specs.declared.shapes.Shape.TheVariants.{Class, Array}
 use Rattle.lam_syntax.specs.declared.BinaryOp.{BinaryOp}
 use Rattle.lam_syntax.specs.declared.BinaryOp.TheVariants.{Or, And, Eq, Ne, Lt, Le, Gt, Ge, Add, Sub, Mul, Div, Rem}
-use Rattle.lam_builtins.specs.declared.Builtin.{Builtin}
-use Rattle.lam_builtins.specs.Types.{int, bool, bytes, tag, label, caps, thread, object, array, a_value, a_null, nothing, exactly}
+use Rattle.lam_builtins.specs.Types.{int, bool, bytes, tag, label, caps, thread, object, array, a_value, a_null, exactly}
 use Rattle.lam_builtins.specs.Operators.{operand, operator_type, unary_type}
 use Rattle.lam_builtins.specs.Builtins.{row_by, answered}
 use Rattle.lam_asks.specs.declared.fault.Fault.{Fault}
-use Rattle.lam_asks.specs.declared.fault.Fault.TheVariants.{Denied, Index, Null, Long}
 use Rattle.lam_asks.specs.declared.ask.Ask.{Ask}
 use Rattle.lam_asks.specs.declared.ask.Ask.TheVariants as ask
 use Rattle.lam_asks.specs.Suits as sorts
 use Rattle.lam_asks.specs.Suits.{numbers, want_of}
-use Rattle.thread_steps.specs.Operators.{Pure, fine, operator, prefix, label_from, with_sign, of_numbers, by_divisor, number}
+use Rattle.thread_steps.specs.Operators.{Pure, operator, prefix, label_from, with_sign, by_divisor, number}
 use Rattle.thread_steps.specs.Builtins as calls
 use Rattle.thread_steps.specs.Builtins.{Calls, builtin}
 use Rattle.resolved_tree.specs.Tree.{ResolvedType, ResolvedGiven, ResolvedPlace, CapSlot, Expression, number_value, text_value, bool_value, null_value, local_value, unary_of, binary_of, field_of, element_of, call_of, builtin_of, new_object, new_array, label_of, caps_of, spawn_of, Expressions, args_end, args_more, ResolvedFunction, ResolvedTree}
 use Rattle.resolved_tree.specs.Typing.{Head, head_of, heads_of, given_by, exact_places, a_local, Scope, Fits, FitsBy, Operates, AreTags, Gives, AreArgs, AreRest, AreTagArgs}
-use Rattle.lam_meaning.specs.Trees.{Own, with_locals, local, End, goes, raises, leaves, Tree, and_then, purely, ask_value, asked, gained, nothing_gained, on_array, unless_denied, on_truth}
-use Rattle.lam_meaning.specs.Means.{sort_of, kind_of, At, may_read, Caller, within, on_number, class_fields, makes_array, result_sort, called_in, signed, two, eval, eval_all}
+use Rattle.lam_meaning.specs.Trees.{Own, local, End, goes, raises, leaves, Tree, and_then, purely, ask_value, asked, gained, nothing_gained}
+use Rattle.lam_meaning.specs.Means.{sort_of, kind_of, At, may_read, Caller, class_fields, makes_array, result_sort, called_in, signed, two, eval, eval_all}
 use Rattle.lam_typed.specs.Kinds.{IsA, AreOf}
 use Rattle.lam_typed.proofs.Values.{GivesA, fits_a, RestAre, ArgsAre, exact_args}
 use Rattle.lam_typed.proofs.Rows.{PureIs, number_is, prefix_is, numbers_is, divided_is, sign_is, AreTagValues, label_is, CallsIs, builtin_is}
 use Rattle.lam_typed.proofs.Locals.{Fit, some_is}
-use Rattle.lam_typed.proofs.Trees.{EndBy, IsTree, end_tree, weaker, then_tree, value_tree, done_tree, unless_tree, object_tree, array_tree, truth_tree, number_tree, caps_tree, within_tree, if_tree, pure_tree}
+use Rattle.lam_typed.proofs.Trees.{EndBy, IsTree, weaker, then_tree, value_tree, done_tree, unless_tree, object_tree, array_tree, truth_tree, number_tree, caps_tree, within_tree, if_tree, pure_tree}
 
 abbrev pub Never : Value → Type 0
 Never v = ⊥
@@ -55,17 +51,8 @@ head_at (fn ∷ fs) zero h e = (fn, refl, some_is (head_of fn) h e)
 head_at (fn ∷ fs) (suc f) h e = head_at fs f h e
 
 module _ (size : ℕ) (env : Scope) where
-  abbrev Vals : {A : Type 0} → (A → Type 0) → End A → Type 0
-  Vals Q = Values size env Q
-
-  abbrev Fits_in : Own → Type 0
-  Fits_in o = Fit size env o.locals
-
   pub and_value : {A B : Type 0} (P : A → Type 0) (E : End B → Type 0) (t : Tree A) (go : A → ℕ → Own → Tree B) → ((f : Fault) (n : ℕ) (o : Own) → Fit size env o.locals → E (raises f n o)) → IsTree (Values size env P) t → ((a : A) (n : ℕ) (o : Own) → P a → Fit size env o.locals → IsTree E (go a n o)) → IsTree E (and_then t go)
   and_value P E t go r h on = then_tree (Values size env P) E t go h r (λ v n o k. absurd k) (λ a n o k. on a n o k.0 k.1)
-
-  raised : {A : Type 0} (Q : A → Type 0) (f : Fault) (n : ℕ) (o : Own) → Fit size env o.locals → Values size env Q (raises f n o)
-  raised Q f n o l = l
 
   pub at_place : (t : ResolvedType) (g : ResolvedGiven) (x : Tree Value) → Fits (exactly t) g → IsTree (Values size env (λ v. GivesA g v)) x → IsTree (Values size env (λ v. IsA t v)) x
   at_place t g x f h = weaker (Values size env (λ v. GivesA g v)) (Values size env (λ v. IsA t v)) x each h

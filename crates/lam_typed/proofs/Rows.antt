@@ -5,7 +5,7 @@ use Rattle.flow_labels.specs.declared.Label.{Label}
 use Rattle.capabilities.specs.declared.Caps.{Caps}
 use Rattle.lam_value.specs.declared.names.Name.{Name}
 use Rattle.lam_value.specs.declared.values.Value.{Value}
-use Rattle.lam_value.specs.declared.values.Value.TheVariants.{Int, Bool as Truth, Bytes, Nothing, Obj, Arr, File, Dir, Pipe, Thread, Tag, Lab, CapV}
+use Rattle.lam_value.specs.declared.values.Value.TheVariants.{Int, Bytes, Nothing, Obj, Arr, File, Dir, Pipe, Tag, Lab, CapV}
 use Rattle.lam_syntax.specs.declared.UnaryOp.{UnaryOp}
 use Rattle.lam_syntax.specs.declared.UnaryOp.TheVariants.{Not, Neg}
 use Rattle.lam_builtins.specs.declared.Builtin.{Builtin}
@@ -14,8 +14,6 @@ use Rattle.lam_builtins.specs.Types.{int, bool, bytes, tag, label, caps, file, d
 use Rattle.lam_builtins.specs.Operators.{unary_type}
 use Rattle.lam_builtins.specs.Builtins.{row_by, answered}
 use Rattle.lam_asks.specs.declared.fault.Fault.TheVariants.{Zero, Overflow, Null}
-use Rattle.lam_asks.specs.declared.ask.Ask.{Ask}
-use Rattle.lam_asks.specs.declared.ask.Ask.TheVariants as ask
 use Rattle.lam_asks.specs.Suits.{Sort, numbers, is_of, objects, arrays, is_done, is_value, want_of, tags, files, directories, byte_texts, pipes, capabilities}
 use Rattle.thread_steps.specs.Operators.{Pure, fine, faults, wrong, number, is_small, of_numbers, by_divisor, is_zero, prefix, is_null, some_null, tags_in, tag_before, label_by, label_from, with_sign}
 use Rattle.thread_steps.specs.Builtins as calls
@@ -23,7 +21,7 @@ use Rattle.thread_steps.specs.Builtins.{Calls, builtin}
 use Rattle.resolved_tree.specs.Tree.{ResolvedType, ResolvedGiven, ResolvedPlace}
 use Rattle.resolved_tree.specs.Typing.{Fits}
 use Rattle.lam_typed.specs.Kinds.{IsA}
-use Rattle.lam_typed.proofs.Values.{by_number, by_truth, by_bytes, by_tag, by_label, by_caps, by_file, by_dir, by_pipe, by_thread, by_object, by_array, GivesA, At, RestAre, ArgsAre, at_exactly, fits_a, in_array, in_labelled}
+use Rattle.lam_typed.proofs.Values.{by_number, by_truth, by_bytes, by_tag, by_label, by_caps, by_file, by_dir, by_pipe, by_thread, by_object, by_array, GivesA, ArgsAre, at_exactly, fits_a, in_array, in_labelled}
 
 -- ---- operators
 

@@ -1,28 +1,26 @@
 -- Typed statements keep the locals of their types, and return what their function gives.
-use Rattle.std.proofs.Common.{◌≡◌, ℕ, zero, suc, Bool, true, false, List, [], ◌∷◌, ◌++◌, Option, Some, None, refl, sym, ap, subst, map, length}
-use Rattle.std.specs.Prelude.{◌&&◌, ◌-◌, replicate, slice_get}
+use Rattle.std.proofs.Common.{◌≡◌, ℕ, Bool, true, false, List, [], ◌∷◌, ◌++◌, Option, Some, None, refl, ap, subst, map, length}
+use Rattle.std.specs.Prelude.{◌&&◌, ◌-◌, replicate}
 use Rattle.std.proofs.lemmas.Option.{slice_get_within}
 use Rattle.flow_labels.specs.declared.Label.{Label}
 use Rattle.capabilities.specs.declared.Caps.{Caps}
-use Rattle.lam_value.specs.declared.names.Name.{Name}
 use Rattle.lam_value.specs.declared.values.Value.{Value}
 use Rattle.lam_value.specs.declared.values.Value.TheVariants.{Int, Nothing, Obj, Arr}
-use Rattle.lam_builtins.specs.Types.{int, bool, label, caps, object, array, a_value, nothing, exactly}
+use Rattle.lam_builtins.specs.Types.{int, bool, label, caps, object, array, a_value, exactly}
 use Rattle.lam_asks.specs.declared.fault.Fault.{Fault}
 use Rattle.lam_asks.specs.declared.fault.Fault.TheVariants.{Thrown}
 use Rattle.lam_asks.specs.Faults.{fault_number}
 use Rattle.lam_asks.specs.declared.answer.Answer.{Answer}
 use Rattle.lam_asks.specs.declared.answer.Answer.TheVariants.{Done, Entered, Val, Refused, Failed}
-use Rattle.lam_asks.specs.declared.ask.Ask.{Ask}
 use Rattle.lam_asks.specs.declared.ask.Ask.TheVariants as ask
 use Rattle.lam_asks.specs.Suits.{numbers, want_of, fits}
 use Rattle.resolved_tree.specs.Tree.{ResolvedType, ResolvedGiven, Expression, Statement, let_slot, if_block, while_block, return_value, throw_value, sync_block, region_block, do_value, set_local, set_field, set_element, Block, block_end, block_more, OtherBlock, no_other, other_block, ResolvedTree}
 use Rattle.resolved_tree.specs.Typing as typing
 use Rattle.resolved_tree.specs.Typing.{heads_of, given_by, a_local, a_monitor, Scope, with_use, locals_of, is_object, FitsBy, Gives, Stands, Returning, in_region, in_function, Returns, use_of, after, IsStatement, IsBlock, IsOther, block_ends, other_ends}
-use Rattle.lam_meaning.specs.Trees.{Own, with_local, local, End, goes, raises, leaves, Tree, on_end, and_then, ends, spend, asked}
-use Rattle.lam_meaning.specs.Means.{At, may_write, Caller, Does, Open, take, give_back, returns, captured, caught_end, body_end, enter_reply, inside, region, throws, eval, eval_option, exec, exec_block, exec_other}
-use Rattle.lam_typed.specs.Kinds.{IsA, AreOf}
-use Rattle.lam_typed.proofs.Values.{GivesA, fits_a, by_number}
+use Rattle.lam_meaning.specs.Trees.{Own, with_local, local, End, goes, raises, leaves, Tree, and_then}
+use Rattle.lam_meaning.specs.Means.{At, may_write, Caller, Does, Open, take, give_back, returns, captured, caught_end, body_end, enter_reply, inside, throws, eval, eval_option, exec, exec_block, exec_other}
+use Rattle.lam_typed.specs.Kinds.{IsA}
+use Rattle.lam_typed.proofs.Values.{GivesA, by_number}
 use Rattle.lam_typed.proofs.Locals.{Fit, fit_within, Within, slot_here, set_with, set_old, let_fit, within_new, within_after, fit_head, captured_are, length-captured}
 use Rattle.lam_typed.proofs.Trees.{EndBy, IsTree, end_tree, weaker, then_tree, done_tree, always_tree, unless_tree, object_tree, array_tree, thing_tree, truth_tree, number_tree, region_tree, within_tree, spend_tree}
 use Rattle.lam_typed.proofs.Expressions.{Values, CallsWell, and_value, at_place, eval_tree}
@@ -187,11 +185,11 @@ module _ (r : ResolvedTree) (call : Caller) (well : CallsWell r call) (again : O
         let args = map (λ x. local o x) from in
         let first : Own = record { locals = captured o from (length own); caps = k } in
         λ x s.
-            enter_tree E o (λ n. (lo, refl)) (λ f n. lo) l k number args _ n
-            (end_tree (OfBlock own in_region (locals_of ts) (block_ends false body)) E (exec_block r call again [] body (inside l) n first) (body_end o slot (λ n o. exec_block r call again [] handler (inside l) n o))
-            (block_tree [] own in_region (locals_of ts) body false hb tt refl (inside l) n first (head_fit o from own ts more hcap hown lo))
-            (body_tree E o (λ n. (lo, refl)) (λ f n. lo) (length own) (locals_of ts) env' (block_ends false body) (block_ends false handler) slot _
-            (λ z o m. set_with (length own) (locals_of ts) o.locals slot (a_local int) (Int z) (slice_get_within own slot int hf.0) refl m) (λ n o m. block_tree [] own in_region env' handler false hh tt refl (inside l) n o m))) x s)))
+        enter_tree E o (λ n. (lo, refl)) (λ f n. lo) l k number args _ n
+        (end_tree (OfBlock own in_region (locals_of ts) (block_ends false body)) E (exec_block r call again [] body (inside l) n first) (body_end o slot (λ n o. exec_block r call again [] handler (inside l) n o))
+        (block_tree [] own in_region (locals_of ts) body false hb tt refl (inside l) n first (head_fit o from own ts more hcap hown lo))
+        (body_tree E o (λ n. (lo, refl)) (λ f n. lo) (length own) (locals_of ts) env' (block_ends false body) (block_ends false handler) slot _
+        (λ z o m. set_with (length own) (locals_of ts) o.locals slot (a_local int) (Int z) (slice_get_within own slot int hf.0) refl m) (λ n o m. block_tree [] own in_region env' handler false hh tt refl (inside l) n o m))) x s)))
       where
         head_fit : (o : Own) (from : List ℕ) (own ts more : List ResolvedType) → typing.AreCaptured env from ts → own ≡ ts ++ more → Fit (length slots) env o.locals → Fit (length own) (locals_of ts) (captured o from (length own))
         head_fit o from own ts more hcap hown lo =

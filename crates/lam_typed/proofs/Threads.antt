@@ -1,23 +1,20 @@
 -- Threads of typed programs are not broken.
-use Rattle.std.proofs.Common.{◌≡◌, ℕ, zero, suc, ◌+◌, Bool, true, false, List, [], ◌∷◌, ◌++◌, Option, Some, None, refl, sym, ap, ◌∙◌, subst, map, length}
+use Rattle.std.proofs.Common.{◌≡◌, ℕ, zero, suc, false, List, [], ◌∷◌, Option, Some, None, refl, sym, subst, length}
 use Rattle.std.specs.Prelude.{nat_lt, slice_get}
 use Rattle.flow_labels.specs.Flow.{public_label}
 use Rattle.capabilities.specs.declared.Caps.{Caps}
 use Rattle.lam_value.specs.declared.values.Value.{Value}
 use Rattle.lam_value.specs.declared.values.Value.TheVariants.{Nothing}
-use Rattle.lam_builtins.specs.Types.{a_value, nothing}
-use Rattle.lam_asks.specs.declared.fault.Fault.TheVariants.{Deep}
 use Rattle.lam_asks.specs.declared.answer.Outcome.TheVariants as outcome
-use Rattle.lam_asks.specs.declared.answer.Answer.{Answer}
 use Rattle.lam_asks.specs.declared.ask.Ask.TheVariants as ask
-use Rattle.resolved_tree.specs.Tree.{ResolvedType, Statement, Block, ResolvedFunction, ResolvedTree}
+use Rattle.resolved_tree.specs.Tree.{ResolvedType, Block, ResolvedFunction, ResolvedTree}
 use Rattle.resolved_tree.specs.Typing.{Heads, heads_of, given_by, Scope, locals_of, Returning, in_function, IsBlock, block_ends, EndsWith, IsFunction, AreFunctions, IsTypedTree}
-use Rattle.lam_meaning.specs.Trees.{Own, with_locals, End, goes, raises, leaves, Tree, on_end, spend}
-use Rattle.lam_meaning.specs.Means.{At, Open, Does, Caller, exec_block, calls_limit, call_end, first_locals, body_of, deeper, calls_to, runs, block_runs, last_ask, means}
-use Rattle.lam_typed.specs.Kinds.{IsA, AreOf, NeverBroken}
+use Rattle.lam_meaning.specs.Trees.{Own, with_locals, End, goes, raises, leaves}
+use Rattle.lam_meaning.specs.Means.{At, Does, Caller, calls_limit, call_end, first_locals, body_of, deeper, calls_to, runs, block_runs, last_ask, means}
+use Rattle.lam_typed.specs.Kinds.{AreOf, NeverBroken}
 use Rattle.lam_typed.proofs.Values.{GivesA}
 use Rattle.lam_typed.proofs.Locals.{Fit, some_is, fit_head}
-use Rattle.lam_typed.proofs.Trees.{EndBy, IsTree, end_tree, done_tree, if_tree, spend_tree, never_broken}
+use Rattle.lam_typed.proofs.Trees.{IsTree, end_tree, done_tree, if_tree, spend_tree, never_broken}
 use Rattle.lam_typed.proofs.Expressions.{Values, CallsWell}
 use Rattle.lam_typed.proofs.Statements.{OfBlock, DoesWell, exec_tree, block_tree}
 

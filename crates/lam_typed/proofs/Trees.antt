@@ -1,12 +1,12 @@
 -- Trees that are not broken while the answers suit, and what holds where they end.
-use Rattle.std.proofs.Common.{◌≡◌, ◌≢◌, ℕ, zero, suc, ℤ, pos, negsuc, Bool, true, false, List, [], ◌∷◌, Option, Some, None, refl, sym, subst}
+use Rattle.std.proofs.Common.{◌≡◌, ◌≢◌, ℕ, zero, suc, ℤ, pos, negsuc, Bool, true, false, List, [], ◌∷◌, Option, Some, None, refl, subst}
 use Rattle.std.specs.Prelude.{if◌then◌else◌, nat_lt}
 use Rattle.flow_labels.specs.declared.Label.{Label}
 use Rattle.flow_labels.specs.declared.Denied.{Denied as Denial}
 use Rattle.capabilities.specs.declared.Caps.{Caps}
 use Rattle.lam_value.specs.declared.names.Name.{Name}
 use Rattle.lam_value.specs.declared.values.Value.{Value}
-use Rattle.lam_value.specs.declared.values.Value.TheVariants.{Int, Bool as Truth, Nothing, Obj, Arr, Tag, Lab, CapV}
+use Rattle.lam_value.specs.declared.values.Value.TheVariants.{Bool as Truth, Nothing, Obj, Arr}
 use Rattle.lam_builtins.specs.Types.{int, bool, label, caps}
 use Rattle.lam_asks.specs.declared.fault.Fault.{Fault}
 use Rattle.lam_asks.specs.declared.fault.Fault.TheVariants.{Denied, Null, Index}
@@ -19,9 +19,9 @@ use Rattle.lam_asks.specs.Suits.{Sort, is_of, numbers, is_done, is_value, Want, 
 use Rattle.thread_steps.specs.Operators.{Pure, fine, faults, wrong}
 use Rattle.resolved_tree.specs.Tree.{ResolvedType}
 use Rattle.resolved_tree.specs.Typing.{is_object}
-use Rattle.lam_meaning.specs.Trees.{Own, End, goes, raises, leaves, Tree, ends, spent, broken, asks, on_end, next, and_then, fails, spend, purely, value_reply, done_reply, ask_done, unless_denied, on_object, on_array, on_thing, on_truth, on_caps, on_region, asked}
+use Rattle.lam_meaning.specs.Trees.{Own, End, goes, raises, leaves, Tree, ends, spent, broken, asks, on_end, next, and_then, fails, spend, purely, value_reply, ask_done, unless_denied, on_object, on_array, on_thing, on_truth, on_caps, on_region}
 use Rattle.lam_meaning.specs.Means.{within, on_number}
-use Rattle.lam_meaning.specs.Plays.{How, how_of, waits, is_broken}
+use Rattle.lam_meaning.specs.Plays.{how_of, waits, is_broken}
 use Rattle.lam_typed.specs.Kinds.{IsA}
 use Rattle.lam_typed.proofs.Values.{by_number, by_truth, by_object, by_array, by_caps, by_label, by_thing}
 use Rattle.lam_typed.proofs.Rows.{PureIs}

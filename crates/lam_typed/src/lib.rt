@@ -15,5 +15,4 @@ ghost use Rattle.lam_typed.specs.Kinds.{NeverBroken};
 /// capabilities, any number of units and any answers.
 pub fn typed_never_wrong()
     ensures { (r : ResolvedTree) → NeverBroken r }
-{
-}
+{}

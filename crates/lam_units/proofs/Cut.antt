@@ -1,5 +1,5 @@
 -- Of two trees the first is the second, cut off at places where it is spent.
-use Rattle.std.proofs.Common.{◌≡◌, ℕ, zero, suc, ℤ, pos, negsuc, ◌+◌, ◌≤◌, Bool, true, false, List, [], ◌∷◌, Option, Some, None, refl, sym, ap, subst, arith}
+use Rattle.std.proofs.Common.{◌≡◌, ℕ, zero, suc, ℤ, pos, negsuc, ◌≤◌, Bool, true, false, Option, Some, None, refl, sym, ap, subst, arith}
 use Rattle.std.specs.Prelude.{if◌then◌else◌, nat_lt}
 use Rattle.flow_labels.specs.declared.Label.{Label}
 use Rattle.flow_labels.specs.declared.Denied.{Denied as Denial}
@@ -13,7 +13,7 @@ use Rattle.lam_asks.specs.declared.answer.Answer.TheVariants.{Done, Entered, Val
 use Rattle.lam_asks.specs.declared.ask.Ask.{Ask}
 use Rattle.lam_asks.specs.declared.ask.Ask.TheVariants as ask
 use Rattle.thread_steps.specs.Operators.{Pure, fine, faults, wrong}
-use Rattle.lam_meaning.specs.Trees.{Own, Asked, End, goes, raises, leaves, Tree, ends, spent, broken, asks, on_end, next, and_then, gives, fails, done, spend, purely, value_reply, ask_value, nothing_gained, done_reply, ask_done, ask_unit, unless_denied, on_object, on_array, on_thing, on_truth, on_caps, on_region}
+use Rattle.lam_meaning.specs.Trees.{Own, Asked, End, goes, raises, leaves, Tree, ends, spent, broken, asks, on_end, next, and_then, fails, spend, purely, value_reply, ask_value, nothing_gained, done_reply, ask_done, ask_unit, unless_denied, on_object, on_array, on_thing, on_truth, on_caps, on_region}
 use Rattle.lam_meaning.specs.Means.{within, on_number}
 
 abbrev pub left_of : {A : Type 0} → End A → ℕ

@@ -1,5 +1,5 @@
 -- What a list of answers makes of a tree and of a cut of it.
-use Rattle.std.proofs.Common.{◌≡◌, ◌≢◌, ℕ, Bool, true, false, List, [], ◌∷◌, ◌++◌, refl, sym, ap, subst}
+use Rattle.std.proofs.Common.{◌≡◌, ◌≢◌, Bool, true, false, List, [], ◌∷◌, ◌++◌, refl, sym, ap, subst}
 use Rattle.std.specs.Prelude.{if◌then◌else◌}
 use Rattle.std.proofs.lemmas.List.{append-nil}
 use Rattle.lam_asks.specs.declared.answer.Answer.{Answer}
@@ -7,7 +7,7 @@ use Rattle.lam_asks.specs.Suits.{fits}
 use Rattle.resolved_tree.specs.Tree.{ResolvedTree}
 use Rattle.lam_meaning.specs.Trees.{Asked, Tree, ends, spent, broken, asks}
 use Rattle.lam_meaning.specs.Means.{means}
-use Rattle.lam_meaning.specs.Plays.{How, waits, is_spent, asks_of, how_of}
+use Rattle.lam_meaning.specs.Plays.{waits, is_spent, asks_of, how_of}
 use Rattle.lam_units.specs.Fewer.{IsCutOff, FewerUnits}
 use Rattle.lam_units.proofs.Cut.{Cut, with_left}
 use Rattle.lam_units.proofs.Meanings.{means_cut}

@@ -1,5 +1,5 @@
 -- With fewer units, the tree of a program is a cut of the one with more.
-use Rattle.std.proofs.Common.{◌≡◌, ℕ, zero, suc, ℤ, pos, negsuc, ◌+◌, ◌≤◌, Bool, true, false, List, [], ◌∷◌, Option, Some, None, refl, arith, map, length}
+use Rattle.std.proofs.Common.{ℕ, zero, suc, ℤ, pos, negsuc, ◌≤◌, true, false, List, [], ◌∷◌, Option, Some, None, refl, arith, map, length}
 use Rattle.std.specs.Prelude.{nat_lt, nat_le, slice_get}
 use Rattle.flow_labels.specs.declared.Label.{Label}
 use Rattle.flow_labels.specs.Flow.{public_label}
@@ -20,9 +20,8 @@ use Rattle.lam_asks.specs.Suits.{numbers}
 use Rattle.thread_steps.specs.Operators.{operator, prefix, label_from, with_sign}
 use Rattle.thread_steps.specs.Builtins as calls
 use Rattle.thread_steps.specs.Builtins.{Calls, builtin}
-use Rattle.lam_builtins.specs.declared.Builtin.{Builtin}
 use Rattle.resolved_tree.specs.Tree.{ResolvedType, CapSlot, Expression, number_value, text_value, bool_value, null_value, local_value, unary_of, binary_of, field_of, element_of, call_of, builtin_of, new_object, new_array, label_of, caps_of, spawn_of, Expressions, args_end, args_more, Statement, let_slot, if_block, while_block, return_value, throw_value, sync_block, region_block, do_value, set_local, set_field, set_element, Block, block_end, block_more, OtherBlock, no_other, other_block, ResolvedFunction, ResolvedTree}
-use Rattle.lam_meaning.specs.Trees.{Own, with_locals, with_local, local, asked, End, goes, raises, leaves, Tree, on_end, and_then, fails, gives, purely, gained}
+use Rattle.lam_meaning.specs.Trees.{Own, with_locals, with_local, local, asked, End, goes, raises, leaves, Tree, fails, gives, gained}
 use Rattle.lam_meaning.specs.Means.{At, may_read, may_write, Caller, makes_array, called_in, result_sort, signed, two, eval, eval_all, Open, Does, take, give_back, returns, captured, caught_end, body_end, enter_reply, inside, region, throws, eval_option, exec, exec_block, exec_other, calls_limit, call_end, first_locals, body_of, deeper, calls_to, runs, block_runs, last_ask, means}
 use Rattle.lam_units.proofs.Cut.{left_of, with_left, Cut, end_cut, then_cut, CutDoes, if_cut, pure_cut, gains_cut, value_cut, done_cut, unless_cut, object_cut, array_cut, thing_cut, caps_cut, region_cut, within_cut, truth_cut, number_cut, spend_cut}
 
@@ -120,11 +119,11 @@ enter_cut t t' n m o le h (Val v) = refl
 
 inside_cut : (l : Label) (k : Caps) (number : ℕ) (args locals : List Value) (slot : ℕ) (body body' handler handler' : Does) → ((p : At) → CutDoes (body p) (body' p)) → ((p : At) → CutDoes (handler p) (handler' p)) → CutDoes (region l k number args locals slot body handler) (region l k number args locals slot body' handler')
 inside_cut l k number args locals slot body body' handler handler' h g n m o le = (
-    _,
-    refl,
-    λ x. enter_cut _ _ n m o le
-        (end_cut (body (inside l) n (record { locals = locals; caps = k })) (body' (inside l) m (record { locals = locals; caps = k })) _ _ (h (inside l) n m (record { locals = locals; caps = k }) le)
-        (body_cut o slot (λ n o. handler (inside l) n o) (λ n o. handler' (inside l) n o) (g (inside l)))) x,
+  _,
+  refl,
+  λ x. enter_cut _ _ n m o le
+      (end_cut (body (inside l) n (record { locals = locals; caps = k })) (body' (inside l) m (record { locals = locals; caps = k })) _ _ (h (inside l) n m (record { locals = locals; caps = k }) le)
+      (body_cut o slot (λ n o. handler (inside l) n o) (λ n o. handler' (inside l) n o) (g (inside l)))) x,
 )
 
 abbrev pub CutRuns : (Open → Statement → Does) → (Open → Statement → Does) → Type 0

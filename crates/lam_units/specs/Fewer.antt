@@ -6,7 +6,7 @@ use Rattle.lam_asks.specs.declared.answer.Answer.{Answer}
 use Rattle.resolved_tree.specs.Tree.{ResolvedTree}
 use Rattle.lam_meaning.specs.Trees.{Asked, Tree}
 use Rattle.lam_meaning.specs.Means.{means}
-use Rattle.lam_meaning.specs.Plays.{How, is_spent, asks_of, how_of}
+use Rattle.lam_meaning.specs.Plays.{is_spent, asks_of, how_of}
 
 -- of two threads with the same answers, the first makes the first asks of the second, and they are the same where the
 -- units of the first are not used up

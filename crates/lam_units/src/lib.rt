@@ -12,5 +12,4 @@ ghost use Rattle.lam_units.specs.Fewer.{FewerUnits};
 /// thread stands as it does with more, where the fewer units are not used up.
 pub fn fewer_units_ask_first()
     ensures { (r : ResolvedTree) → FewerUnits r }
-{
-}
+{}
