@@ -203,6 +203,6 @@ fn shelf_and_sink_fail_in_turn(rt: HostRuntime) -> Result<(), Fail> {
         &["play", "s"],
         &faults,
         Status::SinkFault,
-        "lam: 2 word ",
+        "lam: ",
     )
 }
