@@ -1,2 +1,3 @@
 pub mod TagLemmas
 pub mod PrivateLemmas
+pub mod GrowLemmas

@@ -1,6 +1,7 @@
 -- What stands in the inside of a context, in an ask and in what comes next lives.
 use Rattle.std.specs.Prelude.{◌≡◌, ℕ, ◌<◌, List, ◌∷◌, Option, Some}
 use Rattle.std.specs.List.{AllByRecursion}
+use Rattle.lam_value.specs.declared.values.Value.{Value}
 use Rattle.lam_value.specs.declared.values.Value.TheVariants.{File, Dir, Pipe, Thread, Lab, CapV}
 use Rattle.lam_value.specs.Shapes.{slots_of}
 use Rattle.lam_asks.specs.declared.ask.Ask.{Ask}
@@ -10,7 +11,8 @@ use Rattle.thread_steps.specs.Threads.{Inside, Context}
 use Rattle.thread_steps.specs.Threads as threads
 use Rattle.thread_steps.specs.Next.{Next, goes, asks, stuck, next_of}
 use Rattle.lam_worlds.specs.Worlds.{World, thread_at}
-use Rattle.lam_worlds.specs.Valid.{IsKnown, AreKnown, Lives, AllLive, OutcomeLives, FrameLives, IsValid}
+use Rattle.lam_worlds.specs.Turns.{Moment, step}
+use Rattle.lam_worlds.specs.Valid.{IsKnown, AreKnown, Lives, AllLive, OutcomeLives, FrameLives, AreSoundStores, IsValid}
 
 pub record InsideLives (w : World) (i : Inside) : Type 0 where
   pub frame : FrameLives w i.frame
@@ -52,3 +54,7 @@ NextLives w stuck = Unit {0}
 -- what the acting context of a thread does next names only what lives
 abbrev pub KeepsLiving : CodeTree → Type 0
 KeepsLiving code = IsCode code → (w : World) (t : ℕ) (th : threads.Thread) (c : Context) (rest : List Context) → IsValid w → thread_at w t ≡ Some th → th.contexts ≡ c ∷ rest → NextLives w (next_of code c)
+
+-- what lives before a turn lives after it
+abbrev pub LivingGoOn : CodeTree → Type 0
+LivingGoOn code = (w : World) (t : ℕ) (m : Moment) → AreSoundStores w → step code w t ≡ Some m → (v : Value) → Lives w v → Lives m.world v
