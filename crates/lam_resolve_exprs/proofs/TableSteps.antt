@@ -1,14 +1,19 @@
 -- The tables, step by step.
-use Rattle.std.proofs.Common.{◌≡◌, ℕ, ◌+◌, ◌<◌, List, [], ◌∷◌, ◌++◌, length, map, drop, get_or, Option, Some, None, IsSome, is_some, refl, sym, ap, ◌∙◌, string_bytes}
+use Rattle.std.proofs.Common.{◌≡◌, ℕ, ◌+◌, ◌<◌, List, [], ◌∷◌, ◌++◌, length, map, drop, get_or, Option, Some, None, IsSome, is_some, refl, sym, ap, ◌∙◌, append_assoc, Bor}
 use Rattle.std.proofs.lemmas.List.{append-nil}
 use Rattle.lam_syntax.specs.declared.Var.{Var}
 use Rattle.lam_syntax.specs.declared.Item.{Item}
-use Rattle.lam_syntax.specs.Tree.{Word, ItemTree, class_item, function_item, ClassTree, FunctionTree, ProgramTree, vars_tree, var_tree, items_tree, item_tree, type_tree}
-use Rattle.resolved_tree.specs.Tree.{ResolvedType}
+use Rattle.lam_syntax.specs.Tree.{Word, ItemTree, class_item, function_item, ClassTree, FunctionTree, ProgramTree, vars_tree, var_tree, items_tree, item_tree}
+use Rattle.resolved_tree.specs.declared.ValueType.{ValueType}
+use Rattle.resolved_tree.specs.Tree.{ResolvedType, type_tree, types_tree}
 use Rattle.resolved_tree.specs.Typing.{Head}
 use Rattle.lam_resolved.specs.Resolved.{then_some, Tables, types_of, class_names, resolve_type, resolve_result, resolve_vars, resolve_classes, resolve_head, resolve_heads, tables_by, tables}
+use Rattle.lam_kinds.specs.Values.{keyed}
+use Rattle.lam_resolve_exprs.specs.declared.kinds.Kind.{Kind}
+use Rattle.lam_resolve_exprs.specs.Kinds.{kind_type}
+use Rattle.lam_resolve_exprs.specs.Tables.{vars}
 use Rattle.lam_resolve_exprs.specs.Meets.{IsJoined}
-use Rattle.lam_resolve_exprs.proofs.Options.{first_some, next_some, goes, one_more}
+use Rattle.lam_resolve_exprs.proofs.Options.{first_some, next_some, goes, one_more, item_more}
 
 abbrev pub Classes : Type 0
 Classes = List (Word × Unit {0})
@@ -104,3 +109,17 @@ module _ (p : ProgramTree) (cs : Classes) (e : cs ≡ class_names p) where
   tables_done classes heads i j =
       sym (goes (resolve_classes cs p) classes (λ classes. then_some (resolve_heads cs p) (λ heads. Some (record { names = cs; classes = classes; functions = heads }))) i ∙
       goes (resolve_heads cs p) heads (λ heads. Some (record { names = cs; classes = classes; functions = heads })) j) ∙ ap (λ cs. tables_by cs p) e
+
+pub types_push : (ts : List ValueType) (t : ValueType) → types_tree (ts ++ t ∷ []) ≡ types_tree ts ++ type_tree t ∷ []
+types_push [] t = refl
+types_push (u ∷ ts) t = ap (λ l. type_tree u ∷ l) (types_push ts t)
+
+pub fields_vars : (es : List (Bor Word × Kind)) → ◌≡◌ {A = List (Word × ResolvedType)} (map (λ e. (e.0, kind_type e.1)) (keyed es)) (vars es)
+fields_vars [] = refl
+fields_vars (e ∷ es) = ap (λ l. (e.0.now, kind_type e.1) ∷ l) (fields_vars es)
+
+pub types_step : (done next : List ValueType) (vs : List (Bor Word × Kind)) (i : ℕ) (d : Bor Word × Kind) (t : ValueType) (all : List ResolvedType) → i < length vs → type_tree t ≡ kind_type (get_or vs i d).1 → next ≡ done ++ t ∷ [] →
+    types_tree done ++ types_of (vars (drop i vs)) ≡ all → types_tree next ++ types_of (vars (drop (i + 1) vs)) ≡ all
+types_step done next vs i d t all lt e n h =
+    ap (λ l. types_tree l ++ types_of (vars (drop (i + 1) vs))) n ∙ ap (λ l. l ++ types_of (vars (drop (i + 1) vs))) (types_push done t) ∙ append_assoc (types_tree done) (type_tree t ∷ []) (types_of (vars (drop (i + 1) vs))) ∙
+    ap (λ u. types_tree done ++ u ∷ types_of (vars (drop (i + 1) vs))) e ∙ ap (λ l. types_tree done ++ types_of (vars l)) (sym (item_more vs i d lt)) ∙ h

@@ -2,14 +2,16 @@
 
 ghost use Rattle.std.specs.Prelude.{◌≡◌, ◌++◌, ◌∷◌, [], IfOk, IsSome, OnOk, Some};
 ghost use Rattle.lam_syntax.specs.Tree.{items_tree, item_tree, vars_tree, function_tree};
-ghost use Rattle.lam_resolved.specs.Resolved.{class_names as names_of_classes, resolve_vars as resolved_vars, resolve_classes as resolved_classes, resolve_head as resolved_head, resolve_heads as resolved_heads, tables as tables_of};
+ghost use Rattle.lam_resolved.specs.Resolved.{class_names as names_of_classes, resolve_vars as resolved_vars, resolve_classes as resolved_classes, resolve_head as resolved_head, resolve_heads as resolved_heads, tables as tables_of, types_of};
+ghost use Rattle.resolved_tree.specs.Tree.{types_tree};
 ghost use Rattle.lam_resolve_exprs.specs.Entries.{entries_of};
 ghost use Rattle.lam_resolve_exprs.specs.Meets.{IsJoined};
 ghost use Rattle.lam_resolve_exprs.specs.Tables.{vars as seen_vars, fields as seen_fields, all_fields, head as seen_head, heads as seen_heads, tables as seen_tables};
 
-use crate::kinds::{Kind, resolve_result, resolve_type};
+use crate::kinds::{Kind, resolve_result, resolve_type, value_type};
 use crate::named::Named;
 use lam_syntax::{Function, Item, Var};
+use resolved_tree::ValueType;
 use std::alloc::Global;
 use want_of_memory::NoMemory;
 
@@ -160,6 +162,32 @@ fn function_table<'a>(
         add_function(alloc, names, &mut functions, item)?;
     }
     Ok(functions)
+}
+
+/// The types of fields or parameters.
+///
+/// # Errors
+///
+/// `NoMemory` where memory is refused.
+pub fn types_of_vars(alloc: Global, vars: &[(&str, Kind)]) -> Result<Vec<ValueType>, NoMemory>
+    ensures { IfOk result (λ v. types_tree v.items ≡ types_of (seen_vars vars.now)) }
+{
+    let mut types = Vec::new(alloc);
+    for var in vars {
+        types.push(value_type(alloc, var.1)?)?;
+    }
+    Ok(types)
+}
+
+/// The types of a class's fields.
+///
+/// # Errors
+///
+/// `NoMemory` where memory is refused.
+pub fn field_types(alloc: Global, fields: &Named<Kind>) -> Result<Vec<ValueType>, NoMemory>
+    ensures { IfOk result (λ v. types_tree v.items ≡ types_of (seen_fields fields.now)) }
+{
+    types_of_vars(alloc, fields.entries.as_slice())
 }
 
 impl<'a> Tables<'a> {

@@ -1,0 +1,4 @@
+//! A checked program with its names resolved.
+#![tactic(auto)]
+
+mod units;
