@@ -1,1 +1,3 @@
 pub mod UnitSteps
+pub mod PartSteps
+pub mod Sizes

@@ -1,13 +1,13 @@
 //! Units: functions and regions, each with slots of its own.
 
-ghost use Rattle.std.specs.Prelude.{◌≡◌, IfOk, IsSome, OnOk, Some, length, take};
+ghost use Rattle.std.specs.Prelude.{◌≡◌, ◌+◌, IfOk, IsSome, OnOk, Some, length, take};
 ghost use Rattle.lam_syntax.specs.Tree.{ids_tree, id_tree};
 ghost use Rattle.resolved_tree.specs.Tree.{types_tree};
-ghost use Rattle.lam_resolved.specs.Resolved.{with_local, locals_from, local_named as first_local, next_slot, state_as, types_of, resolve_captures as resolved_captures, slots_of as slots_of_locals, taken_over as taken};
+ghost use Rattle.lam_resolved.specs.Resolved.{then_some, with_local, locals_from, local_named as first_local, next_slot, state_as, types_of, resolve_captures as resolved_captures, slots_of as slots_of_locals, taken_over as taken};
 ghost use Rattle.lam_resolve_exprs.specs.Kinds.{kind_type};
 ghost use Rattle.lam_resolve_exprs.specs.Tables.{vars as seen_vars};
 ghost use Rattle.lam_resolve_exprs.specs.Values.{local, locals};
-ghost use Rattle.lam_resolve.specs.Seen.{state, captured};
+ghost use Rattle.lam_resolve.specs.Seen.{state, captured, entered, entered_by};
 
 use lam_resolve_exprs::kinds::{Kind, value_type};
 use lam_resolve_exprs::named::Named;
@@ -114,8 +114,8 @@ fn capture<'a>(scope: &Named<Local>, x: &'a Id) -> (&'a str, Local)
     (name, local)
 }
 
-/// The captured names, as they are outside.
-pub(crate) fn resolve_captures<'a>(
+// The captured names, as they are outside.
+fn resolve_captures<'a>(
     alloc: Global,
     scope: &Named<Local>,
     xs: &'a [Id],
@@ -130,8 +130,7 @@ pub(crate) fn resolve_captures<'a>(
     Ok(captures)
 }
 
-/// The slots that are captured.
-pub(crate) fn slots_of(
+fn slots_of(
     alloc: Global,
     captures: &[(&str, Local)],
 ) -> Result<Vec<usize>, NoMemory>
@@ -144,8 +143,7 @@ pub(crate) fn slots_of(
     Ok(slots)
 }
 
-/// The names and types that a region takes over.
-pub(crate) fn taken_over<'a>(
+fn taken_over<'a>(
     alloc: Global,
     captures: &[(&'a str, Local)],
 ) -> Result<Vec<(&'a str, Kind)>, NoMemory>
@@ -156,4 +154,38 @@ pub(crate) fn taken_over<'a>(
         vars.push((capture.0, capture.1.kind))?;
     }
     Ok(vars)
+}
+
+fn one_more(regions: usize) -> Result<usize, NoMemory>
+    ensures { IfOk result (λ n. n ≡ regions + 1) }
+{
+    if regions == usize::MAX {
+        return Err(NoMemory);
+    }
+    Ok(regions + 1)
+}
+
+/// A region that is entered: the slots that it captures, and its own unit.
+#[derive(Drop)]
+pub(crate) struct Entered<'a> {
+    pub(crate) captures: Vec<usize>,
+    pub(crate) unit: Unit<'a>,
+}
+
+/// Enters a region, after so many regions before it.
+pub(crate) fn enter<'a>(
+    alloc: Global,
+    scope: &Named<Local>,
+    regions: usize,
+    xs: &'a [Id],
+) -> Result<Entered<'a>, NoMemory>
+    requires { IsSome (resolved_captures (locals scope.now) (ids_tree xs.now)) }
+    ensures { IfOk result (λ e. Some (entered e) ≡ then_some (resolved_captures (locals scope.now) (ids_tree xs.now)) (λ cs. Some (entered_by cs regions))) }
+{
+    let inner = one_more(regions)?;
+    let found = resolve_captures(alloc, scope, xs)?;
+    let captures = slots_of(alloc, found.as_slice())?;
+    let vars = taken_over(alloc, found.as_slice())?;
+    let unit = open_unit(alloc, vars.as_slice(), inner)?;
+    Ok(Entered { captures, unit })
 }
