@@ -1,3 +1,5 @@
 pub mod UnitSteps
 pub mod PartSteps
 pub mod Sizes
+pub mod StmtArms
+pub mod Blocks

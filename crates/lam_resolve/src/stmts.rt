@@ -1,13 +1,14 @@
 //! The statements of a unit.
 
 ghost use Rattle.std.specs.Prelude.{◌≡◌, IfOk, IsSome, OnOk, Some};
-ghost use Rattle.lam_syntax.specs.Tree.{expr_tree, id_tree, ids_tree, stmt_tree, stmts_tree, else_tree, region_stmt as region_form};
+ghost use Rattle.lam_syntax.specs.Tree.{stmt_tree, stmts_tree, else_tree};
 ghost use Rattle.resolved_tree.specs.Tree.{stmt_tree as resolved_stmt, stmts_tree as resolved_stmts, else_tree as resolved_other};
 ghost use Rattle.lam_resolved.specs.Resolved.{step_as, closed_as, resolve_stmt as stmt_resolved, resolve_stmts as stmts_resolved, resolve_stmt_form, resolve_else as else_resolved};
 ghost use Rattle.lam_resolve_exprs.specs.Tables.{tables};
 ghost use Rattle.lam_resolve_exprs.specs.Values.{locals};
 ghost use Rattle.lam_resolve.specs.Seen.{state};
 ghost use Rattle.lam_resolve.specs.Meets.{Extends};
+ghost use Rattle.lam_resolve.specs.Regions.{region_form};
 
 use crate::parts::{
     Head, if_stmt, region_stmt, resolve_assign, resolve_let, resolve_value, sync_stmt, while_stmt,
@@ -110,8 +111,8 @@ fn resolve_region<'a>(
     st: &mut State,
     written: Written<'a>,
 ) -> Result<ResolvedStmt, NoMemory>
-    requires { IsSome (resolve_stmt_form (tables t.now) (locals scope.now) (state st.old) (region_form (expr_tree written.entry.label.now) (expr_tree written.entry.caps.now) (ids_tree written.entry.captures.now.items) (stmts_tree written.entry.body.now.items) (id_tree written.entry.catch_name.now) (stmts_tree written.entry.catch_body.now.items))) }
-    ensures { IfOk result (λ r. Some (step_as (resolved_stmt r) (locals scope.now) (state st.new)) ≡ resolve_stmt_form (tables t.now) (locals scope.now) (state st.old) (region_form (expr_tree written.entry.label.now) (expr_tree written.entry.caps.now) (ids_tree written.entry.captures.now.items) (stmts_tree written.entry.body.now.items) (id_tree written.entry.catch_name.now) (stmts_tree written.entry.catch_body.now.items))) }
+    requires { IsSome (resolve_stmt_form (tables t.now) (locals scope.now) (state st.old) (region_form written)) }
+    ensures { IfOk result (λ r. Some (step_as (resolved_stmt r) (locals scope.now) (state st.new)) ≡ resolve_stmt_form (tables t.now) (locals scope.now) (state st.old) (region_form written.entry)) }
 {
     let number = st.regions;
     let label = resolve_expr(alloc, t, scope, written.label)?;
