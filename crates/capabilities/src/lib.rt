@@ -21,7 +21,9 @@ ghost use Rattle.capabilities.specs.Changes.{no_caps, with_both, joined, used, M
 use flow_labels::{Denied, Label, Rule, denied_or};
 use std::alloc::Global;
 use tag_sets::{NoMemory, TagId, TagSet};
-pub use texts::{CapsFault, caps_are_read, caps_form, caps_text, parse_caps, texts_are_read};
+pub use texts::{
+    CapsFault, caps_are_read, caps_form, caps_text, parse_caps, push_caps, texts_are_read,
+};
 
 /// Capabilities: the tags that their holder may add to a label, and those that it may drop.
 #[derive(Debug, Drop)]
@@ -140,39 +142,5 @@ impl Caps {
         let plus = to.i.minus(&from.i)?;
         let minus = from.s.minus(&to.s)?;
         Ok(Caps { plus, minus })
-    }
-}
-
-#[cfg(test)]
-mod tests {
-    use super::*;
-
-    #[test]
-    fn both_signs_of_a_tag(rt: HostRuntime) -> Result<(), NoMemory> {
-        let alloc = rt.alloc();
-        let caps = Caps::none(alloc).with_both(TagId(3))?;
-        assert_eq!(rt; caps.plus.tags(), [TagId(3)].as_slice());
-        assert_eq!(rt; caps.minus.tags(), [TagId(3)].as_slice());
-        let secret = Label {
-            s: TagSet::from_slice(alloc, &[TagId(3), TagId(4)])?,
-            i: TagSet::empty(alloc),
-        };
-        let public = Label::public(alloc);
-        let denied = Denied {
-            rule: Rule::DropS,
-            tag: TagId(4),
-        };
-        assert_eq!(rt; caps.change_rule(&secret, &public), Some(denied));
-        let denied = Denied {
-            rule: Rule::AddS,
-            tag: TagId(4),
-        };
-        assert_eq!(rt; caps.change_rule(&public, &secret), Some(denied));
-        let release = Caps::used(&secret, &public)?;
-        assert_eq!(rt; release.minus.tags(), [TagId(3), TagId(4)].as_slice());
-        assert!(rt; release.plus.tags().is_empty());
-        let held = caps.join(&release)?;
-        assert!(rt; held.covers(&caps).is_none() && held.change_rule(&secret, &public).is_none());
-        Ok(())
     }
 }

@@ -1,10 +1,10 @@
 //! The text of capabilities, `+{a}-{a,b}`: what may be added, then what may be dropped.
 
-ghost use Rattle.std.specs.Prelude.{◌≡◌, ◌↔◌, IsTrue, IfOk, string_bytes};
+ghost use Rattle.std.specs.Prelude.{◌≡◌, ◌++◌, ◌↔◌, IsTrue, IfOk, OnOk, string_bytes};
 ghost use Rattle.capabilities.specs.CapsText.{IsCapsText, caps_of, caps_text, Gives, CapsAreRead, TextsAreRead};
 
 use crate::Caps;
-use flow_labels::{Form, TagFault, TagNames, bad_place, read_sets, sets_text};
+use flow_labels::{Form, TagFault, TagNames, bad_place, push_sets, read_sets};
 use tag_sets::NoMemory;
 
 /// Why a text is no text of capabilities.
@@ -60,7 +60,20 @@ pub fn parse_caps(text: &str, names: &TagNames) -> Result<Caps, CapsFault>
 pub fn caps_text(caps: &Caps, names: &TagNames) -> Result<String, NoMemory>
     ensures { IfOk result (λ t. string_bytes t ≡ caps_text names.now caps.now) }
 {
-    sets_text(Form::Caps, &caps.plus, &caps.minus, names)
+    let mut text = String::new(names.allocator());
+    push_caps(&mut text, caps, names)?;
+    Ok(text)
+}
+
+/// Writes the text of capabilities at the end of a text.
+///
+/// # Errors
+///
+/// `NoMemory` where memory is refused.
+pub fn push_caps(text: &mut String, caps: &Caps, names: &TagNames) -> Result<(), NoMemory>
+    ensures { OnOk result (string_bytes text.new ≡ string_bytes text.old ++ caps_text names.now caps.now) }
+{
+    push_sets(text, Form::Caps, &caps.plus, &caps.minus, names)
 }
 
 /// A law: each text of two lists of names is read as the capabilities of their tags, or else at the place
@@ -73,32 +86,3 @@ pub fn caps_are_read()
 pub fn texts_are_read()
     ensures { TextsAreRead }
 {}
-
-#[cfg(test)]
-mod tests {
-    use super::*;
-    use std::test::Fail;
-    use tag_sets::TagId;
-
-    #[test]
-    fn capabilities_are_read_and_printed(rt: HostRuntime) -> Result<(), Fail> {
-        let mut names = TagNames::new(rt.alloc());
-        for name in ["a", "b"] {
-            assert!(rt; names.add(name).is_ok());
-        }
-        let Ok(caps) = parse_caps("+{a,a}-{b,a}", &names) else {
-            return Err(Fail::new("refused"));
-        };
-        assert_eq!(rt; caps_text(&caps, &names)?.as_str(), "+{a}-{a,b}");
-        let minted = caps.with_both(TagId(12))?;
-        assert_eq!(rt; caps_text(&minted, &names)?.as_str(), "+{a,#12}-{a,b,#12}");
-        for (text, want) in [
-            ("{a}-{}", CapsFault::BadCaps { at: 0 }),
-            ("+{a}-{", CapsFault::BadCaps { at: 6 }),
-            ("+{a}-{a,c}", CapsFault::NoTag { at: 8 }),
-        ] {
-            assert_eq!(rt; parse_caps(text, &names).err(), Some(want), "{text}");
-        }
-        Ok(())
-    }
-}

@@ -7,6 +7,10 @@ use Rattle.flow_labels.specs.declared.Label.{Label}
 abbrev pub flows : Label → Label → Bool
 flows x y = is_subset x.s y.s && is_subset y.i x.i
 
+-- an observer at o sees what is at x
+abbrev pub seen : Label → Label → Bool
+seen x o = flows x o
+
 -- nothing secret, nothing vouched for
 abbrev pub public_label : Label
 public_label = record { s = empty; i = empty }

@@ -12,29 +12,31 @@
 //!
 //! The module `names` has the names of tags, and `texts` the text of a label, `{a,b}/{t}`, both ways.
 //! Both stand on `two_lists`, which reads and writes two lists of tag names in braces; the text of
-//! capabilities, `+{a}-{a,b}`, is another layout of the same.
+//! capabilities, `+{a}-{a,b}`, is another layout of the same. Each text has a call that makes a `String`
+//! and one, named `push_..`, that writes at the end of a text handed in and makes none.
 //!
 //! None of the calls without a Result takes memory.
 #![tactic(auto)]
 
 mod names;
-#[cfg(test)]
-mod tests;
 mod texts;
 mod two_lists;
 
 ghost use Rattle.std.specs.Prelude.{◌≡◌, IsTrue, IsNone, ◌↔◌, IfOk};
 ghost use Rattle.std.specs.FinSet as set;
-ghost use Rattle.flow_labels.specs.Flow.{flows, public_label};
+ghost use Rattle.flow_labels.specs.Flow.{flows, seen, public_label};
 ghost use Rattle.flow_labels.specs.Failing.{denied_or, first_failing, read_test, write_test, mint_test, same_test};
 
 pub use names::{NameFault, TagNames, is_letter, is_name, is_word};
 use std::alloc::Global;
 use tag_sets::{NoMemory, TagId, TagSet};
-pub use texts::{LabelFault, label_form, label_text, labels_are_read, parse_label, texts_are_read};
+pub use texts::{
+    LabelFault, label_form, label_text, labels_are_read, parse_label, push_label, rule_text,
+    texts_are_read,
+};
 pub use two_lists::{
-    Form, TagFault, TwoSets, bad_place, lists_are_read, read_sets, sets_are_read, sets_text,
-    tag_text,
+    Form, TagFault, TwoSets, bad_place, lists_are_read, push_sets, push_tag, read_sets,
+    sets_are_read, sets_text, tag_text,
 };
 
 /// The tags of a thing's secrecy, `s`, and of its integrity, `i`.
@@ -115,6 +117,13 @@ pub fn flows(x: &Label, y: &Label) -> bool
     ensures { result ≡ flows x.now y.now }
 {
     x.s.is_subset(&y.s) && y.i.is_subset(&x.i)
+}
+
+/// Whether an observer at the label o sees a thing at the label x: information may flow from x to o.
+pub fn seen(x: &Label, o: &Label) -> bool
+    ensures { result ≡ seen x.now o.now }
+{
+    flows(x, o)
 }
 
 /// Whether two labels are equal: both sets have the same tags.

@@ -1,11 +1,12 @@
-//! The text of a label, `{a,b}/{t}`: secrecy, then integrity.
+//! The text of a label, `{a,b}/{t}`: secrecy, then integrity. The printed names of the rules.
 
-ghost use Rattle.std.specs.Prelude.{◌≡◌, ◌↔◌, IsTrue, IfOk, string_bytes};
+ghost use Rattle.std.specs.Prelude.{◌≡◌, ◌++◌, ◌↔◌, IsTrue, IfOk, OnOk, string_bytes};
 ghost use Rattle.flow_labels.specs.LabelText.{IsLabelText, label_of, label_text, Gives, LabelsAreRead, TextsAreRead};
+ghost use Rattle.flow_labels.specs.RuleText.{rule_text};
 
-use crate::Label;
 use crate::names::TagNames;
-use crate::two_lists::{Form, TagFault, bad_place, read_sets, sets_text};
+use crate::two_lists::{Form, TagFault, bad_place, push_sets, read_sets};
+use crate::{Label, Rule};
 use tag_sets::NoMemory;
 
 /// Why a text is no label.
@@ -51,7 +52,39 @@ pub fn parse_label(text: &str, names: &TagNames) -> Result<Label, LabelFault>
 pub fn label_text(l: &Label, names: &TagNames) -> Result<String, NoMemory>
     ensures { IfOk result (λ t. string_bytes t ≡ label_text names.now l.now) }
 {
-    sets_text(Form::Label, &l.s, &l.i, names)
+    let mut text = String::new(names.allocator());
+    push_label(&mut text, l, names)?;
+    Ok(text)
+}
+
+/// Writes the text of a label at the end of a text.
+///
+/// # Errors
+///
+/// `NoMemory` where memory is refused.
+pub fn push_label(text: &mut String, l: &Label, names: &TagNames) -> Result<(), NoMemory>
+    ensures { OnOk result (string_bytes text.new ≡ string_bytes text.old ++ label_text names.now l.now) }
+{
+    push_sets(text, Form::Label, &l.s, &l.i, names)
+}
+
+/// The printed name of a rule.
+pub fn rule_text(rule: Rule) -> &'static str
+    ensures { result.now ≡ rule_text rule }
+{
+    match rule {
+        Rule::ReadS => "ReadS",
+        Rule::ReadI => "ReadI",
+        Rule::WriteS => "WriteS",
+        Rule::WriteI => "WriteI",
+        Rule::AddS => "AddS",
+        Rule::DropS => "DropS",
+        Rule::AddI => "AddI",
+        Rule::DropI => "DropI",
+        Rule::Caps => "Caps",
+        Rule::Mint => "Mint",
+        Rule::Same => "Same",
+    }
 }
 
 /// A law: each text of two lists of names is read as the label of their tags, or else at the place of

@@ -12,7 +12,7 @@ ghost use Rattle.flow_labels.specs.Reading.{start, step, after_list, after_lette
 ghost use Rattle.flow_labels.specs.declared.two_lists.TagFault.TheVariants.{NoMemory as no_memory};
 
 use crate::names::{TagNames, is_letter, is_word};
-use itoa::Buffer;
+use decimal_text::push_number;
 use std::alloc::{AllocError, AllocFailed, Global};
 use tag_sets::{NoMemory, TagId, TagSet};
 
@@ -240,19 +240,32 @@ pub fn sets_text(
     ensures { IfOk result (λ t. string_bytes t ≡ sets_text form names.now first.now second.now) }
 {
     let mut text = String::new(names.allocator());
+    push_sets(&mut text, form, first, second, names)?;
+    Ok(text)
+}
+
+/// Writes the text of two sets of tags at the end of a text.
+pub fn push_sets(
+    text: &mut String,
+    form: Form,
+    first: &TagSet,
+    second: &TagSet,
+    names: &TagNames,
+) -> Result<(), NoMemory>
+    ensures { OnOk result (string_bytes text.new ≡ string_bytes text.old ++ sets_text form names.now first.now second.now) }
+{
     match form {
         Form::Label => {
-            push_braced(&mut text, first.tags(), names)?;
+            push_braced(text, first.tags(), names)?;
             text.push('/')?;
         }
         Form::Caps => {
             text.push('+')?;
-            push_braced(&mut text, first.tags(), names)?;
+            push_braced(text, first.tags(), names)?;
             text.push('-')?;
         }
     }
-    push_braced(&mut text, second.tags(), names)?;
-    Ok(text)
+    push_braced(text, second.tags(), names)
 }
 
 /// The name of a tag, or `#` and its number where it has none.
@@ -285,21 +298,20 @@ fn push_names(text: &mut String, tags: &[TagId], names: &TagNames) -> Result<(),
     Ok(())
 }
 
-fn push_tag(text: &mut String, tag: TagId, names: &TagNames) -> Result<(), NoMemory>
+/// Writes the name of a tag, or `#` and its number, at the end of a text.
+pub fn push_tag(text: &mut String, tag: TagId, names: &TagNames) -> Result<(), NoMemory>
     ensures { OnOk result (string_bytes text.new ≡ string_bytes text.old ++ tag_text names.now tag) }
 {
     match names.name(tag) {
         Some(name) => text.push_str(name)?,
-        None => push_number(text, tag.0)?,
+        None => push_unnamed(text, tag.0)?,
     }
     Ok(())
 }
 
-fn push_number(text: &mut String, number: u64) -> Result<(), NoMemory>
+fn push_unnamed(text: &mut String, number: u64) -> Result<(), NoMemory>
     ensures { OnOk result (string_bytes text.new ≡ string_bytes text.old ++ 35 ∷ decimal number) }
 {
-    let mut digits = Buffer::new();
     text.push('#')?;
-    text.push_str(digits.format(number))?;
-    Ok(())
+    push_number(text, number)
 }

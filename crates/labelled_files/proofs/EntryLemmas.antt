@@ -1,6 +1,6 @@
 -- The entries of a directory against the map in which they are kept.
 use Rattle.std.proofs.Common.{◌≡◌, ◌≤◌, ◌<◌, ◌+◌, cond, ℕ, suc, zero, List, [], ◌∷◌, ◌++◌, length, take, slice_get, Option, Some, None, is_some, refl, sym, ap, ◌∙◌, add-one, subst, Bool, true, false}
-use Rattle.std.specs.Option.{option_map}
+use Rattle.std.specs.Option.{option_map, unwrap_or}
 use Rattle.std.specs.Map.{lookup, remove_entry, keys_of}
 use Rattle.std.specs.List.{IsDistinct, AllByRecursion}
 use Rattle.std.specs.Prelude.{Vec, map}
@@ -71,3 +71,22 @@ module _ {A : Type 0} where
       put_last m new key target is ((λ j. lookup (text_eq (same_key j)) (so_far j)) ∙ apart es i k v distinct at)
       ∙ (λ j. so_far j ++ (same_key j, same j) ∷ [])
       ∙ sym (ap (λ n. entries_of (take n es)) (add-one i) ∙ taken-suc es i k v at)
+
+  -- ---- two compared
+  pub alike_more : (es fs : List (Vec ℕ A × Target)) (i : ℕ) (k l : Vec ℕ A) (v w : Target) → slice_get es i ≡ Some (k, v) → slice_get fs i ≡ Some (l, w) → k.items ≡ l.items → v ≡ w
+      → entries_of (take i es) ≡ entries_of (take i fs) → entries_of (take (i + 1) es) ≡ entries_of (take (i + 1) fs)
+  alike_more es fs i k l v w at there same_key same so_far =
+      ap (λ n. entries_of (take n es)) (add-one i) ∙ taken-suc es i k v at
+      ∙ (λ j. so_far j ++ (same_key j, same j) ∷ [])
+      ∙ sym (ap (λ n. entries_of (take n fs)) (add-one i) ∙ taken-suc fs i l w there)
+
+  entry_at : (es : List (Vec ℕ A × Target)) (i : ℕ) (k : Vec ℕ A) (v : Target) → slice_get es i ≡ Some (k, v) → slice_get (entries_of es) i ≡ Some (k.items, v)
+  entry_at [] i k v at = cc
+  entry_at (e ∷ es) zero k v at = let same : e ≡ (k, v) = cc in ap (λ (p : Vec ℕ A × Target). Some (p.0.items, p.1)) same
+  entry_at (e ∷ es) (suc i) k v at = entry_at es i k v at
+
+  pub alike_there : (es fs : List (Vec ℕ A × Target)) (i : ℕ) (k l : Vec ℕ A) (v w : Target) → slice_get es i ≡ Some (k, v) → slice_get fs i ≡ Some (l, w) → entries_of es ≡ entries_of fs → (k.items ≡ l.items) × (v ≡ w)
+  alike_there es fs i k l v w at there same =
+      let one : ◌≡◌ {A = Option (List ℕ × Target)} (Some (k.items, v)) (Some (l.items, w)) = sym (entry_at es i k v at) ∙ ap (λ xs. slice_get xs i) same ∙ entry_at fs i l w there in
+      let pair : ◌≡◌ {A = List ℕ × Target} (k.items, v) (l.items, w) = ap (λ o. unwrap_or o (k.items, v)) one in
+      (ap (λ p. p.0) pair, ap (λ p. p.1) pair)

@@ -1,16 +1,20 @@
 -- Files as a whole against what is seen of them.
-use Rattle.std.proofs.Common.{◌≡◌, ℕ, List, [], Option, Some, None, is_some, sym, ap, ◌∙◌}
+use Rattle.std.proofs.Common.{◌≡◌, Bool, true, ℕ, List, [], Option, Some, None, is_some, sym, ap, ◌∙◌}
 use Rattle.std.specs.Map.{lookup}
 use Rattle.std.specs.FinMap.{get, insert}
 use Rattle.lam_value.specs.declared.names.Name.{Name}
-use Rattle.lam_value.specs.Homes.{Home, Counts, name_of, count_in, counted}
-use Rattle.lam_value.proofs.Keys.{name_eq}
+use Rattle.lam_value.specs.Homes.{Home, Counts, home_of, name_of, count_in, counted}
+use Rattle.std.specs.Prelude.{IsTrue}
+use Rattle.lam_value.specs.Names.{name_cmp}
+use Rattle.lam_value.specs.Alike.{AreAlikeWhere}
+use Rattle.lam_value.proofs.Keys.{name_eq, name_total, name_exact, name_ties}
+use Rattle.lam_value.proofs.SameLemmas.{seen_where, where_seen, seen_same_map, same_map_alike}
 use Rattle.labelled_files.specs.declared.directory.Directory.{Directory}
 use Rattle.labelled_files.specs.declared.directory.EntryKind.TheVariants.{File, Dir}
 use Rattle.labelled_files.specs.declared.contents.Contents.{Contents}
 use Rattle.labelled_files.specs.Entries.{Entries}
 use Rattle.labelled_files.specs.Trees.{Tree, entries_at, bytes_at, changed_at, joined, next_name, with_file, with_dir}
-use Rattle.labelled_files.specs.Seen.{shown, held, dirs_of, files_of, at, tree_of}
+use Rattle.labelled_files.specs.Seen.{shown, held, dirs_of, files_of, at, tree_of, SameDirs, SameFiles}
 use Rattle.labelled_files.proofs.TreeLemmas.{lives_seen, none_there, some_there}
 
 module _ (ds : List (Name × Directory)) (fs : List (Name × Contents)) (counts : Counts) (root : Name) (t : Tree) (seen : tree_of ds fs counts root ≡ t) where
@@ -49,15 +53,73 @@ module _ (ds : List (Name × Directory)) (fs : List (Name × Contents)) (counts 
   pub kept : (ds_now : List (Name × Directory)) (fs_now : List (Name × Contents)) (now : Counts) → dirs_of ds_now ≡ dirs_of ds → files_of fs_now ≡ files_of fs → now ≡ counts → tree_of ds_now fs_now now root ≡ t
   kept ds_now fs_now now d f c = (λ i. record { dirs = d i; files = f i; counts = c i; root = root }) ∙ seen
 
-  pub file_made : (ds_now : List (Name × Directory)) (fs_now : List (Name × Contents)) (now : Counts) (dir : Name) (text : List ℕ) (home : Home)
-      → dirs_of ds_now ≡ changed_at (dirs_of ds) dir (joined text File (name_of home (count_in counts home)))
-      → files_of fs_now ≡ insert (files_of fs) (name_of home (count_in counts home)) []
-      → now ≡ counted counts home → tree_of ds_now fs_now now root ≡ with_file t dir text home
-  file_made ds_now fs_now now dir text home d f c =
-      (λ i. record { dirs = d i; files = f i; counts = c i; root = root }) ∙ ap (λ (m : Tree). with_file m dir text home) seen
+  -- a home's next name
+  pub next_seen : (home : Home) (n : Name) → n ≡ name_of home (count_in t.counts home) → n ≡ name_of home (count_in counts home)
+  next_seen home n is = is ∙ sym (ap (λ (m : Tree). name_of home (count_in m.counts home)) seen)
 
-  pub dir_made : (ds_now : List (Name × Directory)) (now : Counts) (dir : Name) (text : List ℕ) (home : Home)
-      → dirs_of ds_now ≡ insert (changed_at (dirs_of ds) dir (joined text Dir (name_of home (count_in counts home)))) (name_of home (count_in counts home)) []
-      → now ≡ counted counts home → tree_of ds_now fs now root ≡ with_dir t dir text home
-  dir_made ds_now now dir text home d c =
-      (λ i. record { dirs = d i; files = files_of fs; counts = c i; root = root }) ∙ ap (λ (m : Tree). with_dir m dir text home) seen
+  pub file_made : (ds_now : List (Name × Directory)) (fs_now : List (Name × Contents)) (now : Counts) (dir n : Name) (text : List ℕ) (home : Home) → n ≡ name_of home (count_in counts home)
+      → dirs_of ds_now ≡ changed_at (dirs_of ds) dir (joined text File n)
+      → files_of fs_now ≡ insert (files_of fs) n []
+      → now ≡ counted counts (home_of n.maker n.own) → tree_of ds_now fs_now now root ≡ with_file t dir text home
+  file_made ds_now fs_now now dir n text home is d f c =
+      (λ i. record {
+        dirs = (d ∙ ap (λ k. changed_at (dirs_of ds) dir (joined text File k)) is) i;
+        files = (f ∙ ap (λ k. insert (files_of fs) k []) is) i;
+        counts = (c ∙ ap (λ (k : Name). counted counts (home_of k.maker k.own)) is) i;
+        root = root;
+      })
+      ∙ ap (λ (m : Tree). with_file m dir text home) seen
+
+  pub dir_made : (ds_now : List (Name × Directory)) (now : Counts) (dir n : Name) (text : List ℕ) (home : Home) → n ≡ name_of home (count_in counts home)
+      → dirs_of ds_now ≡ insert (changed_at (dirs_of ds) dir (joined text Dir n)) n []
+      → now ≡ counted counts (home_of n.maker n.own) → tree_of ds_now fs now root ≡ with_dir t dir text home
+  dir_made ds_now now dir n text home is d c =
+      (λ i. record {
+        dirs = (d ∙ ap (λ k. insert (changed_at (dirs_of ds) dir (joined text Dir k)) k []) is) i;
+        files = files_of fs;
+        counts = (c ∙ ap (λ (k : Name). counted counts (home_of k.maker k.own)) is) i;
+        root = root;
+      })
+      ∙ ap (λ (m : Tree). with_dir m dir text home) seen
+
+-- ---- two compared
+module _ (ds es : List (Name × Directory)) (fs gs : List (Name × Contents)) (counts now : Counts) (root other : Name) (t u : Tree) (one : tree_of ds fs counts root ≡ t) (two : tree_of es gs now other ≡ u) where
+  pub same_trees : root ≡ other → counts ≡ now → SameDirs (λ _. true) ds es → SameFiles (λ _. true) fs gs → t ≡ u
+  same_trees same_root same_counts dirs files =
+      sym one
+      ∙ (λ i. record {
+        dirs = seen_same_map name_cmp name_eq shown name_total name_exact name_ties ds es dirs i;
+        files = seen_same_map name_cmp name_eq held name_total name_exact name_ties fs gs files i;
+        counts = same_counts i;
+        root = same_root i;
+      })
+      ∙ two
+
+  pub dirs_same : t ≡ u → SameDirs (λ _. true) ds es
+  dirs_same e = same_map_alike name_cmp name_eq shown name_total name_exact name_ties ds es (ap (λ (m : Tree). m.dirs) (one ∙ e ∙ sym two))
+
+  pub files_same : t ≡ u → SameFiles (λ _. true) fs gs
+  files_same e = same_map_alike name_cmp name_eq held name_total name_exact name_ties fs gs (ap (λ (m : Tree). m.files) (one ∙ e ∙ sym two))
+
+  pub counts_same : t ≡ u → counts ≡ now
+  counts_same e = ap (λ (m : Tree). m.counts) (one ∙ e ∙ sym two)
+
+  pub root_same : t ≡ u → root ≡ other
+  root_same e = ap (λ (m : Tree). m.root) (one ∙ e ∙ sym two)
+
+  module _ (sees : Name → Bool) where
+    pub dirs_where : SameDirs sees ds es → (q : Name) → IsTrue (sees q) → get t.dirs q ≡ get u.dirs q
+    dirs_where alike q s =
+        ap (λ (m : Tree). get m.dirs q) (sym one) ∙ seen_where name_cmp name_eq shown name_total name_exact name_ties sees ds es alike q s ∙ ap (λ (m : Tree). get m.dirs q) two
+
+    pub files_where : SameFiles sees fs gs → (q : Name) → IsTrue (sees q) → get t.files q ≡ get u.files q
+    files_where alike q s =
+        ap (λ (m : Tree). get m.files q) (sym one) ∙ seen_where name_cmp name_eq held name_total name_exact name_ties sees fs gs alike q s ∙ ap (λ (m : Tree). get m.files q) two
+
+    pub where_dirs : ((q : Name) → IsTrue (sees q) → get t.dirs q ≡ get u.dirs q) → SameDirs sees ds es
+    where_dirs same =
+        where_seen name_cmp name_eq shown name_total name_exact name_ties sees ds es (λ q s. ap (λ (m : Tree). get m.dirs q) one ∙ same q s ∙ ap (λ (m : Tree). get m.dirs q) (sym two))
+
+    pub where_files : ((q : Name) → IsTrue (sees q) → get t.files q ≡ get u.files q) → SameFiles sees fs gs
+    where_files same =
+        where_seen name_cmp name_eq held name_total name_exact name_ties sees fs gs (λ q s. ap (λ (m : Tree). get m.files q) one ∙ same q s ∙ ap (λ (m : Tree). get m.files q) (sym two))

@@ -12,7 +12,6 @@ use Rattle.lam_value.specs.Maps.{seen_at}
 use Rattle.lam_value.proofs.Keys.{name_eq, name_total, name_exact, name_ties, home_total}
 use Rattle.lam_value.proofs.Maps.{get_seen, seen_same, seen_insert, insert_same}
 use Rattle.labelled_files.specs.Trees.{changed, changed_at}
-use Rattle.labelled_files.specs.Seen.{IsWithinLimit}
 
 is_some_map : {X Y : Type 0} (f : X → Y) (o : Option X) → is_some o ≡ is_some (option_map f o)
 is_some_map f None = refl
@@ -76,21 +75,3 @@ module _ {X Y : Type 0} (f : X → Y) (es : List (Name × X)) where
   pub alike : (fs : List (Name × X)) → ((q : Name) → option_and_then (λ x. Some (f x)) (lookup (name_eq q) fs) ≡ option_and_then (λ x. Some (f x)) (lookup (name_eq q) es)) → seen fs ≡ seen es
   alike fs h =
       same_map name_total name_exact _ _ (λ q. get_seen name_cmp name_eq f name_total name_exact name_ties fs q ∙ sym (map_then (lookup (name_eq q) fs)) ∙ h q ∙ map_then (lookup (name_eq q) es) ∙ sym (got q))
-
--- one more of a home that has room
-pub within_more : (counts now : Counts) (home : Home) → IsWithinLimit counts → count_in counts home < 65536 → now ≡ counted counts home → IsWithinLimit now
-within_more counts now home within room is k =
-    subst (λ (m : Counts). count_in m k ≤ 65536) (sym is) (subst (λ n. n ≤ 65536) (sym counted_at) (by (eq_by_cmp home_cmp k home)))
-  where
-    counted_at : count_in (counted counts home) k ≡ unwrap_or (cond (eq_by_cmp home_cmp k home) (Some (count_in counts home + 1)) (get counts k)) 0
-    counted_at = ap (λ o. unwrap_or o 0) (get-insert home_total counts home (count_in counts home + 1) k)
-
-    by : (b : Bool) → unwrap_or (cond b (Some (count_in counts home + 1)) (get counts k)) 0 ≤ 65536
-    by true = omega arith
-    by false = within k
-
-pub none_made : (h : Home) → count_in empty h ≡ 0
-none_made h = ap (λ o. unwrap_or o 0) (get-empty home_cmp h)
-
-pub within_none : IsWithinLimit empty
-within_none k = subst (λ n. n ≤ 65536) (sym (none_made k)) (omega arith)

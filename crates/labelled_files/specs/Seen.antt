@@ -1,10 +1,13 @@
 -- What is seen of the maps in which files are kept.
-use Rattle.std.specs.Prelude.{◌≤◌, ℕ, List, [], unwrap_or}
+use Rattle.std.specs.Prelude.{◌≡◌, Bool, ℕ, List, [], unwrap_or}
+use Rattle.std.specs.Map.{lookup}
 use Rattle.std.specs.FinMap.{FinMap, get}
 use Rattle.lam_value.specs.declared.names.Name.{Name}
 use Rattle.lam_value.specs.Names.{name_cmp}
-use Rattle.lam_value.specs.Homes.{Home, Counts, count_in}
+use Rattle.lam_value.specs.Homes.{Counts}
 use Rattle.lam_value.specs.Maps.{seen_at}
+use Rattle.lam_value.specs.Alike.{AreAlikeWhere}
+use Rattle.lam_value.proofs.Keys.{name_eq}
 use Rattle.labelled_files.specs.declared.directory.Directory.{Directory}
 use Rattle.labelled_files.specs.declared.contents.Contents.{Contents}
 use Rattle.labelled_files.specs.Entries.{Entries, entries_of}
@@ -34,6 +37,9 @@ tree_of ds fs counts root = record {
   root = root;
 }
 
--- no home has made more files and directories than a home may make
-abbrev pub IsWithinLimit : Counts → Type 0
-IsWithinLimit counts = (home : Home) → count_in counts home ≤ 65536
+-- two maps that are seen alike at the names that pass
+abbrev pub SameDirs : (Name → Bool) → List (Name × Directory) → List (Name × Directory) → Type 0
+SameDirs sees es fs = AreAlikeWhere sees (λ (d e : Directory). shown d ≡ shown e) (λ q. lookup (name_eq q) es) (λ q. lookup (name_eq q) fs)
+
+abbrev pub SameFiles : (Name → Bool) → List (Name × Contents) → List (Name × Contents) → Type 0
+SameFiles sees es fs = AreAlikeWhere sees (λ (c d : Contents). held c ≡ held d) (λ q. lookup (name_eq q) es) (λ q. lookup (name_eq q) fs)

@@ -1,13 +1,15 @@
 -- What files are seen as, and what their calls make of them.
-use Rattle.std.specs.Prelude.{ℕ, ◌+◌, ◌-◌, ◌++◌, ◌∷◌, Bool, cond, not, nat_eq, if◌then◌else◌, List, [], length, take, Option, Some, None, is_some, unwrap_or, refl}
+use Rattle.std.specs.Prelude.{◌≡◌, ◌≤◌, IsTrue, false, ℕ, ◌+◌, ◌-◌, ◌++◌, ◌∷◌, Bool, cond, not, nat_eq, if◌then◌else◌, List, [], length, take, Option, Some, None, is_some, unwrap_or, refl}
 use Rattle.std.specs.Coded.{Coded, code_by, coded×, coded_list, coded_ℕ}
 use Rattle.std.specs.FinMap as map
 use Rattle.std.specs.FinMap.{FinMap, get, insert}
-use Rattle.std.specs.Map.{lookup}
-use Rattle.flow_labels.specs.Flow.{public_label}
+use Rattle.std.specs.Map.{lookup, keys_of}
+use Rattle.std.specs.List.{IsDistinct}
+use Rattle.flow_labels.specs.declared.Label.{Label}
+use Rattle.flow_labels.specs.Flow.{flows, public_label}
 use Rattle.lam_value.specs.declared.names.Name.{Name}
 use Rattle.lam_value.specs.Names.{name_cmp, coded_name}
-use Rattle.lam_value.specs.Homes.{Home, Counts, coded_counts, home_of, name_of, count_in, counted}
+use Rattle.lam_value.specs.Homes.{Home, Counts, coded_counts, home_of, name_of, count_in, counted as counted_more, AreCounted, AreWithin}
 use Rattle.labelled_files.specs.declared.directory.Target.{Target}
 use Rattle.labelled_files.specs.declared.directory.EntryKind.{EntryKind}
 use Rattle.labelled_files.specs.declared.directory.EntryKind.TheVariants.{File, Dir}
@@ -68,13 +70,17 @@ changed (Some x) m n f = insert m n (f x)
 abbrev pub changed_at : {X : Type 0} → FinMap name_cmp X → Name → (X → X) → FinMap name_cmp X
 changed_at m n f = changed (get m n) m n f
 
--- why nothing can be made: the first of these that holds, in this order
-abbrev pub first_fault : Tree → Name → List ℕ → Home → Option FileFault
-first_fault t dir text home =
+-- why nothing can be made at a number: the first of these that holds, in this order
+abbrev pub fault_at : Tree → Name → List ℕ → ℕ → Option FileFault
+fault_at t dir text number =
     if not (is_entry_name text) then Some BadName
     else (if is_some (target_at t dir text) then Some Exists
     else (if nat_eq (length (entries_at t dir)) 4096 then Some DirFull
-    else (if nat_eq (count_in t.counts home) 65536 then Some HomeFull else None)))
+    else (if nat_eq number 65536 then Some HomeFull else None)))
+
+-- why nothing of a home can be made, at its next number
+abbrev pub first_fault : Tree → Name → List ℕ → Home → Option FileFault
+first_fault t dir text home = fault_at t dir text (count_in t.counts home)
 
 -- the name that a home's next file or directory gets
 abbrev pub next_name : Tree → Home → Name
@@ -89,7 +95,7 @@ abbrev pub with_file : Tree → Name → List ℕ → Home → Tree
 with_file t dir text home = record {
   dirs = changed_at t.dirs dir (joined text File (next_name t home));
   files = insert t.files (next_name t home) [];
-  counts = counted t.counts home;
+  counts = counted_more t.counts home;
   root = t.root;
 }
 
@@ -98,7 +104,7 @@ abbrev pub with_dir : Tree → Name → List ℕ → Home → Tree
 with_dir t dir text home = record {
   dirs = insert (changed_at t.dirs dir (joined text Dir (next_name t home))) (next_name t home) [];
   files = t.files;
-  counts = counted t.counts home;
+  counts = counted_more t.counts home;
   root = t.root;
 }
 
@@ -117,3 +123,44 @@ with_more t f more = record t { files = changed_at t.files f (appended more) }
 -- the first bytes of a file stay
 abbrev pub with_first : Tree → Name → ℕ → Tree
 with_first t f len = record t { files = changed_at t.files f (take len) }
+
+-- ---- what holds of all files and directories
+
+-- the number of each is below its home's counter, so that the name of a home's next one does not live
+abbrev pub IsWellCounted : Tree → Type 0
+IsWellCounted t = AreCounted t.files t.counts × AreCounted t.dirs t.counts
+
+-- no home has made more than a home may make
+abbrev pub IsWithinLimit : Tree → Type 0
+IsWithinLimit t = AreWithin 65536 t.counts
+
+-- the root is a directory
+abbrev pub IsRooted : Tree → Type 0
+IsRooted t = IsTrue (lives_as Dir t t.root)
+
+-- nothing is a file and a directory
+abbrev pub AreApart : Tree → Type 0
+AreApart t = (n : Name) → IsTrue (lives_as File t n) → lives_as Dir t n ≡ false
+
+-- an entry has a name that an entry may have, and leads to what lives as its kind
+abbrev pub AreGood : Tree → Entries → Type 0
+AreGood t es = (text : List ℕ) (target : Target) → lookup (text_eq text) es ≡ Some target → IsTrue (is_entry_name text) × IsTrue (lives_as target.kind t target.name)
+
+-- the entries of a directory: no two have the same name, and there are no more than a directory may have
+pub record AreListed (t : Tree) (es : Entries) : Type 0 where
+  pub good : AreGood t es
+  pub distinct : IsDistinct text_eq (keys_of es)
+  pub few : length es ≤ 4096
+
+pub record IsSound (t : Tree) : Type 0 where
+  pub counted : IsWellCounted t
+  pub within : IsWithinLimit t
+  pub rooted : IsRooted t
+  pub apart : AreApart t
+  pub listed : (dir : Name) → AreListed t (entries_at t dir)
+
+-- ---- what is equal in two where an observer sees
+
+-- the entries of each directory and the bytes of each file whose label flows to the observer's
+abbrev pub AreSeenAlike : Label → Tree → Tree → Type 0
+AreSeenAlike o t u = (n : Name) → IsTrue (flows n.own o) → (get t.dirs n ≡ get u.dirs n) × (get t.files n ≡ get u.files n)

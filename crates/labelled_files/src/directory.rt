@@ -1,6 +1,6 @@
 //! The entries of one directory.
 
-ghost use Rattle.std.specs.Prelude.{◌≡◌, ◌<◌, ◌≤◌, ◌++◌, ◌∷◌, [], None, length, is_some, IsTrue, IfOk};
+ghost use Rattle.std.specs.Prelude.{◌≡◌, ◌<◌, ◌≤◌, ◌++◌, ◌∷◌, [], None, length, is_some, IsTrue, ◌↔◌, IfOk};
 ghost use Rattle.std.specs.Option.{option_copied};
 ghost use Rattle.std.specs.Map.{lookup};
 ghost use Rattle.std.proofs.Props.{props};
@@ -31,6 +31,13 @@ pub struct Target {
 }
 
 impl Target {
+    /// Whether two lead to the same.
+    pub fn same(&self, other: &Target) -> bool
+        ensures { IsTrue result ↔ (self.now ≡ other.now) }
+    {
+        self.kind == other.kind && self.name.same(&other.name)
+    }
+
     fn copy(&self) -> Result<Target, NoMemory>
         ensures { IfOk result (λ t. t ≡ self.now) }
     {
@@ -113,12 +120,51 @@ impl Directory {
         self.entries.shift_remove(entry).is_some()
     }
 
+    pub(crate) fn same(&self, other: &Directory) -> bool
+        ensures { IsTrue result ↔ (entries_of self.now.entries.entries ≡ entries_of other.now.entries.entries) }
+    {
+        same_entries(&self.entries, &other.entries)
+    }
+
     pub(crate) fn copy(&self) -> Result<Directory, NoMemory>
         ensures { IfOk result (λ d. entries_of d.entries.entries ≡ entries_of self.now.entries.entries) }
     {
         let entries = copied(&self.entries)?;
         Ok(Directory { entries })
     }
+}
+
+type Rows = IndexMap<Vec<u8>, Target>;
+
+fn same_entries(a: &Rows, b: &Rows) -> bool
+    ensures { IsTrue result ↔ (entries_of a.now.entries ≡ entries_of b.now.entries) }
+{
+    a.len() == b.len() && begin_alike(a, b)
+}
+
+/// Whether the first entries of a directory are those of another one that has as many.
+fn begin_alike(a: &Rows, b: &Rows) -> bool
+    requires { length a.now.entries ≡ length b.now.entries }
+    ensures { IsTrue result ↔ (entries_of a.now.entries ≡ entries_of b.now.entries) }
+{
+    for at in 0..a.len() {
+        let Some((text, target)) = a.get_index(at) else {
+            unreachable!()
+        };
+        let Some((other, there)) = b.get_index(at) else {
+            unreachable!()
+        };
+        if !same_entry(text, target, other, there) {
+            return false;
+        }
+    }
+    true
+}
+
+fn same_entry(text: &Vec<u8>, target: &Target, other: &Vec<u8>, there: &Target) -> bool
+    ensures { IsTrue result ↔ ((text.now.items ≡ other.now.items) × (target.now ≡ there.now)) }
+{
+    text.as_slice() == other.as_slice() && target.same(there)
 }
 
 fn copied(entries: &IndexMap<Vec<u8>, Target>) -> Result<IndexMap<Vec<u8>, Target>, NoMemory>

@@ -1,23 +1,25 @@
 //! Directories and files by name.
 
-ghost use Rattle.std.specs.Prelude.{◌≡◌, ◌≤◌, ◌<◌, [], IfOk, OnOk, OnErr, Some, None, length, take, drop, is_some, unwrap_or};
+ghost use Rattle.std.specs.Prelude.{◌≡◌, ◌≤◌, ◌<◌, ◌↔◌, IsTrue, [], IfOk, OnOk, OnErr, Some, None, length, take, drop, is_some, unwrap_or};
 ghost use Rattle.std.specs.Result.{MatchResult};
 ghost use Rattle.std.specs.Option.{option_copied};
 ghost use Rattle.std.specs.Map.{lookup};
 ghost use Rattle.std.specs.FinMap.{insert};
 ghost use Rattle.indexmap.specs.IndexMap.{spare};
+ghost use Rattle.lam_value.specs.Homes as homes;
 ghost use Rattle.lam_value.specs.Homes.{home_of, name_of, count_in, counted};
 ghost use Rattle.labelled_files.specs.Entries.{text_eq, name_of_kind};
-ghost use Rattle.labelled_files.specs.Seen.{dirs_of, files_of, at, shown};
+ghost use Rattle.labelled_files.specs.Seen.{dirs_of, files_of, at, shown, held, SameDirs, SameFiles};
+ghost use Rattle.lam_value.specs.Alike.{is_shown};
 ghost use Rattle.labelled_files.specs.Trees as tree;
-ghost use Rattle.labelled_files.specs.Trees.{root_alone, lives_as, target_at, bytes_at, next_name, with_file, with_dir, without_entry, with_more, with_first, changed_at, joined};
+ghost use Rattle.labelled_files.specs.Trees.{root_alone, lives_as, target_at, bytes_at, next_name, with_file, with_dir, without_entry, with_more, with_first, changed_at, joined, IsSound, AreSeenAlike};
 ghost use Rattle.labelled_files.specs.declared.files.FileFault.TheVariants.{NoMemory as no_memory};
 
 use crate::contents::{Contents, first_bytes, last_bytes};
 use crate::directory::{Directory, ENTRY_LIMIT, EntryKind, Target, is_entry_name};
 use flow_labels::Label;
 use indexmap::IndexMap;
-use lam_value::{Counters, Name};
+use lam_value::{Counters, Name, Same, Whole, same_maps};
 use std::alloc::{AllocError, AllocFailed, Global};
 use std::marker::Model;
 use tag_sets::NoMemory;
@@ -81,17 +83,17 @@ pub struct Files {
 }
 
 impl Model for Files {
-    ghost use Rattle.labelled_files.specs.Trees.{Tree, coded_tree};
+    ghost use Rattle.labelled_files.specs.Trees.{Tree, coded_tree, IsSound};
 
     ghost Value = { Tree };
 
     ghost coded = { coded_tree };
 
-    ghost use Rattle.labelled_files.specs.Seen.{tree_of, IsWithinLimit};
+    ghost use Rattle.labelled_files.specs.Seen.{tree_of};
 
     ghost view = { λ f. tree_of f.dirs.entries f.files.entries f.counters f.root };
 
-    ghost invariant = { λ f. IsWithinLimit f.counters };
+    ghost invariant = { λ f. IsSound (tree_of f.dirs.entries f.files.entries f.counters f.root) };
 }
 
 impl Files {
@@ -108,7 +110,7 @@ impl Files {
         let mut dirs = IndexMap::new(alloc);
         dirs.insert(root.copy()?, Directory::new(alloc))?;
         let mut counters = Counters::new(alloc);
-        counters.draw(&public, &public)?;
+        counters.draw(&public, &public, 0)?;
         Ok(Files {
             dirs,
             files: IndexMap::new(alloc),
@@ -160,17 +162,18 @@ impl Files {
         ensures ok { OnOk result (self.new ≡ with_file self.old dir.now entry.now (home_of maker.now own.now)) }
         ensures err { OnErr result (self.new ≡ self.old) }
     {
-        if let Some(fault) = self.first_fault(dir, entry, maker, own) {
+        let number = self.next(maker, own);
+        if let Some(fault) = self.fault_at(dir, entry, number) {
             return Err(fault);
         }
-        let name = add_file(
+        let name = Name::of(maker, own, number)?;
+        add_file(
             &mut self.dirs,
             &mut self.files,
             &mut self.counters,
             dir,
             entry,
-            maker,
-            own,
+            &name,
         )?;
         Ok(name)
     }
@@ -192,16 +195,31 @@ impl Files {
         ensures ok { OnOk result (self.new ≡ with_dir self.old dir.now entry.now (home_of maker.now own.now)) }
         ensures err { OnErr result (self.new ≡ self.old) }
     {
-        if let Some(fault) = self.first_fault(dir, entry, maker, own) {
+        let number = self.next(maker, own);
+        if let Some(fault) = self.fault_at(dir, entry, number) {
             return Err(fault);
         }
-        let name = add_dir(&mut self.dirs, &mut self.counters, dir, entry, maker, own)?;
+        let name = Name::of(maker, own, number)?;
+        add_dir(&mut self.dirs, &mut self.counters, dir, entry, &name)?;
         Ok(name)
     }
 
-    /// Why nothing can be made, want of memory aside.
-    fn first_fault(&self, dir: &Name, entry: &[u8], maker: &Label, own: &Label) -> Option<FileFault>
+    /// Why nothing can be made of a home in a directory, want of memory aside.
+    pub fn first_fault(
+        &self,
+        dir: &Name,
+        entry: &[u8],
+        maker: &Label,
+        own: &Label,
+    ) -> Option<FileFault>
         ensures { result ≡ tree.first_fault self.now dir.now entry.now (home_of maker.now own.now) }
+    {
+        self.fault_at(dir, entry, self.next(maker, own))
+    }
+
+    /// Why nothing can be made at a number.
+    fn fault_at(&self, dir: &Name, entry: &[u8], number: u64) -> Option<FileFault>
+        ensures { result ≡ tree.fault_at self.now dir.now entry.now number }
     {
         if !is_entry_name(entry) {
             return Some(FileFault::BadName);
@@ -212,7 +230,7 @@ impl Files {
         if self.entry_count(dir) == ENTRY_LIMIT {
             return Some(FileFault::DirFull);
         }
-        if self.next(maker, own) == HOME_LIMIT {
+        if number == HOME_LIMIT {
             return Some(FileFault::HomeFull);
         }
         None
@@ -308,6 +326,42 @@ impl Files {
         }
     }
 
+    /// Whether two have equal files, directories and counters, and the same root.
+    pub fn same(&self, other: &Files) -> bool
+        ensures { IsTrue result ↔ (self.now ≡ other.now) }
+    {
+        same_ground(&self.root, &self.counters, &other.root, &other.counters)
+            && same_things(&self.dirs, &self.files, &other.dirs, &other.files, None)
+    }
+
+    /// Whether the entries of each directory and the bytes of each file whose label flows to the observer's are
+    /// equal in two.
+    pub fn same_seen(&self, other: &Files, observer: &Label) -> bool
+        ensures { IsTrue result ↔ AreSeenAlike observer.now self.now other.now }
+    {
+        same_things(
+            &self.dirs,
+            &self.files,
+            &other.dirs,
+            &other.files,
+            Some(observer),
+        )
+    }
+
+    /// Whether two have equal counters at each home whose maker's label flows to the observer's.
+    pub fn same_counters(&self, other: &Files, observer: &Label) -> bool
+        ensures { IsTrue result ↔ homes.AreSeenAlike observer.now self.now.counts other.now.counts }
+    {
+        self.counters.same_seen(&other.counters, observer)
+    }
+
+    /// What holds of all files and directories. The call does nothing: its clause is for its caller's proof.
+    pub fn facts(&self)
+        ensures { IsSound self.now }
+    {
+        let _ = &self.dirs;
+    }
+
     /// Equal files and directories.
     ///
     /// # Errors
@@ -347,33 +401,30 @@ fn add_file(
     counters: &mut Counters,
     dir: &Name,
     entry: &[u8],
-    maker: &Label,
-    own: &Label,
-) -> Result<Name, NoMemory>
-    requires home { count_in counters.old (home_of maker.now own.now) < 65536 }
+    name: &Name,
+) -> Result<(), NoMemory>
+    requires next { name.now.n ≡ count_in counters.old (home_of name.now.maker name.now.own) }
+    requires room { name.now.n < 65536 }
     requires few { length (at dirs.old.entries dir.now) < 4096 }
     requires fresh { lookup (text_eq entry.now) (at dirs.old.entries dir.now) ≡ None }
-    ensures name { IfOk result (λ n. n ≡ name_of (home_of maker.now own.now) (count_in counters.old (home_of maker.now own.now))) }
-    ensures dirs { OnOk result (dirs_of dirs.new.entries ≡ changed_at (dirs_of dirs.old.entries) dir.now (joined entry.now EntryKind.File (name_of (home_of maker.now own.now) (count_in counters.old (home_of maker.now own.now))))) }
-    ensures files { OnOk result (files_of files.new.entries ≡ insert (files_of files.old.entries) (name_of (home_of maker.now own.now) (count_in counters.old (home_of maker.now own.now))) []) }
-    ensures counters { OnOk result (counters.new ≡ counted counters.old (home_of maker.now own.now)) }
+    ensures dirs { OnOk result (dirs_of dirs.new.entries ≡ changed_at (dirs_of dirs.old.entries) dir.now (joined entry.now EntryKind.File name.now)) }
+    ensures files { OnOk result (files_of files.new.entries ≡ insert (files_of files.old.entries) name.now []) }
+    ensures counters { OnOk result (counters.new ≡ counted counters.old (home_of name.now.maker name.now.own)) }
     ensures same_dirs { OnErr result (dirs_of dirs.new.entries ≡ dirs_of dirs.old.entries) }
     ensures same_files { OnErr result (files_of files.new.entries ≡ files_of files.old.entries) }
     ensures same_counters { OnErr result (counters.new ≡ counters.old) }
 {
-    let name = Name::of(maker, own, counters.next(maker, own))?;
     let key = name.copy()?;
-    let listed = name.copy()?;
     let target = Target {
         kind: EntryKind::File,
-        name: listed,
+        name: name.copy()?,
     };
     files.reserve(1)?;
     list(dirs, counters, dir, entry, target)?;
-    let Ok(_) = files.insert(key, Contents::new(own.allocator())) else {
+    let Ok(_) = files.insert(key, Contents::new(name.allocator())) else {
         unreachable!()
     };
-    Ok(name)
+    Ok(())
 }
 
 /// Makes a directory. The last step that can fail is the listing, and what comes after it has its room.
@@ -382,34 +433,31 @@ fn add_dir(
     counters: &mut Counters,
     dir: &Name,
     entry: &[u8],
-    maker: &Label,
-    own: &Label,
-) -> Result<Name, NoMemory>
-    requires home { count_in counters.old (home_of maker.now own.now) < 65536 }
+    name: &Name,
+) -> Result<(), NoMemory>
+    requires next { name.now.n ≡ count_in counters.old (home_of name.now.maker name.now.own) }
+    requires room { name.now.n < 65536 }
     requires few { length (at dirs.old.entries dir.now) < 4096 }
     requires fresh { lookup (text_eq entry.now) (at dirs.old.entries dir.now) ≡ None }
-    ensures name { IfOk result (λ n. n ≡ name_of (home_of maker.now own.now) (count_in counters.old (home_of maker.now own.now))) }
-    ensures dirs { OnOk result (dirs_of dirs.new.entries ≡ insert (changed_at (dirs_of dirs.old.entries) dir.now (joined entry.now EntryKind.Dir (name_of (home_of maker.now own.now) (count_in counters.old (home_of maker.now own.now))))) (name_of (home_of maker.now own.now) (count_in counters.old (home_of maker.now own.now))) []) }
-    ensures counters { OnOk result (counters.new ≡ counted counters.old (home_of maker.now own.now)) }
+    ensures dirs { OnOk result (dirs_of dirs.new.entries ≡ insert (changed_at (dirs_of dirs.old.entries) dir.now (joined entry.now EntryKind.Dir name.now)) name.now []) }
+    ensures counters { OnOk result (counters.new ≡ counted counters.old (home_of name.now.maker name.now.own)) }
     ensures same_dirs { OnErr result (dirs_of dirs.new.entries ≡ dirs_of dirs.old.entries) }
     ensures same_counters { OnErr result (counters.new ≡ counters.old) }
 {
-    let name = Name::of(maker, own, counters.next(maker, own))?;
     let key = name.copy()?;
-    let listed = name.copy()?;
     let target = Target {
         kind: EntryKind::Dir,
-        name: listed,
+        name: name.copy()?,
     };
     dirs.reserve(1)?;
     list(dirs, counters, dir, entry, target)?;
-    let Ok(_) = dirs.insert(key, Directory::new(own.allocator())) else {
+    let Ok(_) = dirs.insert(key, Directory::new(name.allocator())) else {
         unreachable!()
     };
-    Ok(name)
+    Ok(())
 }
 
-/// Lists a target last in a directory, and draws a number of the target's home. The map keeps its room.
+/// Lists a target last in a directory, and draws the target's number. The map keeps its room.
 fn list(
     dirs: &mut Dirs,
     counters: &mut Counters,
@@ -417,7 +465,8 @@ fn list(
     entry: &[u8],
     target: Target,
 ) -> Result<(), NoMemory>
-    requires home { count_in counters.old (home_of target.name.maker target.name.own) < 65536 }
+    requires next { target.name.n ≡ count_in counters.old (home_of target.name.maker target.name.own) }
+    requires room { target.name.n < 65536 }
     requires few { length (at dirs.old.entries dir.now) < 4096 }
     requires fresh { lookup (text_eq entry.now) (at dirs.old.entries dir.now) ≡ None }
     ensures dirs { OnOk result (dirs_of dirs.new.entries ≡ changed_at (dirs_of dirs.old.entries) dir.now (joined entry.now target.kind target.name)) }
@@ -432,14 +481,24 @@ fn list(
     }
 }
 
-/// Draws a number of a target's home, and lets the target go, for which there is no directory.
+/// Draws the number of a name, which is the next of its home.
+fn draw_number(counters: &mut Counters, name: &Name) -> Result<(), NoMemory>
+    requires next { name.now.n ≡ count_in counters.old (home_of name.now.maker name.now.own) }
+    requires room { name.now.n < 65536 }
+    ensures ok { OnOk result (counters.new ≡ counted counters.old (home_of name.now.maker name.now.own)) }
+    ensures err { OnErr result (counters.new ≡ counters.old) }
+{
+    counters.draw(name.maker(), name.own(), name.n())
+}
+
+/// Draws a target's number, and lets the target go, for which there is no directory.
 fn draw_alone(counters: &mut Counters, target: Target) -> Result<(), NoMemory>
-    requires { count_in counters.old (home_of target.name.maker target.name.own) < 65536 }
+    requires next { target.name.n ≡ count_in counters.old (home_of target.name.maker target.name.own) }
+    requires room { target.name.n < 65536 }
     ensures ok { OnOk result (counters.new ≡ counted counters.old (home_of target.name.maker target.name.own)) }
     ensures err { OnErr result (counters.new ≡ counters.old) }
 {
-    counters.draw(&target.name.maker, &target.name.own)?;
-    Ok(())
+    draw_number(counters, &target.name)
 }
 
 fn list_in(
@@ -448,7 +507,8 @@ fn list_in(
     entry: &[u8],
     target: Target,
 ) -> Result<(), NoMemory>
-    requires home { count_in counters.old (home_of target.name.maker target.name.own) < 65536 }
+    requires next { target.name.n ≡ count_in counters.old (home_of target.name.maker target.name.own) }
+    requires room { target.name.n < 65536 }
     requires few { length (shown directory.old) < 4096 }
     requires fresh { lookup (text_eq entry.now) (shown directory.old) ≡ None }
     ensures entries { OnOk result (shown directory.new ≡ joined entry.now target.kind target.name (shown directory.old)) }
@@ -458,9 +518,45 @@ fn list_in(
 {
     let entry = Vec::from_slice(target.name.allocator(), entry)?;
     directory.reserve()?;
-    counters.draw(&target.name.maker, &target.name.own)?;
+    draw_number(counters, &target.name)?;
     directory.join(entry, target);
     Ok(())
+}
+
+impl Same<Whole> for Directory {
+    ghost IsSame = { λ d e. shown d ≡ shown e };
+
+    fn same(&self, other: &Directory) -> bool {
+        Directory::same(self, other)
+    }
+}
+
+impl Same<Whole> for Contents {
+    ghost IsSame = { λ c d. held c ≡ held d };
+
+    fn same(&self, other: &Contents) -> bool {
+        self.bytes() == other.bytes()
+    }
+}
+
+fn same_ground(root: &Name, counters: &Counters, other: &Name, others: &Counters) -> bool
+    ensures { IsTrue result ↔ ((root.now ≡ other.now) × (counters.now ≡ others.now)) }
+{
+    root.same(other) && counters.same(others)
+}
+
+/// Whether the entries of directories and the bytes of files are equal where the observer sees.
+fn same_things(
+    dirs: &Dirs,
+    files: &FileMap,
+    other_dirs: &Dirs,
+    other_files: &FileMap,
+    observer: Option<&Label>,
+) -> bool
+    ensures { IsTrue result ↔ (SameDirs (λ n. is_shown (option_copied observer.entry) n.own) dirs.now.entries other_dirs.now.entries × SameFiles (λ n. is_shown (option_copied observer.entry) n.own) files.now.entries other_files.now.entries) }
+{
+    same_maps::<_, _, Whole>(dirs, other_dirs, observer)
+        && same_maps::<_, _, Whole>(files, other_files, observer)
 }
 
 fn copied_dirs(dirs: &Dirs) -> Result<Dirs, NoMemory>

@@ -1,8 +1,8 @@
 -- What is seen of a heap's own maps.
-use Rattle.std.specs.Prelude.{◌≤◌, List}
+use Rattle.std.specs.Prelude.{List}
 use Rattle.lam_value.specs.declared.names.Name.{Name}
 use Rattle.lam_value.specs.Names.{name_cmp}
-use Rattle.lam_value.specs.Homes.{Home, Counts, count_in}
+use Rattle.lam_value.specs.Homes.{Counts}
 use Rattle.lam_value.specs.Maps.{seen_at}
 use Rattle.labelled_heap.specs.declared.heap.Thing.{Thing}
 use Rattle.labelled_heap.specs.Things.{Things}
@@ -13,7 +13,3 @@ things_of es counts = record {
   sorts = seen_at name_cmp (λ (t : Thing). t.sort) es;
   counts = counts;
 }
-
--- no home has made more things than a home may make
-abbrev pub IsWithinLimit : Counts → Type 0
-IsWithinLimit counts = (home : Home) → count_in counts home ≤ 1048576

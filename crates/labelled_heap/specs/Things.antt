@@ -1,15 +1,17 @@
 -- What a heap is seen as, and what its calls make of it.
-use Rattle.std.specs.Prelude.{ℕ, List, [], Option, Some, None, unwrap_or, slice_set, refl}
+use Rattle.std.specs.Prelude.{◌≡◌, IsTrue, ℕ, List, [], Option, Some, None, unwrap_or, slice_set, refl}
 use Rattle.std.specs.Coded.{Coded, code_by, coded×, coded_list}
 use Rattle.std.specs.FinMap as map
 use Rattle.std.specs.FinMap.{FinMap, get, insert}
+use Rattle.flow_labels.specs.declared.Label.{Label}
+use Rattle.flow_labels.specs.Flow.{flows}
 use Rattle.lam_value.specs.declared.names.Name.{Name}
 use Rattle.lam_value.specs.declared.values.Value.{Value}
 use Rattle.lam_value.specs.declared.shapes.Shape.{Shape}
 use Rattle.lam_value.specs.declared.shapes.Shape.TheVariants.{Class, Array as AnArray}
 use Rattle.lam_value.specs.contracts.values.Value as value
 use Rattle.lam_value.specs.Names.{name_cmp, coded_name}
-use Rattle.lam_value.specs.Homes.{Home, Counts, coded_counts, name_of, count_in, counted}
+use Rattle.lam_value.specs.Homes.{Home, Counts, coded_counts, name_of, count_in, counted as counted_more, AreCounted, AreWithin}
 use Rattle.labelled_heap.specs.declared.heap.Sort.{Sort}
 use Rattle.labelled_heap.specs.declared.heap.Sort.TheVariants.{Object, Array}
 use Rattle.labelled_heap.specs.contracts.heap.Sort as sort
@@ -52,14 +54,43 @@ abbrev pub with_thing : Things → Home → Sort → List Value → Things
 with_thing h home s xs = record {
   slots = insert h.slots (name_of home (count_in h.counts home)) xs;
   sorts = insert h.sorts (name_of home (count_in h.counts home)) s;
-  counts = counted h.counts home;
+  counts = counted_more h.counts home;
 }
 
--- one more thing of a home, if there is a sort for it
-abbrev pub made_as : Option Sort → Things → Home → List Value → Things
-made_as None h home xs = h
-made_as (Some s) h home xs = with_thing h home s xs
+-- one more sort of a home's thing, if there is one
+abbrev pub sorted_as : Option Sort → FinMap name_cmp Sort → Name → FinMap name_cmp Sort
+sorted_as None m n = m
+sorted_as (Some s) m n = insert m n s
 
--- one more thing of a home, which is what another is and holds what it holds
+-- one more thing of a home, which holds what another holds and is what that is
 abbrev pub with_copy : Things → Name → Home → Things
-with_copy h n home = made_as (get h.sorts n) h home (slots_at h n)
+with_copy h n home = record {
+  slots = insert h.slots (name_of home (count_in h.counts home)) (slots_at h n);
+  sorts = sorted_as (get h.sorts n) h.sorts (name_of home (count_in h.counts home));
+  counts = counted_more h.counts home;
+}
+
+-- ---- what holds of every heap
+
+-- the number of each thing is below its home's counter, so that the name of a home's next thing does not live
+abbrev pub IsWellCounted : Things → Type 0
+IsWellCounted h = AreCounted h.slots h.counts
+
+-- no home has made more things than a home may make
+abbrev pub IsWithinLimit : Things → Type 0
+IsWithinLimit h = AreWithin 1048576 h.counts
+
+-- what has slots is something, and what is something has slots
+abbrev pub IsWellSorted : Things → Type 0
+IsWellSorted h = (n : Name) → map.contains_key h.sorts n ≡ map.contains_key h.slots n
+
+pub record IsSound (h : Things) : Type 0 where
+  pub counted : IsWellCounted h
+  pub within : IsWithinLimit h
+  pub sorted : IsWellSorted h
+
+-- ---- what is equal in two heaps where an observer sees
+
+-- the slots of each thing whose label flows to the observer's
+abbrev pub AreSeenAlike : Label → Things → Things → Type 0
+AreSeenAlike o h k = (n : Name) → IsTrue (flows n.own o) → get h.slots n ≡ get k.slots n

@@ -9,17 +9,18 @@ ghost use Rattle.std.specs.Prelude.{◌≡◌, ◌≤◌, ◌<◌, ◌↔◌, Is
 ghost use Rattle.std.specs.Option.{option_copied};
 ghost use Rattle.std.specs.FinMap as map;
 ghost use Rattle.std.specs.HashMap.{get as at_key};
+ghost use Rattle.lam_value.specs.Homes as homes;
 ghost use Rattle.lam_value.specs.Homes.{home_of, name_of, count_in, counted};
 ghost use Rattle.lam_value.specs.Shapes.{slots_of};
 ghost use Rattle.lam_value.specs.declared.names.Name.{Name};
 ghost use Rattle.lam_value.proofs.Keys.{name_eq};
-ghost use Rattle.labelled_heap.specs.Things.{no_things, slots_at, with_slot, with_thing, with_copy, sort_of};
+ghost use Rattle.labelled_heap.specs.Things.{no_things, slots_at, with_slot, with_thing, with_copy, sort_of, IsSound, AreSeenAlike};
 ghost use Rattle.labelled_heap.specs.declared.heap.Thing.{Thing};
 ghost use Rattle.labelled_heap.specs.declared.heap.HeapFault.TheVariants.{NoMemory as no_memory};
 
 use flow_labels::Label;
 use indexmap::IndexMap;
-use lam_value::{Counters, Kind, Name, Shape, Value, Values};
+use lam_value::{Counters, Kind, Name, Same, Shape, Value, Values, Whole, same_maps};
 use std::alloc::{AllocError, AllocFailed, Global};
 use std::marker::Model;
 use tag_sets::NoMemory;
@@ -76,6 +77,9 @@ struct Thing {
     slots: Values,
 }
 
+/// Marks that the slots of things are compared, which is what an observer sees of them.
+struct Slots;
+
 /// Objects and arrays by name, with a counter for each home.
 #[derive(Drop)]
 pub struct Heap {
@@ -90,11 +94,12 @@ impl Model for Heap {
 
     ghost coded = { coded_things };
 
-    ghost use Rattle.labelled_heap.specs.Seen.{things_of, IsWithinLimit};
+    ghost use Rattle.labelled_heap.specs.Things.{IsSound};
+    ghost use Rattle.labelled_heap.specs.Seen.{things_of};
 
     ghost view = { λ h. things_of h.things.entries h.counters };
 
-    ghost invariant = { λ h. IsWithinLimit h.counters };
+    ghost invariant = { λ h. IsSound (things_of h.things.entries h.counters) };
 }
 
 impl Heap {
@@ -133,6 +138,16 @@ impl Heap {
         match self.things.get(r) {
             None => 0,
             Some(thing) => thing.slots.len(),
+        }
+    }
+
+    /// The slots of a thing, none where it does not live.
+    pub fn slots(&self, r: &Name) -> &[Value]
+        ensures { result.now ≡ slots_at self.now r.now }
+    {
+        match self.things.get(r) {
+            None => &[],
+            Some(thing) => slots_of(thing),
         }
     }
 
@@ -200,11 +215,19 @@ impl Heap {
         ensures err { OnErr result (self.new ≡ self.old) }
         ensures full { IsErrOf result HeapFault.HomeFull ↔ (count_in self.old.counts (home_of maker.now own.now) ≡ 1048576) }
     {
-        if self.next(maker, own) == HOME_LIMIT {
+        let number = self.next(maker, own);
+        if number == HOME_LIMIT {
             return Err(HeapFault::HomeFull);
         }
         let thing = new_thing(own.allocator(), shape)?;
-        let name = add_thing(&mut self.things, &mut self.counters, maker, own, thing)?;
+        let name = add_thing(
+            &mut self.things,
+            &mut self.counters,
+            maker,
+            own,
+            number,
+            thing,
+        )?;
         Ok(name)
     }
 
@@ -220,15 +243,52 @@ impl Heap {
         ensures err { OnErr result (self.new ≡ self.old) }
         ensures full { IsErrOf result HeapFault.HomeFull ↔ (count_in self.old.counts (home_of maker.now own.now) ≡ 1048576) }
     {
-        if self.next(maker, own) == HOME_LIMIT {
+        let number = self.next(maker, own);
+        if number == HOME_LIMIT {
             return Err(HeapFault::HomeFull);
         }
         let Some(thing) = self.things.get(r) else {
             unreachable!()
         };
         let thing = thing.copy()?;
-        let name = add_thing(&mut self.things, &mut self.counters, maker, own, thing)?;
+        let name = add_thing(
+            &mut self.things,
+            &mut self.counters,
+            maker,
+            own,
+            number,
+            thing,
+        )?;
         Ok(name)
+    }
+
+    /// Whether two heaps have equal things and counters.
+    pub fn same(&self, other: &Heap) -> bool
+        ensures { IsTrue result ↔ (self.now ≡ other.now) }
+    {
+        self.counters.same(&other.counters)
+            && same_maps::<_, _, Whole>(&self.things, &other.things, None)
+    }
+
+    /// Whether two heaps have equal slots in each thing whose label flows to the observer's.
+    pub fn same_seen(&self, other: &Heap, observer: &Label) -> bool
+        ensures { IsTrue result ↔ AreSeenAlike observer.now self.now other.now }
+    {
+        same_maps::<_, _, Slots>(&self.things, &other.things, Some(observer))
+    }
+
+    /// Whether two heaps have equal counters at each home whose maker's label flows to the observer's.
+    pub fn same_counters(&self, other: &Heap, observer: &Label) -> bool
+        ensures { IsTrue result ↔ homes.AreSeenAlike observer.now self.now.counts other.now.counts }
+    {
+        self.counters.same_seen(&other.counters, observer)
+    }
+
+    /// What holds of every heap. The call does nothing: its clause is for its caller's proof.
+    pub fn facts(&self)
+        ensures { IsSound self.now }
+    {
+        let _ = &self.things;
     }
 
     /// An equal heap.
@@ -242,6 +302,22 @@ impl Heap {
         let things = copied(&self.things)?;
         let counters = self.counters.copy()?;
         Ok(Heap { things, counters })
+    }
+}
+
+impl Same<Whole> for Thing {
+    ghost IsSame = { λ t u. t ≡ u };
+
+    fn same(&self, other: &Thing) -> bool {
+        self.sort == other.sort && self.slots.same(&other.slots)
+    }
+}
+
+impl Same<Slots> for Thing {
+    ghost IsSame = { λ t u. t.slots ≡ u.slots };
+
+    fn same(&self, other: &Thing) -> bool {
+        self.slots.same(&other.slots)
     }
 }
 
@@ -274,6 +350,12 @@ fn sort_of(shape: &Shape) -> Sort
     }
 }
 
+fn slots_of(thing: &Thing) -> &[Value]
+    ensures { result.now ≡ thing.now.slots }
+{
+    thing.slots.as_slice()
+}
+
 fn slot_of(thing: &Thing, at: u64) -> Option<&Value>
     ensures { option_copied result ≡ slice_get thing.now.slots at }
 {
@@ -301,19 +383,21 @@ fn add_thing(
     counters: &mut Counters,
     maker: &Label,
     own: &Label,
+    number: u64,
     thing: Thing,
 ) -> Result<Name, NoMemory>
-    requires { count_in counters.old (home_of maker.now own.now) < 1048576 }
-    ensures name { IfOk result (λ n. n ≡ name_of (home_of maker.now own.now) (count_in counters.old (home_of maker.now own.now))) }
-    ensures things { OnOk result ((q : Name) → at_key name_eq things.new q ≡ cond (name_eq (name_of (home_of maker.now own.now) (count_in counters.old (home_of maker.now own.now))) q) (Some thing) (at_key name_eq things.old q)) }
+    requires next { number ≡ count_in counters.old (home_of maker.now own.now) }
+    requires room { number < 1048576 }
+    ensures name { IfOk result (λ n. n ≡ name_of (home_of maker.now own.now) number) }
+    ensures things { OnOk result ((q : Name) → at_key name_eq things.new q ≡ cond (name_eq (name_of (home_of maker.now own.now) number) q) (Some thing) (at_key name_eq things.old q)) }
     ensures counters { OnOk result (counters.new ≡ counted counters.old (home_of maker.now own.now)) }
     ensures same_things { OnErr result ((q : Name) → at_key name_eq things.new q ≡ at_key name_eq things.old q) }
     ensures same_counters { OnErr result (counters.new ≡ counters.old) }
 {
-    let name = Name::of(maker, own, counters.next(maker, own))?;
+    let name = Name::of(maker, own, number)?;
     let key = name.copy()?;
     things.reserve(1)?;
-    counters.draw(maker, own)?;
+    counters.draw(maker, own, number)?;
     let Ok(_) = things.insert(key, thing) else {
         unreachable!()
     };

@@ -1,20 +1,23 @@
 -- The pipes' own map against what is seen of it.
-use Rattle.std.proofs.Common.{◌≡◌, ◌≤◌, ◌<◌, ◌+◌, cond, List, [], ◌∷◌, Option, Some, None, IfNone, is_some, refl, sym, ap, ◌∙◌, arith, subst, Bool, true, false}
+use Rattle.std.proofs.Common.{◌≡◌, ◌<◌, ℕ, cond, List, [], ◌∷◌, Option, Some, None, IfNone, is_some, refl, sym, ap, ◌∙◌, Bool, true, false}
+use Rattle.std.specs.Prelude.{IsTrue}
 use Rattle.std.specs.Option.{option_map, unwrap_or}
 use Rattle.std.specs.Map.{lookup}
-use Rattle.std.specs.FinMap.{get, insert, empty, get-empty, get-insert}
-use Rattle.std.specs.Ordering.{eq_by_cmp}
+use Rattle.std.specs.FinMap.{get, insert, empty}
 use Rattle.lam_value.specs.declared.names.Name.{Name}
 use Rattle.lam_value.specs.Names.{name_cmp}
-use Rattle.lam_value.specs.Homes.{Home, Counts, home_cmp, name_of, count_in, counted}
+use Rattle.lam_value.specs.Homes.{Home, Counts, name_of, count_in, counted}
 use Rattle.lam_value.specs.Maps.{seen_at}
-use Rattle.lam_value.proofs.Keys.{name_eq, name_total, name_exact, name_ties, home_total}
+use Rattle.lam_value.proofs.Keys.{name_eq, name_total, name_exact, name_ties}
+use Rattle.lam_value.specs.Alike.{AreAlikeWhere}
+use Rattle.lam_value.proofs.CountLemmas.{counted_none, counted_next, counted_change, within_none, within_more}
+use Rattle.lam_value.proofs.SameLemmas.{seen_where, where_seen, seen_same_map, same_map_alike}
 use Rattle.lam_value.proofs.Maps.{get_seen, seen_same, seen_insert, insert_same}
 use Rattle.labelled_pipes.specs.declared.message.Message.{Message}
 use Rattle.labelled_pipes.specs.declared.message.MessageKind.{MessageKind}
 use Rattle.labelled_pipes.specs.Messages.{is_of, front_of, rest_of}
-use Rattle.labelled_pipes.specs.Queues.{Queues, waiting_at, changed_at, with_pipe}
-use Rattle.labelled_pipes.specs.Seen.{queues_of, IsWithinLimit}
+use Rattle.labelled_pipes.specs.Queues.{Queues, no_pipes, waiting_at, changed_at, with_pipe, IsSound}
+use Rattle.labelled_pipes.specs.Seen.{queues_of}
 
 abbrev Line : Type 0
 Line = List Message
@@ -85,14 +88,19 @@ module _ (es : List (Name × Line)) (counts : Counts) (m : Queues) (seen : queue
       ∙ seen
 
   -- a pipe more
-  pub added : (fs : List (Name × Line)) (now : Counts) (home : Home)
-      → ((q : Name) → lookup (name_eq q) fs ≡ cond (name_eq (name_of home (count_in counts home)) q) (Some []) (lookup (name_eq q) es)) → now ≡ counted counts home → queues_of fs now ≡ with_pipe m home
-  added fs now home put more =
+  pub added : (fs : List (Name × Line)) (now : Counts) (home : Home) (number : ℕ) → number ≡ count_in counts home
+      → ((q : Name) → lookup (name_eq q) fs ≡ cond (name_eq (name_of home number) q) (Some []) (lookup (name_eq q) es)) → now ≡ counted counts home → queues_of fs now ≡ with_pipe m home
+  added fs now home number is put more =
       (λ i. record {
-        waiting = seen_insert name_cmp name_eq (λ (line : Line). line) name_total name_exact name_ties es fs (name_of home (count_in counts home)) [] put i;
+        waiting = (seen_insert name_cmp name_eq (λ (line : Line). line) name_total name_exact name_ties es fs (name_of home number) [] put
+            ∙ ap (λ k. insert (seen_at name_cmp (λ (line : Line). line) es) (name_of home k) []) is) i;
         counts = more i;
       })
       ∙ ap (λ (t : Queues). with_pipe t home) seen
+
+  -- the next number of a home
+  pub room_seen : (home : Home) (number : ℕ) → number ≡ count_in m.counts home → number ≡ count_in counts home
+  room_seen home number is = is ∙ sym (ap (λ (t : Queues). count_in t.counts home) seen)
 
   pub counts_seen : counts ≡ m.counts
   counts_seen = ap (λ (t : Queues). t.counts) seen
@@ -110,17 +118,47 @@ pub if_none : {X : Type 0} (P : Type 0) (o : Option X) → (o ≡ None → P) �
 if_none P None f = f refl
 if_none P (Some x) f = tt
 
--- one more of a home that has room
-pub within_more : (counts now : Counts) (home : Home) → IsWithinLimit counts → count_in counts home < 4096 → now ≡ counted counts home → IsWithinLimit now
-within_more counts now home within room is k =
-    subst (λ (m : Counts). count_in m k ≤ 4096) (sym is) (subst (λ n. n ≤ 4096) (sym counted_at) (by (eq_by_cmp home_cmp k home)))
-  where
-    counted_at : count_in (counted counts home) k ≡ unwrap_or (cond (eq_by_cmp home_cmp k home) (Some (count_in counts home + 1)) (get counts k)) 0
-    counted_at = ap (λ o. unwrap_or o 0) (get-insert home_total counts home (count_in counts home + 1) k)
+-- ---- what holds of all pipes
+pub sound_none : IsSound no_pipes
+sound_none = record { counted = counted_none Line empty; within = within_none 4096 }
 
-    by : (b : Bool) → unwrap_or (cond b (Some (count_in counts home + 1)) (get counts k)) 0 ≤ 4096
-    by true = omega arith
-    by false = within k
+pub sound_pipe : (q : Queues) (home : Home) → IsSound q → count_in q.counts home < 4096 → IsSound (with_pipe q home)
+sound_pipe q home sound room = record {
+  counted = counted_next q.waiting q.counts home [] sound.counted;
+  within = within_more 4096 q.counts home sound.within room;
+}
 
-pub within_none : IsWithinLimit empty
-within_none k = subst (λ n. n ≤ 4096) (sym (ap (λ o. unwrap_or o 0) (get-empty home_cmp k))) (omega arith)
+pub sound_changed : (o : Option Line) (q : Queues) (n : Name) (f : Line → Line) → get q.waiting n ≡ o → IsSound q → IsSound (changed_at o q n f)
+sound_changed None q n f e sound = sound
+sound_changed (Some line) q n f e sound = record {
+  counted = counted_change q.waiting q.counts n (f line) sound.counted (ap is_some e);
+  within = sound.within;
+}
+
+-- ---- two compared
+abbrev SameLines : (Name → Bool) → List (Name × Line) → List (Name × Line) → Type 0
+SameLines shown es fs = AreAlikeWhere shown (λ (x y : Line). x ≡ y) (λ q. lookup (name_eq q) es) (λ q. lookup (name_eq q) fs)
+
+module _ (es fs : List (Name × Line)) (counts now : Counts) (m k : Queues) (one : queues_of es counts ≡ m) (two : queues_of fs now ≡ k) where
+  pub same_pipes : counts ≡ now → SameLines (λ _. true) es fs → m ≡ k
+  same_pipes same alike =
+      sym one
+      ∙ (λ i. record {
+        waiting = seen_same_map name_cmp name_eq (λ (line : Line). line) name_total name_exact name_ties es fs alike i;
+        counts = same i;
+      })
+      ∙ two
+
+  pub pipes_same : m ≡ k → SameLines (λ _. true) es fs
+  pipes_same e = same_map_alike name_cmp name_eq (λ (line : Line). line) name_total name_exact name_ties es fs (ap (λ (q : Queues). q.waiting) (one ∙ e ∙ sym two))
+
+  pub same_where : (shown : Name → Bool) → SameLines shown es fs → (q : Name) → IsTrue (shown q) → get m.waiting q ≡ get k.waiting q
+  same_where shown alike q s =
+      ap (λ (r : Queues). get r.waiting q) (sym one)
+      ∙ seen_where name_cmp name_eq (λ (line : Line). line) name_total name_exact name_ties shown es fs alike q s
+      ∙ ap (λ (r : Queues). get r.waiting q) two
+
+  pub where_same : (shown : Name → Bool) → ((q : Name) → IsTrue (shown q) → get m.waiting q ≡ get k.waiting q) → SameLines shown es fs
+  where_same shown same =
+      where_seen name_cmp name_eq (λ (line : Line). line) name_total name_exact name_ties shown es fs
+      (λ q s. ap (λ (r : Queues). get r.waiting q) one ∙ same q s ∙ ap (λ (r : Queues). get r.waiting q) (sym two))

@@ -1,11 +1,13 @@
 -- What pipes are seen as, and what their calls make of them.
-use Rattle.std.specs.Prelude.{List, [], Option, Some, None, unwrap_or, refl}
+use Rattle.std.specs.Prelude.{◌≡◌, IsTrue, List, [], Option, Some, None, unwrap_or, refl}
 use Rattle.std.specs.Coded.{Coded, code_by, coded×, coded_list}
 use Rattle.std.specs.FinMap as map
 use Rattle.std.specs.FinMap.{FinMap, get, insert}
+use Rattle.flow_labels.specs.declared.Label.{Label}
+use Rattle.flow_labels.specs.Flow.{flows}
 use Rattle.lam_value.specs.declared.names.Name.{Name}
 use Rattle.lam_value.specs.Names.{name_cmp, coded_name}
-use Rattle.lam_value.specs.Homes.{Home, Counts, coded_counts, name_of, count_in, counted}
+use Rattle.lam_value.specs.Homes.{Home, Counts, coded_counts, name_of, count_in, counted as counted_more, AreCounted, AreWithin}
 use Rattle.labelled_pipes.specs.declared.message.Message.{Message}
 use Rattle.labelled_pipes.specs.declared.message.MessageKind.{MessageKind}
 use Rattle.labelled_pipes.specs.contracts.message.Message as message
@@ -46,5 +48,25 @@ with_received q p kind = changed_at (get q.waiting p) q p (rest_of kind)
 abbrev pub with_pipe : Queues → Home → Queues
 with_pipe q home = record {
   waiting = insert q.waiting (name_of home (count_in q.counts home)) [];
-  counts = counted q.counts home;
+  counts = counted_more q.counts home;
 }
+
+-- ---- what holds of all pipes
+
+-- the number of each pipe is below its home's counter, so that the name of a home's next pipe does not live
+abbrev pub IsWellCounted : Queues → Type 0
+IsWellCounted q = AreCounted q.waiting q.counts
+
+-- no home has made more pipes than a home may make
+abbrev pub IsWithinLimit : Queues → Type 0
+IsWithinLimit q = AreWithin 4096 q.counts
+
+pub record IsSound (q : Queues) : Type 0 where
+  pub counted : IsWellCounted q
+  pub within : IsWithinLimit q
+
+-- ---- what is equal in two where an observer sees
+
+-- the messages of each pipe whose label flows to the observer's
+abbrev pub AreSeenAlike : Label → Queues → Queues → Type 0
+AreSeenAlike o q r = (n : Name) → IsTrue (flows n.own o) → get q.waiting n ≡ get r.waiting n

@@ -1,8 +1,8 @@
 -- What is seen of pipes' own map.
-use Rattle.std.specs.Prelude.{◌≤◌, List}
+use Rattle.std.specs.Prelude.{List}
 use Rattle.lam_value.specs.declared.names.Name.{Name}
 use Rattle.lam_value.specs.Names.{name_cmp}
-use Rattle.lam_value.specs.Homes.{Home, Counts, count_in}
+use Rattle.lam_value.specs.Homes.{Counts}
 use Rattle.lam_value.specs.Maps.{seen_at}
 use Rattle.labelled_pipes.specs.declared.message.Message.{Message}
 use Rattle.labelled_pipes.specs.Queues.{Queues}
@@ -12,7 +12,3 @@ queues_of es counts = record {
   waiting = seen_at name_cmp (λ (line : List Message). line) es;
   counts = counts;
 }
-
--- no home has made more pipes than a home may make
-abbrev pub IsWithinLimit : Counts → Type 0
-IsWithinLimit counts = (home : Home) → count_in counts home ≤ 4096

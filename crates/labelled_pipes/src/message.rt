@@ -1,6 +1,6 @@
 //! What is sent through a pipe.
 
-ghost use Rattle.std.specs.Prelude.{◌≡◌, IfOk};
+ghost use Rattle.std.specs.Prelude.{◌≡◌, ◌↔◌, IsTrue, IfOk};
 ghost use Rattle.labelled_pipes.specs.Messages.{kind_of};
 
 use capabilities::Caps;
@@ -31,6 +31,16 @@ impl Message {
         match self {
             Message::Bytes(_) => MessageKind::Bytes,
             Message::Caps(_) => MessageKind::Caps,
+        }
+    }
+
+    /// Whether two messages are equal.
+    pub fn same(&self, other: &Message) -> bool
+        ensures { IsTrue result ↔ (self.now ≡ other.now) }
+    {
+        match self {
+            Message::Bytes(x) => matches!(other, Message::Bytes(y) if x.same(y)),
+            Message::Caps(x) => matches!(other, Message::Caps(y) if x.same(y)),
         }
     }
 

@@ -4,22 +4,23 @@
 //! by the maker's label and the pipe's own label, and never over all, so that a name tells of no other
 //! label.
 
-ghost use Rattle.std.specs.Prelude.{◌≡◌, ◌≤◌, ◌<◌, ◌↔◌, IsOk, IfOk, OnOk, OnErr, IfNone, IsErrOf, [], cond, Some};
+ghost use Rattle.std.specs.Prelude.{◌≡◌, ◌≤◌, ◌<◌, ◌↔◌, IsTrue, IsOk, IfOk, OnOk, OnErr, IfNone, IsErrOf, [], cond, Some};
 ghost use Rattle.std.specs.Option.{option_copied};
 ghost use Rattle.std.specs.FinMap as map;
 ghost use Rattle.std.specs.HashMap.{get as at_key};
+ghost use Rattle.lam_value.specs.Homes as homes;
 ghost use Rattle.lam_value.specs.Homes.{home_of, name_of, count_in, counted};
 ghost use Rattle.lam_value.specs.declared.names.Name.{Name};
 ghost use Rattle.lam_value.proofs.Keys.{name_eq};
 ghost use Rattle.labelled_pipes.specs.Messages.{joined, front_of, rest_of};
-ghost use Rattle.labelled_pipes.specs.Queues.{no_pipes, waiting_at, with_pipe, with_sent, with_received};
+ghost use Rattle.labelled_pipes.specs.Queues.{no_pipes, waiting_at, with_pipe, with_sent, with_received, IsSound, AreSeenAlike};
 ghost use Rattle.labelled_pipes.specs.declared.pipes.PipeFault.TheVariants.{NoMemory as no_memory};
 
 use crate::message::{Message, MessageKind};
 use crate::queue::Queue;
 use flow_labels::Label;
 use indexmap::IndexMap;
-use lam_value::{Counters, Name};
+use lam_value::{Counters, Name, Same, Whole, same_maps};
 use std::alloc::{AllocError, AllocFailed, Global};
 use std::marker::Model;
 use tag_sets::NoMemory;
@@ -70,17 +71,17 @@ pub struct Pipes {
 }
 
 impl Model for Pipes {
-    ghost use Rattle.labelled_pipes.specs.Queues.{Queues, coded_queues};
+    ghost use Rattle.labelled_pipes.specs.Queues.{Queues, coded_queues, IsSound};
 
     ghost Value = { Queues };
 
     ghost coded = { coded_queues };
 
-    ghost use Rattle.labelled_pipes.specs.Seen.{queues_of, IsWithinLimit};
+    ghost use Rattle.labelled_pipes.specs.Seen.{queues_of};
 
     ghost view = { λ p. queues_of p.queues.entries p.counters };
 
-    ghost invariant = { λ p. IsWithinLimit p.counters };
+    ghost invariant = { λ p. IsSound (queues_of p.queues.entries p.counters) };
 }
 
 impl Pipes {
@@ -120,10 +121,11 @@ impl Pipes {
         ensures err { OnErr result (self.new ≡ self.old) }
         ensures full { IsErrOf result PipeFault.HomeFull ↔ (count_in self.old.counts (home_of maker.now own.now) ≡ 4096) }
     {
-        if self.next(maker, own) == HOME_LIMIT {
+        let number = self.next(maker, own);
+        if number == HOME_LIMIT {
             return Err(PipeFault::HomeFull);
         }
-        let name = add_pipe(&mut self.queues, &mut self.counters, maker, own)?;
+        let name = add_pipe(&mut self.queues, &mut self.counters, maker, own, number)?;
         Ok(name)
     }
 
@@ -168,6 +170,35 @@ impl Pipes {
         }
     }
 
+    /// Whether two have equal pipes and counters.
+    pub fn same(&self, other: &Pipes) -> bool
+        ensures { IsTrue result ↔ (self.now ≡ other.now) }
+    {
+        self.counters.same(&other.counters)
+            && same_maps::<_, _, Whole>(&self.queues, &other.queues, None)
+    }
+
+    /// Whether the same messages wait in each pipe whose label flows to the observer's.
+    pub fn same_seen(&self, other: &Pipes, observer: &Label) -> bool
+        ensures { IsTrue result ↔ AreSeenAlike observer.now self.now other.now }
+    {
+        same_maps::<_, _, Whole>(&self.queues, &other.queues, Some(observer))
+    }
+
+    /// Whether two have equal counters at each home whose maker's label flows to the observer's.
+    pub fn same_counters(&self, other: &Pipes, observer: &Label) -> bool
+        ensures { IsTrue result ↔ homes.AreSeenAlike observer.now self.now.counts other.now.counts }
+    {
+        self.counters.same_seen(&other.counters, observer)
+    }
+
+    /// What holds of all pipes. The call does nothing: its clause is for its caller's proof.
+    pub fn facts(&self)
+        ensures { IsSound self.now }
+    {
+        let _ = &self.queues;
+    }
+
     /// Equal pipes.
     ///
     /// # Errors
@@ -179,6 +210,14 @@ impl Pipes {
         let queues = copied(&self.queues)?;
         let counters = self.counters.copy()?;
         Ok(Pipes { queues, counters })
+    }
+}
+
+impl Same<Whole> for Queue {
+    ghost IsSame = { λ x y. x ≡ y };
+
+    fn same(&self, other: &Queue) -> bool {
+        Queue::same(self, other)
     }
 }
 
@@ -216,18 +255,20 @@ fn add_pipe(
     counters: &mut Counters,
     maker: &Label,
     own: &Label,
+    number: u64,
 ) -> Result<Name, NoMemory>
-    requires { count_in counters.old (home_of maker.now own.now) < 4096 }
-    ensures name { IfOk result (λ n. n ≡ name_of (home_of maker.now own.now) (count_in counters.old (home_of maker.now own.now))) }
-    ensures queues { OnOk result ((q : Name) → at_key name_eq queues.new q ≡ cond (name_eq (name_of (home_of maker.now own.now) (count_in counters.old (home_of maker.now own.now))) q) (Some []) (at_key name_eq queues.old q)) }
+    requires next { number ≡ count_in counters.old (home_of maker.now own.now) }
+    requires room { number < 4096 }
+    ensures name { IfOk result (λ n. n ≡ name_of (home_of maker.now own.now) number) }
+    ensures queues { OnOk result ((q : Name) → at_key name_eq queues.new q ≡ cond (name_eq (name_of (home_of maker.now own.now) number) q) (Some []) (at_key name_eq queues.old q)) }
     ensures counters { OnOk result (counters.new ≡ counted counters.old (home_of maker.now own.now)) }
     ensures same_queues { OnErr result ((q : Name) → at_key name_eq queues.new q ≡ at_key name_eq queues.old q) }
     ensures same_counters { OnErr result (counters.new ≡ counters.old) }
 {
-    let name = Name::of(maker, own, counters.next(maker, own))?;
+    let name = Name::of(maker, own, number)?;
     let key = name.copy()?;
     queues.reserve(1)?;
-    counters.draw(maker, own)?;
+    counters.draw(maker, own, number)?;
     let Ok(_) = queues.insert(key, Queue::new(own.allocator())) else {
         unreachable!()
     };

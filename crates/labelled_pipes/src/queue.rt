@@ -1,6 +1,6 @@
 //! The messages that wait in one pipe, first come, first served.
 
-ghost use Rattle.std.specs.Prelude.{◌≡◌, [], IsOk, IfOk, OnOk, OnErr};
+ghost use Rattle.std.specs.Prelude.{◌≡◌, ◌↔◌, IsTrue, length, [], IsOk, IfOk, OnOk, OnErr};
 ghost use Rattle.std.specs.Option.{option_copied};
 ghost use Rattle.labelled_pipes.specs.Messages.{joined, front_of, rest_of};
 
@@ -69,6 +69,13 @@ impl Queue {
         take_first(&mut self.messages, kind)
     }
 
+    /// Whether the same messages wait in two queues.
+    pub fn same(&self, other: &Queue) -> bool
+        ensures { IsTrue result ↔ (self.now ≡ other.now) }
+    {
+        same_messages(&self.messages, &other.messages)
+    }
+
     /// An equal queue.
     ///
     /// # Errors
@@ -109,6 +116,25 @@ fn take_first(messages: &mut VecDeque<Message>, kind: MessageKind) -> Option<Mes
         return None;
     }
     messages.pop_front()
+}
+
+fn same_messages(a: &VecDeque<Message>, b: &VecDeque<Message>) -> bool
+    ensures { IsTrue result ↔ (a.now.items ≡ b.now.items) }
+{
+    a.len() == b.len() && begin_alike(a, b)
+}
+
+/// Whether the first messages of a queue are those of another one that is as long.
+fn begin_alike(a: &VecDeque<Message>, b: &VecDeque<Message>) -> bool
+    requires { length a.now.items ≡ length b.now.items }
+    ensures { IsTrue result ↔ (a.now.items ≡ b.now.items) }
+{
+    for at in 0..a.len() {
+        if !a[at].same(&b[at]) {
+            return false;
+        }
+    }
+    true
 }
 
 fn copied(messages: &VecDeque<Message>) -> Result<VecDeque<Message>, NoMemory>

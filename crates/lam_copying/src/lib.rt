@@ -259,6 +259,92 @@ fn copy_value(alloc: Global, value: &Option<Expr>) -> Result<Option<Expr>, NoMem
     }
 }
 
+fn let_kind(alloc: Global, var: &Var, value: &Expr) -> Result<StmtKind, NoMemory>
+    ensures { IfOk result (λ k. view.stmt_form k ≡ view.let_stmt (view.var_tree var.now) (view.expr_tree value.now)) }
+{
+    Ok(StmtKind::Let {
+        var: copy_var(alloc, var)?,
+        value: copy_expr(alloc, value)?,
+    })
+}
+
+fn if_kind(
+    alloc: Global,
+    test: &Expr,
+    yes: Vec<Stmt>,
+    no: Option<Vec<Stmt>>,
+) -> Result<StmtKind, NoMemory>
+    ensures { IfOk result (λ k. view.stmt_form k ≡ view.if_stmt (view.expr_tree test.now) (view.stmts_tree yes.items) (view.else_tree no)) }
+{
+    let test = copy_expr(alloc, test)?;
+    Ok(StmtKind::If { test, yes, no })
+}
+
+fn while_kind(alloc: Global, test: &Expr, body: Vec<Stmt>) -> Result<StmtKind, NoMemory>
+    ensures { IfOk result (λ k. view.stmt_form k ≡ view.while_stmt (view.expr_tree test.now) (view.stmts_tree body.items)) }
+{
+    let test = copy_expr(alloc, test)?;
+    Ok(StmtKind::While { test, body })
+}
+
+fn sync_kind(alloc: Global, thing: &Expr, body: Vec<Stmt>) -> Result<StmtKind, NoMemory>
+    ensures { IfOk result (λ k. view.stmt_form k ≡ view.sync_stmt (view.expr_tree thing.now) (view.stmts_tree body.items)) }
+{
+    let thing = copy_expr(alloc, thing)?;
+    Ok(StmtKind::Sync { thing, body })
+}
+
+fn assign_kind(alloc: Global, place: &Expr, value: &Expr) -> Result<StmtKind, NoMemory>
+    ensures { IfOk result (λ k. view.stmt_form k ≡ view.assign_stmt (view.expr_tree place.now) (view.expr_tree value.now)) }
+{
+    Ok(StmtKind::Assign {
+        place: copy_expr(alloc, place)?,
+        value: copy_expr(alloc, value)?,
+    })
+}
+
+/// A region without its blocks.
+#[derive(Drop)]
+struct Head {
+    label: Expr,
+    caps: Expr,
+    captures: Vec<Id>,
+    catch_name: Id,
+}
+
+fn copy_head(
+    alloc: Global,
+    label: &Expr,
+    caps: &Expr,
+    captures: &[Id],
+    catch_name: &Id,
+) -> Result<Head, NoMemory>
+    ensures label { IfOk result (λ h. view.expr_tree h.label ≡ view.expr_tree label.now) }
+    ensures caps { IfOk result (λ h. view.expr_tree h.caps ≡ view.expr_tree caps.now) }
+    ensures captures { IfOk result (λ h. view.ids_tree h.captures.items ≡ view.ids_tree captures.now) }
+    ensures catch_name { IfOk result (λ h. view.id_tree h.catch_name ≡ view.id_tree catch_name.now) }
+{
+    Ok(Head {
+        label: copy_expr(alloc, label)?,
+        caps: copy_expr(alloc, caps)?,
+        captures: copy_ids(alloc, captures)?,
+        catch_name: copy_id(catch_name)?,
+    })
+}
+
+fn region_kind(head: Head, body: Vec<Stmt>, catch_body: Vec<Stmt>) -> StmtKind
+    ensures { view.stmt_form result ≡ view.region_stmt (view.expr_tree head.label) (view.expr_tree head.caps) (view.ids_tree head.captures.items) (view.stmts_tree body.items) (view.id_tree head.catch_name) (view.stmts_tree catch_body.items) }
+{
+    StmtKind::Region {
+        label: head.label,
+        caps: head.caps,
+        captures: head.captures,
+        body,
+        catch_name: head.catch_name,
+        catch_body,
+    }
+}
+
 #[cycle(copy_stmt)]
 fn copy_stmts(alloc: Global, body: &[Stmt]) -> Result<Vec<Stmt>, NoMemory>
     ensures { IfOk result (λ v. view.stmts_tree v.items ≡ view.stmts_tree body.now) }
@@ -285,39 +371,27 @@ fn copy_stmt_kind(alloc: Global, kind: &StmtKind) -> Result<StmtKind, NoMemory>
     ensures { IfOk result (λ k. view.stmt_form k ≡ view.stmt_form kind.now) }
 {
     match kind {
-        StmtKind::Let { var, value } => Ok(StmtKind::Let {
-            var: copy_var(alloc, var)?,
-            value: copy_expr(alloc, value)?,
-        }),
+        StmtKind::Let { var, value } => let_kind(alloc, var, value),
         StmtKind::If { test, yes, no } => {
-            let test = copy_expr(alloc, test)?;
             let yes = copy_stmts(alloc, yes)?;
             match no {
-                None => Ok(StmtKind::If {
-                    test,
-                    yes,
-                    no: None,
-                }),
+                None => if_kind(alloc, test, yes, None),
                 Some(other) => {
                     let other = copy_stmts(alloc, other)?;
-                    Ok(StmtKind::If {
-                        test,
-                        yes,
-                        no: Some(other),
-                    })
+                    if_kind(alloc, test, yes, Some(other))
                 }
             }
         }
-        StmtKind::While { test, body } => Ok(StmtKind::While {
-            test: copy_expr(alloc, test)?,
-            body: copy_stmts(alloc, body)?,
-        }),
+        StmtKind::While { test, body } => {
+            let body = copy_stmts(alloc, body)?;
+            while_kind(alloc, test, body)
+        }
         StmtKind::Return(value) => Ok(StmtKind::Return(copy_value(alloc, value)?)),
         StmtKind::Throw(value) => Ok(StmtKind::Throw(copy_expr(alloc, value)?)),
-        StmtKind::Sync { thing, body } => Ok(StmtKind::Sync {
-            thing: copy_expr(alloc, thing)?,
-            body: copy_stmts(alloc, body)?,
-        }),
+        StmtKind::Sync { thing, body } => {
+            let body = copy_stmts(alloc, body)?;
+            sync_kind(alloc, thing, body)
+        }
         StmtKind::Region {
             label,
             caps,
@@ -325,18 +399,13 @@ fn copy_stmt_kind(alloc: Global, kind: &StmtKind) -> Result<StmtKind, NoMemory>
             body,
             catch_name,
             catch_body,
-        } => Ok(StmtKind::Region {
-            label: copy_expr(alloc, label)?,
-            caps: copy_expr(alloc, caps)?,
-            captures: copy_ids(alloc, captures)?,
-            body: copy_stmts(alloc, body)?,
-            catch_name: copy_id(catch_name)?,
-            catch_body: copy_stmts(alloc, catch_body)?,
-        }),
+        } => {
+            let body = copy_stmts(alloc, body)?;
+            let catch_body = copy_stmts(alloc, catch_body)?;
+            let head = copy_head(alloc, label, caps, captures, catch_name)?;
+            Ok(region_kind(head, body, catch_body))
+        }
         StmtKind::Do(value) => Ok(StmtKind::Do(copy_expr(alloc, value)?)),
-        StmtKind::Assign { place, value } => Ok(StmtKind::Assign {
-            place: copy_expr(alloc, place)?,
-            value: copy_expr(alloc, value)?,
-        }),
+        StmtKind::Assign { place, value } => assign_kind(alloc, place, value),
     }
 }

@@ -236,7 +236,7 @@ array_back : (g : Given) → suits any_array g ≡ true → (t : ValueType) × (
 array_back (a_value (array t)) s = (t, refl)
 array_back _ s = absurd cc
 
-type_back : (t u : ValueType) → same_type t u ≡ true → t ≡ u
+pub type_back : (t u : ValueType) → same_type t u ≡ true → t ≡ u
 type_back int int e = refl
 type_back bool bool e = refl
 type_back bytes bytes e = refl

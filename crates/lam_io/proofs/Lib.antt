@@ -1,3 +1,4 @@
+pub mod WriteLemmas
 pub mod TookLemmas
 pub mod FileLemmas
 pub mod FaultLemmas

@@ -1,7 +1,8 @@
 -- What a shelf of files and a sink of bytes do, where they tell it, and when they may fail.
-use Rattle.std.specs.Prelude.{◌≡◌, ◌≢◌, ℕ, ◌+◌, ◌-◌, ◌^◌, ◌<◌, ◌≤◌, List, ◌++◌, length, take, Option, Some, None, min}
+use Rattle.std.specs.Prelude.{◌≡◌, ◌≢◌, ℕ, ◌+◌, ◌-◌, ◌^◌, ◌<◌, ◌≤◌, List, [], ◌++◌, length, take, drop, Option, Some, None, Result, Ok, Err, min}
 use Rattle.lam_io.specs.declared.Got.{Got}
 use Rattle.lam_io.specs.declared.Got.TheVariants.{Found, Absent, TooLong}
+use Rattle.lam_io.specs.declared.SinkFault.{SinkFault}
 
 -- the bytes of each file, by its name
 abbrev pub Files : Type 0
@@ -42,3 +43,10 @@ pub record IsCount (count len : ℕ) : Type 0 where
 -- a front of the text was taken, and not all of it
 abbrev pub TookFront : Option (List ℕ) → Option (List ℕ) → List ℕ → Type 0
 TookFront old new text = (n : ℕ) × (n < length text) × Took old new (take n text)
+
+-- How a text is written, call by call, where `gives` says what a call may do: from a state and a piece, the answer and
+-- the state after it. Each call has all that is left, the first refusal ends it, and for an empty rest there is no call.
+pub data Writes {S : Type 0} (gives : S → List ℕ → Result ℕ SinkFault → S → Type 0) : S → List ℕ → Result (Unit {0}) SinkFault → S → Type 0 where
+  nothing_left : {out : S} → Writes gives out [] (Ok tt) out
+  fails : {out after : S} {rest : List ℕ} {fault : SinkFault} → 0 < length rest → gives out rest (Err fault) after → Writes gives out rest (Err fault) after
+  takes : {out between after : S} {rest : List ℕ} {count : ℕ} {answer : Result (Unit {0}) SinkFault} → 0 < length rest → gives out rest (Ok count) between → Writes gives between (drop count rest) answer after → Writes gives out rest answer after

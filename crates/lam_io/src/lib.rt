@@ -11,9 +11,10 @@
 mod device;
 mod memory;
 
-ghost use Rattle.std.specs.Prelude.{◌≡◌, ◌≤◌, List, ℕ, Option, Bool, [], length, take, IfOk, OnOk, OnErr, IsErrOf, IsTrue};
+ghost use Rattle.std.specs.Prelude.{◌≡◌, ◌≤◌, List, ℕ, Option, Result, Bool, [], length, take, IfOk, OnOk, OnErr, IsErrOf, IsTrue, ⊤};
 ghost use Rattle.lam_io.specs.declared.ShelfFault.TheVariants.{NoMemory as no_memory};
-ghost use Rattle.lam_io.specs.Outside.{Rose, AllStay, OthersStay, IsRead, Took, TookFront, IsCount};
+ghost use Rattle.lam_io.specs.declared.SinkFault.{SinkFault};
+ghost use Rattle.lam_io.specs.Outside.{Rose, AllStay, OthersStay, IsRead, Took, TookFront, IsCount, Writes};
 
 pub use device::{DirShelf, StdSink};
 pub use memory::{MemShelf, MemSink, OpenGate};
@@ -94,11 +95,14 @@ pub trait Shelf {
 
 /// An output stream: where bytes go.
 ///
-/// The bytes that it took, where it tells them, and how many of its calls failed are its meanings in proofs.
+/// The bytes that it took, where it tells them, how many of its calls failed, and what a call may do (`gives`: from a
+/// sink and a piece, the answer and the sink after it) are its meanings in proofs.
 pub trait Sink {
     ghost taken: { Self → Option (List ℕ) };
 
     ghost faults: { Self → ℕ };
+
+    ghost gives: { Self → List ℕ → Result ℕ SinkFault → Self → Type 0 } = { λ _ _ _ _. ⊤ };
 
     /// Takes some first bytes of the piece, at least one unless it is empty, and answers how many.
     fn write(&mut self, piece: &[u8]) -> Result<u64, SinkFault>
@@ -106,7 +110,8 @@ pub trait Sink {
         ensures failed { OnErr result (Rose (faults self.old) (faults self.new)) }
         ensures count { IfOk result (λ n. IsCount n (length piece.now)) }
         ensures took { IfOk result (λ n. Took (taken self.old) (taken self.new) (take n piece.now)) }
-        ensures nothing { OnErr result (Took (taken self.old) (taken self.new) []) };
+        ensures nothing { OnErr result (Took (taken self.old) (taken self.new) []) }
+        ensures gives { gives self.old piece.now result self.new };
 }
 
 /// A hook of a scheduler. It has no faults.
@@ -118,13 +123,14 @@ pub trait Gate {
     fn between(&self, worker: u64, thread: u32);
 }
 
-/// Writes all of the text, or fails with a proper front of it taken. An empty rest makes no call.
+/// Writes all of the text, or fails with a proper front of it taken. Each call has all that is left of the text, and
+/// an empty rest makes none.
 pub fn write_all<O: Sink>(out: &mut O, text: &[u8]) -> Result<(), SinkFault>
     ensures later { O.faults out.old ≤ O.faults out.new }
     ensures failed { OnErr result (Rose (O.faults out.old) (O.faults out.new)) }
     ensures all { OnOk result (Took (O.taken out.old) (O.taken out.new) text.now) }
     ensures front { OnErr result (TookFront (O.taken out.old) (O.taken out.new) text.now) }
-    ensures no_call { text.now ≡ [] → out.new ≡ out.old }
+    ensures calls { Writes O.gives out.old text.now result out.new }
 {
     let mut done = 0usize;
     while done < text.len() {

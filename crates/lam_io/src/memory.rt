@@ -80,15 +80,16 @@ impl Sink for MemSink {
 
     ghost faults = { λ s. s.faults };
 
+    ghost gives = { λ s piece answer after. (answer ≡ sink_answer s piece) × (after ≡ sink_after s piece) };
+
     /// Takes what fits. It fails exactly where the call's number is listed, and where there is a piece and no room.
     fn write(&mut self, piece: &[u8]) -> Result<u64, SinkFault>
-        ensures answer { result ≡ sink_answer self.old piece.now }
-        ensures state { self.new ≡ sink_after self.old piece.now }
         ensures later { self.old.faults ≤ self.new.faults }
         ensures failed { OnErr result (Rose self.old.faults self.new.faults) }
         ensures count { IfOk result (λ n. IsCount n (length piece.now)) }
         ensures took { IfOk result (λ n. Took (Some self.old.bytes) (Some self.new.bytes) (take n piece.now)) }
         ensures nothing { OnErr result (Took (Some self.old.bytes) (Some self.new.bytes) []) }
+        ensures gives { (result ≡ sink_answer self.old piece.now) × (self.new ≡ sink_after self.old piece.now) }
     {
         if next_fails(&mut self.calls, self.failing.as_slice(), &mut self.faults) {
             return Err(SinkFault::Failed);
@@ -252,46 +253,4 @@ impl Gate for OpenGate {
     }
 
     fn between(&self, _worker: u64, _thread: u32) {}
-}
-
-#[cfg(test)]
-mod tests {
-    use super::*;
-    use crate::write_all;
-    use std::test::Fail;
-
-    #[test]
-    fn sink_takes_what_fits(rt: HostRuntime) -> Result<(), Fail> {
-        let alloc = rt.alloc();
-        let mut failing = Vec::new(alloc);
-        failing.push(3)?;
-        let mut sink = MemSink::new(alloc, 5, failing)?;
-
-        // One call, and none for the empty rest.
-        assert_eq!(rt; write_all(&mut sink, b"ab"), Ok(()));
-        assert_eq!(rt; sink.write(b"c"), Ok(1));
-        assert_eq!(rt; sink.write(b""), Err(SinkFault::Failed));
-        assert_eq!(rt; sink.write(b""), Ok(0));
-        assert_eq!(rt; write_all(&mut sink, b"defg"), Err(SinkFault::Failed));
-        assert_eq!(rt; sink.bytes(), b"abcde".as_slice());
-        Ok(())
-    }
-
-    #[test]
-    fn shelf_reads_what_was_written(rt: HostRuntime) -> Result<(), Fail> {
-        let alloc = rt.alloc();
-        let mut failing = Vec::new(alloc);
-        failing.push(2)?;
-        let mut shelf = MemShelf::new(Vec::new(alloc), failing);
-        assert_eq!(rt; shelf.write("a", b"xy"), Ok(()));
-        assert_eq!(rt; shelf.write("a", b"z"), Err(ShelfFault::Failed));
-        let found = match shelf.read(alloc, "a", 2) {
-            Ok(Got::Found(bytes)) => bytes.as_slice() == b"xy".as_slice(),
-            _ => false,
-        };
-        assert!(rt; found);
-        assert!(rt; matches!(&shelf.read(alloc, "a", 1), Ok(Got::TooLong)));
-        assert!(rt; matches!(&shelf.read(alloc, "b", 1), Ok(Got::Absent)));
-        Ok(())
-    }
 }

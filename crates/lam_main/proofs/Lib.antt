@@ -1,7 +1,3 @@
 pub mod PrintLemmas
-pub mod WordLemmas
-pub mod AnswerLemmas
-pub mod PlanLemmas
 pub mod EndLemmas
-pub mod PlayLemmas
-pub mod FormatLemmas
+pub mod FileLemmas

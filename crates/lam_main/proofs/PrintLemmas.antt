@@ -1,40 +1,85 @@
--- what a sink took of parts of a text
-use Rattle.std.proofs.Common.{◌≡◌, ℕ, ◌+◌, List, ◌++◌, length, take, Option, Some, None, Result, Ok, Err, OnErr, ap, sym, subst, ◌∙◌, append_assoc, arith, length-append}
+-- What a sink took of the parts of a text.
+use Rattle.std.proofs.Common.{◌≡◌, ℕ, ◌+◌, ◌<◌, zero, suc, List, [], ◌∷◌, ◌++◌, length, take, drop, get_or, Option, Some, None, ap, sym, subst, refl, ◌∙◌, append_assoc, append-nil, arith, length-append, codes}
+use Rattle.std.specs.Borrow.{Bor}
 use Rattle.std.proofs.Math.Seq.{take-append-add}
 use Rattle.std.proofs.lemmas.List.{take-append-le}
 use Rattle.lam_io.specs.Outside.{Took, TookFront}
+use Rattle.lam_words.specs.Words.{Text}
+use Rattle.lam_plan.specs.declared.Status.{Status}
+use Rattle.lam_plan.specs.Codes.{code_of}
+use Rattle.lam_plan.specs.Plan.{line, refused}
+use Rattle.lam_main.specs.Lines.{texts, joined}
 
-pub took_more : (start old new : Option (List ℕ)) (a b : List ℕ) → Took start old a → Took old new b → Took start new (a ++ b)
+took_more : (start old new : Option (List ℕ)) (a b : List ℕ) → Took start old a → Took old new b → Took start new (a ++ b)
 took_more None old new a b h k = tt
 took_more (Some s) None new a b h k = cc
 took_more (Some s) (Some o) new a b h k = let same : o ≡ s ++ a = cc in k ∙ ap Some (ap (λ xs. xs ++ b) same ∙ append_assoc s a b)
 
 -- all of a part was taken, and then a front of the next
-pub front_after : (start old new : Option (List ℕ)) (a b : List ℕ) → Took start old a → TookFront old new b → TookFront start new (a ++ b)
+front_after : (start old new : Option (List ℕ)) (a b : List ℕ) → Took start old a → TookFront old new b → TookFront start new (a ++ b)
 front_after start old new a b h k =
     (length a + k.0, omega (arith, k.1, length-append a b), rw (take-append-add a b k.0) (took_more start old new a (take k.0 b) h k.2))
 
 -- a front of a part is one of the text
-pub front_before : (old new : Option (List ℕ)) (a b : List ℕ) → TookFront old new a → TookFront old new (a ++ b)
+front_before : (old new : Option (List ℕ)) (a b : List ℕ) → TookFront old new a → TookFront old new (a ++ b)
 front_before old new a b h =
     (h.0, omega (arith, h.1, length-append a b), rw (take-append-le h.0 a b (omega (arith, h.1))) h.2)
 
-pub on_err : {T E P : Type 0} (r : Result T E) → P → OnErr r P
-on_err (Ok x) p = tt
-on_err (Err e) p = p
+-- ---- parts one after another
 
-pub on_err_map : {T E P Q : Type 0} (r : Result T E) → (P → Q) → OnErr r P → OnErr r Q
-on_err_map (Ok x) f h = tt
-on_err_map (Err e) f h = f h
+joined_append : (xs ys : List Text) → joined (xs ++ ys) ≡ joined xs ++ joined ys
+joined_append [] ys = refl
+joined_append (x ∷ xs) ys = ap (λ (r : Text). x ++ r) (joined_append xs ys) ∙ sym (append_assoc x (joined xs) (joined ys))
 
--- a name between two texts, however they are grouped
-grouped : (name a b c : List ℕ) → name ++ (a ++ b ++ c) ≡ name ++ a ++ b ++ c
-grouped name a b c = sym (append_assoc name (a ++ b) c) ∙ ap (λ (xs : List ℕ). xs ++ c) (sym (append_assoc name a b))
+joined_take : (parts : List (Bor Text)) (i : ℕ) (d : Bor Text) → i < length parts → joined (texts (take (suc i) parts)) ≡ joined (texts (take i parts)) ++ (get_or parts i d).now
+joined_take [] i d less = absurd (omega arith)
+joined_take (p ∷ ps) zero d less = append-nil p.now
+joined_take (p ∷ ps) (suc i) d less = ap (λ (r : Text). p.now ++ r) (joined_take ps i d (omega arith)) ∙ sym (append_assoc p.now (joined (texts (take i ps))) (get_or ps i d).now)
 
-pub regrouped : (old new : Option (List ℕ)) (name a b c : List ℕ) → TookFront old new (name ++ (a ++ b ++ c)) → TookFront old new (name ++ a ++ b ++ c)
-regrouped old new name a b c h = subst (λ (xs : List ℕ). TookFront old new xs) (grouped name a b c) h
+one_part : (parts : List (Bor Text)) (i : ℕ) (d : Bor Text) → i < length parts → joined (texts (take (i + 1) parts)) ≡ joined (texts (take i parts)) ++ (get_or parts i d).now
+one_part parts i d less =
+    let next : i + 1 ≡ suc i = omega arith in
+    ap (λ (n : ℕ). joined (texts (take n parts))) next ∙ joined_take parts i d less
 
--- two parts of a text were taken, and then a front of the rest
-pub front_of_rest : (start first second new : Option (List ℕ)) (front name a b c : List ℕ) → Took start first front → Took first second name → TookFront second new (a ++ b ++ c) → TookFront start new (front ++ (name ++ a ++ b ++ c))
-front_of_rest start first second new front name a b c t u h =
-    front_after start first new front (name ++ a ++ b ++ c) t (regrouped first new name a b c (front_after first second new name (a ++ b ++ c) u h))
+-- some first parts were taken, and then the next
+pub one_more : (start old new : Option Text) (parts : List (Bor Text)) (i : ℕ) (d : Bor Text) → i < length parts → Took start old (joined (texts (take i parts))) → Took old new (get_or parts i d).now → Took start new (joined (texts (take (i + 1) parts)))
+one_more start old new parts i d less before now =
+    subst (λ (t : Text). Took start new t) (sym (one_part parts i d less)) (took_more start old new (joined (texts (take i parts))) (get_or parts i d).now before now)
+
+split : (parts : List (Bor Text)) (i : ℕ) → joined (texts parts) ≡ joined (texts (take i parts)) ++ joined (texts (drop i parts))
+split parts zero = refl
+split [] (suc i) = refl
+split (p ∷ ps) (suc i) = ap (λ (r : Text). p.now ++ r) (split ps i) ∙ sym (append_assoc p.now (joined (texts (take i ps))) (joined (texts (drop i ps))))
+
+-- some first parts were taken, and then a front of the next
+pub front_of_part : (start old new : Option Text) (parts : List (Bor Text)) (i : ℕ) (d : Bor Text) → i < length parts → Took start old (joined (texts (take i parts))) → TookFront old new (get_or parts i d).now → TookFront start new (joined (texts parts))
+front_of_part start old new parts i d less before now =
+    subst (λ (t : Text). TookFront start new t) (sym (split parts (i + 1)))
+    (front_before start new (joined (texts (take (i + 1) parts))) (joined (texts (drop (i + 1) parts)))
+    (subst (λ (t : Text). TookFront start new t) (sym (one_part parts i d less)) (front_after start old new (joined (texts (take i parts))) (get_or parts i d).now before now)))
+
+-- ---- the line of a refusal
+
+line_joined : (parts : List Text) → line parts ≡ joined parts ++ 10 ∷ []
+line_joined [] = refl
+line_joined (p ∷ ps) = ap (λ (r : Text). p ++ r) (line_joined ps) ∙ sym (append_assoc p (joined ps) (10 ∷ []))
+
+-- the three texts of a line: its head, its parts, and the line feed
+whole_line : (status : Status) (parts : List Text) (mark number : Text) → mark ≡ codes "lam: " → number ≡ (48 + code_of status) ∷ 32 ∷ [] → (mark ++ (number ++ [])) ++ (joined parts ++ 10 ∷ []) ≡ (refused status parts).text
+whole_line status parts mark number one two =
+    (λ i. (one i ++ (two i ++ [])) ++ (joined parts ++ 10 ∷ []))
+    ∙ ap (λ (r : Text). codes "lam: " ++ (((48 + code_of status) ∷ 32 ∷ []) ++ r)) (sym (line_joined parts))
+
+module _ (status : Status) (parts : List Text) (mark number : Text) (one : mark ≡ codes "lam: ") (two : number ≡ (48 + code_of status) ∷ 32 ∷ []) (start first second new : Option Text) where
+  pub took_line : Took start first (mark ++ (number ++ [])) → Took first second (joined parts) → Took second new (10 ∷ []) → Took start new (refused status parts).text
+  took_line h k l = subst (λ (t : Text). Took start new t) (whole_line status parts mark number one two) (took_more start first new (mark ++ (number ++ [])) (joined parts ++ 10 ∷ []) h (took_more first second new (joined parts) (10 ∷ []) k l))
+
+  pub front_of_feed : Took start first (mark ++ (number ++ [])) → Took first second (joined parts) → TookFront second new (10 ∷ []) → TookFront start new (refused status parts).text
+  front_of_feed h k l = subst (λ (t : Text). TookFront start new t) (whole_line status parts mark number one two) (front_after start first new (mark ++ (number ++ [])) (joined parts ++ 10 ∷ []) h (front_after first second new (joined parts) (10 ∷ []) k l))
+
+module _ (status : Status) (parts : List Text) (mark number : Text) (one : mark ≡ codes "lam: ") (two : number ≡ (48 + code_of status) ∷ 32 ∷ []) (start first new : Option Text) where
+  pub front_of_parts : Took start first (mark ++ (number ++ [])) → TookFront first new (joined parts) → TookFront start new (refused status parts).text
+  front_of_parts h k = subst (λ (t : Text). TookFront start new t) (whole_line status parts mark number one two) (front_after start first new (mark ++ (number ++ [])) (joined parts ++ 10 ∷ []) h (front_before first new (joined parts) (10 ∷ []) k))
+
+  pub front_of_head : TookFront start new (mark ++ (number ++ [])) → TookFront start new (refused status parts).text
+  front_of_head h = subst (λ (t : Text). TookFront start new t) (whole_line status parts mark number one two) (front_before start new (mark ++ (number ++ [])) (joined parts ++ 10 ∷ []) h)

@@ -1,3 +1,2 @@
-pub mod Words
-pub mod Plan
-pub mod Answer
+pub mod Halts
+pub mod Lines

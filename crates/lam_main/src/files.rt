@@ -2,9 +2,9 @@
 
 ghost use Rattle.std.specs.Prelude.{◌≡◌, IsTrue, IfErr, string_bytes};
 ghost use Rattle.lam_io.specs.Outside.{Rose, AllStay};
-ghost use Rattle.lam_main.specs.Answer.{IsRead};
+ghost use Rattle.lam_main.specs.Halts.{IsRead};
 
-use crate::halt::Halt;
+use crate::halt::{Halt, Refusal};
 use lam_io::{Got, Shelf, ShelfFault};
 use std::alloc::Global;
 
@@ -21,8 +21,8 @@ pub(crate) fn read_file<H: Shelf>(
 {
     match shelf.read(alloc, name.as_str(), limit) {
         Ok(Got::Found(bytes)) => Ok(bytes),
-        Ok(Got::Absent) => Err(Halt::Absent(name)),
-        Ok(Got::TooLong) => Err(Halt::TooLong(name)),
+        Ok(Got::Absent) => Err(Halt::Refused(Refusal::Absent(name))),
+        Ok(Got::TooLong) => Err(Halt::Refused(Refusal::TooLong(name))),
         Err(ShelfFault::Failed) => Err(Halt::ShelfFailed),
         Err(ShelfFault::NoMemory) => Err(Halt::NoMemory),
     }

@@ -2,11 +2,11 @@
 
 ghost use Rattle.std.specs.Prelude.{◌≡◌, ◌≢◌, IsTrue, IfErr, string_bytes};
 ghost use Rattle.lam_io.specs.Outside.{Rose, AllStay};
-ghost use Rattle.lam_main.specs.Plan.{WithFile, Plays, script_limit};
-ghost use Rattle.lam_main.specs.Answer.{Gives};
+ghost use Rattle.lam_plan.specs.Plan.{WithFile, Plays, script_limit};
+ghost use Rattle.lam_main.specs.Halts.{Says, Gives};
 
 use crate::files::read_file;
-use crate::halt::Halt;
+use crate::halt::{Halt, Refusal};
 use flow_labels::{LabelFault, parse_label};
 use lam_io::Shelf;
 use play_run::play_text;
@@ -25,7 +25,7 @@ pub(crate) fn play<H: Shelf>(
     file: String,
     observer: &str,
 ) -> Result<String, Halt>
-    ensures gives { IsTrue (H.tells shelf.old) → Gives result (WithFile (H.files shelf.old (string_bytes file)) (string_bytes file) script_limit (Plays observer.now)) }
+    ensures gives { IsTrue (H.tells shelf.old) → Gives result (WithFile (H.files shelf.old (string_bytes file)) (string_bytes file) script_limit (Plays observer.now)) (H.files shelf.old) (H.files shelf.new) }
     ensures stay { IsTrue (H.tells shelf.old) → AllStay (H.files shelf.old) (H.files shelf.new) }
     ensures failed { IfErr result (λ halt. halt ≡ Halt.ShelfFailed → Rose (H.faults shelf.old) (H.faults shelf.new)) }
 {
@@ -35,19 +35,19 @@ pub(crate) fn play<H: Shelf>(
 
 /// What an observer sees of the script in a file's bytes.
 fn play_bytes(alloc: Global, bytes: &[u8], observer: &str) -> Result<String, Halt>
-    ensures gives { Gives result (Plays observer.now bytes.now) }
+    ensures says { Says result (Plays observer.now bytes.now) }
     ensures no_fault { IfErr result (λ halt. halt ≢ Halt.ShelfFailed) }
 {
     let script = match read_script(alloc, bytes) {
         Ok(script) => script,
-        Err(ScriptFault::Line(line)) => return Err(Halt::Script(line)),
+        Err(ScriptFault::Line(line)) => return Err(Halt::Refused(Refusal::Script(line))),
         Err(ScriptFault::NoMemory) => return Err(Halt::NoMemory),
     };
     let label = match parse_label(observer, &script.tags) {
         Ok(label) => label,
-        Err(LabelFault::BadLabel { at: _ } | LabelFault::NoTag { at: _ }) => return Err(Halt::Word(
-            OBSERVER_WORD,
-        )),
+        Err(LabelFault::BadLabel { at: _ } | LabelFault::NoTag { at: _ }) => {
+            return Err(Halt::Refused(Refusal::Word(OBSERVER_WORD)));
+        }
         Err(LabelFault::NoMemory) => return Err(Halt::NoMemory),
     };
     Ok(play_text(alloc, &script, &label)?)

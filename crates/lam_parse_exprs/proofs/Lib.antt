@@ -1,5 +1,2 @@
 pub mod Ranks
-pub mod Begun
-pub mod Steps
-pub mod Forms
 pub mod Lists

@@ -1,17 +1,16 @@
 //! Expressions by their operators: those that group to the left, comparisons, prefixes, and postfix parts.
 
-ghost use Rattle.std.specs.Prelude.{◌≡◌, ◌+◌, ◌^◌, ◌<◌, ◌≤◌, length, IfOk};
-ghost use Rattle.lam_syntax.specs.Tree.{expr_tree, expr_node, binary_expr, unary_expr, field_expr, element_expr, id_tree};
+ghost use Rattle.std.specs.Prelude.{◌≡◌, ◌<◌, ◌≤◌, length, IfOk, MatchResult};
 ghost use Rattle.lam_grammar.specs.Table as table;
-ghost use Rattle.lam_grammar.specs.Meaning as meaning;
 ghost use Rattle.lam_reading.specs.Reading.{ReadsExpr};
+ghost use Rattle.lam_parse_parts.specs.Parts.{IsElement, IndexFails};
 
 use crate::primary::primary;
 use lam_grammar::Level;
-use lam_lexer::{Token, TokenKind};
-use lam_reading::{Break, Mark, Read, name_of, take, take_if};
-use lam_syntax::{BinaryOp, Expr, ExprKind, Id, UnaryOp};
-use std::alloc::{AllocError, Global};
+use lam_lexer::Token;
+use lam_parse_parts::{binary_op, element, joined, make_unary, member, unary_op};
+use lam_reading::{Break, Mark, Read, take, take_if};
+use std::alloc::Global;
 
 /// The expression that is written from a token on.
 ///
@@ -142,121 +141,25 @@ fn postfix(alloc: Global, tokens: &[Token], at: usize, depth: u64) -> Result<Rea
     let mut of = primary(alloc, tokens, at, depth)?;
     loop {
         if let Some(_dot) = take_if(tokens, of.next, of.depth, Mark::Dot)? {
-            let token = take(tokens, of.next + 1, of.depth, Mark::Member)?;
-            let field = name_of(alloc, token)?;
-            of = member(alloc, of, field)?;
+            of = member(alloc, tokens, of)?;
             continue;
         }
         let Some(_bracket) = take_if(tokens, of.next, of.depth, Mark::BracketOpen)? else {
             return Ok(of);
         };
-        let index = expression(alloc, tokens, of.next + 1, of.depth)?;
-        let _close = take(tokens, index.next, of.depth, Mark::IndexClose)?;
-        of = element(alloc, of, index)?;
+        of = indexed(alloc, tokens, of)?;
     }
 }
 
-fn binary_op(kind: &TokenKind) -> BinaryOp
-    ensures { result ≡ meaning.binary_op kind.now }
+// What is read, with the index whose bracket stands behind it.
+#[cycle(expression)]
+fn indexed(alloc: Global, tokens: &[Token], of: Read) -> Result<Read, Break>
+    requires in_range { of.next < length tokens.now }
+    requires bounded { of.depth ≤ 128 }
+    ensures reads { MatchResult result (IsElement tokens.now of) (IndexFails tokens.now of) }
+    ensures within { IfOk result (λ x. x.next ≤ length tokens.now) }
 {
-    match kind {
-        TokenKind::Or => BinaryOp::Or,
-        TokenKind::And => BinaryOp::And,
-        TokenKind::Equal => BinaryOp::Eq,
-        TokenKind::NotEqual => BinaryOp::Ne,
-        TokenKind::Less => BinaryOp::Lt,
-        TokenKind::LessEqual => BinaryOp::Le,
-        TokenKind::Greater => BinaryOp::Gt,
-        TokenKind::GreaterEqual => BinaryOp::Ge,
-        TokenKind::Plus => BinaryOp::Add,
-        TokenKind::Minus => BinaryOp::Sub,
-        TokenKind::Star => BinaryOp::Mul,
-        TokenKind::Slash => BinaryOp::Div,
-        _ => BinaryOp::Rem,
-    }
-}
-
-fn unary_op(kind: &TokenKind) -> UnaryOp
-    ensures { result ≡ meaning.unary_op kind.now }
-{
-    match kind {
-        TokenKind::Not => UnaryOp::Not,
-        _ => UnaryOp::Neg,
-    }
-}
-
-// Two operands with the operator between them.
-fn joined(alloc: Global, left: Read, op: BinaryOp, right: Read) -> Result<Read, AllocError>
-    ensures tree { IfOk result (λ x. expr_tree x.expr ≡ expr_node left.begin (binary_expr op (expr_tree left.expr) (expr_tree right.expr))) }
-    ensures places { IfOk result (λ x. (x.begin ≡ left.begin) × (x.next ≡ right.next) × (x.depth ≡ right.depth)) }
-{
-    let begin = left.begin;
-    let left = Box::new(alloc, left.expr)?;
-    let next = right.next;
-    let depth = right.depth;
-    let right = Box::new(alloc, right.expr)?;
-    Ok(Read {
-        expr: Expr {
-            at: begin,
-            kind: ExprKind::Binary { op, left, right },
-        },
-        begin,
-        next,
-        depth,
-    })
-}
-
-fn make_unary(alloc: Global, at: u64, op: UnaryOp, of: Expr) -> Result<Expr, AllocError>
-    ensures { IfOk result (λ e. expr_tree e ≡ expr_node at (unary_expr op (expr_tree of))) }
-{
-    let of = Box::new(alloc, of)?;
-    Ok(Expr {
-        at,
-        kind: ExprKind::Unary { op, of },
-    })
-}
-
-// What is read, with a field behind it.
-fn member(alloc: Global, of: Read, field: Id) -> Result<Read, AllocError>
-    requires room { of.next + 2 < 2 ^ 64 }
-    requires low { of.depth ≤ 150 }
-    ensures tree { IfOk result (λ x. expr_tree x.expr ≡ expr_node of.begin (field_expr (expr_tree of.expr) (id_tree field))) }
-    ensures places { IfOk result (λ x. (x.begin ≡ of.begin) × (x.next ≡ of.next + 1 + 1) × (x.depth ≡ of.depth + 1)) }
-{
-    let begin = of.begin;
-    let next = of.next + 1 + 1;
-    let depth = of.depth + 1;
-    let of = Box::new(alloc, of.expr)?;
-    Ok(Read {
-        expr: Expr {
-            at: begin,
-            kind: ExprKind::Field { of, field },
-        },
-        begin,
-        next,
-        depth,
-    })
-}
-
-// What is read, with an index behind it.
-fn element(alloc: Global, of: Read, index: Read) -> Result<Read, AllocError>
-    requires room { index.next + 1 < 2 ^ 64 }
-    requires low { of.depth ≤ 150 }
-    ensures tree { IfOk result (λ x. expr_tree x.expr ≡ expr_node of.begin (element_expr (expr_tree of.expr) (expr_tree index.expr))) }
-    ensures places { IfOk result (λ x. (x.begin ≡ of.begin) × (x.next ≡ index.next + 1) × (x.depth ≡ of.depth + 1)) }
-{
-    let begin = of.begin;
-    let next = index.next + 1;
-    let depth = of.depth + 1;
-    let of = Box::new(alloc, of.expr)?;
-    let index = Box::new(alloc, index.expr)?;
-    Ok(Read {
-        expr: Expr {
-            at: begin,
-            kind: ExprKind::Element { of, index },
-        },
-        begin,
-        next,
-        depth,
-    })
+    let index = expression(alloc, tokens, of.next + 1, of.depth)?;
+    let _close = take(tokens, index.next, of.depth, Mark::IndexClose)?;
+    Ok(element(alloc, of, index)?)
 }

@@ -8,63 +8,19 @@ ghost use Rattle.lam_grammar.specs.Table as table;
 ghost use Rattle.lam_reading.specs.Classes.{fits_at};
 ghost use Rattle.lam_reading.specs.Reading.{ReadsExpr};
 ghost use Rattle.lam_reading.specs.declared.marks.Mark.TheVariants as mark;
-ghost use Rattle.lam_parse_exprs.specs.Forms.{form_of, kind_form};
-ghost use Rattle.lam_parse_exprs.specs.Parts.{ReadsArgs, ReadsCaps, ReadsCap, ReadsForm};
-ghost use Rattle.lam_parse_exprs.specs.declared.primary.Form.TheVariants as form;
+ghost use Rattle.lam_parse_parts.specs.Forms.{form_of, kind_form};
+ghost use Rattle.lam_parse_parts.specs.Parts.{ReadsArgs, ReadsForm};
+ghost use Rattle.lam_parse_parts.specs.declared.primary.Form.TheVariants as form;
 
-use crate::nodes::{
-    array_kind, make_call, make_cap, make_caps, make_label, make_literal, make_name, make_node,
-    make_spawn,
-};
 use crate::operators::expression;
-use crate::types::typ;
-use lam_lexer::{Token, TokenKind};
+use lam_lexer::Token;
+use lam_parse_parts::{
+    Form, array_kind, caps_of, form_at, literal, make_call, make_label, make_name, make_node,
+    make_spawn, new_class, typ,
+};
 use lam_reading::{Break, Mark, Read, Wanted, begins_expression, name_of, next_is, take, take_if};
-use lam_syntax::{CapItem, Expr, ExprKind};
+use lam_syntax::{Expr, ExprKind};
 use std::alloc::Global;
-
-/// The forms of a primary expression, by the token with which it begins.
-#[derive(Clone, Copy, Debug, PartialEq, Eq, Drop)]
-pub enum Form {
-    Literal,
-    Parens,
-    /// a name, or a call
-    Name,
-    New,
-    Label,
-    Caps,
-    Spawn,
-    /// The token begins no expression.
-    Other,
-}
-
-fn form_of_kind(kind: &TokenKind) -> Form
-    ensures { result ≡ kind_form kind.now }
-{
-    match kind {
-        TokenKind::Number(_)
-        | TokenKind::Text(_)
-        | TokenKind::True
-        | TokenKind::False
-        | TokenKind::Null => Form::Literal,
-        TokenKind::ParenOpen => Form::Parens,
-        TokenKind::Id(_) => Form::Name,
-        TokenKind::New => Form::New,
-        TokenKind::Label => Form::Label,
-        TokenKind::Caps => Form::Caps,
-        TokenKind::Spawn => Form::Spawn,
-        _ => Form::Other,
-    }
-}
-
-fn form_at(tokens: &[Token], at: usize) -> Form
-    ensures { result ≡ form_of (slice_get tokens.now at) }
-{
-    match tokens.get(at) {
-        Some(token) => form_of_kind(&token.kind),
-        None => Form::Other,
-    }
-}
 
 /// An expression without operators and postfix parts.
 ///
@@ -92,22 +48,6 @@ pub fn primary(alloc: Global, tokens: &[Token], at: usize, depth: u64) -> Result
             wanted: Wanted::Expression,
         }),
     }
-}
-
-fn literal(alloc: Global, tokens: &[Token], at: usize, depth: u64) -> Result<Read, Break>
-    requires begins { form_of (slice_get tokens.now at) ≡ form.Literal }
-    ensures reads { ReadsExpr tokens.now table.prim depth at result }
-    ensures goes_on { IfOk result (λ x. (at < x.next) × (x.next ≤ length tokens.now)) }
-    ensures depth { IfOk result (λ x. x.depth ≡ depth) }
-{
-    let token = take(tokens, at, depth, Mark::Literal)?;
-    let expr = make_literal(alloc, token)?;
-    Ok(Read {
-        expr,
-        begin: token.at,
-        next: at + 1,
-        depth,
-    })
 }
 
 /// An expression in parentheses. It begins at the opening one, of which its tree has nothing.
@@ -238,25 +178,6 @@ fn new_part(
     })
 }
 
-fn new_class(
-    alloc: Global,
-    tokens: &[Token],
-    at: usize,
-    depth: u64,
-) -> Result<(ExprKind, usize), Break>
-    requires begins { fits_at mark.Name (slice_get tokens.now at) ≡ true }
-    ensures reads { ReadsForm tokens.now table.new_part depth at result }
-    ensures goes_on { IfOk result (λ x. (at < x.1) × (x.1 ≤ length tokens.now)) }
-{
-    let name = take(tokens, at, depth, Mark::Name)?;
-    let open = at + 1;
-    let _open = take(tokens, open, depth, Mark::ParenOpen)?;
-    let close = open + 1;
-    let _close = take(tokens, close, depth, Mark::ParenClose)?;
-    let class = name_of(alloc, name)?;
-    Ok((ExprKind::NewClass { class }, close + 1))
-}
-
 #[cycle(expression)]
 fn new_array(
     alloc: Global,
@@ -300,69 +221,6 @@ fn label_of(alloc: Global, tokens: &[Token], at: usize, depth: u64) -> Result<Re
     })
 }
 
-/// `caps` with tags and their signs.
-fn caps_of(alloc: Global, tokens: &[Token], at: usize, depth: u64) -> Result<Read, Break>
-    requires begins { form_of (slice_get tokens.now at) ≡ form.Caps }
-    ensures reads { ReadsExpr tokens.now table.prim depth at result }
-    ensures goes_on { IfOk result (λ x. (at < x.next) × (x.next ≤ length tokens.now)) }
-    ensures depth { IfOk result (λ x. x.depth ≡ depth) }
-{
-    let word = take(tokens, at, depth, Mark::Caps)?;
-    let open = at + 1;
-    let _open = take(tokens, open, depth, Mark::BraceOpen)?;
-    let (items, close) = cap_items(alloc, tokens, open + 1, depth)?;
-    let _close = take(tokens, close, depth, Mark::BraceClose)?;
-    Ok(Read {
-        expr: make_caps(word.at, items),
-        begin: word.at,
-        next: close + 1,
-        depth,
-    })
-}
-
-/// Tags with their signs and a comma between each two, or none, and the place behind them.
-fn cap_items(
-    alloc: Global,
-    tokens: &[Token],
-    at: usize,
-    depth: u64,
-) -> Result<(Vec<CapItem>, usize), Break>
-    requires in_range { at ≤ length tokens.now }
-    ensures reads { ReadsCaps tokens.now table.cap_items depth at result }
-    ensures goes_on { IfOk result (λ x. (at ≤ x.1) × (x.1 ≤ length tokens.now)) }
-{
-    let mut items = Vec::new(alloc);
-    if !next_is(tokens, at, Mark::Name) {
-        return Ok((items, at));
-    }
-    let (first, behind) = cap_item(alloc, tokens, at, depth)?;
-    items.push(first)?;
-    let mut next = behind;
-    while let Some(_comma) = take_if(tokens, next, depth, Mark::Comma)? {
-        let (item, behind) = cap_item(alloc, tokens, next + 1, depth)?;
-        items.push(item)?;
-        next = behind;
-    }
-    Ok((items, next))
-}
-
-/// A tag with its sign, and the place behind it.
-fn cap_item(
-    alloc: Global,
-    tokens: &[Token],
-    at: usize,
-    depth: u64,
-) -> Result<(CapItem, usize), Break>
-    ensures reads { ReadsCap tokens.now table.cap_item depth at result }
-    ensures goes_on { IfOk result (λ x. (at < x.1) × (x.1 ≤ length tokens.now)) }
-{
-    let name = take(tokens, at, depth, Mark::Name)?;
-    let behind = at + 1;
-    let sign = take(tokens, behind, depth, Mark::Sign)?;
-    let item = make_cap(alloc, name, sign)?;
-    Ok((item, behind + 1))
-}
-
 /// `spawn` with the capabilities of the new thread and the call that it begins with.
 #[cycle(expression)]
 fn spawned(alloc: Global, tokens: &[Token], at: usize, depth: u64) -> Result<Read, Break>
@@ -382,47 +240,4 @@ fn spawned(alloc: Global, tokens: &[Token], at: usize, depth: u64) -> Result<Rea
         next,
         depth,
     })
-}
-
-#[cfg(test)]
-mod tests {
-    use super::*;
-    use lam_lexer::lex;
-    use std::test::Fail;
-
-    /// The index of the token behind the primary expression at the front of a text, or why there is none.
-    fn end(rt: &HostRuntime, text: &str) -> Result<Result<usize, Break>, Fail> {
-        let tokens = lex(rt.alloc(), text)?;
-        match primary(rt.alloc(), &tokens, 0, 0) {
-            Ok(read) => Ok(Ok(read.next)),
-            Err(e) => Ok(Err(e)),
-        }
-    }
-
-    fn wrong(at: usize, wanted: Wanted) -> Result<usize, Break> {
-        Err(Break::Unexpected { at, wanted })
-    }
-
-    #[test]
-    fn primaries(rt: HostRuntime) -> Result<(), Fail> {
-        assert_eq!(rt; end(&rt, "7")?, Ok(1));
-        assert_eq!(rt; end(&rt, "(x)")?, Ok(3));
-        assert_eq!(rt; end(&rt, "f(x, y(), \"a\")")?, Ok(10));
-        assert_eq!(rt; end(&rt, "new C()")?, Ok(4));
-        assert_eq!(rt; end(&rt, "new [[int]](n)")?, Ok(9));
-        assert_eq!(rt; end(&rt, "label{a, b; c}")?, Ok(8));
-        assert_eq!(rt; end(&rt, "label{;}")?, Ok(4));
-        assert_eq!(rt; end(&rt, "caps{a+, b-}")?, Ok(8));
-        assert_eq!(rt; end(&rt, "caps{}")?, Ok(3));
-        assert_eq!(rt; end(&rt, "spawn(c) f(x)")?, Ok(8));
-        assert_eq!(rt; end(&rt, "f(x,)")?, wrong(4, Wanted::Expression));
-        assert_eq!(rt; end(&rt, "caps{a*}")?, wrong(3, Wanted::Mark(Mark::Sign)));
-        assert_eq!(rt; end(&rt, "new 3")?, wrong(1, Wanted::Name));
-        assert_eq!(rt;
-            end(&rt, "label{a b}")?,
-            wrong(3, Wanted::Mark(Mark::Semicolon))
-        );
-        assert_eq!(rt; end(&rt, "")?, wrong(0, Wanted::Expression));
-        Ok(())
-    }
 }

@@ -22,7 +22,7 @@ use Rattle.lam_reading.specs.declared.breaks.Wanted.TheVariants.{Item}
 use Rattle.lam_reading.specs.Classes.{class_of, fits_at, sample_of}
 use Rattle.lam_reading.specs.Reading.{Gives, Fails, Taken, Absent}
 use Rattle.lam_reading.proofs.Rules.{Loop}
-use Rattle.lam_parse_exprs.proofs.Steps.{front_at}
+use Rattle.lam_parse_parts.proofs.Steps.{front_at}
 use Rattle.lam_parser.specs.Parts.{type_or_nothing}
 
 pub items_begin : (o : Option Token) → begins_next lam items o ≡ begins_next lam item o

@@ -7,9 +7,8 @@ ghost use Rattle.lam_reading.specs.Reading.{Taken};
 ghost use Rattle.lam_parser.specs.Parts.{ReadsItem, ReadsProgram, ReadsResult};
 
 use crate::stmts::block;
-use crate::variables::{fields, params, take_name};
 use lam_lexer::Token;
-use lam_parse_exprs::typ;
+use lam_parse_parts::{fields, params, take_name, typ};
 use lam_reading::{Break, Mark, Wanted, next_is, take, take_if};
 use lam_syntax::{Class, Function, Item, Program, TypeExpr};
 use std::alloc::Global;

@@ -1,8 +1,8 @@
 //! From the tokens of a text to the tree of its program.
 //!
 //! `parse` is the plain descent over the grammar's rules, one small function for each: items and their parts in `items`,
-//! statements and blocks in `stmts`, names with types and the lists of them in `variables`; types and expressions are
-//! read by `lam_parse_exprs`. It looks at one token ahead and copies no tokens. Items, statements and the other lists
+//! statements with blocks in `stmts`. What contains no block is read by `lam_parse_stmts`, expressions by
+//! `lam_parse_exprs`, types and names by `lam_parse_parts`. It looks at one token ahead and copies no tokens. Items, statements and the other lists
 //! are read by loops; blocks within blocks are read by calls within calls, at most 128 deep, since each counts in the
 //! depth sum.
 //!
@@ -18,7 +18,6 @@ ghost use Rattle.lam_parser.specs.Answers.{Parses, place};
 
 mod items;
 mod stmts;
-mod variables;
 
 use items::program;
 use lam_lexer::Token;
@@ -82,113 +81,5 @@ fn fault_of(tokens: &[Token], stopped: Break) -> ParseFault
             at: position(tokens, at),
         },
         Break::NoMemory => ParseFault::NoMemory,
-    }
-}
-
-#[cfg(test)]
-mod tests {
-    use super::*;
-    use lam_lexer::{TokenKind, lex};
-    use lam_syntax::{Item, StmtKind};
-    use std::test::Fail;
-
-    /// How many items a text has, or its fault.
-    fn items_of(rt: &HostRuntime, text: &str) -> Result<usize, ParseFault> {
-        let Ok(tokens) = lex(rt.alloc(), text) else {
-            return Err(ParseFault::NoMemory);
-        };
-        let program = parse(rt.alloc(), &tokens)?;
-        Ok(program.items.len())
-    }
-
-    fn unexpected(at: u64, wanted: Wanted) -> Result<usize, ParseFault> {
-        Err(ParseFault::Unexpected { at, wanted })
-    }
-
-    #[test]
-    fn programs_are_read(rt: HostRuntime) {
-        let class = "class Point { x: int; names: [[bytes]]; } fn main(): int { return 1; }";
-        let flat =
-            "fn f(a: int, b: Point) { let x: tag = a.b[1 + 2] == null || !b; x[a] = (-b); f(x, 1); throw a; }";
-        let nested = "fn f() { if (a) { } else { while (b) { return; } } sync (x) { return x; } }";
-        let region =
-            "fn f() { region (label{a; b}, caps{t+}) [x, y] { x.y = spawn(c) f(); } catch (e) { } }";
-        assert_eq!(rt; items_of(&rt, ""), Ok(0));
-        assert_eq!(rt; items_of(&rt, class), Ok(2));
-        assert_eq!(rt; items_of(&rt, flat), Ok(1));
-        assert_eq!(rt; items_of(&rt, nested), Ok(1));
-        assert_eq!(rt; items_of(&rt, region), Ok(1));
-    }
-
-    #[test]
-    fn first_fault_of_a_program(rt: HostRuntime) {
-        let brace = Wanted::Mark(Mark::BraceOpen);
-        assert_eq!(rt; items_of(&rt, "let"), unexpected(0, Wanted::Item));
-        assert_eq!(rt; items_of(&rt, "fn 1"), unexpected(3, Wanted::Name));
-        assert_eq!(rt;
-            items_of(&rt, "fn f() { f() = 1; }"),
-            unexpected(13, Wanted::Place)
-        );
-        assert_eq!(rt;
-            items_of(&rt, "fn f() { ) }"),
-            unexpected(9, Wanted::Statement)
-        );
-        assert_eq!(rt;
-            items_of(&rt, "fn f() { if (1) { } else return; }"),
-            unexpected(25, brace)
-        );
-        assert_eq!(rt;
-            items_of(&rt, "fn f() { x = ; }"),
-            unexpected(13, Wanted::Expression)
-        );
-        assert_eq!(rt;
-            items_of(&rt, "fn f() { let x: 1"),
-            unexpected(16, Wanted::TypeName)
-        );
-        assert_eq!(rt;
-            items_of(&rt, "fn f() { "),
-            unexpected(9, Wanted::Statement)
-        );
-    }
-
-    #[test]
-    fn depth_has_a_limit(rt: HostRuntime) {
-        let most = "fn f() { !!!!!!!!!!!!!!!!!!!!!!!!!!!!!!!!!!!!!!!!!!!!!!!!!!!!!!!!!!!!!!x; }";
-        let more = "fn f() { !!!!!!!!!!!!!!!!!!!!!!!!!!!!!!!!!!!!!!!!!!!!!!!!!!!!!!!!!!!!!!!x; }";
-        assert_eq!(rt; items_of(&rt, most), Ok(1));
-        assert_eq!(rt; items_of(&rt, more), Err(ParseFault::TooDeep { at: 72 }));
-    }
-
-    #[test]
-    fn tokens_beyond_their_end(rt: HostRuntime) -> Result<(), Fail> {
-        let mut tokens = lex(rt.alloc(), "")?;
-        tokens.push(Token {
-            at: 5,
-            kind: TokenKind::Comma,
-        })?;
-        let answer = parse(rt.alloc(), &tokens).map(|program| program.items.len());
-        assert_eq!(rt; answer, unexpected(5, Wanted::Mark(Mark::End)));
-        let answer = parse(rt.alloc(), &tokens[..0]).map(|program| program.items.len());
-        assert_eq!(rt; answer, unexpected(0, Wanted::Item));
-        Ok(())
-    }
-
-    #[test]
-    fn statements_keep_their_places(rt: HostRuntime) -> Result<(), Fail> {
-        let tokens = lex(rt.alloc(), "fn f() { (1); }")?;
-        let program = parse(rt.alloc(), &tokens)?;
-        assert_eq!(rt; program.items.len(), 1);
-        let kept = match &program.items[0] {
-            Item::Function(f) => match f.body.as_slice() {
-                [s] => match &s.kind {
-                    StmtKind::Do(e) => s.at == 9 && e.at == 10,
-                    _ => false,
-                },
-                _ => false,
-            },
-            Item::Class(_) => false,
-        };
-        assert!(rt; kept);
-        Ok(())
     }
 }

@@ -1,21 +1,20 @@
 //! Statements and blocks.
 
-ghost use Rattle.std.specs.Prelude.{◌≡◌, true, ◌<◌, ◌≤◌, length, slice_get, IfOk};
-ghost use Rattle.lam_syntax.specs.Tree.{expr_tree};
-ghost use Rattle.lam_grammar.specs.Table.{captures};
-ghost use Rattle.lam_grammar.specs.Meaning.{is_place};
+ghost use Rattle.std.specs.Prelude.{◌<◌, ◌≤◌, length, IfOk};
 ghost use Rattle.lam_reading.specs.Reading.{Taken};
-ghost use Rattle.lam_parser.specs.Parts.{ReadsStmt, ReadsBlock, ReadsElse, ReadsHead, ReadsNames, ReadsHandler, NoWord};
+ghost use Rattle.lam_parse_stmts.specs.Parts.{ReadsStmt};
+ghost use Rattle.lam_parser.specs.Parts.{ReadsBlock, ReadsElse, ReadsHandler};
 
-use crate::variables::{names, take_name, variable};
 use lam_lexer::Token;
-use lam_parse_exprs::{expression, parens};
-use lam_reading::{Break, Mark, Wanted, begins_expression, begins_statement, take, take_if};
-use lam_syntax::{Expr, ExprKind, Id, Stmt, StmtKind};
+use lam_parse_exprs::parens;
+use lam_parse_parts::take_name;
+use lam_parse_stmts::{
+    Handler, ReadStmt, captures, expression_statement, let_statement, make_if, make_region,
+    make_sync, make_while, region_head, return_statement, throw_statement,
+};
+use lam_reading::{Break, Mark, Wanted, begins_statement, take, take_if};
+use lam_syntax::Stmt;
 use std::alloc::Global;
-
-/// A statement that was read, and the token after it.
-type ReadStmt = (Stmt, usize);
 
 /// Statements that were read, and the token after them.
 type ReadBlock = (Vec<Stmt>, usize);
@@ -83,31 +82,6 @@ fn statement(alloc: Global, tokens: &[Token], at: usize, depth: u64) -> Result<R
     expression_statement(alloc, tokens, at, depth)
 }
 
-/// `let name: type = value;`
-fn let_statement(
-    alloc: Global,
-    tokens: &[Token],
-    at: usize,
-    depth: u64,
-    word: &Token,
-) -> Result<ReadStmt, Break>
-    requires in_range { at ≤ length tokens.now }
-    requires bounded { depth ≤ 128 }
-    requires begun { Taken tokens.now depth at Mark.Let word.now }
-    ensures reads { ReadsStmt tokens.now depth at result }
-    ensures goes_on { IfOk result (λ x. (at < x.1) × (x.1 ≤ length tokens.now)) }
-{
-    let (var, equals) = variable(alloc, tokens, at + 1, depth)?;
-    take(tokens, equals, depth, Mark::Assign)?;
-    let value = expression(alloc, tokens, equals + 1, depth)?;
-    take(tokens, value.next, depth, Mark::Semicolon)?;
-    let kind = StmtKind::Let {
-        var,
-        value: value.expr,
-    };
-    Ok((Stmt { at: word.at, kind }, value.next + 1))
-}
-
 /// `if (test) { yes } else { no }`, or without `else`.
 #[cycle(statement)]
 fn if_statement(
@@ -126,12 +100,7 @@ fn if_statement(
     let test = parens(alloc, tokens, at + 1, depth)?;
     let (yes, other) = block(alloc, tokens, test.next, depth)?;
     let (no, next) = else_part(alloc, tokens, other, depth)?;
-    let kind = StmtKind::If {
-        test: test.expr,
-        yes,
-        no,
-    };
-    Ok((Stmt { at: word.at, kind }, next))
+    Ok((make_if(word.at, test.expr, yes, no), next))
 }
 
 /// `else` and a block, or nothing.
@@ -171,57 +140,7 @@ fn while_statement(
 {
     let test = parens(alloc, tokens, at + 1, depth)?;
     let (body, next) = block(alloc, tokens, test.next, depth)?;
-    let kind = StmtKind::While {
-        test: test.expr,
-        body,
-    };
-    Ok((Stmt { at: word.at, kind }, next))
-}
-
-/// `return value;`, or `return;`
-fn return_statement(
-    alloc: Global,
-    tokens: &[Token],
-    at: usize,
-    depth: u64,
-    word: &Token,
-) -> Result<ReadStmt, Break>
-    requires in_range { at ≤ length tokens.now }
-    requires bounded { depth ≤ 128 }
-    requires begun { Taken tokens.now depth at Mark.Return word.now }
-    ensures reads { ReadsStmt tokens.now depth at result }
-    ensures goes_on { IfOk result (λ x. (at < x.1) × (x.1 ≤ length tokens.now)) }
-{
-    let after_word = at + 1;
-    if !begins_expression(tokens, after_word) {
-        take(tokens, after_word, depth, Mark::Semicolon)?;
-        let kind = StmtKind::Return(None);
-        return Ok((Stmt { at: word.at, kind }, after_word + 1));
-    }
-    let value = expression(alloc, tokens, after_word, depth)?;
-    take(tokens, value.next, depth, Mark::Semicolon)?;
-    let kind = StmtKind::Return(Some(value.expr));
-    Ok((Stmt { at: word.at, kind }, value.next + 1))
-}
-
-/// `throw value;`
-fn throw_statement(
-    alloc: Global,
-    tokens: &[Token],
-    at: usize,
-    depth: u64,
-    word: &Token,
-) -> Result<ReadStmt, Break>
-    requires in_range { at ≤ length tokens.now }
-    requires bounded { depth ≤ 128 }
-    requires begun { Taken tokens.now depth at Mark.Throw word.now }
-    ensures reads { ReadsStmt tokens.now depth at result }
-    ensures goes_on { IfOk result (λ x. (at < x.1) × (x.1 ≤ length tokens.now)) }
-{
-    let value = expression(alloc, tokens, at + 1, depth)?;
-    take(tokens, value.next, depth, Mark::Semicolon)?;
-    let kind = StmtKind::Throw(value.expr);
-    Ok((Stmt { at: word.at, kind }, value.next + 1))
+    Ok((make_while(word.at, test.expr, body), next))
 }
 
 /// `sync (thing) { body }`
@@ -241,11 +160,7 @@ fn sync_statement(
 {
     let thing = parens(alloc, tokens, at + 1, depth)?;
     let (body, next) = block(alloc, tokens, thing.next, depth)?;
-    let kind = StmtKind::Sync {
-        thing: thing.expr,
-        body,
-    };
-    Ok((Stmt { at: word.at, kind }, next))
+    Ok((make_sync(word.at, thing.expr, body), next))
 }
 
 /// `region (label, caps) [captures] { body } catch (name) { handler }`
@@ -266,78 +181,22 @@ fn region_statement(
     let head = region_head(alloc, tokens, at + 1, depth)?;
     let (captures, brace) = captures(alloc, tokens, head.next, depth)?;
     let (body, word_catch) = block(alloc, tokens, brace, depth)?;
-    let caught = handler(alloc, tokens, word_catch, depth)?;
-    let kind = StmtKind::Region {
-        label: head.label,
-        caps: head.caps,
-        captures,
-        body,
-        catch_name: caught.name,
-        catch_body: caught.body,
-    };
-    Ok((Stmt { at: word.at, kind }, caught.next))
-}
-
-/// The head of a region that was read, and the token after it.
-#[derive(Drop)]
-struct Head {
-    label: Expr,
-    caps: Expr,
-    next: usize,
-}
-
-/// `(label, caps)`
-fn region_head(alloc: Global, tokens: &[Token], at: usize, depth: u64) -> Result<Head, Break>
-    requires in_range { at ≤ length tokens.now }
-    requires bounded { depth ≤ 128 }
-    ensures reads { ReadsHead tokens.now depth at result }
-    ensures goes_on { IfOk result (λ x. (at < x.next) × (x.next ≤ length tokens.now)) }
-{
-    take(tokens, at, depth, Mark::ParenOpen)?;
-    let label = expression(alloc, tokens, at + 1, depth)?;
-    take(tokens, label.next, depth, Mark::Comma)?;
-    let caps = expression(alloc, tokens, label.next + 1, depth)?;
-    take(tokens, caps.next, depth, Mark::ParenClose)?;
-    Ok(Head {
-        label: label.expr,
-        caps: caps.expr,
-        next: caps.next + 1,
-    })
-}
-
-/// `[names]`
-fn captures(
-    alloc: Global,
-    tokens: &[Token],
-    at: usize,
-    depth: u64,
-) -> Result<(Vec<Id>, usize), Break>
-    requires in_range { at ≤ length tokens.now }
-    requires bounded { depth ≤ 128 }
-    ensures reads { ReadsNames tokens.now captures depth at result }
-    ensures goes_on { IfOk result (λ x. (at < x.1) × (x.1 ≤ length tokens.now)) }
-{
-    take(tokens, at, depth, Mark::BracketOpen)?;
-    let (all, next) = names(alloc, tokens, at + 1, depth)?;
-    take(tokens, next, depth, Mark::BracketClose)?;
-    Ok((all, next + 1))
-}
-
-/// What a region does with a fault, as it was read, and the token after it.
-#[derive(Drop)]
-struct Catch {
-    name: Id,
-    body: Vec<Stmt>,
-    next: usize,
+    let (caught, next) = handler(alloc, tokens, word_catch, depth)?;
+    Ok((make_region(word.at, head, captures, body, caught), next))
 }
 
 /// `catch (name) { body }`
 #[cycle(statement)]
-fn handler(alloc: Global, tokens: &[Token], at: usize, depth: u64) -> Result<Catch, Break>
+fn handler(
+    alloc: Global,
+    tokens: &[Token],
+    at: usize,
+    depth: u64,
+) -> Result<(Handler, usize), Break>
     requires in_range { at ≤ length tokens.now }
     requires bounded { depth ≤ 128 }
     ensures reads { ReadsHandler tokens.now depth at result }
-    ensures goes_on { IfOk result (λ x. (at < x.next) × (x.next ≤ length tokens.now)) }
+    ensures goes_on { IfOk result (λ x. (at < x.1) × (x.1 ≤ length tokens.now)) }
 {
     take(tokens, at, depth, Mark::Catch)?;
     let paren = at + 1;
@@ -347,62 +206,5 @@ fn handler(alloc: Global, tokens: &[Token], at: usize, depth: u64) -> Result<Cat
     let close = name_at + 1;
     take(tokens, close, depth, Mark::ParenClose)?;
     let (body, next) = block(alloc, tokens, close + 1, depth)?;
-    Ok(Catch { name, body, next })
-}
-
-/// `value;`, or `place = value;`
-fn expression_statement(
-    alloc: Global,
-    tokens: &[Token],
-    at: usize,
-    depth: u64,
-) -> Result<ReadStmt, Break>
-    requires in_range { at ≤ length tokens.now }
-    requires bounded { depth ≤ 128 }
-    requires begun { NoWord tokens.now at }
-    ensures reads { ReadsStmt tokens.now depth at result }
-    ensures goes_on { IfOk result (λ x. (at < x.1) × (x.1 ≤ length tokens.now)) }
-{
-    let left = expression(alloc, tokens, at, depth)?;
-    let equals = left.next;
-    let Some(_) = take_if(tokens, equals, depth, Mark::Assign)? else {
-        take(tokens, equals, depth, Mark::Semicolon)?;
-        let kind = StmtKind::Do(left.expr);
-        return Ok((
-            Stmt {
-                at: left.begin,
-                kind,
-            },
-            equals + 1,
-        ));
-    };
-    if !is_place(&left.expr) {
-        return Err(Break::Unexpected {
-            at: equals,
-            wanted: Wanted::Place,
-        });
-    }
-    let value = expression(alloc, tokens, equals + 1, depth)?;
-    take(tokens, value.next, depth, Mark::Semicolon)?;
-    let kind = StmtKind::Assign {
-        place: left.expr,
-        value: value.expr,
-    };
-    Ok((
-        Stmt {
-            at: left.begin,
-            kind,
-        },
-        value.next + 1,
-    ))
-}
-
-/// Names, fields and elements are places.
-fn is_place(e: &Expr) -> bool
-    ensures { result ≡ is_place (expr_tree e.now) }
-{
-    matches!(
-        e.kind,
-        ExprKind::Name(_) | ExprKind::Field { .. } | ExprKind::Element { .. }
-    )
+    Ok((Handler { name, body }, next))
 }

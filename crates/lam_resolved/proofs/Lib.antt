@@ -1,1 +1,13 @@
 pub mod Samples
+pub mod Has
+pub mod SameTypes
+pub mod Finding
+pub mod Scopes
+pub mod Exprs
+pub mod Parts
+pub mod ScopeSteps
+pub mod Stmts
+pub mod Declares
+pub mod Programs
+pub mod NewSlots
+pub mod Laws

@@ -1,3 +1,5 @@
+pub mod SameLemmas
+pub mod CountLemmas
 pub mod Keys
 pub mod Maps
 pub mod Rows

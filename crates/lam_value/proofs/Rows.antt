@@ -1,18 +1,19 @@
 -- Laws of look-ups in entries: what a copy keeps, and how a map of maps is one map.
-use Rattle.std.proofs.Common.{◌≡◌, ℕ, ◌+◌, ◌<◌, ◌≤◌, Bool, true, false, cond, List, [], ◌∷◌, ◌++◌, map, length, take, drop, get_or, slice_get, Option, Some, None, suc, zero, refl, sym, ap, subst, ◌∙◌, arith, add-one}
+use Rattle.std.proofs.Common.{◌≡◌, ℕ, ◌+◌, ◌<◌, ◌≤◌, Bool, true, false, cond, List, [], ◌∷◌, ◌++◌, map, length, IsSome, is_some, IsTrue, take, drop, get_or, slice_get, Option, Some, None, suc, zero, refl, sym, ap, subst, ◌∙◌, arith, add-one}
 use Rattle.std.specs.Prelude.{◌&&◌, option_and_then, unwrap_or}
 use Rattle.std.specs.Option.{option_or}
 use Rattle.std.specs.Ordering.{eq_by_cmp}
 use Rattle.std.specs.declared.cmp.Ordering.{Ordering}
 use Rattle.std.specs.Cmp.{IsTotalOrder, eq_by_cmp_equiv, Equal-is}
 use Rattle.std.specs.Map.{lookup, keys_of}
-use Rattle.std.specs.HashMap.{HashMap}
+use Rattle.std.specs.HashMap.{HashMap, IsUnique}
 use Rattle.std.specs.List.{IsDistinct, AllByRecursion}
 use Rattle.std.proofs.lemmas.List.{take-append-drop, take_all}
 use Rattle.std.specs.FinMap.{FinMap, find, get, insert, from_entries, get-insert, get-from_entries, same_map, IsAntisymmetric}
 use Rattle.flow_labels.specs.declared.Label.{Label}
 use Rattle.lam_value.specs.Names.{label_cmp}
-use Rattle.lam_value.specs.Homes.{Home, home_of, home_cmp, label_eq, home_eq, homes_in, home_in, count_in, Counts}
+use Rattle.lam_value.specs.Homes.{Home, home_of, home_cmp, label_eq, home_eq, homes_in, home_in, count_in, Counts, AreHomes}
+use Rattle.lam_value.specs.Alike.{AreAlike, AreAlikeWhere}
 use Rattle.lam_value.proofs.Keys.{label_exact, label_total, label_ties, home_exact, home_total, home_ties}
 
 pub lookup-append : {K X : Type 0} (t : K → Bool) (xs ys : List (K × X)) → lookup t (xs ++ ys) ≡ option_or (lookup t xs) (lookup t ys)
@@ -26,10 +27,10 @@ taken-suc [] (suc i) x at = cc
 taken-suc (e ∷ es) zero x at = let same : e ≡ x = cc in ap (λ y. y ∷ []) same
 taken-suc (e ∷ es) (suc i) x at = ap (λ ys. e ∷ ys) (taken-suc es i x at)
 
-taken : {X : Type 0} (es : List X) (i : ℕ) (x : X) → slice_get es i ≡ Some x → take (i + 1) es ≡ take i es ++ x ∷ []
+pub taken : {X : Type 0} (es : List X) (i : ℕ) (x : X) → slice_get es i ≡ Some x → take (i + 1) es ≡ take i es ++ x ∷ []
 taken es i x at = ap (λ n. take n es) (add-one i) ∙ taken-suc es i x at
 
-or_none : {X : Type 0} (o : Option X) → option_or o None ≡ o
+pub or_none : {X : Type 0} (o : Option X) → option_or o None ≡ o
 or_none None = refl
 or_none (Some x) = refl
 
@@ -84,7 +85,7 @@ module _ {K : Type 0} {R : K → K → Ordering} (E : K → K → Bool) (total :
       ∙ (λ i. cond ((ties k q ∙ (eq_by_cmp_equiv total).symm k q) i) (Some v) (get_same q old i)) ∙ sym (get-insert total (from_entries old) k v q))
 
 -- ---- homes
-label_same : (x y : Label) → label_eq x y ≡ true → x ≡ y
+pub label_same : (x y : Label) → label_eq x y ≡ true → x ≡ y
 label_same = is_same label_eq label_total label_exact label_ties
 
 in_row : (m : Label) (es : List (Label × ℕ)) (h : Home) → lookup (home_eq h) (map (λ (e : Label × ℕ). (home_of m e.0, e.1)) es) ≡ cond (label_eq h.maker m) (lookup (label_eq h.own) es) None
@@ -159,3 +160,110 @@ taken_all xs i n le is = take_all i xs (omega arith)
 pub seen_all : {X : Type 0} (o : Option X) → option_and_then (λ x. Some x) o ≡ o
 seen_all None = refl
 seen_all (Some x) = refl
+
+-- ---- homes that are counted
+holds_some : (es : List (Label × ℕ)) (q : Label) → IsSome (lookup (label_eq q) es) → 0 < length es
+holds_some [] q h = cc
+holds_some (e ∷ es) q h = omega arith
+
+-- a row with one number more has one
+pub filled_put : (es : List (Label × ℕ)) (own : Label) (n : ℕ) (o : Option ℕ) → lookup (label_eq own) es ≡ cond (label_eq own own) (Some n) o → 0 < length es
+filled_put es own n o e = holds_some es own (ap is_some e ∙ ap (λ b. is_some (cond b (Some n) o)) (itself label_eq label_total label_exact label_ties own))
+
+-- and so has one that holds what a row with a number holds
+pub filled_same : (es fs : List (Label × ℕ)) → ((q : Label) → lookup (label_eq q) fs ≡ lookup (label_eq q) es) → 0 < length es → 0 < length fs
+filled_same [] fs same some = absurd (omega arith)
+filled_same (e ∷ es) fs same some = filled_put fs e.0 e.1 (lookup (label_eq e.0) es) (same e.0)
+
+module _ {S : Type 0} where
+  -- a maker's row, with a number at least, put in
+  pub filled_set : (old new : List (Label × HashMap Label ℕ S)) (maker : Label) (row : HashMap Label ℕ S)
+      → ((m : Label) (r : HashMap Label ℕ S) → lookup (label_eq m) old ≡ Some r → 0 < length r.entries)
+      → ((q : Label) → lookup (label_eq q) new ≡ cond (label_eq maker q) (Some row) (lookup (label_eq q) old))
+      → 0 < length row.entries → (m : Label) (r : HashMap Label ℕ S) → lookup (label_eq m) new ≡ Some r → 0 < length r.entries
+  filled_set old new maker row filled outer some m r e = by (label_eq maker m) (sym (outer m) ∙ e)
+    where
+      by : (b : Bool) → cond b (Some row) (lookup (label_eq m) old) ≡ Some r → 0 < length r.entries
+      by true is = let same : row ≡ r = cc in subst (λ (x : HashMap Label ℕ S). 0 < length x.entries) same some
+      by false is = filled m r is
+
+  -- a number that is not 0, set
+  pub above_set : (old new : List (Label × HashMap Label ℕ S)) (k : Home) (count : ℕ) → ((h : Home) (n : ℕ) → home_in old h ≡ Some n → 0 < n)
+      → ((h : Home) → home_in new h ≡ cond (home_eq k h) (Some count) (home_in old h)) → 0 < count → (h : Home) (n : ℕ) → home_in new h ≡ Some n → 0 < n
+  above_set old new k count above set some h n e = by (home_eq k h) (sym (set h) ∙ e)
+    where
+      by : (b : Bool) → cond b (Some count) (home_in old h) ≡ Some n → 0 < n
+      by true is = let same : count ≡ n = cc in omega arith
+      by false is = above h n is
+
+  pub above_kept : (old new : List (Label × HashMap Label ℕ S)) → ((h : Home) (n : ℕ) → home_in old h ≡ Some n → 0 < n) → ((h : Home) → home_in new h ≡ home_in old h) → (h : Home) (n : ℕ) → home_in new h ≡ Some n → 0 < n
+  above_kept old new above same h n e = above h n (sym (same h) ∙ e)
+
+  pub homes_put : {T : Type 0} (old new : HashMap Label (HashMap Label ℕ S) T) (maker own : Label) (count : ℕ) (row : HashMap Label ℕ S)
+      → AreHomes old → IsUnique label_eq new
+      → ((q : Label) → lookup (label_eq q) new.entries ≡ cond (label_eq maker q) (Some row) (lookup (label_eq q) old.entries))
+      → 0 < length row.entries → 0 < count → ((h : Home) → home_in new.entries h ≡ cond (home_eq (home_of maker own) h) (Some count) (home_in old.entries h)) → AreHomes new
+  homes_put old new maker own count row homes unique outer filled some set = record {
+    unique = unique;
+    filled = filled_set old.entries new.entries maker row homes.filled outer filled;
+    above = above_set old.entries new.entries (home_of maker own) count homes.above set some;
+  }
+
+  pub homes_kept : {T : Type 0} (old new : HashMap Label (HashMap Label ℕ S) T) (maker : Label) (row : HashMap Label ℕ S)
+      → AreHomes old → IsUnique label_eq new
+      → ((q : Label) → lookup (label_eq q) new.entries ≡ cond (label_eq maker q) (Some row) (lookup (label_eq q) old.entries))
+      → 0 < length row.entries → ((h : Home) → home_in new.entries h ≡ home_in old.entries h) → AreHomes new
+  homes_kept old new maker row homes unique outer filled same = record {
+    unique = unique;
+    filled = filled_set old.entries new.entries maker row homes.filled outer filled;
+    above = above_kept old.entries new.entries homes.above same;
+  }
+
+  pub homes_unchanged : {T : Type 0} (old new : HashMap Label (HashMap Label ℕ S) T) → AreHomes old → IsUnique label_eq new → new.entries ≡ old.entries → AreHomes new
+  homes_unchanged old new homes unique e = record {
+    unique = unique;
+    filled = λ m r is. homes.filled m r (ap (lookup (label_eq m)) (sym e) ∙ is);
+    above = λ h n is. homes.above h n (ap (λ es. home_in es h) (sym e) ∙ is);
+  }
+
+  -- ---- equal counters
+  maker_there : (rows : List (Label × HashMap Label ℕ S)) → ((m : Label) (r : HashMap Label ℕ S) → lookup (label_eq m) rows ≡ Some r → 0 < length r.entries) → (m : Label) (r : HashMap Label ℕ S) → lookup (label_eq m) rows ≡ Some r → (own : Label) × IsSome (home_in rows (home_of m own))
+  maker_there rows filled m r e = first_of r.entries refl (filled m r e)
+    where
+      first_of : (es : List (Label × ℕ)) → r.entries ≡ es → 0 < length es → (own : Label) × IsSome (home_in rows (home_of m own))
+      first_of [] is some = absurd (omega arith)
+      first_of (x ∷ es) is some = (x.0, ap (λ o. is_some (option_and_then (λ (row : HashMap Label ℕ S). lookup (label_eq x.0) row.entries) o)) e ∙ (λ i. is_some (lookup (label_eq x.0) (is i))) ∙ ap (λ b. is_some (cond b (Some x.1) (lookup (label_eq x.0) es))) (itself label_eq label_total label_exact label_ties x.0))
+
+  abbrev SameRow : HashMap Label ℕ S → HashMap Label ℕ S → Type 0
+  SameRow r s = (q : Label) → lookup (label_eq q) r.entries ≡ lookup (label_eq q) s.entries
+
+  rows_at : (o p : Option (HashMap Label ℕ S)) → AreAlike SameRow o p → (own : Label) → option_and_then (λ (r : HashMap Label ℕ S). lookup (label_eq own) r.entries) o ≡ option_and_then (λ (r : HashMap Label ℕ S). lookup (label_eq own) r.entries) p
+  rows_at None None a own = refl
+  rows_at None (Some s) a own = absurd a
+  rows_at (Some r) None a own = absurd a
+  rows_at (Some r) (Some s) a own = a own
+
+  pub homes_alike : (shown : Label → Bool) (a b : List (Label × HashMap Label ℕ S)) → AreAlikeWhere shown SameRow (λ q. lookup (label_eq q) a) (λ q. lookup (label_eq q) b) → (h : Home) → IsTrue (shown h.maker) → home_in a h ≡ home_in b h
+  homes_alike shown a b alike h s = rows_at (lookup (label_eq h.maker) a) (lookup (label_eq h.maker) b) (alike h.maker s) h.own
+
+  pub rows_alike : (shown : Label → Bool) (a b : List (Label × HashMap Label ℕ S))
+      → ((m : Label) (r : HashMap Label ℕ S) → lookup (label_eq m) a ≡ Some r → 0 < length r.entries) → ((m : Label) (r : HashMap Label ℕ S) → lookup (label_eq m) b ≡ Some r → 0 < length r.entries)
+      → ((h : Home) → IsTrue (shown h.maker) → home_in a h ≡ home_in b h) → AreAlikeWhere shown SameRow (λ q. lookup (label_eq q) a) (λ q. lookup (label_eq q) b)
+  rows_alike shown a b filled_a filled_b same m s = by (lookup (label_eq m) a) (lookup (label_eq m) b) refl refl
+    where
+      by : (o p : Option (HashMap Label ℕ S)) → lookup (label_eq m) a ≡ o → lookup (label_eq m) b ≡ p → AreAlike SameRow o p
+      by None None e f = tt
+      by None (Some r) e f =
+          let there = maker_there b filled_b m r f in
+          let none : home_in a (home_of m there.0) ≡ None = ap (option_and_then (λ (r : HashMap Label ℕ S). lookup (label_eq there.0) r.entries)) e in
+          let some : false ≡ true = ap is_some (sym none ∙ same (home_of m there.0) s) ∙ there.1 in cc
+      by (Some r) None e f =
+          let there = maker_there a filled_a m r e in
+          let none : home_in b (home_of m there.0) ≡ None = ap (option_and_then (λ (r : HashMap Label ℕ S). lookup (label_eq there.0) r.entries)) f in
+          let some : false ≡ true = ap is_some (sym none ∙ sym (same (home_of m there.0) s)) ∙ there.1 in cc
+      by (Some r) (Some t) e f = λ q.
+          sym (ap (option_and_then (λ (r : HashMap Label ℕ S). lookup (label_eq q) r.entries)) e) ∙ same (home_of m q) s ∙ ap (option_and_then (λ (r : HashMap Label ℕ S). lookup (label_eq q) r.entries)) f
+
+module _ {S : Type 0} (rows : List (Label × HashMap Label ℕ S)) (m : Counts) (unique : IsDistinct label_eq (keys_of rows)) (seen : from_entries (homes_in rows) ≡ m) where
+  pub home_seen : (h : Home) → home_in rows h ≡ get m h
+  home_seen h = sym (homes_at rows unique h) ∙ get_same home_eq home_total home_exact home_ties h (homes_in rows) ∙ ap (λ n. get n h) seen

@@ -1,16 +1,18 @@
 -- A home is a pair of a maker's label and an own label, and things are numbered home by home.
-use Rattle.std.specs.Prelude.{ℕ, ◌+◌, ◌++◌, ◌&&◌, Bool, nat_eq, List, [], ◌∷◌, map, Option, refl, unwrap_or, option_and_then}
+use Rattle.std.specs.Prelude.{ℕ, ◌+◌, ◌++◌, ◌&&◌, ◌≡◌, ◌<◌, ◌≤◌, Bool, cond, IsTrue, nat_eq, nat_lt, List, [], ◌∷◌, map, Option, refl, unwrap_or, option_and_then, Some, length}
 use Rattle.std.specs.Coded.{Coded, code_by, coded×, coded_ℕ}
 use Rattle.std.specs.Ordering.{ordering_then}
 use Rattle.std.specs.declared.cmp.Ordering.{Ordering}
 use Rattle.std.specs.Cmp.Lexicographic.{pointwise}
-use Rattle.std.specs.FinMap.{FinMap, get, insert, code}
-use Rattle.std.specs.HashMap.{HashMap}
+use Rattle.std.specs.FinMap.{FinMap, get, insert, contains_key, code}
+use Rattle.std.specs.HashMap.{HashMap, IsUnique}
 use Rattle.std.specs.Map.{lookup}
 use Rattle.tag_sets.specs.Tags.{tags_of}
 use Rattle.flow_labels.specs.declared.Label.{Label}
+use Rattle.flow_labels.specs.Flow.{flows}
 use Rattle.lam_value.specs.declared.names.Name.{Name}
-use Rattle.lam_value.specs.Names.{label_cmp, coded_label}
+use Rattle.lam_value.specs.NameParts.{coded_label}
+use Rattle.lam_value.specs.Names.{label_cmp, name_cmp}
 
 pub record Home : Type 0 where
   pub maker : Label
@@ -45,6 +47,26 @@ count_in m h = unwrap_or (get m h) 0
 abbrev pub counted : Counts → Home → Counts
 counted m h = insert m h (count_in m h + 1)
 
+-- so many things of a home at least, and as many as before of each other home
+abbrev pub raised : Counts → Home → ℕ → Counts
+raised m h n = cond (nat_lt (count_in m h) n) (insert m h n) m
+
+-- the number of each name in a map is below its home's counter, so that the name of a home's next thing is not there
+abbrev pub AreCounted : {X : Type 0} → FinMap name_cmp X → Counts → Type 0
+AreCounted things m = (n : Name) → IsTrue (contains_key things n) → n.n < count_in m (home_of n.maker n.own)
+
+-- no home has made more than a home may make
+abbrev pub AreWithin : ℕ → Counts → Type 0
+AreWithin limit m = (h : Home) → count_in m h ≤ limit
+
+-- a home that is counted has made something
+abbrev pub IsAboveZero : Counts → Type 0
+IsAboveZero m = (h : Home) (n : ℕ) → get m h ≡ Some n → 0 < n
+
+-- two have equal counters at the homes whose maker is seen
+abbrev pub AreSeenAlike : Label → Counts → Counts → Type 0
+AreSeenAlike o m k = (h : Home) → IsTrue (flows h.maker o) → get m h ≡ get k h
+
 -- ---- how homes are found in code: a map from makers to maps from own labels to numbers
 
 abbrev pub label_eq : Label → Label → Bool
@@ -61,3 +83,9 @@ homes_in (row ∷ rows) = map (λ (e : Label × ℕ). (home_of row.0 e.0, e.1)) 
 -- the number of a home, if there is one: that of the own label in the maker's map
 abbrev pub home_in : {S : Type 0} → List (Label × HashMap Label ℕ S) → Home → Option ℕ
 home_in rows h = option_and_then (λ row. lookup (label_eq h.own) row.entries) (lookup (label_eq h.maker) rows)
+
+-- each maker stands once, with a number at least, and no number is 0
+pub record AreHomes {S T : Type 0} (rows : HashMap Label (HashMap Label ℕ S) T) : Type 0 where
+  pub unique : IsUnique label_eq rows
+  pub filled : (m : Label) (row : HashMap Label ℕ S) → lookup (label_eq m) rows.entries ≡ Some row → 0 < length row.entries
+  pub above : (h : Home) (n : ℕ) → home_in rows.entries h ≡ Some n → 0 < n

@@ -1,5 +1,7 @@
+pub mod Alike
 pub mod Homes
 pub mod Maps
+pub mod NameParts
 pub mod Names
 pub mod Shapes
 pub mod Texts

@@ -1,11 +1,12 @@
 //! How many things each home has made.
 
-ghost use Rattle.std.specs.Prelude.{◌≡◌, ◌+◌, ◌^◌, ◌<◌, cond, Some, unwrap_or, IfOk, OnOk, OnErr};
+ghost use Rattle.std.specs.Prelude.{◌≡◌, ◌+◌, ◌^◌, ◌<◌, ◌↔◌, IsTrue, cond, Some, unwrap_or, IfOk, OnOk, OnErr};
 ghost use Rattle.std.specs.FinMap as map;
 ghost use Rattle.std.specs.HashMap.{IsUnique, IsUnchanged, Updates, get as at_key};
 ghost use Rattle.flow_labels.specs.declared.Label.{Label};
-ghost use Rattle.lam_value.specs.Homes.{Home, home_of, count_in, counted, label_eq, home_eq, home_in};
+ghost use Rattle.lam_value.specs.Homes.{Home, home_of, count_in, counted, raised, IsAboveZero, AreSeenAlike, label_eq, home_eq, home_in, AreHomes};
 
+use crate::sameness::{Same, Whole, same_maps};
 use flow_labels::Label;
 use indexmap::IndexMap;
 use std::alloc::Global;
@@ -28,7 +29,7 @@ pub struct Counters {
 impl Model for Counters {
     ghost use Rattle.std.specs.FinMap.{from_entries};
     ghost use Rattle.std.specs.HashMap.{IsUnique};
-    ghost use Rattle.lam_value.specs.Homes.{Counts, coded_counts, homes_in, label_eq};
+    ghost use Rattle.lam_value.specs.Homes.{Counts, coded_counts, homes_in, label_eq, AreHomes};
 
     ghost Value = { Counts };
 
@@ -36,7 +37,7 @@ impl Model for Counters {
 
     ghost view = { λ c. from_entries (homes_in c.rows.entries) };
 
-    ghost invariant = { λ c. IsUnique label_eq c.rows };
+    ghost invariant = { λ c. AreHomes c.rows };
 }
 
 impl Counters {
@@ -56,20 +57,55 @@ impl Counters {
         count_of(&self.rows, maker, own)
     }
 
-    /// Takes the next number of a home.
+    /// Takes the next number of a home, which is the one that `next` gave.
     ///
     /// # Errors
     ///
     /// `NoMemory` where memory is refused; no number is taken then.
-    pub fn draw(&mut self, maker: &Label, own: &Label) -> Result<u64, NoMemory>
-        requires { count_in self.old (home_of maker.now own.now) + 1 < 2 ^ 64 }
-        ensures number { IfOk result (λ n. n ≡ count_in self.old (home_of maker.now own.now)) }
+    pub fn draw(&mut self, maker: &Label, own: &Label, number: u64) -> Result<(), NoMemory>
+        requires next { number ≡ count_in self.old (home_of maker.now own.now) }
+        requires room { number + 1 < 2 ^ 64 }
         ensures ok { OnOk result (self.new ≡ counted self.old (home_of maker.now own.now)) }
         ensures err { OnErr result (self.new ≡ self.old) }
     {
-        let number = count_of(&self.rows, maker, own);
         set_count(&mut self.rows, maker, own, number + 1)?;
-        Ok(number)
+        Ok(())
+    }
+
+    /// Lets a home have made so many things at least.
+    ///
+    /// # Errors
+    ///
+    /// `NoMemory` where memory is refused; nothing changes then.
+    pub fn raise(&mut self, maker: &Label, own: &Label, count: u64) -> Result<(), NoMemory>
+        ensures ok { OnOk result (self.new ≡ raised self.old (home_of maker.now own.now) count) }
+        ensures err { OnErr result (self.new ≡ self.old) }
+    {
+        if count_of(&self.rows, maker, own) < count {
+            set_count(&mut self.rows, maker, own, count)?;
+        }
+        Ok(())
+    }
+
+    /// Whether two have equal counters at each home.
+    pub fn same(&self, other: &Counters) -> bool
+        ensures { IsTrue result ↔ (self.now ≡ other.now) }
+    {
+        same_maps::<_, _, Whole>(&self.rows, &other.rows, None)
+    }
+
+    /// Whether two have equal counters at each home whose maker's label flows to the observer's.
+    pub fn same_seen(&self, other: &Counters, observer: &Label) -> bool
+        ensures { IsTrue result ↔ AreSeenAlike observer.now self.now other.now }
+    {
+        same_maps::<_, _, Whole>(&self.rows, &other.rows, Some(observer))
+    }
+
+    /// What holds of all counters. The call does nothing: its clause is for its caller's proof.
+    pub fn facts(&self)
+        ensures { IsAboveZero self.now }
+    {
+        let _ = &self.rows;
     }
 
     /// Equal counters.
@@ -82,6 +118,14 @@ impl Counters {
     {
         let rows = copied_rows(&self.rows)?;
         Ok(Counters { rows })
+    }
+}
+
+impl Same<Whole> for Row {
+    ghost IsSame = { λ r s. (q : Label) → at_key label_eq r q ≡ at_key label_eq s q };
+
+    fn same(&self, other: &Row) -> bool {
+        same_maps::<_, _, Whole>(self, other, None)
     }
 }
 
@@ -102,10 +146,11 @@ fn row_count(row: &Row, own: &Label) -> u64
 
 /// Sets the counter of a home.
 fn set_count(rows: &mut Rows, maker: &Label, own: &Label, count: u64) -> Result<(), NoMemory>
-    requires { IsUnique label_eq rows.old }
+    requires homes { AreHomes rows.old }
+    requires some { 0 < count }
     ensures ok { OnOk result ((h : Home) → home_in rows.new.entries h ≡ cond (home_eq (home_of maker.now own.now) h) (Some count) (home_in rows.old.entries h)) }
     ensures err { OnErr result ((h : Home) → home_in rows.new.entries h ≡ home_in rows.old.entries h) }
-    ensures unique { IsUnique label_eq rows.new }
+    ensures homes { AreHomes rows.new }
 {
     match rows.get_mut(maker) {
         Some(row) => {
@@ -138,8 +183,9 @@ fn set_row(row: &mut Row, own: &Label, count: u64) -> Result<(), NoMemory>
 }
 
 fn copied_rows(rows: &Rows) -> Result<Rows, NoMemory>
+    requires { AreHomes rows.now }
     ensures same { IfOk result (λ new. (h : Home) → home_in new.entries h ≡ home_in rows.now.entries h) }
-    ensures unique { IfOk result (IsUnique label_eq) }
+    ensures homes { IfOk result (λ new. AreHomes new) }
 {
     let mut copy = IndexMap::new(*rows.allocator());
     for at in 0..rows.len() {

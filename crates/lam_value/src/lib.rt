@@ -18,6 +18,8 @@
 mod byte_text;
 mod counters;
 mod names;
+mod same_lists;
+mod sameness;
 mod shapes;
 mod text;
 mod values;
@@ -25,6 +27,10 @@ mod values;
 pub use byte_text::ByteText;
 pub use counters::Counters;
 pub use names::Name;
+pub use same_lists::same_values;
+pub use sameness::{Labelled, Same, Whole, same_maps};
 pub use shapes::{Kind, Shape};
-pub use text::{bytes_text, value_text, values_text};
+pub use text::{
+    bytes_text, push_bytes, push_name, push_value, push_values, value_text, values_text,
+};
 pub use values::{Value, Values, same_value};

@@ -1,28 +1,129 @@
 //! The names of things.
 
-ghost use Rattle.std.specs.Prelude.{◌≡◌, IsTrue, ◌↔◌, IfOk};
+ghost use Rattle.std.specs.Prelude.{◌≡◌, ◌++◌, nat_eq, IsTrue, ◌↔◌, IfOk};
+ghost use Rattle.std.proofs.Common.{rules, refl, ap};
+ghost use Rattle.std.specs.Cmp.{partial_order_from_own_ties};
+ghost use Rattle.std.specs.Cmp.Rules.{comparing, hashing};
+ghost use Rattle.std.specs.Cmp.Lexicographic.{pointwise, slice_cmp};
+ghost use Rattle.std.specs.Ordering.{on, eq_of_both, then_cmp, nat_cmp, as_partial_cmp};
+ghost use Rattle.std.specs.Hash as fed;
+ghost use Rattle.tag_sets.specs.Tags.{tags_of};
+ghost use Rattle.lam_value.specs.NameParts.{writes, folded};
 ghost use Rattle.lam_value.specs.Names.{name_cmp};
 
 use flow_labels::{Label, same};
 use std::alloc::Global;
 use std::cmp::Ordering;
+use std::hash::{FoldHasher, Hash, Hasher};
+use std::marker::Model;
+use std::sync::Arc;
 use tag_sets::NoMemory;
 
 /// The name of a thing: the label of its maker, its own label, and a number that no other thing of these
 /// two labels and of its kind has.
 ///
+/// A name is made once, and copied and looked up often. So its copies share one block with the three parts and
+/// their hash: a copy takes no memory, and a look-up hashes one number. Contracts see the record of the parts.
+///
 /// Names are ordered by the maker's label, then the own label, then the number.
-#[derive(Debug, PartialEq, Eq, PartialOrd, Ord, Hash, Drop)]
+#[derive(Debug, Drop)]
 pub struct Name {
-    pub maker: Label,
-    pub own: Label,
-    pub n: u64,
+    parts: Arc<Parts>,
+}
+
+/// The parts that the copies of a name share, with their hash, which is taken once.
+#[derive(Debug, Drop)]
+struct Parts {
+    maker: Label,
+    own: Label,
+    n: u64,
+    digest: u64,
+}
+
+impl Model for Name {
+    ghost use Rattle.std.specs.Arc.{arc_value};
+    ghost use Rattle.std.specs.Prelude.{◌≡◌};
+    ghost use Rattle.lam_value.specs.NameParts.{NameParts, coded_parts, writes, folded};
+
+    ghost Value = { NameParts };
+
+    ghost coded = { coded_parts };
+
+    ghost view = { λ m. record { maker = (arc_value m.parts).maker; own = (arc_value m.parts).own; n = (arc_value m.parts).n } };
+
+    ghost invariant = { λ m. (arc_value m.parts).digest ≡ folded (writes (record { maker = (arc_value m.parts).maker; own = (arc_value m.parts).own; n = (arc_value m.parts).n })) };
+}
+
+impl PartialEq for Name {
+    ghost eq = { eq_of_both (eq_of_both (on (λ m. tags_of m.maker.s) (pointwise nat_eq)) (on (λ m. tags_of m.maker.i) (pointwise nat_eq))) (eq_of_both (eq_of_both (on (λ m. tags_of m.own.s) (pointwise nat_eq)) (on (λ m. tags_of m.own.i) (pointwise nat_eq))) (on (λ m. m.n) nat_eq)) };
+
+    ghost laws = { Prim.search (comparing, rules) depth 9 };
+
+    fn eq(&self, other: &Name) -> bool {
+        self.maker() == other.maker() && self.own() == other.own() && self.n() == other.n()
+    }
+}
+
+impl Eq for Name {
+    ghost laws = { Prim.search (comparing, rules) depth 9 };
+}
+
+impl PartialOrd for Name {
+    ghost partial_cmp = { as_partial_cmp (then_cmp (then_cmp (on (λ m. tags_of m.maker.s) (slice_cmp nat_cmp)) (on (λ m. tags_of m.maker.i) (slice_cmp nat_cmp))) (then_cmp (then_cmp (on (λ m. tags_of m.own.s) (slice_cmp nat_cmp)) (on (λ m. tags_of m.own.i) (slice_cmp nat_cmp))) (on (λ m. m.n) nat_cmp))) };
+
+    ghost laws = { partial_order_from_own_ties (Prim.search (comparing, rules) depth 9) (Prim.search (comparing, rules) depth 9) };
+
+    fn partial_cmp(&self, other: &Name) -> Option<Ordering> {
+        Some(self.cmp(other))
+    }
+}
+
+impl Ord for Name {
+    ghost cmp = { then_cmp (then_cmp (on (λ m. tags_of m.maker.s) (slice_cmp nat_cmp)) (on (λ m. tags_of m.maker.i) (slice_cmp nat_cmp))) (then_cmp (then_cmp (on (λ m. tags_of m.own.s) (slice_cmp nat_cmp)) (on (λ m. tags_of m.own.i) (slice_cmp nat_cmp))) (on (λ m. m.n) nat_cmp)) };
+
+    ghost total = { Prim.search (comparing, rules) depth 9 };
+
+    ghost matches_partial_cmp = { λ x y. refl };
+
+    ghost matches_eq = { Prim.search (comparing, rules) depth 9 };
+
+    fn cmp(&self, other: &Name) -> Ordering {
+        self.maker()
+            .cmp(other.maker())
+            .then(self.own().cmp(other.own()))
+            .then(self.n().cmp(&other.n()))
+    }
+}
+
+impl Hash for Name {
+    ghost hash_input = { λ m. fed.u64 (folded (writes m)) };
+
+    ghost respects_eq = { λ x y h. ap (λ ws. fed.u64 (folded ws)) (Prim.search (hashing, rules) depth 9) };
+
+    fn hash<H: Hasher>(&self, state: &mut H) {
+        state.write_u64(self.parts.digest);
+    }
 }
 
 impl Name {
-    /// The allocator that the name keeps.
-    pub fn allocator(&self) -> Global {
-        self.own.allocator()
+    /// The name of two labels and a number.
+    ///
+    /// # Errors
+    ///
+    /// `NoMemory` where memory is refused.
+    pub fn new(maker: Label, own: Label, n: u64) -> Result<Name, NoMemory>
+        ensures { IfOk result (λ m. m ≡ record { maker = maker; own = own; n = n }) }
+    {
+        let alloc = own.allocator();
+        let digest = digest_of(&maker, &own, n);
+        let parts = Parts {
+            maker,
+            own,
+            n,
+            digest,
+        };
+        let parts = Arc::new(alloc, parts)?;
+        Ok(Name { parts })
     }
 
     /// The name of two labels, which are copied, and a number.
@@ -35,18 +136,45 @@ impl Name {
     {
         let maker = maker.copy()?;
         let own = own.copy()?;
-        Ok(Name { maker, own, n })
+        Name::new(maker, own, n)
     }
 
-    /// An equal name.
+    /// The label of the thing's maker.
+    pub fn maker(&self) -> &Label
+        ensures { result.now ≡ self.now.maker }
+    {
+        &self.parts.maker
+    }
+
+    /// The thing's own label.
+    pub fn own(&self) -> &Label
+        ensures { result.now ≡ self.now.own }
+    {
+        &self.parts.own
+    }
+
+    /// The thing's number among those of its two labels and its kind.
+    pub fn n(&self) -> u64
+        ensures { result ≡ self.now.n }
+    {
+        self.parts.n
+    }
+
+    /// The allocator that the name keeps.
+    pub fn allocator(&self) -> Global {
+        self.own().allocator()
+    }
+
+    /// An equal name, which shares its parts with this one: no memory is taken.
     ///
     /// # Errors
     ///
-    /// `NoMemory` where memory is refused.
+    /// `NoMemory` where the name has 2 ^ 63 copies.
     pub fn copy(&self) -> Result<Name, NoMemory>
         ensures { IfOk result (λ n. n ≡ self.now) }
     {
-        Name::of(&self.maker, &self.own, self.n)
+        let parts = Arc::try_clone(&self.parts)?;
+        Ok(Name { parts })
     }
 
     /// Which of two names comes first.
@@ -60,6 +188,18 @@ impl Name {
     pub fn same(&self, other: &Name) -> bool
         ensures { IsTrue result ↔ (self.now ≡ other.now) }
     {
-        self.n == other.n && same(&self.own, &other.own) && same(&self.maker, &other.maker)
+        self.n() == other.n() && same(self.own(), other.own()) && same(self.maker(), other.maker())
     }
+}
+
+/// The hash of the parts of a name.
+#[tactic(auto, unfolding(crate::specs::NameParts::folded))]
+fn digest_of(maker: &Label, own: &Label, n: u64) -> u64
+    ensures { result ≡ folded (writes (record { maker = maker.now; own = own.now; n = n })) }
+{
+    let mut state = FoldHasher::default();
+    maker.hash(&mut state);
+    own.hash(&mut state);
+    n.hash(&mut state);
+    state.finish()
 }

@@ -83,7 +83,7 @@ impl Shape {
 fn zeros(alloc: Global, kind: Kind, len: u64) -> Result<Values, NoMemory>
     ensures { IfOk result (λ vs. vs ≡ slots_of (Shape.Array kind len)) }
 {
-    let mut slots = Values::new(alloc);
+    let mut slots = Values::with_capacity(alloc, len)?;
     for _ in 0..len {
         slots.push(kind.zero())?;
     }

@@ -2,17 +2,14 @@
 
 ghost use Rattle.std.specs.Prelude.{◌≡◌, ◌<◌, ◌++◌, ◌∷◌, [], codes, decimal, IfOk, OnOk, string_bytes};
 ghost use Rattle.std.specs.Fmt.{signed_decimal};
-ghost use Rattle.flow_labels.specs.LabelText.{label_text};
-ghost use Rattle.flow_labels.specs.TwoLists.{tag_text, sets_text};
-ghost use Rattle.flow_labels.specs.declared.two_lists.Form.TheVariants.{Caps as caps_form};
 ghost use Rattle.lam_value.specs.Texts.{hex_digit, escaped, all_escaped, bytes_text, name_text, value_text, values_text, after_commas};
 
 use crate::names::Name;
 use crate::values::Value;
-use flow_labels::{Form, TagNames, label_text, sets_text, tag_text};
-use itoa::Buffer;
+use decimal_text::{push_int, push_number};
+use flow_labels::{Form, TagNames, push_label, push_sets, push_tag};
 use std::alloc::Global;
-use tag_sets::{NoMemory, TagSet};
+use tag_sets::NoMemory;
 
 /// The text of a value: a number in decimal; `true`, `false` or `null`; bytes in double quotes; a
 /// reference as `obj<MAKER|OWN|N>`, and an array's with its length; `t` and a thread's number; a tag, a
@@ -41,10 +38,7 @@ pub fn values_text(values: &[Value], names: &TagNames) -> Result<String, NoMemor
     ensures { IfOk result (λ t. string_bytes t ≡ values_text names.now values.now) }
 {
     let mut text = String::new(names.allocator());
-    if let Some((first, rest)) = values.split_first() {
-        push_value(&mut text, first, names)?;
-        push_rest(&mut text, rest, names)?;
-    }
+    push_values(&mut text, values, names)?;
     Ok(text)
 }
 
@@ -61,7 +55,12 @@ pub fn bytes_text(alloc: Global, bytes: &[u8]) -> Result<String, NoMemory>
     Ok(text)
 }
 
-fn push_value(text: &mut String, v: &Value, names: &TagNames) -> Result<(), NoMemory>
+/// Writes the text of a value at the end of a text, and makes no other on the way.
+///
+/// # Errors
+///
+/// `NoMemory` where memory is refused.
+pub fn push_value(text: &mut String, v: &Value, names: &TagNames) -> Result<(), NoMemory>
     ensures { OnOk result (string_bytes text.new ≡ string_bytes text.old ++ value_text names.now v.now) }
 {
     match v {
@@ -76,9 +75,24 @@ fn push_value(text: &mut String, v: &Value, names: &TagNames) -> Result<(), NoMe
         Value::Dir(name) => push_name(text, "dir", name, names)?,
         Value::Pipe(name) => push_name(text, "pipe", name, names)?,
         Value::Thread(t) => push_thread(text, *t)?,
-        Value::Tag(tag) => text.push_str(tag_text(*tag, names)?.as_str())?,
-        Value::Lab(label) => text.push_str(label_text(label, names)?.as_str())?,
-        Value::CapV { plus, minus } => push_caps(text, plus, minus, names)?,
+        Value::Tag(tag) => push_tag(text, *tag, names)?,
+        Value::Lab(label) => push_label(text, label, names)?,
+        Value::CapV { plus, minus } => push_sets(text, Form::Caps, plus, minus, names)?,
+    }
+    Ok(())
+}
+
+/// Writes the texts of values at the end of a text, with a comma between each two.
+///
+/// # Errors
+///
+/// `NoMemory` where memory is refused.
+pub fn push_values(text: &mut String, values: &[Value], names: &TagNames) -> Result<(), NoMemory>
+    ensures { OnOk result (string_bytes text.new ≡ string_bytes text.old ++ values_text names.now values.now) }
+{
+    if let Some((first, rest)) = values.split_first() {
+        push_value(text, first, names)?;
+        push_rest(text, rest, names)?;
     }
     Ok(())
 }
@@ -94,22 +108,6 @@ fn push_rest(text: &mut String, rest: &[Value], names: &TagNames) -> Result<(), 
     Ok(())
 }
 
-fn push_int(text: &mut String, n: i64) -> Result<(), NoMemory>
-    ensures { OnOk result (string_bytes text.new ≡ string_bytes text.old ++ signed_decimal n) }
-{
-    let mut digits = Buffer::new();
-    text.push_str(digits.format(n))?;
-    Ok(())
-}
-
-fn push_number(text: &mut String, n: u64) -> Result<(), NoMemory>
-    ensures { OnOk result (string_bytes text.new ≡ string_bytes text.old ++ decimal n) }
-{
-    let mut digits = Buffer::new();
-    text.push_str(digits.format(n))?;
-    Ok(())
-}
-
 fn push_thread(text: &mut String, t: u32) -> Result<(), NoMemory>
     ensures { OnOk result (string_bytes text.new ≡ string_bytes text.old ++ 116 ∷ decimal t) }
 {
@@ -117,29 +115,27 @@ fn push_thread(text: &mut String, t: u32) -> Result<(), NoMemory>
     push_number(text, t as u64)
 }
 
-fn push_caps(
+/// Writes a word, and a name in angle brackets, at the end of a text.
+///
+/// # Errors
+///
+/// `NoMemory` where memory is refused.
+pub fn push_name(
     text: &mut String,
-    plus: &TagSet,
-    minus: &TagSet,
+    word: &str,
+    name: &Name,
     names: &TagNames,
 ) -> Result<(), NoMemory>
-    ensures { OnOk result (string_bytes text.new ≡ string_bytes text.old ++ sets_text caps_form names.now plus.now minus.now) }
-{
-    text.push_str(sets_text(Form::Caps, plus, minus, names)?.as_str())?;
-    Ok(())
-}
-
-/// A word, and a name in angle brackets.
-fn push_name(text: &mut String, word: &str, name: &Name, names: &TagNames) -> Result<(), NoMemory>
     ensures { OnOk result (string_bytes text.new ≡ string_bytes text.old ++ name_text word.now names.now name.now) }
 {
+    let (maker, own) = (name.maker(), name.own());
     text.push_str(word)?;
     text.push('<')?;
-    text.push_str(label_text(&name.maker, names)?.as_str())?;
+    push_label(text, maker, names)?;
     text.push('|')?;
-    text.push_str(label_text(&name.own, names)?.as_str())?;
+    push_label(text, own, names)?;
     text.push('|')?;
-    push_number(text, name.n)?;
+    push_number(text, name.n())?;
     text.push('>')?;
     Ok(())
 }
@@ -154,7 +150,12 @@ fn push_array(text: &mut String, name: &Name, len: u64, names: &TagNames) -> Res
     Ok(())
 }
 
-fn push_bytes(text: &mut String, bytes: &[u8]) -> Result<(), NoMemory>
+/// Writes the text of bytes, in double quotes, at the end of a text.
+///
+/// # Errors
+///
+/// `NoMemory` where memory is refused.
+pub fn push_bytes(text: &mut String, bytes: &[u8]) -> Result<(), NoMemory>
     ensures { OnOk result (string_bytes text.new ≡ string_bytes text.old ++ bytes_text bytes.now) }
 {
     text.push('"')?;

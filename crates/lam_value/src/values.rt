@@ -1,6 +1,6 @@
 //! Values, and lists of them.
 
-ghost use Rattle.std.specs.Prelude.{◌≡◌, ◌<◌, ◌++◌, ◌∷◌, [], ℕ, length, IsTrue, ◌↔◌, IfOk, OnOk, OnErr, slice_get, slice_set};
+ghost use Rattle.std.specs.Prelude.{◌≡◌, ◌<◌, ◌++◌, ◌-◌, ◌∷◌, [], ℕ, length, IsTrue, ◌↔◌, IfOk, OnOk, OnErr, take, slice_get, slice_set};
 ghost use Rattle.std.specs.Option.{option_copied};
 
 use crate::byte_text::ByteText;
@@ -121,6 +121,18 @@ impl Values {
         }
     }
 
+    /// No values, with room for so many.
+    ///
+    /// # Errors
+    ///
+    /// `NoMemory` where memory is refused.
+    pub fn with_capacity(alloc: Global, room: u64) -> Result<Values, NoMemory>
+        ensures { IfOk result (λ vs. vs ≡ []) }
+    {
+        let items = Vec::with_capacity(alloc, room as usize)?;
+        Ok(Values { items })
+    }
+
     /// The values that a vector holds, which are not copied.
     pub fn from_vec(items: Vec<Value>) -> Values
         ensures { result ≡ items.items }
@@ -165,6 +177,14 @@ impl Values {
     {
         self.items.push(value)?;
         Ok(())
+    }
+
+    /// Takes the value at the end away, where there is one.
+    pub fn pop(&mut self) -> Option<Value>
+        ensures value { result ≡ slice_get self.old (length self.old - 1) }
+        ensures rest { self.new ≡ take (length self.old - 1) self.old }
+    {
+        self.items.pop()
     }
 
     /// Puts a value at a place, and gives the one that stood there. Past the last nothing changes, and the

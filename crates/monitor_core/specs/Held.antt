@@ -2,10 +2,13 @@
 --
 -- Thread 3 enters the monitor of a name twice: it is held by 3, twice, and free for 3 alone. When 3 has left
 -- it once it is held once, and when 3 has left it again nobody holds it.
-use Rattle.std.specs.Prelude.{ℕ, ◌+◌, ◌-◌, Bool, true, nat_eq, nat_lt, if◌then◌else◌, List, [], ◌∷◌, Option, Some, None}
+use Rattle.std.specs.Prelude.{◌≡◌, ◌≤◌, IsTrue, ℕ, ◌+◌, ◌-◌, Bool, true, cond, nat_eq, nat_lt, if◌then◌else◌, List, [], ◌∷◌, Option, Some, None}
 use Rattle.std.specs.Coded.{Coded}
 use Rattle.std.specs.FinMap as map
 use Rattle.std.specs.FinMap.{FinMap, get, insert, remove}
+use Rattle.std.specs.Ordering.{eq_by_cmp}
+use Rattle.flow_labels.specs.declared.Label.{Label}
+use Rattle.flow_labels.specs.Flow.{flows}
 use Rattle.lam_value.specs.declared.names.Name.{Name}
 use Rattle.lam_value.specs.Names.{name_cmp, coded_name}
 use Rattle.lam_value.specs.Maps.{seen_at}
@@ -38,9 +41,13 @@ count_of (Some h) = h.count
 abbrev pub takings : Held → Name → ℕ
 takings m r = count_of (get m r)
 
+-- a holder after one entry of a thread
+abbrev pub once_more : Option Holder → ℕ → Holder
+once_more o t = record { thread = t; count = count_of o + 1 }
+
 -- it is held by the thread, once more
 abbrev pub entered : Held → Name → ℕ → Held
-entered m r t = insert m r (record { thread = t; count = takings m r + 1 })
+entered m r t = insert m r (once_more (get m r) t)
 
 -- a holder after one exit of a thread: the thread holds it once less, and no more after the last exit
 abbrev pub one_less : Option Holder → ℕ → Option Holder
@@ -60,3 +67,21 @@ left m r t = held_by (one_less (get m r) t) m r
 abbrev pub dropped : Held → List Name → ℕ → Held
 dropped m [] t = m
 dropped m (r ∷ rs) t = dropped (left m r t) rs t
+
+-- how often a name is listed
+abbrev pub listings : Name → List Name → ℕ
+listings r [] = 0
+listings r (q ∷ qs) = cond (eq_by_cmp name_cmp r q) 1 0 + listings r qs
+
+-- how often it is held after a thread has left each of these: once less for each listing where no other thread
+-- holds it, and else as often as before
+abbrev pub lowered : Held → Name → ℕ → List Name → ℕ
+lowered m r t rs = if is_free m r t then takings m r - listings r rs else takings m r
+
+-- ---- what holds of all monitors: who holds one holds it once at least, and no more often than a thread may
+abbrev pub IsSound : Held → Type 0
+IsSound m = (r : Name) (h : Holder) → get m r ≡ Some h → (1 ≤ h.count) × (h.count ≤ 1048576)
+
+-- ---- what is equal in two where an observer sees: the monitors of things whose label flows to the observer's
+abbrev pub AreSeenAlike : Label → Held → Held → Type 0
+AreSeenAlike o m k = (r : Name) → IsTrue (flows r.own o) → get m r ≡ get k r

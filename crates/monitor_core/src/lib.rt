@@ -6,7 +6,8 @@
 //!
 //! Nothing here looks at labels: the machine above lets a thread at a monitor only where its label and the
 //! thing's are equal. The calls that give no `Result` take no memory. A call looks one name up, in constant
-//! time, whatever the number of monitors; `drop_all` does so for each name that it is given.
+//! time, whatever the number of monitors; `drop_all` does so for each name that it is given. `holder` alone answers
+//! all that is asked before an entry: who holds a monitor, and how often.
 #![tactic(auto)]
 
 ghost use Rattle.std.specs.Prelude.{◌≡◌, ◌<◌, ◌↔◌, IsTrue, IsNone, IfOk, OnOk, OnErr, Some, cond};
@@ -15,10 +16,11 @@ ghost use Rattle.std.specs.FinMap as map;
 ghost use Rattle.std.specs.HashMap.{get as at_key};
 ghost use Rattle.lam_value.specs.declared.names.Name.{Name};
 ghost use Rattle.lam_value.proofs.Keys.{name_eq};
-ghost use Rattle.monitor_core.specs.Held.{is_free, takings, entered, left, dropped, one_less};
+ghost use Rattle.monitor_core.specs.Held.{is_free, count_of, takings, once_more, entered, left, dropped, lowered, one_less, IsSound, AreSeenAlike};
 
+use flow_labels::Label;
 use indexmap::IndexMap;
-use lam_value::Name;
+use lam_value::{Name, Same, Whole, same_maps};
 use std::alloc::Global;
 use std::marker::Model;
 use tag_sets::NoMemory;
@@ -40,13 +42,15 @@ pub struct Monitors {
 }
 
 impl Model for Monitors {
-    ghost use Rattle.monitor_core.specs.Held.{Held, coded_held, held_in};
+    ghost use Rattle.monitor_core.specs.Held.{Held, coded_held, held_in, IsSound};
 
     ghost Value = { Held };
 
     ghost coded = { coded_held };
 
     ghost view = { λ m. held_in m.holders.entries };
+
+    ghost invariant = { λ m. IsSound (held_in m.holders.entries) };
 }
 
 impl Monitors {
@@ -59,7 +63,7 @@ impl Monitors {
         }
     }
 
-    /// Who holds a monitor, or `None` where nobody does.
+    /// Who holds a monitor and how often, or `None` where nobody does.
     pub fn holder(&self, r: &Name) -> Option<Holder>
         ensures { result ≡ map.get self.now r.now }
     {
@@ -97,8 +101,7 @@ impl Monitors {
         ensures ok { OnOk result (self.new ≡ entered self.old r.now thread) }
         ensures err { OnErr result (self.new ≡ self.old) }
     {
-        let count = self.takings(r) + 1;
-        put_holder(&mut self.holders, r, Holder { thread, count })
+        take(&mut self.holders, r, thread)
     }
 
     /// A thread leaves a monitor once. Where it has left as often as it entered, the monitor is free. A
@@ -111,11 +114,33 @@ impl Monitors {
 
     /// A thread leaves each of these monitors, once for each time that it is listed.
     pub fn drop_all(&mut self, thread: u32, held: &[Name])
-        ensures { self.new ≡ dropped self.old held.now thread }
+        ensures new { self.new ≡ dropped self.old held.now thread }
+        ensures takings { (r : Name) → takings self.new r ≡ lowered self.old r thread held.now }
     {
         for r in held {
             self.leave(r, thread);
         }
+    }
+
+    /// Whether two have the same monitors held, by the same threads and as often.
+    pub fn same(&self, other: &Monitors) -> bool
+        ensures { IsTrue result ↔ (self.now ≡ other.now) }
+    {
+        same_maps::<_, _, Whole>(&self.holders, &other.holders, None)
+    }
+
+    /// Whether the same holds of each monitor of a thing whose label flows to the observer's.
+    pub fn same_seen(&self, other: &Monitors, observer: &Label) -> bool
+        ensures { IsTrue result ↔ AreSeenAlike observer.now self.now other.now }
+    {
+        same_maps::<_, _, Whole>(&self.holders, &other.holders, Some(observer))
+    }
+
+    /// What holds of all monitors. The call does nothing: its clause is for its caller's proof.
+    pub fn facts(&self)
+        ensures { IsSound self.now }
+    {
+        let _ = &self.holders;
     }
 
     /// Equal monitors.
@@ -131,21 +156,32 @@ impl Monitors {
     }
 }
 
+impl Same<Whole> for Holder {
+    ghost IsSame = { λ x y. x ≡ y };
+
+    fn same(&self, other: &Holder) -> bool {
+        *self == *other
+    }
+}
+
 fn find_holder(holders: &IndexMap<Name, Holder>, r: &Name) -> Option<Holder>
     ensures { result ≡ at_key name_eq holders.now r.now }
 {
     holders.get(r).copied()
 }
 
-fn put_holder(
-    holders: &mut IndexMap<Name, Holder>,
-    r: &Name,
-    holder: Holder,
-) -> Result<(), NoMemory>
-    ensures ok { OnOk result ((q : Name) → at_key name_eq holders.new q ≡ cond (name_eq r.now q) (Some holder) (at_key name_eq holders.old q)) }
+/// One entry of a thread. A monitor that is held keeps its name.
+fn take(holders: &mut IndexMap<Name, Holder>, r: &Name, thread: u32) -> Result<(), NoMemory>
+    requires { count_of (at_key name_eq holders.old r.now) < 1048576 }
+    ensures ok { OnOk result ((q : Name) → at_key name_eq holders.new q ≡ cond (name_eq r.now q) (Some (once_more (at_key name_eq holders.old r.now) thread)) (at_key name_eq holders.old q)) }
     ensures err { OnErr result ((q : Name) → at_key name_eq holders.new q ≡ at_key name_eq holders.old q) }
 {
-    holders.insert(r.copy()?, holder)?;
+    if let Some(holder) = holders.get_mut(r) {
+        holder.thread = thread;
+        holder.count += 1;
+        return Ok(());
+    }
+    holders.insert(r.copy()?, Holder { thread, count: 1 })?;
     Ok(())
 }
 

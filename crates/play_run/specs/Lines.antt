@@ -8,8 +8,8 @@ use Rattle.std.specs.Fmt.{signed_decimal}
 use Rattle.std.specs.List.{flat_map}
 use Rattle.flow_labels.specs.declared.Label.{Label}
 use Rattle.flow_labels.specs.Flow.{public_label}
-use Rattle.flow_labels.specs.declared.Rule.{Rule}
-use Rattle.flow_labels.specs.declared.Rule.TheVariants.{ReadS, ReadI, WriteS, WriteI, AddS, DropS, AddI, DropI, Caps, Mint, Same}
+use Rattle.flow_labels.specs.declared.Rule.TheVariants.{ReadS, DropS}
+use Rattle.flow_labels.specs.RuleText.{rule_text}
 use Rattle.flow_labels.specs.TwoLists.{tag_text}
 use Rattle.capabilities.specs.CapsText.{caps_text}
 use Rattle.play_script.specs.declared.Step.{Step}
@@ -29,19 +29,6 @@ abbrev pub words_of : Play → Step → Word
 words_of play (Read p c) = name_of play.actor_names p ++ codes " read " ++ name_of play.cell_names c
 words_of play (Write p c v) = name_of play.actor_names p ++ codes " write " ++ name_of play.cell_names c ++ 32 ∷ signed_decimal v
 words_of play (Copy p c d) = name_of play.actor_names p ++ codes " copy " ++ name_of play.cell_names c ++ 32 ∷ name_of play.cell_names d
-
-abbrev pub rule_text : Rule → Word
-rule_text ReadS = codes "ReadS"
-rule_text ReadI = codes "ReadI"
-rule_text WriteS = codes "WriteS"
-rule_text WriteI = codes "WriteI"
-rule_text AddS = codes "AddS"
-rule_text DropS = codes "DropS"
-rule_text AddI = codes "AddI"
-rule_text DropI = codes "DropI"
-rule_text Caps = codes "Caps"
-rule_text Mint = codes "Mint"
-rule_text Same = codes "Same"
 
 -- a read and a copy tell the number; of a write it stands in the words
 abbrev pub told : Step → ℤ → Word

@@ -5,7 +5,7 @@
 use Rattle.std.specs.Prelude.{ℤ, if◌then◌else◌, List, map, Option, Some, None}
 use Rattle.std.specs.List.{filter_map}
 use Rattle.flow_labels.specs.declared.Label.{Label}
-use Rattle.flow_labels.specs.Flow.{flows}
+use Rattle.flow_labels.specs.Flow.{seen}
 use Rattle.labelled_heap.specs.declared.cells.Cell.{Cell}
 use Rattle.play_script.specs.declared.Step.{Step}
 use Rattle.play_script.specs.Script.{Play}
@@ -23,11 +23,11 @@ pub data Item : Type 0 where
 
 abbrev pub past : Label → Option Copied → Option Entry
 past o None = None
-past o (Some c) = if flows c.label o then Some (Released c.release) else None
+past o (Some c) = if seen c.label o then Some (Released c.release) else None
 
 -- what o sees of a moment
 abbrev pub noted : Label → Moment → Option Entry
-noted o m = if flows m.event.label o then Some (Seen m.event) else past o m.copied
+noted o m = if seen m.event.label o then Some (Seen m.event) else past o m.copied
 
 abbrev pub item_of : Entry → Item
 item_of (Seen e) = Acts e.step
@@ -51,7 +51,7 @@ pub record CellView : Type 0 where
   pub value : Option ℤ
 
 abbrev pub cell_view : Label → Cell → CellView
-cell_view o c = record { label = c.label; value = if flows c.label o then Some c.value else None }
+cell_view o c = record { label = c.label; value = if seen c.label o then Some c.value else None }
 
 abbrev pub view : Label → List Cell → List CellView
 view o cells = map (cell_view o) cells

@@ -4,11 +4,11 @@ ghost use Rattle.std.specs.Prelude.{◌≡◌, ◌++◌, ◌∷◌, [], OnOk, st
 ghost use Rattle.std.specs.Fmt.{signed_decimal};
 ghost use Rattle.capabilities.specs.CapsText.{caps_text};
 ghost use Rattle.play_script.specs.Script.{play_of};
-ghost use Rattle.play_run.specs.Lines.{name_of, words_of, rule_text, told, answer_of};
+ghost use Rattle.play_run.specs.Lines.{name_of, words_of, told, answer_of};
 
 use crate::steps::Outcome;
-use capabilities::{Caps, caps_text};
-use flow_labels::{Rule, TagNames, tag_text};
+use capabilities::{Caps, push_caps};
+use flow_labels::{TagNames, push_tag, rule_text};
 use play_script::{Script, Step};
 use tag_sets::{NoMemory, TagId};
 
@@ -19,24 +19,6 @@ fn name_of(names: &TagNames, number: u64) -> &str
     match names.name(TagId(number)) {
         None => "",
         Some(name) => name,
-    }
-}
-
-fn rule_text(rule: Rule) -> &'static str
-    ensures { result.now ≡ rule_text rule }
-{
-    match rule {
-        Rule::ReadS => "ReadS",
-        Rule::ReadI => "ReadI",
-        Rule::WriteS => "WriteS",
-        Rule::WriteI => "WriteI",
-        Rule::AddS => "AddS",
-        Rule::DropS => "DropS",
-        Rule::AddI => "AddI",
-        Rule::DropI => "DropI",
-        Rule::Caps => "Caps",
-        Rule::Mint => "Mint",
-        Rule::Same => "Same",
     }
 }
 
@@ -82,8 +64,8 @@ fn push_answer(
         },
         Outcome::Refused(denied) => {
             let rule = rule_text(denied.rule);
-            let tag = tag_text(denied.tag, &script.tags)?;
-            write!(text, " refused {rule} {tag}")?;
+            write!(text, " refused {rule} ")?;
+            push_tag(text, denied.tag, &script.tags)?;
         }
     }
     Ok(())
@@ -114,9 +96,10 @@ pub fn push_release(
 ) -> Result<(), NoMemory>
     ensures { OnOk result (string_bytes text.new ≡ string_bytes text.old ++ (codes "release " ++ words_of (play_of script.now) copy ++ codes " = " ++ signed_decimal value ++ codes " by " ++ caps_text (play_of script.now).tags by.now ++ 10 ∷ [])) }
 {
-    let caps = caps_text(by, &script.tags)?;
     text.push_str("release ")?;
     push_words(text, script, copy)?;
-    writeln!(text, " = {value} by {caps}")?;
+    write!(text, " = {value} by ")?;
+    push_caps(text, by, &script.tags)?;
+    text.push('\n')?;
     Ok(())
 }

@@ -9,7 +9,7 @@ use Rattle.capabilities.specs.CapsText.{caps_of}
 use Rattle.play_script.specs.declared.Step.{Step}
 use Rattle.play_script.specs.declared.Step.TheVariants.{Read, Write, Copy}
 use Rattle.play_script.specs.Pieces.{Word, pieces, onto_first, after_mark, parted, ended, lacks, each_lacks}
-use Rattle.play_script.specs.Numbers.{int_of}
+use Rattle.decimal_text.specs.Decimal.{int_of}
 use Rattle.play_script.specs.Script.{Play, nothing, is_ascii, may_declare, with_tag, with_actor, with_cell, with_step, when, ok_of, then_some, actor_in, cell_in, after_tag, after_actor, after_cell, read_of, write_of, copy_of, step_of, after_step, after_words, after_line, at_line, or_line, at_end, read_lines, read_script}
 use Rattle.play_script.specs.Grammar.{begins_step, Says, LineSays, Goes, Spells}
 use Rattle.play_script.specs.Grammar.Says.{tag, actor, holder, cell, reads, writes, copies}

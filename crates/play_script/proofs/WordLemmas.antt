@@ -2,7 +2,7 @@
 use Rattle.std.proofs.Common.{◌≡◌, ℕ, ◌<◌, ◌≤◌, List, [], ◌∷◌, length, slice_index_or, refl, sym, ap, ◌∙◌, arith, Bor, Option, Some, None}
 use Rattle.flow_labels.specs.Names.{place_of}
 use Rattle.play_script.specs.Pieces.{Word, texts}
-use Rattle.play_script.specs.Numbers.{int_of}
+use Rattle.decimal_text.specs.Decimal.{int_of}
 use Rattle.play_script.specs.declared.Step.TheVariants.{Read, Write, Copy}
 use Rattle.play_script.specs.Script.{Play, after_actor, after_cell, then_some, step_of, read_of, write_of, copy_of}
 

@@ -1,7 +1,6 @@
 -- The format of a script in its own words; the laws of lib.rt join it to the reading.
 use Rattle.std.specs.Prelude.{◌≡◌, ◌↔◌, ℕ, ℤ, ◌+◌, ◌≤◌, Bool, true, not, ◌||◌, List, [], ◌∷◌, ◌++◌, length, Some, Ok, Err, codes}
 use Rattle.std.specs.Str.{bytes_eq}
-use Rattle.std.specs.Fmt.{signed_decimal}
 use Rattle.flow_labels.specs.Names.{place_of}
 use Rattle.flow_labels.specs.LabelText.{label_of}
 use Rattle.flow_labels.specs.declared.Label.{Label}
@@ -9,7 +8,7 @@ use Rattle.capabilities.specs.Changes.{no_caps}
 use Rattle.capabilities.specs.CapsText.{caps_of}
 use Rattle.capabilities.specs.declared.Caps.{Caps}
 use Rattle.play_script.specs.Pieces.{Word, parted, ended, lacks, each_lacks}
-use Rattle.play_script.specs.Numbers.{int_of, fits}
+use Rattle.decimal_text.specs.Decimal.{int_of}
 use Rattle.play_script.specs.declared.Step.TheVariants.{Read, Write, Copy}
 use Rattle.play_script.specs.Script.{Play, nothing, may_declare, with_tag, with_actor, with_cell, with_step, is_ascii, after_line, read_script}
 
@@ -77,7 +76,3 @@ BreaksAreExact = (text : Word) (n : ℕ) → FirstBroken text n ↔ (read_script
 -- a line goes on exactly where its words say something, as what they say
 abbrev pub LinesAreExact : Type 0
 LinesAreExact = (p q : Play) (line : Word) → LineSays p line q ↔ (after_line p line ≡ Some q)
-
--- the text of a number of 64 bits in decimal is read as it, and no other text is read
-abbrev pub NumbersAreExact : Type 0
-NumbersAreExact = (w : Word) (z : ℤ) → ((fits z ≡ true) × (w ≡ signed_decimal z)) ↔ (int_of w ≡ Some z)

@@ -8,7 +8,7 @@ use Rattle.capabilities.specs.Changes.{no_caps}
 use Rattle.capabilities.specs.CapsText.{caps_of}
 use Rattle.capabilities.specs.declared.Caps.{Caps}
 use Rattle.play_script.specs.Pieces.{Word, pieces}
-use Rattle.play_script.specs.Numbers.{int_of}
+use Rattle.decimal_text.specs.Decimal.{int_of}
 use Rattle.play_script.specs.declared.Actor.{Actor}
 use Rattle.play_script.specs.declared.Cell.{Cell}
 use Rattle.play_script.specs.declared.Step.{Step}

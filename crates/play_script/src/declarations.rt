@@ -4,14 +4,14 @@ ghost use Rattle.std.specs.Prelude.{◌≡◌, ◌++◌, ◌∷◌, [], true, is
 ghost use Rattle.capabilities.specs.CapsText.{caps_of};
 ghost use Rattle.flow_labels.specs.Names.{is_name, place_of};
 ghost use Rattle.flow_labels.specs.LabelText.{label_of};
-ghost use Rattle.play_script.specs.Numbers.{int_of};
+ghost use Rattle.decimal_text.specs.Decimal.{int_of};
 ghost use Rattle.play_script.specs.Pieces.{texts};
 ghost use Rattle.play_script.specs.Script.{play_of, after_tag, after_actor, after_cell, actor_in, caps_in, cell_in, may_declare, is_free, is_reserved, Adds, GivesSome, ok_of, with_actor, with_cell};
 
 use crate::faults::LineFault;
-use crate::numbers::int_of;
 use crate::{Actor, Cell, Script};
 use capabilities::{Caps, CapsFault, parse_caps};
+use decimal_text::read_int;
 use flow_labels::{Label, LabelFault, NameFault, TagNames, is_name, parse_label};
 use std::alloc::Global;
 
@@ -146,6 +146,13 @@ fn add_cell(script: &mut Script, name: &str, cell: Cell) -> Result<(), LineFault
 {
     script.cells.push(cell)?;
     add_name(&mut script.cell_names, name)
+}
+
+/// The number that a word writes.
+pub fn int_of(word: &str) -> Option<i64>
+    ensures { result ≡ int_of word.now }
+{
+    read_int(word.as_bytes())
 }
 
 fn number_of(text: &str) -> Result<i64, LineFault>

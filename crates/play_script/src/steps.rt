@@ -5,7 +5,7 @@ ghost use Rattle.flow_labels.specs.Names.{place_of};
 ghost use Rattle.play_script.specs.Pieces.{texts};
 ghost use Rattle.play_script.specs.Script.{play_of, step_of, read_of, write_of, copy_of};
 
-use crate::numbers::int_of;
+use crate::declarations::int_of;
 use crate::{Script, Step};
 use flow_labels::TagNames;
 

@@ -5,7 +5,7 @@ use Rattle.lam_builtins.specs.declared.Builtin.{Builtin}
 use Rattle.resolved_tree.specs.declared.ValueType.{ValueType}
 use Rattle.resolved_tree.specs.declared.Expr.{Expr, Call, Call', BuiltinCall, BuiltinCall', LabelOf, LabelOf', Spawn, Spawn', Row_of-Expr, end_of-Expr, more_of-Expr, items-the_row-Expr, items_hidden-the_row-Expr-0}
 use Rattle.resolved_tree.specs.declared.Stmt.{Stmt, If, If', While, While', Sync, Sync', Region, Region', Row_of-Stmt, end_of-Stmt, more_of-Stmt, Some', items-the_row-Stmt, items_hidden-the_row-Stmt-0}
-use Rattle.resolved_tree.specs.Tree.{Expressions, args_more, call_of, builtin_of, label_of, spawn_of, option_type_tree, types_tree, expr_tree, expr_row, exprs_tree, Block, block_more, if_block, while_block, sync_block, region_block, no_other, other_block, stmt_tree, stmt_row, stmts_tree, else_tree}
+use Rattle.resolved_tree.specs.Tree.{args_more, call_of, builtin_of, label_of, spawn_of, option_type_tree, types_tree, expr_tree, expr_row, exprs_tree, block_more, if_block, while_block, sync_block, region_block, no_other, other_block, stmt_tree, stmt_row, stmts_tree, else_tree}
 
 expr_rows : (n : _) (r : Row_of-Expr n) → expr_row r ≡ exprs_tree (items-the_row-Expr n r)
 expr_rows n end_of-Expr = refl

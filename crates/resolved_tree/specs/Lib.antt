@@ -1,2 +1,4 @@
 pub mod Tree
 pub mod Typing
+pub mod Regions
+pub mod Slots

@@ -2,7 +2,7 @@
 -- The meaning of a program and the compiler's scheme are on these types. `resolved_tree` and the other views give them
 -- for the values of the code. Row lemmas in proofs/Rows.antt say that the children in a vector are those of its list
 -- of items.
-use Rattle.std.specs.Prelude.{ℕ, ℤ, Bool, List, [], ◌∷◌, map, Option, Some, None, string_bytes, Vec}
+use Rattle.std.specs.Prelude.{ℕ, ℤ, Bool, List, [], ◌∷◌, Option, Some, None, string_bytes, Vec}
 use Rattle.std.specs.declared.alloc.Global.{Global}
 use Rattle.lam_syntax.specs.declared.BinaryOp.{BinaryOp}
 use Rattle.lam_syntax.specs.declared.UnaryOp.{UnaryOp}

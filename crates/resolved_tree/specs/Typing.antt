@@ -1,8 +1,8 @@
 -- Which resolved programs are typed: one rule for each form, by slots and numbers alone, and no names.
 use Rattle.std.specs.Prelude.{◌≡◌, ℕ, ◌<◌, Bool, true, false, ◌&&◌, if◌then◌else◌, nat_eq, List, [], ◌∷◌, ◌++◌, length, map, Option, Some, None, slice_get}
-use Rattle.lam_builtins.specs.Types.{TypeBy, int, bool, bytes, tag, label, caps, file, dir, pipe, thread, object, array, nullable, GivenBy, a_value, a_null, nothing, given_type, PlaceBy, exactly, any_class, any_array, any_object, any_labelled}
+use Rattle.lam_builtins.specs.Types.{int, bool, bytes, tag, label, caps, file, dir, pipe, thread, object, array, nullable, a_value, a_null, nothing, given_type, exactly, any_class, any_array, any_object, any_labelled}
 use Rattle.lam_builtins.specs.Operators.{operand, operator_type, unary_type}
-use Rattle.lam_builtins.specs.Builtins.{SignatureBy, answered, row_by}
+use Rattle.lam_builtins.specs.Builtins.{answered, row_by}
 use Rattle.resolved_tree.specs.Tree.{ResolvedType, ResolvedGiven, ResolvedPlace, CapSlot, Expression, number_value, text_value, bool_value, null_value, local_value, unary_of, binary_of, field_of, element_of, call_of, builtin_of, new_object, new_array, label_of, caps_of, spawn_of, Expressions, args_end, args_more, Statement, let_slot, if_block, while_block, return_value, throw_value, sync_block, region_block, do_value, set_local, set_field, set_element, Block, block_end, block_more, OtherBlock, no_other, other_block, ResolvedFunction, ResolvedTree}
 
 -- ---- what a program declares
@@ -234,22 +234,21 @@ abbrev mutual
   pub ends : Statement → Bool
   ends (return_value e) = true
   ends (throw_value e) = true
-  ends (if_block e body other) = block_ends body && other_ends other
+  ends (if_block e body other) = block_ends false body && other_ends other
   ends _ = false
 
-  -- by its last statement
-  pub block_ends : Block → Bool
-  block_ends block_end = false
-  block_ends (block_more s block_end) = ends s
-  block_ends (block_more s (block_more t rest)) = block_ends (block_more t rest)
+  -- a block ends as its last statement does, or else as what stands before it
+  pub block_ends : Bool → Block → Bool
+  block_ends before block_end = before
+  block_ends before (block_more s rest) = block_ends (ends s) rest
 
   pub other_ends : OtherBlock → Bool
   other_ends no_other = false
-  other_ends (other_block body) = block_ends body
+  other_ends (other_block body) = block_ends false body
 
 abbrev pub EndsWith : Option ResolvedType → Block → Type 0
 EndsWith None body = Unit {0}
-EndsWith (Some t) body = block_ends body ≡ true
+EndsWith (Some t) body = block_ends false body ≡ true
 
 -- the parameters take the first slots, and a function with a result returns one
 pub record IsFunction (p : Heads) (f : ResolvedFunction) : Type 0 where

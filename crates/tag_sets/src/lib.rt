@@ -8,6 +8,7 @@
 #![tactic(auto)]
 
 mod rising;
+mod shared;
 
 ghost use Rattle.std.specs.Prelude.{◌≡◌, nat_eq, ◌↔◌, Some, IsTrue, IsNone, IfSome, IfOk, OnOk, OnErr};
 ghost use Rattle.std.specs.FinSet as set;
@@ -16,11 +17,11 @@ ghost use Rattle.std.specs.Cmp.Rules.{comparing, hashing};
 ghost use Rattle.std.specs.Cmp.Lexicographic.{pointwise, slice_cmp};
 ghost use Rattle.std.specs.Ordering.{on, nat_cmp, as_partial_cmp};
 ghost use Rattle.std.specs.Hash as fed;
+ghost use Rattle.tag_sets.specs.Rising.{IsRising};
 ghost use Rattle.tag_sets.specs.Tags.{IsLeast, tags_of, least, lesser, apart};
 
-use rising::{
-    add_tag, find_missing, find_missing_both, has_tag, merged_tags, missing_tags, sorted_tags,
-};
+use rising::{find_missing_both, merged_tags, missing_tags, sorted_tags, tags_with};
+use shared::SharedTags;
 use std::alloc::Global;
 use std::cmp::Ordering;
 use std::hash::{Hash, Hasher};
@@ -44,7 +45,7 @@ impl Model for TagId {
 /// A finite set of tags, compared and hashed by its tags in increasing order.
 #[derive(Debug, Drop)]
 pub struct TagSet {
-    tags: Vec<TagId>,
+    tags: SharedTags,
 }
 
 impl Model for TagSet {
@@ -56,9 +57,9 @@ impl Model for TagSet {
 
     ghost coded = { coded_tags };
 
-    ghost view = { λ s. from_list s.tags.items };
+    ghost view = { λ s. from_list s.tags };
 
-    ghost invariant = { λ s. IsRising s.tags.items };
+    ghost invariant = { λ s. IsRising s.tags };
 }
 
 impl PartialEq for TagSet {
@@ -67,7 +68,7 @@ impl PartialEq for TagSet {
     ghost laws = { Prim.search (comparing, rules) };
 
     fn eq(&self, other: &TagSet) -> bool {
-        self.tags() == other.tags()
+        self.same(other)
     }
 }
 
@@ -115,7 +116,16 @@ impl TagSet {
         ensures { result ≡ set.empty }
     {
         TagSet {
-            tags: Vec::new(alloc),
+            tags: SharedTags::empty(alloc),
+        }
+    }
+
+    /// The set of one tag. Takes no memory.
+    pub fn one(alloc: Global, tag: TagId) -> TagSet
+        ensures { result ≡ set.insert set.empty tag }
+    {
+        TagSet {
+            tags: SharedTags::one(alloc, tag),
         }
     }
 
@@ -127,8 +137,12 @@ impl TagSet {
     pub fn from_slice(alloc: Global, tags: &[TagId]) -> Result<TagSet, NoMemory>
         ensures { IfOk result (λ s. s ≡ set.from_list tags.now) }
     {
+        if let [tag] = tags {
+            return Ok(TagSet::one(alloc, *tag));
+        }
         let tags = sorted_tags(alloc, tags)?;
-        Ok(TagSet { tags })
+        let set = TagSet::made(tags)?;
+        Ok(set)
     }
 
     /// The tags, in increasing order.
@@ -140,14 +154,14 @@ impl TagSet {
 
     /// The allocator that the set keeps, for what is made beside it.
     pub fn allocator(&self) -> Global {
-        *self.tags.allocator()
+        self.tags.allocator()
     }
 
     /// Whether a tag is in the set, by a binary search.
     pub fn contains(&self, tag: TagId) -> bool
         ensures { result ≡ set.contains self.now tag }
     {
-        has_tag(self.tags.as_slice(), tag)
+        self.tags.holds(tag)
     }
 
     /// Whether each tag of this set is in the other.
@@ -161,7 +175,7 @@ impl TagSet {
     pub fn same(&self, other: &TagSet) -> bool
         ensures { IsTrue result ↔ (self.now ≡ other.now) }
     {
-        self.tags.as_slice() == other.tags.as_slice()
+        self.tags.same(&other.tags)
     }
 
     /// The least tag, where the set has one.
@@ -169,7 +183,7 @@ impl TagSet {
         ensures value { result ≡ least self.now }
         ensures none { IsNone result ↔ (self.now ≡ set.empty) }
     {
-        self.tags.first().copied()
+        self.tags.as_slice().first().copied()
     }
 
     /// The least tag of this set that the other lacks: `None` exactly where this is a subset of the other.
@@ -178,7 +192,7 @@ impl TagSet {
         ensures none { IsNone result ↔ IsTrue (set.is_subset self.now other.now) }
         ensures least { IfSome result (IsLeast (set.difference self.now other.now)) }
     {
-        find_missing(self.tags.as_slice(), other.tags.as_slice())
+        self.tags.first_missing(&other.tags)
     }
 
     /// The least tag of this set that is in neither of the others.
@@ -201,7 +215,8 @@ impl TagSet {
         lesser(self.first_missing(other), other.first_missing(self))
     }
 
-    /// The tags that are in this set, in the other or in both.
+    /// The tags that are in this set, in the other or in both. Where one of the two is a subset of the other, the
+    /// answer shares the other's tags.
     ///
     /// # Errors
     ///
@@ -209,12 +224,19 @@ impl TagSet {
     pub fn union(&self, other: &TagSet) -> Result<TagSet, NoMemory>
         ensures { IfOk result (λ s. s ≡ set.union self.now other.now) }
     {
+        if other.is_subset(self) {
+            return self.copy();
+        }
+        if self.is_subset(other) {
+            return other.copy();
+        }
         let tags = merged_tags(
-            *self.tags.allocator(),
+            self.tags.allocator(),
             self.tags.as_slice(),
             other.tags.as_slice(),
         )?;
-        Ok(TagSet { tags })
+        let set = TagSet::made(tags)?;
+        Ok(set)
     }
 
     /// The tags of this set that the other lacks.
@@ -226,22 +248,23 @@ impl TagSet {
         ensures { IfOk result (λ s. s ≡ set.difference self.now other.now) }
     {
         let tags = missing_tags(
-            *self.tags.allocator(),
+            self.tags.allocator(),
             self.tags.as_slice(),
             other.tags.as_slice(),
         )?;
-        Ok(TagSet { tags })
+        let set = TagSet::made(tags)?;
+        Ok(set)
     }
 
-    /// An equal set.
+    /// An equal set, which shares its tags with this one: no memory is taken.
     ///
     /// # Errors
     ///
-    /// `NoMemory` where memory is refused.
+    /// `NoMemory` where the set has 2 ^ 63 copies.
     pub fn copy(&self) -> Result<TagSet, NoMemory>
         ensures { IfOk result (λ s. s ≡ self.now) }
     {
-        let tags = Vec::from_slice(*self.tags.allocator(), self.tags.as_slice())?;
+        let tags = self.tags.copy()?;
         Ok(TagSet { tags })
     }
 
@@ -254,8 +277,33 @@ impl TagSet {
         ensures ok { OnOk result (self.new ≡ set.insert self.old tag) }
         ensures err { OnErr result (self.new ≡ self.old) }
     {
-        add_tag(&mut self.tags, tag)?;
+        if self.contains(tag) {
+            return Ok(());
+        }
+        let set = self.with_tag(tag)?;
+        *self = set;
         Ok(())
+    }
+
+    /// The set with one more tag.
+    fn with_tag(&self, tag: TagId) -> Result<TagSet, NoMemory>
+        ensures { IfOk result (λ s. s ≡ set.insert self.now tag) }
+    {
+        if self.tags.as_slice().is_empty() {
+            return Ok(TagSet::one(self.tags.allocator(), tag));
+        }
+        let tags = tags_with(self.tags.allocator(), self.tags.as_slice(), tag)?;
+        let set = TagSet::made(tags)?;
+        Ok(set)
+    }
+
+    /// The set whose tags in increasing order are these, which are not copied.
+    fn made(tags: Vec<TagId>) -> Result<TagSet, NoMemory>
+        requires { IsRising tags.items }
+        ensures { IfOk result (λ s. s ≡ set.from_list tags.items) }
+    {
+        let tags = SharedTags::from_vec(tags)?;
+        Ok(TagSet { tags })
     }
 }
 
@@ -267,22 +315,5 @@ fn lesser(a: Option<TagId>, b: Option<TagId>) -> Option<TagId>
         (None, b) => b,
         (Some(x), None) => Some(x),
         (Some(x), Some(y)) => { if y < x { Some(y) } else { Some(x) } }
-    }
-}
-
-#[cfg(test)]
-mod tests {
-    use super::*;
-
-    #[test]
-    fn three_one_three_is_the_set_of_one_and_three(rt: HostRuntime) -> Result<(), NoMemory> {
-        let alloc = rt.alloc();
-        let set = TagSet::from_slice(alloc, &[TagId(3), TagId(1), TagId(3)])?;
-        assert_eq!(rt; set.tags(), [TagId(1), TagId(3)].as_slice());
-        let with_two = set.union(&TagSet::from_slice(alloc, &[TagId(2)])?)?;
-        assert_eq!(rt; with_two.tags(), [TagId(1), TagId(2), TagId(3)].as_slice());
-        let without_one = set.minus(&TagSet::from_slice(alloc, &[TagId(1)])?)?;
-        assert_eq!(rt; without_one.tags(), [TagId(3)].as_slice());
-        Ok(())
     }
 }

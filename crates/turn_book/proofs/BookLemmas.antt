@@ -11,7 +11,7 @@ use Rattle.turn_book.specs.Reading.{◌>>=◌, cut, stretch_of, last_is, with_st
 use Rattle.turn_book.specs.declared.BookFault.{BookFault}
 use Rattle.turn_book.specs.declared.BookFault.TheVariants.{BadHead, BadLine, SameThread, TooMany, NoMemory}
 use Rattle.turn_book.proofs.CutLemmas.{IsCut, cut_is, line_read, no_line_read}
-use Rattle.turn_book.proofs.DecimalLemmas.{begins_read, read_begins, read_line_text, written_read, IsLine, line_back}
+use Rattle.turn_book.proofs.WrittenLemmas.{begins_read, read_begins, read_line_text, written_read, IsLine, line_back}
 use Rattle.turn_book.proofs.StretchLemmas.{line_before, AreLow, AllLow, stretches-expanded, stretches_longest, expanded-stretches, stretches_low, expanded_low, last_of_stretch, last_means, means_last}
 
 -- ---- stretches that go on after turns

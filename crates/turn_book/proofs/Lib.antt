@@ -1,6 +1,5 @@
 pub mod BookLemmas
 pub mod CutLemmas
-pub mod DecimalLemmas
+pub mod WrittenLemmas
 pub mod LineLemmas
 pub mod StretchLemmas
-pub mod ValueLemmas

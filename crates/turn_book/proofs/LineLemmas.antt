@@ -4,7 +4,8 @@ use Rattle.std.proofs.lemmas.Bool.Decides.{nat_tests}
 use Rattle.std.proofs.lemmas.List.{take_all, length-replicate}
 use Rattle.turn_book.specs.Book.{Text, Stretch}
 use Rattle.turn_book.specs.Cuts.{stretch_seen}
-use Rattle.turn_book.specs.Reading.{◌>>=◌, cut, number_of, numbers_in, stretch_or, stretch_of, last_is, with_stretch, at_end, turns_from, saturated, Fails}
+use Rattle.turn_book.specs.Reading.{◌>>=◌, cut, numbers_in, stretch_or, stretch_of, last_is, with_stretch, at_end, turns_from, saturated, Fails}
+use Rattle.decimal_text.specs.Decimal.{number_of}
 use Rattle.turn_book.specs.declared.BookFault.{BookFault}
 use Rattle.turn_book.specs.declared.BookFault.TheVariants.{BadHead, BadLine, SameThread, TooMany, NoMemory}
 use Rattle.turn_book.specs.declared.lines.Stretch.{Stretch as Line}

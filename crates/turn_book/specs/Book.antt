@@ -3,9 +3,8 @@
 -- The head line, and then a line for each longest stretch of turns of one thread: its number and how many
 -- turns it takes, in decimal. The turns 0, 0, 0, 7, 0 are the lines `0 3`, `7 1` and `0 1`; no turns are
 -- the head line alone.
-use Rattle.std.specs.Prelude.{◌≡◌, ℕ, ◌+◌, ◌<◌, ◌≤◌, Bool, true, false, not, ◌&&◌, ◌||◌, nat_eq, nat_le, if◌then◌else◌, List, [], ◌∷◌, ◌++◌, length, All, codes, decimal, replicate, refl}
-use Rattle.std.specs.List.{list_all}
-use Rattle.std.specs.Str.Parse.{digits_value}
+use Rattle.std.specs.Prelude.{◌≡◌, ℕ, ◌+◌, ◌<◌, ◌≤◌, false, nat_eq, if◌then◌else◌, List, [], ◌∷◌, ◌++◌, length, All, codes, decimal, replicate, refl}
+use Rattle.decimal_text.specs.Decimal.{IsDecimal}
 use Rattle.turn_book.specs.declared.BookFault.{BookFault}
 use Rattle.turn_book.specs.declared.BookFault.TheVariants.{BadHead, BadLine, SameThread, TooMany, NoMemory}
 
@@ -64,25 +63,6 @@ book ts = head ++ lines_text (stretches ts)
 pub record AreTurns (ts : List ℕ) : Type 0 where
   pub few : length ts ≤ 1000000
   pub threads : All (λ t. t ≤ 4095) ts
-
--- ---- numbers
-
-abbrev pub is_digit : ℕ → Bool
-is_digit b = nat_le 48 b && nat_le b 57
-
-abbrev pub is_nil : Text → Bool
-is_nil [] = true
-is_nil (b ∷ bs) = false
-
--- digits without a leading zero, or one zero
-abbrev pub is_plain : Text → Bool
-is_plain [] = false
-is_plain (b ∷ bs) = is_digit b && (list_all is_digit bs && (not (nat_eq b 48) || is_nil bs))
-
--- the text is the number in decimal, however many digits it has
-pub record IsDecimal (text : Text) (n : ℕ) : Type 0 where
-  pub plain : is_plain text ≡ true
-  pub value : digits_value 10 text ≡ n
 
 -- ---- faults
 

@@ -2,8 +2,8 @@
 use Rattle.std.specs.Prelude.{◌≡◌, ℕ, ◌+◌, ◌-◌, ◌^◌, Bool, false, ◌&&◌, nat_eq, nat_lt, nat_le, min, if◌then◌else◌, List, [], ◌∷◌, ◌++◌, length, take, drop, Option, Some, None, Result, Ok, Err, replicate, codes, refl}
 use Rattle.std.specs.List.{slice_get}
 use Rattle.std.specs.Str.{bytes_eq}
-use Rattle.std.specs.Str.Parse.{digits_value}
-use Rattle.turn_book.specs.Book.{Text, Stretch, is_plain, head}
+use Rattle.decimal_text.specs.Decimal.{number_of}
+use Rattle.turn_book.specs.Book.{Text, Stretch, head}
 use Rattle.turn_book.specs.declared.BookFault.{BookFault}
 use Rattle.turn_book.specs.declared.BookFault.TheVariants.{BadHead, BadLine, SameThread, TooMany, NoMemory}
 
@@ -20,9 +20,6 @@ onto b (Some p) = Some (b ∷ p.0, p.1)
 abbrev pub cut : ℕ → Text → Option (Text × Text)
 cut mark [] = None
 cut mark (b ∷ bs) = if nat_eq b mark then Some ([], bs) else onto b (cut mark bs)
-
-abbrev pub number_of : Text → Option ℕ
-number_of text = if is_plain text then Some (digits_value 10 text) else None
 
 abbrev pub stretch_or : Option ℕ → Option ℕ → Option Stretch
 stretch_or (Some thread) (Some count) = if nat_le thread 4095 && nat_lt 0 count then Some (record { thread = thread; count = count }) else None

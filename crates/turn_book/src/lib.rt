@@ -10,9 +10,6 @@
 #![tactic(auto)]
 
 mod lines;
-mod numbers;
-#[cfg(test)]
-mod tests;
 
 ghost use Rattle.std.specs.Prelude.{◌≡◌, ℕ, List, Ok, IfOk, IfErr};
 ghost use Rattle.turn_book.specs.Book.{AreTurns, IsBroken, StretchesAreLongest, book};

@@ -1,14 +1,14 @@
 //! The lines of a book.
 
-ghost use Rattle.std.specs.Prelude.{◌≡◌, ◌≤◌, ◌<◌, ◌+◌, ◌^◌, ◌++◌, [], ◌==◌, length, option_map, OnOk, IfSome, position};
+ghost use Rattle.std.specs.Prelude.{◌≡◌, ◌≤◌, ◌<◌, ◌+◌, ◌-◌, ◌^◌, min, ◌++◌, [], ◌==◌, length, option_map, OnOk, IfSome, position};
 ghost use Rattle.std.specs.List.{prefix_len};
+ghost use Rattle.decimal_text.specs.Decimal.{number_of};
 ghost use Rattle.turn_book.specs.Book.{line_text};
 ghost use Rattle.turn_book.specs.Reading.{cut, stretch_of, stretch_or, saturated, last_is, with_stretch, turns_from, Gives, GivesOnto};
 ghost use Rattle.turn_book.specs.Cuts.{parts_of, stretch_seen};
 
 use crate::BookFault;
-use crate::numbers::number_of;
-use itoa::Buffer;
+use decimal_text::{NumberFault, push_number_bytes, read_number};
 use std::alloc::Global;
 use want_of_memory::NoMemory;
 
@@ -44,6 +44,17 @@ fn mark_place(text: &[u8], mark: u8) -> Option<usize>
     ensures within { IfSome result (λ at. at < length text.now) }
 {
     text.iter().position(|b| *b == mark)
+}
+
+/// The number that a text writes, or the greatest of 64 bits where it is greater.
+fn number_of(text: &[u8]) -> Option<u64>
+    ensures { result ≡ option_map (λ n. min n (2 ^ 64 - 1)) (number_of text.now) }
+{
+    match read_number(text) {
+        Ok(number) => Some(number),
+        Err(NumberFault::TooLarge) => Some(u64::MAX),
+        Err(NumberFault::NoNumber) => None,
+    }
 }
 
 /// The stretch that a line without its line feed writes. A count past 64 bits is the greatest of them.
@@ -130,10 +141,9 @@ pub(crate) fn stretch_len(turns: &[u32], thread: u32) -> usize
 pub(crate) fn push_line(text: &mut Vec<u8>, thread: u32, count: u64) -> Result<(), NoMemory>
     ensures { OnOk result (text.new.items ≡ text.old.items ++ line_text (record { thread = thread; count = count }) []) }
 {
-    let mut digits = Buffer::new();
-    text.extend_from_slice(digits.format(thread).as_bytes())?;
+    push_number_bytes(text, u64::from(thread))?;
     text.push(b' ')?;
-    text.extend_from_slice(digits.format(count).as_bytes())?;
+    push_number_bytes(text, count)?;
     text.push(b'\n')?;
     Ok(())
 }

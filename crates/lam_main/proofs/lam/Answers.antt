@@ -1,32 +1,35 @@
 use Rattle.std.proofs.Common.{map, string_bytes}
-use Rattle.lam_main.specs.Plan.{IsPlan}
-use Rattle.lam_main.proofs.PlayLemmas.{isolated_of}
-use Rattle.lam_main.proofs.FormatLemmas.{steady_of}
-use Rattle.lam_main.proofs.PlanLemmas.{one_plan}
-use Rattle.lam_main.proofs.EndLemmas.{answer_of, planned_of, status_of, shelf_failed_as}
+use Rattle.lam_plan.specs.Answer.{outside}
+use Rattle.lam_plan.specs.Plan.{IsPlan}
+use Rattle.lam_plan.proofs.AnswerLemmas.{answers_to, status_of}
+use Rattle.lam_plan.proofs.PlanLemmas.{plans_are_one}
+use Rattle.lam_plan.proofs.FormatLemmas.{steady_of}
+use Rattle.lam_main.proofs.EndLemmas.{planned_of, silent_memory, silent_shelf, shelf_failed_as}
 use Rattle.lam_main.proofs.lam.Goals as goal
-
-pub returns-clause-answer : goal.returns-clause-answer
-returns-clause-answer g c = λ told plan is.
-    let ws = map string_bytes c.args.words.now in
-    let files = g.H.Shelf.files c.args.shelf.now in
-    answer_of (g.O.Sink.taken c.args.out.now) (g.O.Sink.taken c.end_with.new.out) (IsPlan ws files) (one_plan ws files) c.end_with.result c.text_of-answer.result (c.text_of-answer.ensures.gives told) c.end_with.ensures.planned plan is
 
 pub returns-clause-planned : goal.returns-clause-planned
 returns-clause-planned g c = λ told.
-    planned_of (g.O.Sink.taken c.args.out.now) (g.O.Sink.taken c.end_with.new.out) (IsPlan (map string_bytes c.args.words.now) (g.H.Shelf.files c.args.shelf.now)) c.end_with.result c.text_of-answer.result (c.text_of-answer.ensures.gives told) c.end_with.ensures.planned
+    planned_of c.end_with.result (g.O.Sink.taken c.args.out.now) (g.O.Sink.taken c.end_with.new.out) (IsPlan (map string_bytes c.args.words.now) (g.H.Shelf.files c.args.shelf.now)) (g.H.Shelf.files c.args.shelf.now) (g.H.Shelf.files c.answer_of-answer.new.shelf) c.answer_of-answer.result
+    (c.answer_of-answer.ensures.gives told) c.end_with.ensures.ends
 
-pub returns-clause-no_fault : goal.returns-clause-no_fault
-returns-clause-no_fault g c = λ told quiet_shelf quiet_sink some plan is.
+pub returns-clause-answer : goal.returns-clause-answer
+returns-clause-answer g c = λ told none plan is.
     let ws = map string_bytes c.args.words.now in
     let files = g.H.Shelf.files c.args.shelf.now in
-    let old = g.O.Sink.taken c.args.out.now in
-    let new = g.O.Sink.taken c.end_with.new.out in
-    status_of old new c.end_with.result plan some (λ e. quiet_shelf (shelf_failed_as old new c.end_with.result c.text_of-answer.result c.end_with.ensures.planned c.text_of-answer.ensures.failed e)) (λ e. quiet_sink (c.end_with.ensures.rose e))
-    (answer_of old new (IsPlan ws files) (one_plan ws files) c.end_with.result c.text_of-answer.result (c.text_of-answer.ensures.gives told) c.end_with.ensures.planned plan is)
+    let old = outside files (g.O.Sink.taken c.args.out.now) in
+    let new = outside (g.H.Shelf.files c.answer_of-answer.new.shelf) (g.O.Sink.taken c.end_with.new.out) in
+    answers_to c.end_with.result (IsPlan ws files) old new plan (λ p given. plans_are_one ws files p plan none given is)
+    (silent_memory c.end_with.result old.taken new.taken c.answer_of-answer.result c.end_with.ensures.ends)
+    (silent_shelf c.end_with.result old.taken new.taken c.answer_of-answer.result c.end_with.ensures.ends)
+    (c.answer_of-answer.ensures.stay told)
+    (returns-clause-planned g c told)
 
-pub returns-clause-isolated : goal.returns-clause-isolated
-returns-clause-isolated g c = isolated_of (map string_bytes c.args.words.now) (g.H.Shelf.files c.args.shelf.now) c.scripts_are_isolated.ensures
+pub returns-clause-no_fault : goal.returns-clause-no_fault
+returns-clause-no_fault g c = λ told none quiet_shelf quiet_sink some plan is.
+    let old = outside (g.H.Shelf.files c.args.shelf.now) (g.O.Sink.taken c.args.out.now) in
+    let new = outside (g.H.Shelf.files c.answer_of-answer.new.shelf) (g.O.Sink.taken c.end_with.new.out) in
+    status_of c.end_with.result plan old new some (λ e. quiet_shelf (shelf_failed_as c.end_with.result old.taken new.taken c.answer_of-answer.result c.end_with.ensures.ends c.answer_of-answer.ensures.failed e)) (λ e. quiet_sink (c.end_with.ensures.rose e))
+    (returns-clause-answer g c told none plan is)
 
 pub returns-clause-steady : goal.returns-clause-steady
 returns-clause-steady g c = steady_of (map string_bytes c.args.words.now) (g.H.Shelf.files c.args.shelf.now) c.canonical_text_is_lexed.ensures c.canonical_text_is_read_as_the_tree.ensures c.canonical_text_is_steady.ensures

@@ -6,12 +6,13 @@ use Rattle.lam_grammar.specs.Table.{expr, chain, chain_tail, operand, comparison
 use Rattle.lam_grammar.specs.Meaning.{no_more, no_postfix, exprs_value}
 use Rattle.lam_grammar.specs.Examples.{examples}
 use Rattle.lam_reading.proofs.Rules.{begun, counted_taken, rule_taken, maybe_taken, rule_read, rule_fails, token_deep_fails, present, deep_present, body_of, second_body_of, last_of_two, no_body_of, neither_body_of, opened, counted_opened, left_out, deep_fails, rule_fails_inside, loop_begins, loop_goes_on, loop_ends, loop_strict, loop_deep_fails, loop_mark_fails, loop_rule_fails, part_begun, mark_taken, mark_fails, rule_unwanted, rule_body_of, no_rule_body_of}
-use Rattle.lam_syntax.specs.Tree.{no_exprs}
-use Rattle.lam_parse_exprs.proofs.Forms.{prim_body, prim_front, other_fits, array_body, array_front, arguments_begin, prim_of_parens}
+use Rattle.lam_syntax.specs.Tree.{no_exprs, expr_tree}
+use Rattle.lam_parse_parts.specs.Parts.{no_index, no_close}
+use Rattle.lam_parse_parts.proofs.Forms.{prim_body, prim_front, other_fits, array_body, array_front, arguments_begin, prim_of_parens}
 use Rattle.lam_parse_exprs.proofs.Lists.{first_exprs, more_exprs, joined_none}
-use Rattle.lam_parse_exprs.proofs.Steps.{next_fails, begun_fails, loop_as}
+use Rattle.lam_parse_parts.proofs.Steps.{next_fails, begun_fails, loop_as}
 use Rattle.lam_reading.specs.declared.breaks.Wanted.TheVariants as wanted
-use Rattle.lam_parse_exprs.specs.declared.primary.Form.TheVariants as form
+use Rattle.lam_parse_parts.specs.declared.primary.Form.TheVariants as form
 use Rattle.lam_parse_exprs.proofs.+expression.Goals as goal
 
 first_operand : (l : Level) → examples.first (operand l) ≡ examples.first (chain l)
@@ -157,22 +158,21 @@ operators::postfix-returns-in_err-_dot-clause-reads t c =
     let d = c.in_err-_dot.ensures.takes in
     rw (p.1, p.2) (loop_deep_fails c.loop-of.invariant.goes refl (body_of post_tail (deep_present d) refl (λ b. refl)) _ d)
 
-pub operators::postfix-returns-in_err-token-clause-reads : goal.operators::postfix-returns-in_err-token-clause-reads
-operators::postfix-returns-in_err-token-clause-reads t c =
-    let p = err_from_is_err_and c.from_residual-in_err-token.result c.from_residual-in_err-token.ensures.1 in
+pub operators::postfix-returns-in_err-of-2-clause-reads : goal.operators::postfix-returns-in_err-of-2-clause-reads
+operators::postfix-returns-in_err-of-2-clause-reads t c =
+    let p = err_from_is_err_and c.from_residual-in_err-of-2.result c.from_residual-in_err-of-2.ensures.1 in
     let w = rw c.in-Some.is at c.in_ok-_dot.ensures.takes in
-    rw (p.1, p.2) (loop_mark_fails c.loop-of.invariant.goes (omega arith) (opened post_tail w refl refl (body_of post_tail (present w) refl (λ b. refl))) tt _ c.in_err-token.ensures.takes)
+    rw (p.1, p.2) (loop_mark_fails c.loop-of.invariant.goes (omega arith) (opened post_tail w refl refl (body_of post_tail (present w) refl (λ b. refl))) tt _ c.in_err-of-2.ensures.reads)
 
 pub operators::postfix-loop-of-preserved-in-Some : goal.operators::postfix-loop-of-preserved-in-Some
 operators::postfix-loop-of-preserved-in-Some t c =
     let w = rw c.in-Some.is at c.in_ok-_dot.ensures.takes in
-    let m = c.in_ok-token.ensures.takes in
-    let q = c.in_ok-of-2.ensures.places in
+    let m = c.in_ok-of-2.ensures.reads in
     record {
-      goes = rw (c.in_ok-of-2.ensures.tree, q.0, q.1, q.2, c.in_ok-field.ensures) (loop_strict _ (λ v e. absurd e) (loop_goes_on refl c.loop-of.invariant.goes (omega arith) (counted_taken m refl (opened post_tail w refl refl (body_of post_tail (present w) refl (λ b. refl)))) (λ os. refl)));
-      after = omega (arith, q.1, c.loop-of.invariant.after);
-      within = omega (arith, q.1, c.in_ok-token.ensures.within);
-      low = omega (arith, q.2, m.within);
+      goes = rw (m.tree, m.begins, m.next, m.depth) (loop_strict _ (λ v e. absurd e) (loop_goes_on refl c.loop-of.invariant.goes (omega arith) (counted_taken m.taken refl (opened post_tail w refl refl (body_of post_tail (present w) refl (λ b. refl)))) (λ os. refl)));
+      after = omega (arith, m.next, c.loop-of.invariant.after);
+      within = c.in_ok-of-2.ensures.within;
+      low = omega (arith, m.depth, m.taken.within);
     }
 
 pub operators::postfix-returns-in_err-_bracket-clause-reads : goal.operators::postfix-returns-in_err-_bracket-clause-reads
@@ -188,35 +188,50 @@ operators::postfix-returns-in_default-2-clause-reads t c =
     let b = rw c.in_default-2.is at c.in_ok-_bracket.ensures.takes in
     loop_ends no_postfix refl c.loop-of.invariant.goes refl (neither_body_of post_tail a b refl (λ v. refl))
 
-pub operators::postfix-returns-in_err-index-clause-reads : goal.operators::postfix-returns-in_err-index-clause-reads
-operators::postfix-returns-in_err-index-clause-reads t c =
-    let p = err_from_is_err_and c.from_residual-in_err-index.result c.from_residual-in_err-index.ensures.1 in
+pub operators::postfix-returns-in_err-of-3-clause-reads : goal.operators::postfix-returns-in_err-of-3-clause-reads
+operators::postfix-returns-in_err-of-3-clause-reads t c =
+    let p = err_from_is_err_and c.from_residual-in_err-of-3.result c.from_residual-in_err-of-3.ensures.1 in
     let a = rw c.in_default.is at c.in_ok-_dot.ensures.takes in
     let w = rw c.in-Some-2.is at c.in_ok-_bracket.ensures.takes in
-    rw (p.1, p.2) (loop_rule_fails c.loop-of.invariant.goes (omega arith) (opened post_tail w refl refl (second_body_of post_tail a (present w) refl (λ b. refl))) tt _ c.in_err-index.ensures.reads)
-
-pub operators::postfix-returns-in_err-_close-clause-reads : goal.operators::postfix-returns-in_err-_close-clause-reads
-operators::postfix-returns-in_err-_close-clause-reads t c =
-    let p = err_from_is_err_and c.from_residual-in_err-_close.result c.from_residual-in_err-_close.ensures.1 in
-    let a = rw c.in_default.is at c.in_ok-_dot.ensures.takes in
-    let w = rw c.in-Some-2.is at c.in_ok-_bracket.ensures.takes in
-    let e = c.in_ok-index.ensures in
-    let reads = rw e.depth at e.reads in
-    rw (p.1, p.2) (loop_mark_fails c.loop-of.invariant.goes (omega (arith, e.goes_on.0)) (rule_taken reads e.goes_on.0 (opened post_tail w refl refl (second_body_of post_tail a (present w) refl (λ b. refl)))) refl _ c.in_err-_close.ensures.takes)
+    let turn = opened post_tail w refl refl (second_body_of post_tail a (present w) refl (λ b. refl)) in
+    rw (p.1, p.2) (elim c.in_err-of-3.ensures.reads [
+      | no_index h ↦ loop_rule_fails c.loop-of.invariant.goes (omega arith) turn tt _ h
+      | no_close k x h ↦ loop_mark_fails c.loop-of.invariant.goes (omega (arith, x.goes_on)) (rule_taken x.reads x.goes_on turn) refl _ h
+    ])
 
 pub operators::postfix-loop-of-preserved : goal.operators::postfix-loop-of-preserved
 operators::postfix-loop-of-preserved t c =
     let a = rw c.in_default.is at c.in_ok-_dot.ensures.takes in
     let w = rw c.in-Some-2.is at c.in_ok-_bracket.ensures.takes in
-    let e = c.in_ok-index.ensures in
-    let reads = rw e.depth at e.reads in
-    let m = c.in_ok-_close.ensures.takes in
-    let q = c.in_ok-of-3.ensures.places in
+    let turn = opened post_tail w refl refl (second_body_of post_tail a (present w) refl (λ b. refl)) in
+    let m = c.in_ok-of-3.ensures.reads in
+    let x = m.index in
     record {
-      goes = rw (c.in_ok-of-3.ensures.tree, q.0, q.1, q.2) (loop_strict _ (λ v x. absurd x) (loop_goes_on refl c.loop-of.invariant.goes (omega (arith, e.goes_on.0)) (counted_taken m refl (rule_taken reads e.goes_on.0 (opened post_tail w refl refl (second_body_of post_tail a (present w) refl (λ b. refl))))) (λ os. refl)));
-      after = omega (arith, q.1, e.goes_on.0, c.loop-of.invariant.after);
-      within = omega (arith, q.1, c.in_ok-_close.ensures.within);
-      low = omega (arith, q.2, m.within);
+      goes = rw (m.tree, m.begins, m.next, m.depth) (loop_strict _ (λ v e. absurd e) (loop_goes_on refl c.loop-of.invariant.goes (omega (arith, x.goes_on)) (counted_taken m.taken refl (rule_taken x.reads x.goes_on turn)) (λ os. refl)));
+      after = omega (arith, m.next, x.goes_on, c.loop-of.invariant.after);
+      within = c.in_ok-of-3.ensures.within;
+      low = omega (arith, m.depth, m.taken.within);
+    }
+
+pub operators::indexed-returns-in_err-_close-clause-reads : goal.operators::indexed-returns-in_err-_close-clause-reads
+operators::indexed-returns-in_err-_close-clause-reads t c =
+    let p = err_from_is_err_and c.from_residual-in_err-_close.result c.from_residual-in_err-_close.ensures.1 in
+    let e = c.in_ok-index.ensures in
+    rw (p.1, p.2) (no_close _ (record { begin = c.in_ok-index.index.begin; tree = expr_tree c.in_ok-index.index.expr; reads = rw e.depth at e.reads; goes_on = e.goes_on.0 }) c.in_err-_close.ensures.takes)
+
+pub operators::indexed-returns-clause-reads : goal.operators::indexed-returns-clause-reads
+operators::indexed-returns-clause-reads t c =
+    let e = c.in_ok-index.ensures in
+    let q = c.in_ok-element.ensures.places in
+    record {
+      k = c.in_ok-index.index.next;
+      index = record { begin = c.in_ok-index.index.begin; tree = expr_tree c.in_ok-index.index.expr; reads = rw e.depth at e.reads; goes_on = e.goes_on.0 };
+      close = _;
+      taken = c.in_ok-_close.ensures.takes;
+      tree = c.in_ok-element.ensures.tree;
+      begins = q.0;
+      next = q.1;
+      depth = q.2;
     }
 
 -- ---- primary expressions

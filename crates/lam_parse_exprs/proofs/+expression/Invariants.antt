@@ -26,6 +26,9 @@ decreases-operators::unary l = measure (length l.tokens.now) l.at 11
 abbrev pub decreases-operators::postfix : goal.decreases-operators::postfix
 decreases-operators::postfix l = measure (length l.tokens.now) l.at 10
 
+abbrev pub decreases-operators::indexed : goal.decreases-operators::indexed
+decreases-operators::indexed l = measure (length l.tokens.now) l.of.next 5
+
 abbrev pub invariant-operators::chain-loop-left : goal.invariant-operators::chain-loop-left
 invariant-operators::chain-loop-left l = record {
   goes : Loop Operations operations_value (slice_get l.tokens) (chain l.level) (chain_tail l.level) l.depth l.at (λ os. expr_value l.left.begin (combine l.left.begin (expr_tree l.left.expr) os)) l.left.next l.left.depth (λ w. examples.closes (operand l.level) w ≡ true);

@@ -1,12 +1,11 @@
 use Rattle.std.proofs.Common.{◌≡◌, ◌∙◌, ap, cond, Some}
 use Rattle.std.specs.Map.{lookup}
-use Rattle.lam_value.specs.Homes.{home_of, name_of, count_in}
+use Rattle.lam_value.specs.Homes.{home_of, name_of}
 use Rattle.lam_value.proofs.Keys.{name_eq}
 use Rattle.labelled_heap.proofs.heap.add_thing.Goals as goal
 
 pub returns-clause-things : goal.returns-clause-things
 returns-clause-things c q =
-    let home = home_of c.args.maker.now c.args.own.now in
-    let named : c.in_ok-key.key ≡ name_of home (count_in c.args.counters.now home) = c.in_ok-key.ensures ∙ c.in_ok-name.ensures ∙ ap (name_of home) c.next.ensures in
+    let named : c.in_ok-key.key ≡ name_of (home_of c.args.maker.now c.args.own.now) c.args.number = c.in_ok-key.ensures ∙ c.in_ok-name.ensures in
     c.in-Ok.ensures.updates.0 q
     ∙ (λ i. cond (name_eq (named i) q) (Some c.args.thing) (lookup (name_eq q) (c.in_ok-reserve.ensures.entries i)))

@@ -1,11 +1,11 @@
 use Rattle.std.proofs.Common.{subst, string_bytes}
-use Rattle.lam_main.specs.Words.{Text}
-use Rattle.lam_main.specs.Plan.{Formats, program_limit}
-use Rattle.lam_main.specs.Answer.{Gives}
-use Rattle.lam_main.proofs.EndLemmas.{from_file}
+use Rattle.lam_words.specs.Words.{Text}
+use Rattle.lam_plan.specs.Plan.{Formats, program_limit}
+use Rattle.lam_main.specs.Halts.{Says}
+use Rattle.lam_main.proofs.FileLemmas.{from_file}
 use Rattle.lam_main.proofs.program.format.Goals as goal
 
 pub returns-clause-gives : goal.returns-clause-gives
 returns-clause-gives g c = λ told.
-    from_file (g.H.Shelf.files c.args.shelf.now (string_bytes c.args.file)) (string_bytes c.args.file) program_limit Formats c.in_ok-bytes.bytes (c.in_ok-bytes.ensures.read told) c.format_bytes.result
-    (subst (λ (bytes : Text). Gives c.format_bytes.result (Formats bytes)) c.as_slice.ensures.value c.format_bytes.ensures.gives)
+    from_file (g.H.Shelf.files c.args.shelf.now (string_bytes c.args.program)) (string_bytes c.args.program) program_limit Formats (g.H.Shelf.files c.args.shelf.now) (g.H.Shelf.files c.read_file.new.shelf) c.in_ok-bytes.bytes c.format_bytes.result (c.in_ok-bytes.ensures.read told) (c.in_ok-bytes.ensures.stay told)
+    (subst (λ (bytes : Text). Says c.format_bytes.result (Formats bytes)) c.as_slice.ensures.value c.format_bytes.ensures.says)

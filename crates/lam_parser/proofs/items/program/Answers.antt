@@ -3,9 +3,9 @@ use Rattle.std.proofs.lemmas.Result.{err_from_is_err_and}
 use Rattle.lam_grammar.specs.Table.{item, items}
 use Rattle.lam_grammar.specs.Meaning.{items_value}
 use Rattle.lam_reading.proofs.Rules.{part_begun, rule_taken, rule_body_of, no_rule_body_of, loop_goes_on, loop_ends}
-use Rattle.lam_parse_exprs.proofs.Steps.{begun_fails, loop_begun_fails, loop_as}
+use Rattle.lam_parse_parts.proofs.Steps.{begun_fails, loop_begun_fails, loop_as}
 use Rattle.lam_parser.proofs.Lists.{items_more, items_whole}
-use Rattle.lam_parser.proofs.Sums.{with_value}
+use Rattle.lam_parse_parts.proofs.Sums.{with_value}
 use Rattle.lam_parser.proofs.ItemBodies.{items_begin, program_fails, item_wanted, program_read}
 use Rattle.lam_parser.proofs.items.program.Goals as goal
 

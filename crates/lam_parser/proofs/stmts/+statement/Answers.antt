@@ -1,16 +1,15 @@
 use Rattle.std.proofs.Common.{◌+◌, sym, ap, ◌∙◌, subst, slice_get, refl, arith}
 use Rattle.std.proofs.lemmas.Result.{err_from_is_err_and}
-use Rattle.lam_syntax.specs.Tree.{expr_tree, stmts_tree, no_stmts, stmt_node}
-use Rattle.lam_syntax.proofs.Rows.{if_row, while_row, sync_row, region_row}
+use Rattle.lam_syntax.specs.Tree.{expr_tree, stmts_tree, no_stmts}
 use Rattle.lam_grammar.specs.Table.{stmt, stmts, block, else_part, handler}
-use Rattle.lam_grammar.specs.Meaning.{stmt_value, stmts_value, handler_value}
+use Rattle.lam_grammar.specs.Meaning.{stmts_value, handler_value}
 use Rattle.lam_reading.specs.Reading.{Gives}
 use Rattle.lam_reading.proofs.Rules.{begun, part_begun, mark_taken, rule_taken, maybe_taken, rule_read, mark_fails, rule_fails, present, body_of, no_body_of, rule_body_of, no_rule_body_of, opened, left_out, loop_goes_on, loop_ends}
-use Rattle.lam_parse_exprs.proofs.Steps.{begun_fails, loop_begun_fails, loop_as}
+use Rattle.lam_parse_parts.proofs.Steps.{begun_fails, loop_begun_fails, loop_as}
 use Rattle.lam_parser.proofs.Lists.{stmts_more, stmts_whole}
 use Rattle.lam_parser.proofs.Starts.{stmts_begin}
-use Rattle.lam_parser.proofs.StmtBodies.{if_body, while_body, while_means, sync_body, sync_means, region_body}
-use Rattle.lam_parser.proofs.Sums.{with_sum}
+use Rattle.lam_parse_stmts.proofs.StmtBodies.{if_body, while_body, while_means, sync_body, sync_means, region_body}
+use Rattle.lam_parse_parts.proofs.Sums.{with_sum}
 use Rattle.lam_parser.proofs.Blocks.{statement_wanted}
 use Rattle.lam_parser.proofs.stmts.+statement.Goals as goal
 
@@ -103,7 +102,7 @@ if_statement-returns-clause-reads t c =
     let test = rule_taken (with_sum c.in_ok-test.ensures.depth c.in_ok-test.ensures.reads) c.in_ok-test.ensures.goes_on.0 word in
     let yes = rule_taken c.in_ok-yes.ensures.reads c.in_ok-yes.ensures.goes_on.0 test in
     let other = maybe_taken c.in_ok-no.ensures.reads c.in_ok-no.ensures.goes_on.0 yes in
-    subst (λ f. Gives (slice_get c.args.tokens.now) stmt c.args.depth c.args.at (stmt_value (stmt_node c.args.word.now.at f)) c.in_ok-no.next c.args.depth) (sym (if_row c.in_ok-test.test.expr c.in_ok-yes.yes c.in_ok-no.no)) (rule_read other)
+    rw c.make_if.ensures (rule_read other)
 
 pub else_part-returns-in_default-clause-reads : goal.else_part-returns-in_default-clause-reads
 else_part-returns-in_default-clause-reads t c =
@@ -143,7 +142,7 @@ while_statement-returns-clause-reads t c =
     let word = mark_taken c.requires.begun refl (begun (slice_get c.args.tokens.now) stmt c.args.depth c.args.at refl (while_body c.requires.begun)) in
     let test = rule_taken (with_sum c.in_ok-test.ensures.depth c.in_ok-test.ensures.reads) c.in_ok-test.ensures.goes_on.0 word in
     let body = rule_taken c.in_ok-body.ensures.reads c.in_ok-body.ensures.goes_on.0 test in
-    subst (λ v. Gives (slice_get c.args.tokens.now) stmt c.args.depth c.args.at v c.in_ok-body.next c.args.depth) (while_means c.args.word.now c.in_ok-test.test.begin (expr_tree c.in_ok-test.test.expr) (stmts_tree c.in_ok-body.body.items) c.requires.begun.fit ∙ ap (λ f. stmt_value (stmt_node c.args.word.now.at f)) (sym (while_row c.in_ok-test.test.expr c.in_ok-body.body))) (rule_read body)
+    rw c.make_while.ensures (subst (λ v. Gives (slice_get c.args.tokens.now) stmt c.args.depth c.args.at v c.in_ok-body.next c.args.depth) (while_means c.args.word.now c.in_ok-test.test.begin (expr_tree c.in_ok-test.test.expr) (stmts_tree c.in_ok-body.body.items) c.requires.begun.fit) (rule_read body))
 
 -- ---- `sync`
 
@@ -165,7 +164,7 @@ sync_statement-returns-clause-reads t c =
     let word = mark_taken c.requires.begun refl (begun (slice_get c.args.tokens.now) stmt c.args.depth c.args.at refl (sync_body c.requires.begun)) in
     let thing = rule_taken (with_sum c.in_ok-thing.ensures.depth c.in_ok-thing.ensures.reads) c.in_ok-thing.ensures.goes_on.0 word in
     let body = rule_taken c.in_ok-body.ensures.reads c.in_ok-body.ensures.goes_on.0 thing in
-    subst (λ v. Gives (slice_get c.args.tokens.now) stmt c.args.depth c.args.at v c.in_ok-body.next c.args.depth) (sync_means c.args.word.now c.in_ok-thing.thing.begin (expr_tree c.in_ok-thing.thing.expr) (stmts_tree c.in_ok-body.body.items) c.requires.begun.fit ∙ ap (λ f. stmt_value (stmt_node c.args.word.now.at f)) (sym (sync_row c.in_ok-thing.thing.expr c.in_ok-body.body))) (rule_read body)
+    rw c.make_sync.ensures (subst (λ v. Gives (slice_get c.args.tokens.now) stmt c.args.depth c.args.at v c.in_ok-body.next c.args.depth) (sync_means c.args.word.now c.in_ok-thing.thing.begin (expr_tree c.in_ok-thing.thing.expr) (stmts_tree c.in_ok-body.body.items) c.requires.begun.fit) (rule_read body))
 
 -- ---- regions
 
@@ -206,7 +205,7 @@ region_statement-returns-clause-reads t c =
     let taken = rule_taken c.in_ok-captures.ensures.reads c.in_ok-captures.ensures.goes_on.0 head in
     let body = rule_taken c.in_ok-body.ensures.reads c.in_ok-body.ensures.goes_on.0 taken in
     let caught = rule_taken c.in_ok-caught.ensures.reads c.in_ok-caught.ensures.goes_on.0 body in
-    subst (λ f. Gives (slice_get c.args.tokens.now) stmt c.args.depth c.args.at (stmt_value (stmt_node c.args.word.now.at f)) c.in_ok-caught.caught.next c.args.depth) (sym (region_row c.in_ok-head.head.label c.in_ok-head.head.caps c.in_ok-captures.captures c.in_ok-body.body c.in_ok-caught.caught.name c.in_ok-caught.caught.body)) (rule_read caught)
+    rw c.make_region.ensures (rule_read caught)
 
 pub handler-returns-in_err-take-clause-reads : goal.handler-returns-in_err-take-clause-reads
 handler-returns-in_err-take-clause-reads t c =

@@ -1,13 +1,17 @@
 use Rattle.std.proofs.Common.{◌≡◌, ◌<◌, ◌∙◌, ap, sym, cond, Some, refl, arith}
 use Rattle.std.specs.Map.{lookup}
-use Rattle.lam_value.specs.Homes.{home_of, home_in, label_eq}
+use Rattle.lam_value.specs.Homes.{Home, home_of, home_in, label_eq}
 use Rattle.lam_value.proofs.Keys.{label_total, label_exact, label_ties}
 use Rattle.lam_value.proofs.Maps.{not_none}
-use Rattle.lam_value.proofs.Rows.{copy_more, taken_all}
+use Rattle.lam_value.proofs.Rows.{copy_more, taken_all, filled_set, filled_same, above_kept}
 use Rattle.lam_value.proofs.counters.copied_rows.Goals as goal
 
 pub loop-at-init : goal.loop-at-init
-loop-at-init c = record { unique = c.new-copy.ensures.unique; same = λ h. ap (λ es. home_in es h) c.new-copy.ensures.empty }
+loop-at-init c = record {
+  unique = c.new-copy.ensures.unique;
+  same = λ h. ap (λ es. home_in es h) c.new-copy.ensures.empty;
+  filled = λ m row e. let none = sym (ap (lookup (label_eq m)) c.new-copy.ensures.empty) ∙ e in cc;
+}
 
 pub loop-at-preserved : goal.loop-at-preserved
 loop-at-preserved c = record {
@@ -16,13 +20,23 @@ loop-at-preserved c = record {
       copy_more label_eq label_total label_exact label_ties (λ row. lookup (label_eq h.own) row.entries) c.args.rows.now.entries c.loop-at.copy.entries c.insert.new.self.entries c.loop-at.at c.in-Some.maker.now c.in-Some.row.now c.in_ok-copied_row.field-0
       (sym c.in-Some.ensures.entry) c.in-Some.ensures.value (c.in_ok-copied_row.ensures h.own) (λ q. c.loop-at.invariant.same (home_of q h.own))
       (λ q. c.in_ok-insert.ensures.updates.0 q ∙ ap (λ k. cond (label_eq k q) (Some c.in_ok-copied_row.field-0) (lookup (label_eq q) c.loop-at.copy.entries)) c.in_ok-copy.ensures) h.maker;
+  filled =
+      filled_set c.loop-at.copy.entries c.insert.new.self.entries c.in-Some.maker.now c.in_ok-copied_row.field-0 c.loop-at.invariant.filled
+      (λ q. c.in_ok-insert.ensures.updates.0 q ∙ ap (λ k. cond (label_eq k q) (Some c.in_ok-copied_row.field-0) (lookup (label_eq q) c.loop-at.copy.entries)) c.in_ok-copy.ensures)
+      (filled_same c.in-Some.row.now.entries c.in_ok-copied_row.field-0.entries c.in_ok-copied_row.ensures (c.requires.filled c.in-Some.maker.now c.in-Some.row.now c.in-Some.ensures.value));
 }
 
 pub returns : goal.returns
-returns c = record {
-  same = λ h. c.loop-at.invariant.same h ∙ ap (λ es. home_in es h) (taken_all c.args.rows.now.entries c.loop-at.at c.len-at-end.result c.loop-at-test.false c.len-at-end.ensures.len);
-  unique = c.loop-at.invariant.unique;
-}
+returns c =
+    let same = λ (h : Home). c.loop-at.invariant.same h ∙ ap (λ es. home_in es h) (taken_all c.args.rows.now.entries c.loop-at.at c.len-at-end.result c.loop-at-test.false c.len-at-end.ensures.len) in
+    record {
+      same = same;
+      homes = record {
+        unique = c.loop-at.invariant.unique;
+        filled = c.loop-at.invariant.filled;
+        above = above_kept c.args.rows.now.entries c.loop-at.copy.entries c.requires.above same;
+      };
+    }
 
 pub unreachable-requires : goal.unreachable-requires
 unreachable-requires c = not_none _ (c.get_index.ensures.found.1 (omega (arith, c.len-at-end.ensures.len))) c.in_default.is

@@ -1,4 +1,5 @@
-use Rattle.std.proofs.Common.{◌≡◌, ℕ, List, [], ◌∷◌, ◌++◌, append_assoc, ap, ◌∙◌, lit<}
+use Rattle.std.proofs.Common.{◌≡◌, ℕ, List, [], ◌∷◌, ◌++◌, append_assoc, ap, ◌∙◌, lit<, string_bytes, decimal}
+use Rattle.flow_labels.specs.LabelText.{label_text}
 use Rattle.lam_value.proofs.text.push_name.Goals as goal
 
 parts : (old word maker own n : List ℕ) → (((((((old ++ word) ++ 60 ∷ []) ++ maker) ++ 124 ∷ []) ++ own) ++ 124 ∷ []) ++ n) ++ 62 ∷ [] ≡ old ++ (word ++ 60 ∷ (maker ++ 124 ∷ (own ++ 124 ∷ (n ++ 62 ∷ []))))
@@ -12,20 +13,18 @@ pushed old word maker own n a b c d e f g h is_a is_b is_c is_d is_e is_f is_g i
     let to_e : e ≡ ((((old ++ word) ++ 60 ∷ []) ++ maker) ++ 124 ∷ []) ++ own = is_e ∙ ap (λ t. t ++ own) (is_d ∙ ap (λ t. t ++ 124 ∷ []) to_c) in
     is_h ∙ ap (λ t. t ++ 62 ∷ []) (is_g ∙ ap (λ t. t ++ n) (is_f ∙ ap (λ t. t ++ 124 ∷ []) to_e)) ∙ parts old word maker own n
 
--- the part that was pushed is the one that was made
-made : (new old part text whole : List ℕ) → new ≡ old ++ part → part ≡ text → text ≡ whole → new ≡ old ++ whole
-made new old part text whole is is_text is_whole = is ∙ ap (λ t. old ++ t) (is_text ∙ is_whole)
-
 mark : (new old part text : List ℕ) → new ≡ old ++ part → part ≡ text → new ≡ old ++ text
 mark new old part text is is_text = is ∙ ap (λ t. old ++ t) is_text
 
 pub returns : goal.returns
 returns c =
-    pushed _ _ _ _ _ _ _ _ _ _ _ _ _ c.in_ok-push_str.ensures.bytes
+    pushed (string_bytes c.args.text.now) c.args.word.now (label_text c.args.names.now c.args.name.now.maker) (label_text c.args.names.now c.args.name.now.own) (decimal c.args.name.now.n)
+    (string_bytes c.push_str.new.self) (string_bytes c.push.new.self) (string_bytes c.push_label.new.text) (string_bytes c.push-2.new.self) (string_bytes c.push_label-2.new.text) (string_bytes c.push-3.new.self) (string_bytes c.push_number.new.text) (string_bytes c.push-4.new.self)
+    c.in_ok-push_str.ensures.bytes
     (mark _ _ _ _ c.in_ok-push.ensures.bytes (c.in_ok-push.ensures.ascii (lit< tt)))
-    (made _ _ _ _ _ c.in_ok-push_str-2.ensures.bytes c.as_str.ensures.value c.in_ok-label_text.ensures)
+    (mark _ _ _ _ c.in_ok-push_label.ensures (ap (label_text c.args.names.now) c.maker-maker.ensures))
     (mark _ _ _ _ c.in_ok-push-2.ensures.bytes (c.in_ok-push-2.ensures.ascii (lit< tt)))
-    (made _ _ _ _ _ c.in_ok-push_str-3.ensures.bytes c.as_str-2.ensures.value c.in_ok-label_text-2.ensures)
+    (mark _ _ _ _ c.in_ok-push_label-2.ensures (ap (label_text c.args.names.now) c.own-own.ensures))
     (mark _ _ _ _ c.in_ok-push-3.ensures.bytes (c.in_ok-push-3.ensures.ascii (lit< tt)))
-    c.in_ok-push_number.ensures
+    (mark _ _ _ _ c.in_ok-push_number.ensures (ap decimal c.n.ensures))
     (mark _ _ _ _ c.in_ok-push-4.ensures.bytes (c.in_ok-push-4.ensures.ascii (lit< tt)))

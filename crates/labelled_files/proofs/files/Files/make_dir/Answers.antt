@@ -1,27 +1,50 @@
-use Rattle.std.proofs.Common.{◌≡◌, ◌∙◌, sym, None, refl}
-use Rattle.lam_value.specs.Homes.{home_of}
+use Rattle.std.proofs.Common.{◌≡◌, ◌<◌, ◌≤◌, ◌∙◌, sym, ap, subst, None, refl, arith}
+use Rattle.lam_value.specs.declared.names.Name.{Name}
+use Rattle.lam_value.specs.Homes.{home_of, name_of, count_in}
 use Rattle.lam_value.proofs.Maps.{on_err}
-use Rattle.labelled_files.specs.Trees.{first_fault}
-use Rattle.labelled_files.proofs.MakeLemmas.{room_home, room_few, room_fresh}
-use Rattle.labelled_files.proofs.SeenLemmas.{kept, dir_made}
-use Rattle.labelled_files.proofs.TreeLemmas.{within_more}
+use Rattle.labelled_files.specs.Trees.{fault_at, with_dir, IsSound}
+use Rattle.labelled_files.specs.Seen.{tree_of}
+use Rattle.labelled_files.proofs.MakeLemmas.{fine, new, room, free, room_kept, new_kept}
+use Rattle.labelled_files.proofs.SeenLemmas.{kept, dir_made, next_seen}
+use Rattle.labelled_files.proofs.SoundLemmas.{sound_dir}
 use Rattle.labelled_files.proofs.files.Files.make_dir.Goals as goal
 
-pub add_dir-requires-clause-home : goal.add_dir-requires-clause-home
-add_dir-requires-clause-home c = room_home c.self.inside.dirs.entries c.self.inside.files.entries c.self.inside.counters c.self.inside.root c.args.self.now c.self.view_is c.args.dir.now c.args.entry.now (home_of c.args.maker.now c.args.own.now) (sym c.first_fault.ensures ∙ c.in_default.is) c.self.invariant
+pub add_dir-requires-clause-next : goal.add_dir-requires-clause-next
+add_dir-requires-clause-next c =
+    let home = home_of c.args.maker.now c.args.own.now in
+    let named = next_seen c.self.inside.dirs.entries c.self.inside.files.entries c.self.inside.counters c.self.inside.root c.args.self.now c.self.view_is home c.in_ok-name.name (c.in_ok-name.ensures ∙ ap (name_of home) c.next-number.ensures.value) in
+    ap (λ (k : Name). k.n) named ∙ sym (ap (λ (k : Name). count_in c.self.inside.counters (home_of k.maker k.own)) named)
+
+pub add_dir-requires-clause-room : goal.add_dir-requires-clause-room
+add_dir-requires-clause-room c =
+    subst (λ (k : Name). k.n < 65536) (sym c.in_ok-name.ensures) (free c.args.self.now c.args.dir.now c.args.entry.now c.next-number.result (sym c.fault_at.ensures ∙ c.in_default.is) c.next-number.ensures.bound)
 
 pub add_dir-requires-clause-few : goal.add_dir-requires-clause-few
-add_dir-requires-clause-few c = room_few c.self.inside.dirs.entries c.self.inside.files.entries c.self.inside.counters c.self.inside.root c.args.self.now c.self.view_is c.args.dir.now c.args.entry.now (home_of c.args.maker.now c.args.own.now) (sym c.first_fault.ensures ∙ c.in_default.is)
+add_dir-requires-clause-few c =
+    room_kept c.args.self.now c.args.dir.now c.args.entry.now c.next-number.result (sym c.fault_at.ensures ∙ c.in_default.is) c.self.inside.dirs.entries c.self.inside.files.entries c.self.inside.counters c.self.inside.root c.self.view_is (subst IsSound c.self.view_is c.self.invariant)
 
 pub add_dir-requires-clause-fresh : goal.add_dir-requires-clause-fresh
-add_dir-requires-clause-fresh c = room_fresh c.self.inside.dirs.entries c.self.inside.files.entries c.self.inside.counters c.self.inside.root c.args.self.now c.self.view_is c.args.dir.now c.args.entry.now (home_of c.args.maker.now c.args.own.now) (sym c.first_fault.ensures ∙ c.in_default.is)
+add_dir-requires-clause-fresh c = new_kept c.args.self.now c.args.dir.now c.args.entry.now c.next-number.result (sym c.fault_at.ensures ∙ c.in_default.is) c.self.inside.dirs.entries c.self.inside.files.entries c.self.inside.counters c.self.inside.root c.self.view_is
 
-pub returns-in_err-name-clause-err : goal.returns-in_err-name-clause-err
-returns-in_err-name-clause-err c =
-    on_err _ c.from_residual.result (kept c.self.inside.dirs.entries c.self.inside.files.entries c.self.inside.counters c.self.inside.root c.args.self.now c.self.view_is c.add_dir.new.dirs.entries c.self.inside.files.entries c.add_dir.new.counters c.in_err-name.ensures.same_dirs refl c.in_err-name.ensures.same_counters)
+pub invariant_of-self : goal.invariant_of-self
+invariant_of-self c = subst IsSound (c.self.view_is ∙ sym (kept c.self.inside.dirs.entries c.self.inside.files.entries c.self.inside.counters c.self.inside.root c.args.self.now c.self.view_is c.add_dir.new.dirs.entries c.self.inside.files.entries c.add_dir.new.counters c.in_err-add_dir.ensures.same_dirs refl c.in_err-add_dir.ensures.same_counters)) c.self.invariant
 
 pub invariant_of-self-2 : goal.invariant_of-self-2
-invariant_of-self-2 c = within_more _ _ (home_of c.args.maker.now c.args.own.now) c.self.invariant (room_home c.self.inside.dirs.entries c.self.inside.files.entries c.self.inside.counters c.self.inside.root c.args.self.now c.self.view_is c.args.dir.now c.args.entry.now (home_of c.args.maker.now c.args.own.now) (sym c.first_fault.ensures ∙ c.in_default.is) c.self.invariant) c.in_ok-name.ensures.counters
+invariant_of-self-2 c =
+    let home = home_of c.args.maker.now c.args.own.now in
+    let named = next_seen c.self.inside.dirs.entries c.self.inside.files.entries c.self.inside.counters c.self.inside.root c.args.self.now c.self.view_is home c.in_ok-name.name (c.in_ok-name.ensures ∙ ap (name_of home) c.next-number.ensures.value) in
+    let clear : fault_at c.args.self.now c.args.dir.now c.args.entry.now (count_in c.args.self.now.counts home) ≡ None = sym (ap (fault_at c.args.self.now c.args.dir.now c.args.entry.now) c.next-number.ensures.value) ∙ sym c.fault_at.ensures ∙ c.in_default.is in
+    let sound = subst IsSound c.self.view_is c.self.invariant in
+    let made : tree_of c.add_dir.new.dirs.entries c.self.inside.files.entries c.add_dir.new.counters c.self.inside.root ≡ with_dir c.args.self.now c.args.dir.now c.args.entry.now home = dir_made c.self.inside.dirs.entries c.self.inside.files.entries c.self.inside.counters c.self.inside.root c.args.self.now c.self.view_is c.add_dir.new.dirs.entries c.add_dir.new.counters c.args.dir.now c.in_ok-name.name c.args.entry.now home named c.in_ok-add_dir.ensures.dirs c.in_ok-add_dir.ensures.counters in
+    subst IsSound (sym made)
+    (sound_dir c.args.self.now sound c.args.dir.now c.args.entry.now home (fine c.args.self.now c.args.dir.now c.args.entry.now _ clear) (new c.args.self.now c.args.dir.now c.args.entry.now _ clear) (room c.args.self.now c.args.dir.now c.args.entry.now _ clear sound)
+    (free c.args.self.now c.args.dir.now c.args.entry.now _ clear (sound.within home)))
+
+pub returns-in_err-add_dir-clause-err : goal.returns-in_err-add_dir-clause-err
+returns-in_err-add_dir-clause-err c = on_err _ c.from_residual-in_err-add_dir.result (kept c.self.inside.dirs.entries c.self.inside.files.entries c.self.inside.counters c.self.inside.root c.args.self.now c.self.view_is c.add_dir.new.dirs.entries c.self.inside.files.entries c.add_dir.new.counters c.in_err-add_dir.ensures.same_dirs refl c.in_err-add_dir.ensures.same_counters)
 
 pub returns-clause-ok : goal.returns-clause-ok
-returns-clause-ok c = dir_made c.self.inside.dirs.entries c.self.inside.files.entries c.self.inside.counters c.self.inside.root c.args.self.now c.self.view_is c.add_dir.new.dirs.entries c.add_dir.new.counters c.args.dir.now c.args.entry.now (home_of c.args.maker.now c.args.own.now) c.in_ok-name.ensures.dirs c.in_ok-name.ensures.counters
+returns-clause-ok c =
+    let home = home_of c.args.maker.now c.args.own.now in
+    let named = next_seen c.self.inside.dirs.entries c.self.inside.files.entries c.self.inside.counters c.self.inside.root c.args.self.now c.self.view_is home c.in_ok-name.name (c.in_ok-name.ensures ∙ ap (name_of home) c.next-number.ensures.value) in
+    dir_made c.self.inside.dirs.entries c.self.inside.files.entries c.self.inside.counters c.self.inside.root c.args.self.now c.self.view_is c.add_dir.new.dirs.entries c.add_dir.new.counters c.args.dir.now c.in_ok-name.name c.args.entry.now home named c.in_ok-add_dir.ensures.dirs c.in_ok-add_dir.ensures.counters

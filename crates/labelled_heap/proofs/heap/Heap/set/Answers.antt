@@ -1,7 +1,8 @@
-use Rattle.std.proofs.Common.{◌∙◌, sym, ap, slice_get}
+use Rattle.std.proofs.Common.{◌∙◌, sym, ap, subst, slice_get}
 use Rattle.std.specs.Option.{option_copied_mut}
 use Rattle.lam_value.proofs.Maps.{some_is}
-use Rattle.labelled_heap.proofs.ThingLemmas.{none_there, slots_there, unwritten, written}
+use Rattle.labelled_heap.specs.Things.{IsSound}
+use Rattle.labelled_heap.proofs.ThingLemmas.{none_there, slots_there, unwritten, written, sound_slot}
 use Rattle.labelled_heap.proofs.heap.Heap.set.Goals as goal
 
 pub returns-in-None-clause-old : goal.returns-in-None-clause-old
@@ -20,3 +21,10 @@ returns-in-Some-clause-new c =
     let there = sym c.get_mut.ensures.value ∙ ap option_copied_mut c.in-Some.is in
     let wrote = c.get_mut.follows.holds c.set_slot.new.thing in
     written c.self.inside.things.entries c.self.inside.counters c.args.self.now c.self.view_is (c.get_mut.follows.lender c.set_slot.new.thing).entries c.args.r.now c.in-Some.thing.now c.set_slot.new.thing c.args.at c.args.v there c.set_slot.ensures.new (wrote.3 (some_is _ c.in-Some.thing.now there)).0
+
+pub invariant_of-self-in-Some : goal.invariant_of-self-in-Some
+invariant_of-self-in-Some c =
+    let there = sym c.get_mut.ensures.value ∙ ap option_copied_mut c.in-Some.is in
+    let wrote = c.get_mut.follows.holds c.set_slot.new.thing in
+    subst IsSound (sym (written c.self.inside.things.entries c.self.inside.counters c.args.self.now c.self.view_is (c.get_mut.follows.lender c.set_slot.new.thing).entries c.args.r.now c.in-Some.thing.now c.set_slot.new.thing c.args.at c.args.v there c.set_slot.ensures.new (wrote.3 (some_is _ c.in-Some.thing.now there)).0))
+    (sound_slot c.args.self.now c.args.r.now c.args.at c.args.v (subst IsSound c.self.view_is c.self.invariant))

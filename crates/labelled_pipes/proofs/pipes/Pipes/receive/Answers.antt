@@ -1,8 +1,10 @@
-use Rattle.std.proofs.Common.{◌∙◌, sym, ap}
+use Rattle.std.proofs.Common.{◌∙◌, refl, sym, ap, subst}
 use Rattle.std.specs.Option.{option_copied_mut}
 use Rattle.lam_value.proofs.Maps.{some_is}
+use Rattle.std.specs.FinMap.{get}
+use Rattle.labelled_pipes.specs.Queues.{IsSound}
 use Rattle.labelled_pipes.specs.Messages.{front_of, rest_of}
-use Rattle.labelled_pipes.proofs.QueueLemmas.{none_there, line_there, unwritten, written, line_kept, nothing_taken, if_none}
+use Rattle.labelled_pipes.proofs.QueueLemmas.{none_there, line_there, unwritten, written, line_kept, nothing_taken, if_none, sound_changed}
 use Rattle.labelled_pipes.proofs.pipes.Pipes.receive.Goals as goal
 
 pub returns-in-None-clause-value : goal.returns-in-None-clause-value
@@ -29,3 +31,10 @@ returns-in-Some-clause-none c =
     if_none _ c.take_from.result (λ e.
     line_kept c.self.inside.queues.entries c.self.inside.counters c.args.self.now c.self.view_is (c.get_mut.follows.lender c.take_from.new.queue).entries c.args.p.now c.in-Some.queue.now c.take_from.new.queue there
     (c.take_from.ensures.new ∙ nothing_taken c.args.kind c.in-Some.queue.now (sym c.take_from.ensures.value ∙ e)) (wrote.3 (some_is _ c.in-Some.queue.now there)).0)
+
+pub invariant_of-self-in-Some : goal.invariant_of-self-in-Some
+invariant_of-self-in-Some c =
+    let there = sym c.get_mut.ensures.value ∙ ap option_copied_mut c.in-Some.is in
+    let wrote = c.get_mut.follows.holds c.take_from.new.queue in
+    subst IsSound (sym (written c.self.inside.queues.entries c.self.inside.counters c.args.self.now c.self.view_is (c.get_mut.follows.lender c.take_from.new.queue).entries c.args.p.now c.in-Some.queue.now c.take_from.new.queue (rest_of c.args.kind) there c.take_from.ensures.new (wrote.3 (some_is _ c.in-Some.queue.now there)).0))
+    (sound_changed (get c.args.self.now.waiting c.args.p.now) c.args.self.now c.args.p.now (rest_of c.args.kind) refl (subst IsSound c.self.view_is c.self.invariant))

@@ -1,0 +1,102 @@
+//! Directories and files.
+
+use flow_labels::Label;
+use labelled_files::{EntryKind, FileFault, Files};
+use lam_value::Name;
+use std::alloc::Global;
+use tag_sets::NoMemory;
+
+/// Makes a public file of the root.
+fn make_file(files: &mut Files, root: &Name, public: &Label) -> Option<Name> {
+    files.make_file(root, b"f", public, public).ok()
+}
+
+/// Makes a public directory of the root.
+fn make_dir(files: &mut Files, root: &Name, public: &Label) -> Option<Name> {
+    files.make_dir(root, b"d", public, public).ok()
+}
+
+/// Whether a file of 1,048,575 bytes takes one of two more.
+fn keeps_a_mebibyte(files: &mut Files, name: &Name, most: &[u8]) -> bool {
+    let zeros = files.append(name, most).is_ok();
+    let rest = files.append(name, b"xy").is_ok();
+    zeros & rest & (files.length(name) == 1_048_576) & ends_in_x(files, name)
+}
+
+fn ends_in_x(files: &Files, name: &Name) -> bool {
+    files.read(name, 1_048_575, 9) == b"x".as_slice()
+}
+
+/// Whether the first three bytes stay after a cut to three.
+fn is_cut(files: &mut Files, name: &Name) -> bool {
+    files.cut(name, 3);
+    files.length(name) == 3
+}
+
+/// Whether an entry is made once alone, and one with a slash never.
+fn refuses(files: &Files, public: &Label) -> bool {
+    let again = files.first_fault(files.root(), b"f", public, public);
+    let slash = files.first_fault(files.root(), b"a/b", public, public);
+    (again == Some(FileFault::Exists)) & (slash == Some(FileFault::BadName))
+}
+
+/// Whether the root has the file.
+fn is_listed(files: &Files) -> bool {
+    files.look_up(files.root(), b"f", EntryKind::File).is_some()
+}
+
+/// Whether an entry goes and its file stays.
+fn outlives_its_entry(files: &mut Files, root: &Name, name: &Name) -> bool {
+    let before = is_listed(files);
+    let removed = files.remove(root, b"f");
+    let after = is_listed(files);
+    before & removed & !after & files.lives(name, EntryKind::File)
+}
+
+/// Whether one file keeps its bytes, its name and its life.
+fn keeps_a_file(alloc: Global, files: &mut Files, most: &[u8]) -> Option<bool> {
+    let public = Label::public(alloc);
+    let root = files.root().copy().ok()?;
+    let name = make_file(files, &root, &public)?;
+    let long = keeps_a_mebibyte(files, &name, most);
+    let cut = is_cut(files, &name);
+    let refused = refuses(files, &public);
+    Some(long & cut & refused & outlives_its_entry(files, &root, &name))
+}
+
+#[test]
+fn file_keeps_a_mebibyte(rt: HostRuntime) -> Result<(), NoMemory> {
+    let mut files = Files::new(rt.alloc())?;
+    let most = Vec::from_elem(rt.alloc(), 0u8, 1_048_575)?;
+    assert!(rt; keeps_a_file(rt.alloc(), &mut files, &most) == Some(true));
+    Ok(())
+}
+
+/// Whether two have equal files and directories, and equal ones where the public observer sees.
+fn are_same(a: &Files, b: &Files, public: &Label) -> bool {
+    a.facts();
+    a.same(b) & a.same_seen(b, public) & a.same_counters(b, public)
+}
+
+/// Whether a directory is no file, and gets the number after the root's.
+fn is_directory(files: &Files, name: &Name, public: &Label) -> bool {
+    let kind = files.lives(name, EntryKind::Dir) & !files.lives(name, EntryKind::File);
+    kind & (name.n() == 1) & (files.next(public, public) == 2)
+}
+
+/// Whether a new directory stands in the one of two that were equal.
+fn makes_a_directory(alloc: Global, files: &mut Files, copy: &Files) -> Option<bool> {
+    let public = Label::public(alloc);
+    let before = are_same(files, copy, &public);
+    let root = files.root().copy().ok()?;
+    let name = make_dir(files, &root, &public)?;
+    Some(before & is_directory(files, &name, &public) & !are_same(files, copy, &public))
+}
+
+#[test]
+fn copied_files_are_equal(rt: HostRuntime) -> Result<(), NoMemory> {
+    let mut files = Files::new(rt.alloc())?;
+    let copy = files.copy()?;
+    assert!(rt; makes_a_directory(rt.alloc(), &mut files, &copy) == Some(true));
+    Ok(())
+}

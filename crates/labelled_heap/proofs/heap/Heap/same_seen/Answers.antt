@@ -1,0 +1,9 @@
+use Rattle.flow_labels.specs.Flow.{flows}
+use Rattle.labelled_heap.proofs.ThingLemmas.{same_where, where_same}
+use Rattle.labelled_heap.proofs.heap.Heap.same_seen.Goals as goal
+
+pub returns : goal.returns
+returns c = (
+  λ t. same_where c.self.inside.things.entries c.other.inside.things.entries c.self.inside.counters c.other.inside.counters c.args.self.now c.args.other.now c.self.view_is c.other.view_is (λ n. flows n.own c.args.observer.now) (c.same_maps.ensures.0 t),
+  λ same. c.same_maps.ensures.1 (where_same c.self.inside.things.entries c.other.inside.things.entries c.self.inside.counters c.other.inside.counters c.args.self.now c.args.other.now c.self.view_is c.other.view_is (λ n. flows n.own c.args.observer.now) same),
+)

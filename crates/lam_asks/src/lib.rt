@@ -1,0 +1,18 @@
+//! What a thread asks of the reference monitor, and what it is answered.
+//!
+//! A thread computes by itself until it needs something that others share: a slot of an object, a file, a pipe, a
+//! monitor, a change of its own label. Then it makes an *ask*, which is its system call, and goes on with the *answer*.
+//! Asks and answers stand in a crate alone, below the meaning of programs and beside the machine: neither of these two
+//! stands on the other, and both speak of asks.
+//!
+//! `fault` has what can go wrong, with the numbers that a program sees. `ask` has the asks, `answer` the answers and
+//! the events of a run. `specs/Suits.antt` says which answers an ask may get.
+#![tactic(auto)]
+
+mod answer;
+mod ask;
+mod fault;
+
+pub use answer::{Answer, Event, Outcome, What};
+pub use ask::Ask;
+pub use fault::Fault;

@@ -1,0 +1,10 @@
+pub mod FlowLemmas
+pub mod PointLemmas
+pub mod AlikeLemmas
+pub mod EffectLemmas
+pub mod ThreadLemmas
+pub mod RowLemmas
+pub mod SameLemmas
+pub mod TurnLemmas
+pub mod DownLemmas
+pub mod WholeLemmas

@@ -1,0 +1,4 @@
+pub mod Trees
+pub mod Means
+pub mod Plays
+pub mod Examples

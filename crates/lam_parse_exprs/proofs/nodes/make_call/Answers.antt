@@ -1,7 +1,0 @@
-use Rattle.std.proofs.Common.{ap, ◌∙◌}
-use Rattle.lam_syntax.specs.Tree.{expr_node, call_expr, exprs_tree}
-use Rattle.lam_syntax.proofs.Rows.{call_row}
-use Rattle.lam_parse_exprs.proofs.nodes.make_call.Goals as goal
-
-pub returns : goal.returns
-returns c = ap (expr_node c.args.name.now.at) (call_row c.in_ok-name.name c.args.args ∙ ap (λ x. call_expr x (exprs_tree c.args.args.items)) c.in_ok-name.ensures)

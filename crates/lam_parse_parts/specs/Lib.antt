@@ -1,0 +1,4 @@
+pub mod Types
+pub mod Forms
+pub mod Parts
+pub mod Variables

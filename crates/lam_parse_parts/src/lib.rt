@@ -1,0 +1,17 @@
+//! From tokens to types, to names with their types, and to the parts of expressions that contain no expression.
+//!
+//! Each function that reads a rule of the grammar does so from a token on and with a depth sum, and says so in its
+//! contract. The others make a node of the tree from what was read.
+#![tactic(auto)]
+
+mod nodes;
+mod operators;
+mod primary;
+mod types;
+mod variables;
+
+pub use nodes::{array_kind, make_call, make_label, make_name, make_node, make_spawn};
+pub use operators::{binary_op, element, joined, make_unary, member, unary_op};
+pub use primary::{Form, caps_of, form_at, literal, new_class};
+pub use types::typ;
+pub use variables::{fields, names, params, take_name, variable};

@@ -1,0 +1,2 @@
+pub mod StmtBodies
+pub mod Assignment

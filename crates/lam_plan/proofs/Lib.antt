@@ -1,0 +1,4 @@
+pub mod PlanLemmas
+pub mod PlayLemmas
+pub mod FormatLemmas
+pub mod AnswerLemmas

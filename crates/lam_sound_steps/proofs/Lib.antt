@@ -1,0 +1,2 @@
+pub mod HeldSound
+pub mod SoundSteps

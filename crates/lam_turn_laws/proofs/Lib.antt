@@ -1,0 +1,4 @@
+pub mod BackLemmas
+pub mod AllowedLemmas
+pub mod CapsLemmas
+pub mod RefusalLemmas

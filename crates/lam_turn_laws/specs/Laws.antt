@@ -1,0 +1,102 @@
+-- What every turn keeps, for every code and every world.
+use Rattle.std.specs.Prelude.{◌≡◌, ◌⊎◌, ℕ, true, List, [], ◌∷◌, ◌++◌, Some, None, is_some}
+use Rattle.std.specs.List.{AllByRecursion}
+use Rattle.capabilities.specs.declared.Caps.{Caps}
+use Rattle.capabilities.specs.Changes.{MayChange, Covers, used, with_both, joined}
+use Rattle.lam_value.specs.declared.values.Value.{Value}
+use Rattle.lam_value.specs.declared.values.Value.TheVariants.{Tag, CapV}
+use Rattle.lam_asks.specs.declared.fault.Fault.{Fault}
+use Rattle.lam_asks.specs.declared.answer.Outcome.TheVariants as outcome
+use Rattle.lam_asks.specs.declared.answer.Answer.{Answer}
+use Rattle.lam_asks.specs.declared.answer.Answer.TheVariants.{Done, Entered, Val, Refused, Failed}
+use Rattle.lam_asks.specs.declared.answer.What.{What}
+use Rattle.lam_asks.specs.declared.answer.What.TheVariants.{Private, Asked}
+use Rattle.lam_asks.specs.declared.ask.Ask.{Ask}
+use Rattle.lam_asks.specs.declared.ask.Ask.TheVariants as ask
+use Rattle.lam_bytecode.specs.Codes.{CodeTree}
+use Rattle.thread_steps.specs.Threads.{Phase, Bottom, Body, Catch, Context}
+use Rattle.thread_steps.specs.Next.{asks, next_of}
+use Rattle.lam_worlds.specs.Worlds.{World, thread_at, contexts_at}
+use Rattle.lam_worlds.specs.Deeds.{Made, made_label}
+use Rattle.lam_worlds.specs.Turns.{Moment, step, moments}
+use Rattle.lam_worlds.specs.Views.{is_release, release_of}
+
+-- ---- contexts come back
+
+-- a thread has these contexts below some more
+abbrev pub StandsAbove : World → ℕ → List Context → Type 0
+StandsAbove w u below = (c : Context) × (cs : List Context) × (contexts_at w u ≡ c ∷ (cs ++ below))
+
+-- after each turn it has them still below some more, until it has them alone
+abbrev pub ComesBack : ℕ → List Context → List Moment → Type 0
+ComesBack u below [] = Unit {0}
+ComesBack u below (m ∷ ms) = (contexts_at m.world u ≡ below) ⊎ (StandsAbove m.world u below × ComesBack u below ms)
+
+abbrev pub ContextsComeBack : CodeTree → Type 0
+ContextsComeBack code =
+    (turns : List ℕ) (w : World) (u : ℕ) (below : List Context) → StandsAbove w u below → ComesBack u below (moments code turns w)
+
+-- ---- faults
+
+abbrev pub handling : Phase → Fault → Ask
+handling Bottom f = ask.End (outcome.Failed f)
+handling (Body catch_at) f = ask.Caught f
+handling Catch f = ask.Suppressed f
+
+abbrev pub FaultsAreHandled : CodeTree → Type 0
+FaultsAreHandled code = (c : Context) (f : Fault) → c.inside.fault ≡ Some f → next_of code c ≡ asks (handling c.phase f) c.inside
+
+-- ---- releases
+
+-- the acting context of a turn
+abbrev pub IsActing : World → ℕ → Context → List Context → Type 0
+IsActing w t c rest = contexts_at w t ≡ c ∷ rest
+
+-- what is made, and that the acting context may change its label to what is made
+pub record IsAllowed (c : Context) (m : Moment) : Type 0 where
+  pub made : Made
+  pub it : m.made ≡ Some made
+  pub may : MayChange c.caps c.label (made_label made)
+  pub by : (release_of m).by ≡ Some (used c.label (made_label made))
+  pub held : Covers c.caps (used c.label (made_label made))
+
+abbrev pub ReleasesAreAllowed : CodeTree → Type 0
+ReleasesAreAllowed code =
+    (w : World) (t : ℕ) (m : Moment) → step code w t ≡ Some m → is_release m ≡ true →
+    (c : Context) × (rest : List Context) × IsActing w t c rest × IsAllowed c m
+
+-- ---- capabilities
+
+-- those of a context after a value: with a minted tag both of its own, and with received ones these
+abbrev pub granted : Ask → Value → Caps → Caps
+granted ask.Mint (Tag t) k = with_both k t
+granted (ask.ReceiveCaps p) (CapV plus minus) k = joined k (record { plus = plus; minus = minus })
+granted a v k = k
+
+abbrev pub IsAfter : Caps → Ask → Answer → Caps → Type 0
+IsAfter k a Done d = d ≡ k
+IsAfter k a Entered d = (d ≡ k) ⊎ Covers k d
+IsAfter k a (Val v) d = d ≡ granted a v k
+IsAfter k a (Refused denied) d = d ≡ k
+IsAfter k a (Failed f) d = d ≡ k
+
+-- what the capabilities of a context of the acting thread may be after a turn
+abbrev pub MayHold : Caps → What → Caps → Type 0
+MayHold k Private d = d ≡ k
+MayHold k (Asked a x) d = IsAfter k a x d
+
+pub record KeepsCaps (w : World) (t : ℕ) (m : Moment) : Type 0 where
+  pub top : Context
+  pub rest : List Context
+  pub acting : IsActing w t top rest
+  -- in the acting thread the contexts below stay as they are
+  pub new : List Context
+  pub after : contexts_at m.world t ≡ new ++ rest
+  pub caps : AllByRecursion (λ (d : Context). MayHold top.caps m.event.what d.caps) new
+  -- other threads stay as they are
+  pub others : (j : ℕ) → (j ≡ t → ⊥) → is_some (thread_at w j) ≡ true → contexts_at m.world j ≡ contexts_at w j
+  -- a new thread has what the acting context holds
+  pub started : (j : ℕ) → thread_at w j ≡ None → AllByRecursion (λ (d : Context). Covers top.caps d.caps) (contexts_at m.world j)
+
+abbrev pub CapsDoNotGrow : CodeTree → Type 0
+CapsDoNotGrow code = (w : World) (t : ℕ) (m : Moment) → step code w t ≡ Some m → KeepsCaps w t m

@@ -1,0 +1,3 @@
+pub mod Cut
+pub mod Meanings
+pub mod First

@@ -1,0 +1,6 @@
+pub mod Worlds
+pub mod Deeds
+pub mod Serving
+pub mod Turns
+pub mod Views
+pub mod Valid

@@ -1,0 +1,20 @@
+//! Worked examples of the language: tokens, expressions, programs, their canonical text, copies and sameness, and one
+//! program with every form of the language.
+//!
+//! Each runs one call of the crates below. What is expected comes from the language's document, never from the tool.
+#![tactic(auto)]
+
+#[cfg(test)]
+mod copies;
+#[cfg(test)]
+mod expressions;
+#[cfg(test)]
+mod printed;
+#[cfg(test)]
+mod programs;
+#[cfg(test)]
+mod tokens;
+#[cfg(test)]
+mod trees;
+#[cfg(test)]
+mod whole;

@@ -1,0 +1,6 @@
+pub mod Equal
+pub mod Operators
+pub mod Threads
+pub mod Builtins
+pub mod Ops
+pub mod Next
