@@ -3,3 +3,4 @@ pub mod PartSteps
 pub mod Sizes
 pub mod StmtArms
 pub mod Blocks
+pub mod ProgramSteps
