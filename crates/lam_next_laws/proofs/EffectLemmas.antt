@@ -1,5 +1,5 @@
 -- What each operation asks for.
-use Rattle.std.proofs.Common.{◌≡◌, ℕ, ℤ, pos, negsuc, Bool, true, false, List, [], ◌∷◌, Option, Some, None, refl}
+use Rattle.std.proofs.Common.{◌≡◌, ℕ, ℤ, pos, negsuc, Bool, true, false, List, [], ◌∷◌, ◌++◌, Option, Some, None, refl}
 use Rattle.std.specs.Prelude.{if◌then◌else◌, nat_lt, nat_le, drop, slice_get, ◌&&◌, length}
 use Rattle.flow_labels.specs.declared.Label.{Label}
 use Rattle.flow_labels.specs.declared.Denied.{Denied}
@@ -11,6 +11,7 @@ use Rattle.lam_value.specs.declared.shapes.Kind.{Kind}
 use Rattle.lam_builtins.specs.declared.Builtin.{Builtin}
 use Rattle.lam_builtins.specs.declared.Builtin.TheVariants as call
 use Rattle.lam_asks.specs.declared.fault.Fault.{Fault}
+use Rattle.lam_asks.specs.declared.fault.Fault.TheVariants as fault
 use Rattle.lam_asks.specs.declared.ask.Ask.{Ask}
 use Rattle.lam_asks.specs.declared.ask.Ask.TheVariants as ask
 use Rattle.lam_bytecode.specs.declared.op.Op.{Op}
@@ -20,7 +21,7 @@ use Rattle.lam_syntax.specs.declared.UnaryOp.{UnaryOp}
 use Rattle.lam_syntax.specs.declared.BinaryOp.TheVariants as binary
 use Rattle.lam_syntax.specs.declared.UnaryOp.TheVariants as unary
 use Rattle.thread_steps.specs.Operators as operators
-use Rattle.thread_steps.specs.Operators.{Pure, fine, is_small, some_null}
+use Rattle.thread_steps.specs.Operators.{Pure, fine, is_small, some_null, label_from}
 use Rattle.thread_steps.specs.Builtins as builtins
 use Rattle.thread_steps.specs.Builtins.{Calls, now, asks, acts, number_now, bytes_now, byte_now, byte_at, slice_at, number_in, own_label, copied, read_from, cut_to, send_into, builtin}
 use Rattle.thread_steps.specs.Ops.{Did, gives, sets, jumps, calls, returns, fails, wants, leaves, breaks, on_any, on_int, on_truth, on_many, on_thing, on_caps, on_label, operated, between, before, unless_denied, barrier, tested, may_read, may_write, within, gets_field, puts_field, gets_element, puts_element, new_object, new_array, on_known, called, is_held, monitor_of, frames_limit, on_constant, stores, goes_to, Around, effect}
@@ -117,7 +118,7 @@ calls_call p c call.Len (Arr n len ∷ []) = if_call (is_small (pos len)) _ _ tt
 calls_call p c call.Size (Bytes bs ∷ []) = if_call (is_small (pos (length bs))) _ _ tt tt
 calls_call p c call.Byte (Bytes bs ∷ Int i ∷ []) = byte_call bs i
 calls_call p c call.Slice (Bytes bs ∷ Int i ∷ Int j ∷ []) = slice_call bs i j
-calls_call p c call.Cat (Bytes a ∷ Bytes b ∷ []) = if_call _ _ _ tt tt
+calls_call p c call.Cat (Bytes a ∷ Bytes b ∷ []) = if_call (nat_le (length (a ++ b)) 65536) _ _ tt tt
 calls_call p c call.Text (Int i ∷ []) = tt
 calls_call p c call.Number (Bytes bs ∷ []) = number_call _
 calls_call p c call.MyLabel [] = tt
@@ -300,7 +301,7 @@ effect_is a s Gt = between_by a s Gt binary.Gt
 effect_is a s Ge = between_by a s Ge binary.Ge
 effect_is a s (Jump to) = goes_by a s (Jump to) a.size to s
 effect_is a s (JumpIfFalse to) = truth_by a s (JumpIfFalse to) s _ (λ b t. if_by a s (JumpIfFalse to) b _ _ (λ e. tt) (goes_by a s (JumpIfFalse to) a.size to t))
-effect_is a s (Call u) = known_by a s (Call u) _ _ (λ n. many_by a s (Call u) n s _ (λ vs t. if_by a s (Call u) (nat_lt a.frames frames_limit) _ _ (λ e. e) tt))
+effect_is a s (Call u) = known_by a s (Call u) _ _ (λ n. many_by a s (Call u) n s (λ vs t. if nat_lt a.frames frames_limit then calls u vs t else fails fault.Deep) (λ vs t. if_by a s (Call u) (nat_lt a.frames frames_limit) (calls u vs t) (fails fault.Deep) (λ e. e) tt))
 effect_is a s Return = any_by a s Return s _ (λ v t. tt)
 effect_is a s Throw = int_by a s Throw s _ (λ n t. tt)
 effect_is a s (ReadBarrier d) = thing_by a s (ReadBarrier d) (drop d s) _ (λ n t top. barrier_by a s (ReadBarrier d) (may_read a.label n.own) (λ x e. (n, top, e)))
@@ -311,13 +312,13 @@ effect_is a s GetElement = int_by a s GetElement s _ (λ i t. gets_element_by a 
 effect_is a s PutElement = any_by a s PutElement s _ (λ v t. int_by a s PutElement t _ (λ i t. puts_element_by a s PutElement i v t))
 effect_is a s (NewObject c) = object_by a s (NewObject c) c _
 effect_is a s (NewArray k) = int_by a s (NewArray k) s _ (λ n t. array_by a s (NewArray k) k t n)
-effect_is a s (MakeLabel p q) = many_by a s (MakeLabel p q) q s _ (λ vs t. many_by a s (MakeLabel p q) p t _ (λ ws t. operated_by a s (MakeLabel p q) t _))
+effect_is a s (MakeLabel p q) = many_by a s (MakeLabel p q) q s _ (λ vs t. many_by a s (MakeLabel p q) p t (λ ws t. operated t (label_from ws vs)) (λ ws t. operated_by a s (MakeLabel p q) t (label_from ws vs)))
 effect_is a s NoCaps = tt
 effect_is a s WithPlus = any_by a s WithPlus s _ (λ v t. any_by a s WithPlus t _ (λ c t. operated_by a s WithPlus t _))
 effect_is a s WithMinus = any_by a s WithMinus s _ (λ v t. any_by a s WithMinus t _ (λ c t. operated_by a s WithMinus t _))
 effect_is a s (System b) = many_by a s (System b) _ s _ (λ vs t. called_by a s (System b) t _ (builtin_call a.label a.caps b vs))
 effect_is a s EnterMonitor = enter_by a s EnterMonitor s
 effect_is a s LeaveMonitor = leave_by a s LeaveMonitor s
-effect_is a s (EnterRegion r) = known_by a s (EnterRegion r) _ _ (λ n. many_by a s (EnterRegion r) n s _ (λ vs t. caps_by a s (EnterRegion r) t _ (λ c t. label_by a s (EnterRegion r) t _ (λ l t. tt))))
+effect_is a s (EnterRegion r) = known_by a s (EnterRegion r) _ _ (λ n. many_by a s (EnterRegion r) n s _ (λ vs t. caps_by a s (EnterRegion r) t _ (λ c t. label_by a s (EnterRegion r) t (λ l t. wants (ask.Enter l c r vs) t) (λ l t. tt))))
 effect_is a s LeaveRegion = tt
-effect_is a s (Spawn u) = known_by a s (Spawn u) _ _ (λ n. many_by a s (Spawn u) n s _ (λ vs t. caps_by a s (Spawn u) t _ (λ c t. tt)))
+effect_is a s (Spawn u) = known_by a s (Spawn u) _ _ (λ n. many_by a s (Spawn u) n s _ (λ vs t. caps_by a s (Spawn u) t (λ c t. wants (ask.Spawn u vs c) t) (λ c t. tt)))
