@@ -1,6 +1,6 @@
 -- A private turn keeps that what stands in the acting context lives, and an ask holds only what lives, row by row.
 use Rattle.std.proofs.Common.{◌≡◌, ℕ, zero, suc, ◌+◌, ◌<◌, ℤ, pos, negsuc, Bool, true, false, List, [], ◌∷◌, ◌++◌, Option, Some, None, length, take, drop, refl, sym, subst}
-use Rattle.std.specs.Prelude.{cond, not, nat_lt, nat_le, ◌&&◌, ◌-◌, reverse, replicate, map, slice_get, slice_set, IsTrue, if◌then◌else◌}
+use Rattle.std.specs.Prelude.{◌+ℤ◌, ◌-ℤ◌, ◌*ℤ◌, neg_ℤ, int_div, int_rem, cond, not, nat_lt, nat_le, ◌&&◌, ◌-◌, reverse, replicate, map, slice_get, slice_set, IsTrue, if◌then◌else◌}
 use Rattle.std.specs.List.{AllByRecursion}
 use Rattle.std.specs.FinMap as map_of
 use Rattle.std.specs.FinSet.{from_list}
@@ -15,6 +15,7 @@ use Rattle.lam_value.specs.declared.values.Value.{Value}
 use Rattle.lam_value.specs.declared.values.Value.TheVariants.{Int, Bool as Truth, Bytes, Nothing, Obj, Arr, File, Dir, Pipe, Thread, Tag, Lab, CapV}
 use Rattle.lam_value.specs.declared.shapes.Kind.{Kind}
 use Rattle.lam_value.specs.declared.shapes.Kind.TheVariants as kind
+use Rattle.lam_value.specs.declared.shapes.Shape.TheVariants.{Array}
 use Rattle.lam_value.specs.Shapes.{zero_of}
 use Rattle.lam_builtins.specs.declared.Builtin.{Builtin}
 use Rattle.lam_builtins.specs.declared.Builtin.TheVariants as call
@@ -24,6 +25,7 @@ use Rattle.lam_syntax.specs.declared.BinaryOp.TheVariants as binary
 use Rattle.lam_syntax.specs.declared.UnaryOp.{UnaryOp}
 use Rattle.lam_syntax.specs.declared.UnaryOp.TheVariants as unary
 use Rattle.lam_asks.specs.declared.fault.Fault.{Fault}
+use Rattle.lam_asks.specs.declared.fault.Fault.TheVariants as fault
 use Rattle.lam_asks.specs.declared.ask.Ask.{Ask}
 use Rattle.lam_asks.specs.declared.ask.Ask.TheVariants as ask
 use Rattle.lam_bytecode.specs.Codes.{CodeTree, IsCode, IsConstant}
@@ -35,7 +37,7 @@ use Rattle.thread_steps.specs.Operators as operators
 use Rattle.thread_steps.specs.Operators.{Pure, fine, of_numbers, by_divisor, number, is_small, is_zero, operator, prefix, some_null, tag_before, tags_in, label_by, label_from, with_sign}
 use Rattle.thread_steps.specs.Builtins as builtins
 use Rattle.thread_steps.specs.Builtins.{Calls, now, faults, asks, acts, wrong, root_name, number_now, bytes_now, byte_now, byte_at, slice_at, number_in, own_label, copied, read_from, cut_to, send_into, builtin}
-use Rattle.thread_steps.specs.Ops.{Did, gives, sets, jumps, calls, returns, fails, wants, leaves, breaks, on_any, on_int, on_truth, on_many, on_thing, on_caps, on_label, operated, between, before, unless_denied, barrier, tested, within, gets_field, puts_field, gets_element, puts_element, new_object, new_array, on_known, called, monitor_of, on_constant, stores, goes_to, Around, effect}
+use Rattle.thread_steps.specs.Ops.{Did, gives, sets, jumps, calls, returns, fails, wants, leaves, breaks, on_any, on_int, on_truth, on_many, on_thing, on_caps, on_label, operated, between, before, unless_denied, barrier, tested, within, gets_field, puts_field, gets_element, puts_element, may_read, may_write, new_object, new_array, on_known, called, is_held, monitor_of, frames_limit, on_constant, stores, goes_to, Around, effect}
 use Rattle.thread_steps.specs.Next as next
 use Rattle.thread_steps.specs.Next.{Next, next_of, next_by, next_in, next_op, past, entry, returned, ending, leaving, raised, around}
 use Rattle.lam_worlds.specs.Worlds.{World, thread_at}
@@ -115,7 +117,7 @@ module _ (w : World) where
   PureLives operators.wrong = Unit {0}
 
   number_live : (z : ℤ) → PureLives (number z)
-  number_live z = either PureLives (is_small z) _ _ tt tt
+  number_live z = either PureLives (is_small z) (fine (Int z)) (operators.faults fault.Overflow) tt tt
 
   numbers_live : (f : ℤ → ℤ → Pure) (v u : Value) → ((a b : ℤ) → PureLives (f a b)) → PureLives (of_numbers f v u)
   numbers_live f (Int a) (Int b) h = h a b
@@ -130,15 +132,15 @@ module _ (w : World) where
   operator_live binary.Le v u = numbers_live _ v u (λ a b. tt)
   operator_live binary.Gt v u = numbers_live _ v u (λ a b. tt)
   operator_live binary.Ge v u = numbers_live _ v u (λ a b. tt)
-  operator_live binary.Add v u = numbers_live _ v u (λ a b. number_live _)
-  operator_live binary.Sub v u = numbers_live _ v u (λ a b. number_live _)
-  operator_live binary.Mul v u = numbers_live _ v u (λ a b. number_live _)
-  operator_live binary.Div v u = numbers_live _ v u (λ a b. either PureLives (is_zero b) _ _ tt (number_live _))
-  operator_live binary.Rem v u = numbers_live _ v u (λ a b. either PureLives (is_zero b) _ _ tt (number_live _))
+  operator_live binary.Add v u = numbers_live (λ a b. number (a +ℤ b)) v u (λ a b. number_live (a +ℤ b))
+  operator_live binary.Sub v u = numbers_live (λ a b. number (a -ℤ b)) v u (λ a b. number_live (a -ℤ b))
+  operator_live binary.Mul v u = numbers_live (λ a b. number (a *ℤ b)) v u (λ a b. number_live (a *ℤ b))
+  operator_live binary.Div v u = numbers_live (λ a b. by_divisor b (number (int_div a b))) v u (λ a b. either PureLives (is_zero b) (operators.faults fault.Zero) (number (int_div a b)) tt (number_live (int_div a b)))
+  operator_live binary.Rem v u = numbers_live (λ a b. by_divisor b (number (int_rem a b))) v u (λ a b. either PureLives (is_zero b) (operators.faults fault.Zero) (number (int_rem a b)) tt (number_live (int_rem a b)))
 
   prefix_live : (op : UnaryOp) (v : Value) → PureLives (prefix op v)
   prefix_live unary.Not (Truth b) = tt
-  prefix_live unary.Neg (Int n) = number_live _
+  prefix_live unary.Neg (Int n) = number_live (neg_ℤ n)
   prefix_live op v = tt
 
   abbrev TagsLive : Option (List ℕ) → Type 0
@@ -158,7 +160,7 @@ module _ (w : World) where
   label_by_live x y h k = tt
 
   label_live : (s i : List Value) → AllLive w s → AllLive w i → PureLives (label_from s i)
-  label_live s i h k = either PureLives (some_null (s ++ i)) _ _ tt (label_by_live (tags_in s) (tags_in i) (tags_live s h) (tags_live i k))
+  label_live s i h k = either PureLives (some_null (s ++ i)) (operators.faults fault.Null) (label_by (tags_in s) (tags_in i)) tt (label_by_live (tags_in s) (tags_in i) (tags_live s h) (tags_live i k))
 
   sign_live : (b : Bool) (c t : Value) → Lives w c → Lives w t → PureLives (with_sign b c t)
   sign_live true (CapV p m) (Tag t) h l = (below_insert w.next_tag p t l h.0, h.1)
@@ -186,7 +188,7 @@ module _ (w : World) where
   byte_at_live bs (negsuc i) = tt
 
   slice_live : (bs : List ℕ) (i j : ℤ) → CallLives (slice_at bs i j)
-  slice_live bs (pos i) (pos j) = either CallLives (nat_le i j && nat_le j (length bs)) _ _ tt tt
+  slice_live bs (pos i) (pos j) = either CallLives (nat_le i j && nat_le j (length bs)) (now (Bytes (take (j - i) (drop i bs)))) (faults fault.Index) tt tt
   slice_live bs i j = tt
 
   number_in_live : (x : Option ℤ) → CallLives (number_in x)
@@ -207,7 +209,7 @@ module _ (w : World) where
   copied_live v l h k = tt
 
   read_live : (f : Name) (i j : ℤ) → Lives w (File f) → CallLives (read_from f i j)
-  read_live f (pos at) (pos n) h = either CallLives (nat_le n 65536) _ _ h tt
+  read_live f (pos at) (pos n) h = either CallLives (nat_le n 65536) (asks (ask.FileRead f at n)) (faults fault.Long) h tt
   read_live f (pos at) (negsuc n) h = tt
   read_live f (negsuc at) n h = tt
 
@@ -216,7 +218,7 @@ module _ (w : World) where
   cut_live f (negsuc n) h = tt
 
   send_live : (p : Name) (bs : List ℕ) → Lives w (Pipe p) → CallLives (send_into p bs)
-  send_live p bs h = either CallLives (nat_le (length bs) 4096) _ _ h tt
+  send_live p bs h = either CallLives (nat_le (length bs) 4096) (acts (ask.Send p bs)) (faults fault.Long) h tt
 
   module _ (root : Lives w (Dir root_name)) (p : Label) (c : Caps) (lp : IsKnown w p) (lc : AreKnown w c) where
     calls_live : (b : Builtin) (vs : List Value) → AllLive w vs → CallLives (builtins.calls p c b vs)
@@ -253,7 +255,7 @@ module _ (w : World) where
 
     builtin_live : (b : Builtin) (vs : List Value) → AllLive w vs → CallLives (builtin p c b vs)
     unfolding builtin
-    builtin_live b vs h = either CallLives (some_null vs) _ _ tt (calls_live b vs h)
+    builtin_live b vs h = either CallLives (some_null vs) (faults fault.Null) (builtins.calls p c b vs) tt (calls_live b vs h)
 
   -- ---- operands
 
@@ -281,7 +283,8 @@ module _ (w : World) where
   truth_live s go h k = tt
 
   many_live : (n : ℕ) (s : List Value) (go : List Value → List Value → Did) → AllLive w s → ((args s : List Value) → AllLive w args → AllLive w s → DidLives (go args s)) → DidLives (on_many n s go)
-  many_live n s go h k = either DidLives (nat_le n (length s)) _ _ (k _ _ (reverse_live _ (take_live n s h)) (drop_live n s h)) tt
+  many_live n s go h k =
+      either DidLives (nat_le n (length s)) (go (reverse (take n s)) (drop n s)) breaks (k (reverse (take n s)) (drop n s) (reverse_live (take n s) (take_live n s h)) (drop_live n s h)) tt
 
   thing_live : (s : List Value) (go : Name → List Value → Did) → ((n : Name) (s : List Value) → DidLives (go n s)) → DidLives (on_thing s go)
   thing_live (Obj n ∷ s) go k = k n s
@@ -305,10 +308,10 @@ module _ (w : World) where
   operated_live s operators.wrong h k = tt
 
   between_live : (op : BinaryOp) (s : List Value) → AllLive w s → DidLives (between op s)
-  between_live op s h = any_live s _ h (λ u s lu h. any_live s _ h (λ v s lv h. operated_live s _ h (operator_live op v u)))
+  between_live op s h = any_live s _ h (λ u s lu h. any_live s (λ v s. operated s (operator op v u)) h (λ v s lv h. operated_live s (operator op v u) h (operator_live op v u)))
 
   one_live : (op : UnaryOp) (s : List Value) → AllLive w s → DidLives (before op s)
-  one_live op s h = any_live s _ h (λ v s lv h. operated_live s _ h (prefix_live op v))
+  one_live op s h = any_live s (λ v s. operated s (prefix op v)) h (λ v s lv h. operated_live s (prefix op v) h (prefix_live op v))
 
   barrier_live : (s : List Value) (x : Option Denied) → AllLive w s → DidLives (barrier s x)
   barrier_live s None h = h
@@ -319,23 +322,27 @@ module _ (w : World) where
   unless_live (Some x) d h = tt
 
   within_live : (z : ℤ) (len : ℕ) (go : ℕ → Did) → ((at : ℕ) → DidLives (go at)) → DidLives (within z len go)
-  within_live (pos i) len go h = either DidLives (nat_lt i len) _ _ (h i) tt
+  within_live (pos i) len go h = either DidLives (nat_lt i len) (go i) (fails fault.Index) (h i) tt
   within_live (negsuc i) len go h = tt
 
   gets_field_live : (p : Label) (f : ℕ) (s : List Value) → AllLive w s → DidLives (gets_field p f s)
-  gets_field_live p f (Obj n ∷ s) h = unless_live _ _ h
+  gets_field_live p f (Obj n ∷ s) h = unless_live (may_read p n.own) (wants (ask.Read (Obj n) f) s) h
   gets_field_live p f s h = tt
 
   puts_field_live : (p : Label) (f : ℕ) (v : Value) (s : List Value) → Lives w v → AllLive w s → DidLives (puts_field p f v s)
-  puts_field_live p f v (Obj n ∷ s) l h = unless_live _ _ ((h.0, l), h.1)
+  puts_field_live p f v (Obj n ∷ s) l h = unless_live (may_write p n.own) (wants (ask.Write (Obj n) f v) s) ((h.0, l), h.1)
   puts_field_live p f v s l h = tt
 
   gets_element_live : (p : Label) (z : ℤ) (s : List Value) → AllLive w s → DidLives (gets_element p z s)
-  gets_element_live p z (Arr n len ∷ s) h = unless_live _ _ (within_live z len _ (λ at. h))
+  gets_element_live p z (Arr n len ∷ s) h =
+      let go : ℕ → Did = λ at. wants (ask.Read (Arr n len) at) s in
+      unless_live (may_read p n.own) (within z len go) (within_live z len go (λ at. h))
   gets_element_live p z s h = tt
 
   puts_element_live : (p : Label) (z : ℤ) (v : Value) (s : List Value) → Lives w v → AllLive w s → DidLives (puts_element p z v s)
-  puts_element_live p z v (Arr n len ∷ s) l h = unless_live _ _ (within_live z len _ (λ at. ((h.0, l), h.1)))
+  puts_element_live p z v (Arr n len ∷ s) l h =
+      let go : ℕ → Did = λ at. wants (ask.Write (Arr n len) at v) s in
+      unless_live (may_write p n.own) (within z len go) (within_live z len go (λ at. ((h.0, l), h.1)))
   puts_element_live p z v s l h = tt
 
   object_live : (c : ℕ) (s : List Value) (x : Option (List Kind)) → AllLive w s → DidLives (new_object c s x)
@@ -343,7 +350,7 @@ module _ (w : World) where
   object_live c s (Some ks) h = (zeros_live ks, h)
 
   array_live : (k : Kind) (s : List Value) (z : ℤ) → AllLive w s → DidLives (new_array k s z)
-  array_live k s (pos n) h = either DidLives (nat_le n 65536) _ _ (copies_live n (zero_of k) (zero_live k), h) tt
+  array_live k s (pos n) h = either DidLives (nat_le n 65536) (wants (ask.New (Array k n)) s) (fails fault.Long) (copies_live n (zero_of k) (zero_live k), h) tt
   array_live k s (negsuc n) h = tt
 
   known_live : (x : Option ℕ) (go : ℕ → Did) → ((n : ℕ) → DidLives (go n)) → DidLives (on_known x go)
@@ -358,8 +365,8 @@ module _ (w : World) where
   called_live s wrong h k = tt
 
   monitor_live : (a : Value → Ask) (may : Name → Bool) (s : List Value) → ((v : Value) → Lives w v → AskLives w (a v)) → AllLive w s → DidLives (monitor_of a may s)
-  monitor_live a may (Obj n ∷ s) k h = either DidLives (may n) _ _ (k (Obj n) h.0, h.1) tt
-  monitor_live a may (Arr n len ∷ s) k h = either DidLives (may n) _ _ (k (Arr n len) h.0, h.1) tt
+  monitor_live a may (Obj n ∷ s) k h = either DidLives (may n) (wants (a (Obj n)) s) breaks (k (Obj n) h.0, h.1) tt
+  monitor_live a may (Arr n len ∷ s) k h = either DidLives (may n) (wants (a (Arr n len)) s) breaks (k (Arr n len) h.0, h.1) tt
   monitor_live a may (Nothing ∷ s) k h = tt
   monitor_live a may s k h = tt
 
@@ -368,7 +375,7 @@ module _ (w : World) where
   put_live s (Some v) h k = (k v refl, h)
 
   goes_live : (size to : ℕ) (s : List Value) → AllLive w s → DidLives (goes_to size to s)
-  goes_live size to s h = either DidLives (nat_lt to size) _ _ h tt
+  goes_live size to s h = either DidLives (nat_lt to size) (jumps to s) breaks h tt
 
   -- ---- the rows
 
@@ -377,7 +384,7 @@ module _ (w : World) where
     unfolding effect
     effect_live s (Const k) h = put_live s _ h (λ v e. found_live a.code.constants k v constants e)
     effect_live s (Load n) h = put_live s _ h (λ v e. found_live a.locals n v locals e)
-    effect_live s (Store n) h = any_live s _ h (λ v s lv h. either DidLives (nat_lt n (length a.locals)) _ _ (set_live a.locals n v locals lv, h) tt)
+    effect_live s (Store n) h = any_live s _ h (λ v s lv h. either DidLives (nat_lt n (length a.locals)) (sets (slice_set a.locals n v) s) breaks (set_live a.locals n v locals lv, h) tt)
     effect_live s Pop h = any_live s _ h (λ v s lv h. h)
     effect_live s Add h = between_live binary.Add s h
     effect_live s Sub h = between_live binary.Sub s h
@@ -393,8 +400,8 @@ module _ (w : World) where
     effect_live s Gt h = between_live binary.Gt s h
     effect_live s Ge h = between_live binary.Ge s h
     effect_live s (Jump to) h = goes_live a.size to s h
-    effect_live s (JumpIfFalse to) h = truth_live s _ h (λ b s h. either DidLives b _ _ h (goes_live a.size to s h))
-    effect_live s (Call u) h = known_live _ _ (λ n. many_live n s _ h (λ args s la h. either DidLives _ _ _ (la, h) tt))
+    effect_live s (JumpIfFalse to) h = truth_live s _ h (λ b s h. either DidLives b (gives s) (goes_to a.size to s) h (goes_live a.size to s h))
+    effect_live s (Call u) h = known_live _ _ (λ n. many_live n s (λ args s. if nat_lt a.frames frames_limit then calls u args s else fails fault.Deep) h (λ args s la h. either DidLives (nat_lt a.frames frames_limit) (calls u args s) (fails fault.Deep) (la, h) tt))
     effect_live s Return h = any_live s _ h (λ v s lv h. lv)
     effect_live s Throw h = int_live s _ h (λ n s h. tt)
     effect_live s (ReadBarrier d) h = thing_live (drop d s) _ (λ n rest. barrier_live s _ h)
@@ -402,19 +409,19 @@ module _ (w : World) where
     effect_live s (GetField f) h = gets_field_live a.label f s h
     effect_live s (PutField f) h = any_live s _ h (λ v s lv h. puts_field_live a.label f v s lv h)
     effect_live s GetElement h = int_live s _ h (λ i s h. gets_element_live a.label i s h)
-    effect_live s PutElement h = any_live s _ h (λ v s lv h. int_live s _ h (λ i s h. puts_element_live a.label i v s lv h))
+    effect_live s PutElement h = any_live s _ h (λ v s lv h. int_live s (λ i s. puts_element a.label i v s) h (λ i s h. puts_element_live a.label i v s lv h))
     effect_live s (NewObject c) h = object_live c s _ h
     effect_live s (NewArray k) h = int_live s _ h (λ n s h. array_live k s n h)
-    effect_live s (MakeLabel p q) h = many_live q s _ h (λ vouchers s lv h. many_live p s _ h (λ secrets s ls h. operated_live s _ h (label_live secrets vouchers ls lv)))
+    effect_live s (MakeLabel p q) h = many_live q s (λ vouchers s. on_many p s (λ secrets s. operated s (label_from secrets vouchers))) h (λ vouchers s lv h. many_live p s (λ secrets s. operated s (label_from secrets vouchers)) h (λ secrets s ls h. operated_live s (label_from secrets vouchers) h (label_live secrets vouchers ls lv)))
     effect_live s NoCaps h = ((below_empty w.next_tag, below_empty w.next_tag), h)
-    effect_live s WithPlus h = any_live s _ h (λ t s lt h. any_live s _ h (λ c s lc h. operated_live s _ h (sign_live true c t lc lt)))
-    effect_live s WithMinus h = any_live s _ h (λ t s lt h. any_live s _ h (λ c s lc h. operated_live s _ h (sign_live false c t lc lt)))
-    effect_live s (System b) h = many_live _ s _ h (λ args s la h. called_live s _ h (builtin_live root a.label a.caps lp lc b args la))
-    effect_live s EnterMonitor h = monitor_live (λ r. ask.MonEnter r) _ s (λ v l. l) h
-    effect_live s LeaveMonitor h = monitor_live (λ r. ask.MonLeave r) _ s (λ v l. l) h
-    effect_live s (EnterRegion r) h = known_live _ _ (λ n. many_live n s _ h (λ args s la h. caps_live s _ h (λ c s lc h. on_label_live s _ h (λ l s ll h. ((ll, (lc, la)), h)))))
+    effect_live s WithPlus h = any_live s _ h (λ t s lt h. any_live s (λ c s. operated s (with_sign true c t)) h (λ c s lc h. operated_live s (with_sign true c t) h (sign_live true c t lc lt)))
+    effect_live s WithMinus h = any_live s _ h (λ t s lt h. any_live s (λ c s. operated s (with_sign false c t)) h (λ c s lc h. operated_live s (with_sign false c t) h (sign_live false c t lc lt)))
+    effect_live s (System b) h = many_live (length (row b).signature.takes) s (λ args s. called s (builtin a.label a.caps b args)) h (λ args s la h. called_live s (builtin a.label a.caps b args) h (builtin_live root a.label a.caps lp lc b args la))
+    effect_live s EnterMonitor h = monitor_live (λ r. ask.MonEnter r) (λ n. true) s (λ v l. l) h
+    effect_live s LeaveMonitor h = monitor_live (λ r. ask.MonLeave r) (λ n. is_held n a.held) s (λ v l. l) h
+    effect_live s (EnterRegion r) h = known_live _ _ (λ n. many_live n s _ h (λ args s la h. caps_live s (λ c s. on_label s (λ l s. wants (ask.Enter l c r args) s)) h (λ c s lc h. on_label_live s (λ l s. wants (ask.Enter l c r args) s) h (λ l s ll h. ((ll, (lc, la)), h)))))
     effect_live s LeaveRegion h = tt
-    effect_live s (Spawn u) h = known_live _ _ (λ n. many_live n s _ h (λ args s la h. caps_live s _ h (λ c s lc h. ((la, lc), h))))
+    effect_live s (Spawn u) h = known_live _ _ (λ n. many_live n s _ h (λ args s la h. caps_live s (λ c s. wants (ask.Spawn u args c) s) h (λ c s lc h. ((la, lc), h))))
 
   -- ---- what comes next
 
