@@ -225,7 +225,7 @@ module _ (w : World) (t : ℕ) where
     where
       by : (b : Bool) → eq_by_cmp name_cmp n m ≡ b → (listings n ns ≡ 0) ⊎ AllMine n → (as_one b + listings n ns ≡ 0) ⊎ AllMine n
       by true e r = inr (subst AllMine (sym (same_name n m e)) (mine_by m (h.0).holder.0 (h.0).holder.1))
-      by false e (inl z) = inl z
+      by false e (inl z) = inl (omega arith)
       by false e (inr z) = inr z
 
   in_lists : (n : Name) (cs : List Context) → AllByRecursion (ContextLives w t) cs → (all_listings n cs ≡ 0) ⊎ AllMine n

@@ -31,6 +31,7 @@ use Rattle.labelled_pipes.specs.declared.message.MessageKind.TheVariants as sort
 use Rattle.labelled_pipes.specs.Messages.{is_of, front_of}
 use Rattle.labelled_pipes.specs.Queues.{waiting_at}
 use Rattle.lam_asks.specs.declared.fault.Fault.{Fault}
+use Rattle.lam_asks.specs.declared.fault.Fault.TheVariants.{NoEntry, Child}
 use Rattle.lam_asks.specs.declared.answer.Outcome.{Outcome}
 use Rattle.lam_asks.specs.declared.answer.Outcome.TheVariants as outcome
 use Rattle.lam_asks.specs.declared.answer.Answer.{Answer}
@@ -43,7 +44,7 @@ use Rattle.thread_steps.specs.Threads as threads
 use Rattle.thread_steps.specs.Ops.{is_held}
 use Rattle.thread_steps.specs.Next.{gains, given, started}
 use Rattle.lam_worlds.specs.Worlds.{World, thread_at, result_in, result_at}
-use Rattle.lam_worlds.specs.Deeds.{takes_tag, adds_thing, adds_copy, takes_monitor, gives_back, drops, adds_file, adds_dir, adds_pipe, adds_thread, effect_of, Deed, answers, does, under, unless, on_thing}
+use Rattle.lam_worlds.specs.Deeds.{takes_tag, adds_thing, adds_copy, takes_monitor, gives_back, drops, adds_file, adds_dir, adds_pipe, receives, adds_thread, effect_of, Deed, answers, does, under, unless, on_thing}
 use Rattle.lam_worlds.specs.Serving.{slot_at, reference, renamed, opened, received, joined, serve}
 use Rattle.lam_worlds.specs.Turns.{lists, may_ask, is_taken, waits}
 use Rattle.lam_worlds.specs.Valid.{IsKnown, IsKnownName, Lives, AllLive, EntryLives, MessageLives, OutcomeLives, StoresLive, IsValid, all_listings}
@@ -218,8 +219,8 @@ module _ (code : CodeTree) (t : ℕ) (w : World) (valid : IsValid w) (c : Contex
       under_by LiveDeed _ _ (λ x. unless_by LiveDeed _ _ (((label, h), ap is_some (there_now w.pipes.waiting (name_of (home_of c.label l) (count_in w.pipes.counts (home_of c.label l))) [])), (label, h)) (λ f. (tt, tt))) (λ x. (tt, tt))
   live_row (ask.Send p bytes) h = under_by LiveDeed _ _ (λ x. (tt, tt)) (λ x. (tt, tt))
   live_row (ask.SendCaps p caps) h = under_by LiveDeed _ _ (λ x. (tt, h.1)) (λ x. (tt, tt))
-  live_row (ask.Receive p) h = under_by LiveDeed _ _ (λ x. (received_after _ refl _ (waiting_live sort_of_message.Bytes p), tt)) (λ x. (tt, tt))
-  live_row (ask.ReceiveCaps p) h = under_by LiveDeed _ _ (λ x. (received_after _ refl _ (waiting_live sort_of_message.Caps p), tt)) (λ x. (tt, tt))
+  live_row (ask.Receive p) h = under_by LiveDeed _ _ (λ x. (received_after (effect_of code t (receives p sort_of_message.Bytes) w) refl (front_of sort_of_message.Bytes (waiting_at w.pipes p)) (waiting_live sort_of_message.Bytes p), tt)) (λ x. (tt, tt))
+  live_row (ask.ReceiveCaps p) h = under_by LiveDeed _ _ (λ x. (received_after (effect_of code t (receives p sort_of_message.Caps) w) refl (front_of sort_of_message.Caps (waiting_at w.pipes p)) (waiting_live sort_of_message.Caps p), tt)) (λ x. (tt, tt))
   live_row (ask.Spawn unit args caps) h = under_by LiveDeed _ _ (λ x. unless_by LiveDeed _ _ (one_more unit args caps, h) (λ f. (tt, tt))) (λ x. (tt, tt))
   live_row (ask.Join u) h = under_by LiveDeed _ _ (λ x. joined_live _ (result_live u)) (λ x. (tt, tt))
   live_row (ask.Say bytes) h = (tt, tt)
@@ -291,13 +292,13 @@ module _ (code : CodeTree) (t : ℕ) (w : World) (c : Context) (i : Inside) wher
   thing_holds a r go h = on_thing_by (HoldsDeed a) r go h (failed_as_before a)
 
   opened_holds : (a : Ask) (refer : Name → Value) (x : Option Name) → ((v : Value) → HoldsDeed a (answers (Val v))) → HoldsDeed a (answers (opened refer x))
-  opened_holds a refer None h = failed_as_before a _
+  opened_holds a refer None h = failed_as_before a NoEntry
   opened_holds a refer (Some n) h = h (refer n)
 
   joined_holds : (a : Ask) (x : Option Outcome) → ((v : Value) → HoldsDeed a (answers (Val v))) → HoldsDeed a (answers (joined x))
-  joined_holds a None h = failed_as_before a _
+  joined_holds a None h = failed_as_before a Child
   joined_holds a (Some (outcome.Value v)) h = h v
-  joined_holds a (Some (outcome.Failed f)) h = failed_as_before a _
+  joined_holds a (Some (outcome.Failed f)) h = failed_as_before a Child
 
   pub holds_row : (a : Ask) → may_ask c a ≡ true → HoldsDeed a (serve w c a)
   holds_row (ask.Read r at) may = thing_holds (ask.Read r at) r _ (λ n e. plain_by (ask.Read r at) _ _ as_before)

@@ -42,9 +42,9 @@ pub all_on : {X : Type 0} {P Q : X → Type 0} → ((x : X) → P x → Q x) →
 all_on f [] h = tt
 all_on f (x ∷ xs) h = (f x h.0, all_on f xs h.1)
 
-pub all_append : {X : Type 0} {P : X → Type 0} (xs ys : List X) → AllByRecursion P xs → AllByRecursion P ys → AllByRecursion P (xs ++ ys)
-all_append [] ys h k = k
-all_append (x ∷ xs) ys h k = (h.0, all_append xs ys h.1 k)
+pub all_append : {X : Type 0} (P : X → Type 0) (xs ys : List X) → AllByRecursion P xs → AllByRecursion P ys → AllByRecursion P (xs ++ ys)
+all_append P [] ys h k = k
+all_append P (x ∷ xs) ys h k = (h.0, all_append P xs ys h.1 k)
 
 pub there_now : {X : Type 0} (m : FinMap name_cmp X) (k : Name) (x : X) → get (insert m k x) k ≡ Some x
 there_now m k x = get-insert name_total m k x k ∙ ap (λ b. cond b (Some x) (get m k)) ((eq_by_cmp_equiv name_total).refl k)
@@ -207,7 +207,7 @@ without_live u text (e ∷ es) h = by (text_eq text e.0) (without_live u text es
     by false more = (h.0, more)
 
 joined_live : (u : World) (text : List ℕ) (k : EntryKind) (n : Name) → IsKnownName u n → IsTrue (lives_as k u.files n) → (es : Entries) → AllByRecursion (EntryLives u) es → AllByRecursion (EntryLives u) (joined text k n es)
-joined_live u text k n known lives es h = all_append es _ h ((known, lives), tt)
+joined_live u text k n known lives es h = all_append (EntryLives u) es ((text, record { kind = k; name = n }) ∷ []) h ((known, lives), tt)
 
 -- ---- lines
 
@@ -215,7 +215,7 @@ sent_live : (u : World) (m : Message) → MessageLives u m → (ms : List Messag
 sent_live u m here ms h = by (nat_lt (length ms) 1024)
   where
     by : (b : Bool) → AllByRecursion (MessageLives u) (cond b (ms ++ m ∷ []) ms)
-    by true = all_append ms _ h (here, tt)
+    by true = all_append (MessageLives u) ms (m ∷ []) h (here, tt)
     by false = h
 
 rest_live : (u : World) (k : MessageKind) (ms : List Message) → AllByRecursion (MessageLives u) ms → AllByRecursion (MessageLives u) (rest_of k ms)

@@ -5,7 +5,8 @@ use Rattle.std.specs.List.{AllByRecursion}
 use Rattle.std.specs.FinMap.{get}
 use Rattle.lam_value.specs.declared.names.Name.{Name}
 use Rattle.lam_value.specs.declared.values.Value.{Value}
-use Rattle.lam_value.specs.declared.values.Value.TheVariants.{Obj, Arr}
+use Rattle.lam_value.specs.declared.values.Value.TheVariants.{Obj, Arr, File, Dir, Pipe, Thread}
+use Rattle.lam_value.specs.Shapes.{slots_of}
 use Rattle.capabilities.specs.declared.Caps.{Caps}
 use Rattle.monitor_core.specs.Held.{takings, listings}
 use Rattle.lam_asks.specs.declared.answer.Outcome.{Outcome}
@@ -88,28 +89,28 @@ module _ (w u : World) (g : Grows w u) where
   ask_on : (a : Ask) → AskLives w a → AskLives u a
   ask_on (ask.Read r at) h = lives_on w u g r h
   ask_on (ask.Write r at v) h = (lives_on w u g r h.0, lives_on w u g v h.1)
-  ask_on (ask.New shape) h = all_lives_on w u g _ h
+  ask_on (ask.New shape) h = all_lives_on w u g (slots_of shape) h
   ask_on (ask.CopyTo r l) h = (lives_on w u g r h.0, known_on w u g l h.1)
   ask_on (ask.Enter l caps region args) h = (known_on w u g l h.0, (caps_on caps h.1.0, all_lives_on w u g args h.1.1))
   ask_on (ask.End r) h = outcome_on (Some r) h
   ask_on (ask.MonEnter r) h = lives_on w u g r h
   ask_on (ask.MonLeave r) h = lives_on w u g r h
-  ask_on (ask.MakeFile d text l) h = (lives_on w u g _ h.0, known_on w u g l h.1)
-  ask_on (ask.MakeDir d text l) h = (lives_on w u g _ h.0, known_on w u g l h.1)
-  ask_on (ask.OpenFile d text) h = lives_on w u g _ h
-  ask_on (ask.OpenDir d text) h = lives_on w u g _ h
-  ask_on (ask.Remove d text) h = lives_on w u g _ h
-  ask_on (ask.FileRead f at n) h = lives_on w u g _ h
-  ask_on (ask.FileLength f) h = lives_on w u g _ h
-  ask_on (ask.Append f bytes) h = lives_on w u g _ h
-  ask_on (ask.Cut f len) h = lives_on w u g _ h
+  ask_on (ask.MakeFile d text l) h = (lives_on w u g (Dir d) h.0, known_on w u g l h.1)
+  ask_on (ask.MakeDir d text l) h = (lives_on w u g (Dir d) h.0, known_on w u g l h.1)
+  ask_on (ask.OpenFile d text) h = lives_on w u g (Dir d) h
+  ask_on (ask.OpenDir d text) h = lives_on w u g (Dir d) h
+  ask_on (ask.Remove d text) h = lives_on w u g (Dir d) h
+  ask_on (ask.FileRead f at n) h = lives_on w u g (File f) h
+  ask_on (ask.FileLength f) h = lives_on w u g (File f) h
+  ask_on (ask.Append f bytes) h = lives_on w u g (File f) h
+  ask_on (ask.Cut f len) h = lives_on w u g (File f) h
   ask_on (ask.MakePipe l) h = known_on w u g l h
-  ask_on (ask.Send p bytes) h = lives_on w u g _ h
-  ask_on (ask.SendCaps p caps) h = (lives_on w u g _ h.0, caps_on caps h.1)
-  ask_on (ask.Receive p) h = lives_on w u g _ h
-  ask_on (ask.ReceiveCaps p) h = lives_on w u g _ h
+  ask_on (ask.Send p bytes) h = lives_on w u g (Pipe p) h
+  ask_on (ask.SendCaps p caps) h = (lives_on w u g (Pipe p) h.0, caps_on caps h.1)
+  ask_on (ask.Receive p) h = lives_on w u g (Pipe p) h
+  ask_on (ask.ReceiveCaps p) h = lives_on w u g (Pipe p) h
   ask_on (ask.Spawn unit args caps) h = (all_lives_on w u g args h.0, caps_on caps h.1)
-  ask_on (ask.Join t) h = lives_on w u g _ h
+  ask_on (ask.Join t) h = lives_on w u g (Thread t) h
   ask_on a h = tt
 
   -- a thread whose monitors stay
@@ -144,7 +145,7 @@ last_found (x ∷ xs) a zero b e = inl e
 last_found (x ∷ xs) a (suc j) b e = last_found xs a j b e
 
 listings_append : (n : Name) (cs ds : List Context) → all_listings n (cs ++ ds) ≡ all_listings n cs + all_listings n ds
-listings_append n [] ds = refl
+listings_append n [] ds = omega arith
 listings_append n (c ∷ cs) ds = let e = listings_append n cs ds in omega arith
 
 -- ---- a new thread
@@ -262,7 +263,7 @@ module _ (code : CodeTree) (w : World) (valid : IsValid w) (t : ℕ) (th : threa
 
   private_valid : (i : Inside) → InsideLives w i → IsSoundWorld (goes_on w t th c rest i).world → IsValid (goes_on w t th c rest i).world
   private_valid i l s =
-      let to = record { contexts = with_inside c i ∷ rest; result = th.result } in
+      let to : threads.Thread = record { contexts = with_inside c i ∷ rest; result = th.result } in
       let u = with_thread w t to in
       let g = thread_grows w t to in
       let mine : HoldsAll u.monitors t to.contexts = holds in
@@ -335,7 +336,7 @@ module _ (code : CodeTree) (w : World) (valid : IsValid w) (t : ℕ) (th : threa
     placed_now : AllByRecursion (IsPlaced after) to.contexts
     placed_now =
         subst (λ cs. AllByRecursion (IsPlaced after) cs) (sym contexts_now)
-        (all_append (front code c i a (serve w c a).answer) rest
+        (all_append (IsPlaced after) (front code c i a (serve w c a).answer) rest
         (front_placed after code c i a (serve w c a).answer (placed_on w after both c set.0) (inside_on w after both i li) (ask_on w after both a la) answer_lives (served_proper w c a).own)
         (all_on (placed_on w after both) rest set.1))
 
@@ -372,7 +373,7 @@ module _ (code : CodeTree) (w : World) (valid : IsValid w) (t : ℕ) (th : threa
 pub stay_valid : (code : CodeTree) → StaysValid code
 stay_valid code is w t m valid h =
     let a = acts code w t m h in
-    let sound = record { stores = valid.sound; tags = valid.tags; threads = valid.number } in
+    let sound : IsSoundWorld w = record { stores = valid.sound; tags = valid.tags; threads = valid.number } in
     turn_valid code w valid t a.thread a.top a.rest a.at a.list (next_of code a.top) m (name_what_lives code is w t a.thread a.top a.rest valid a.at a.list) (next_is code a.top) a.gives (stay_sound code w t m sound h)
 
 -- ---- runs
