@@ -8,7 +8,6 @@ use Rattle.std.specs.Cmp.{eq_by_cmp_equiv, Equal-is}
 use Rattle.std.specs.FinMap.{get, get-insert, get-remove}
 use Rattle.lam_value.specs.declared.names.Name.{Name}
 use Rattle.lam_value.specs.Names.{name_cmp}
-use Rattle.lam_value.specs.declared.values.Value.{Value}
 use Rattle.lam_value.specs.declared.values.Value.TheVariants.{Obj}
 use Rattle.lam_value.proofs.Keys.{name_total, name_exact}
 use Rattle.monitor_core.specs.declared.Holder.{Holder}
@@ -18,7 +17,7 @@ use Rattle.thread_steps.specs.Ops.{is_held}
 use Rattle.thread_steps.specs.Next.{without}
 use Rattle.lam_worlds.specs.Worlds.{World}
 use Rattle.lam_worlds.specs.Deeds.{Effect, nothing, takes_tag, sets_slot, adds_thing, adds_copy, takes_monitor, gives_back, drops, adds_file, adds_dir, removes, appends, cuts, adds_pipe, sends, receives, adds_thread}
-use Rattle.lam_worlds.specs.Valid.{IsKnown, AreKnown, Lives, FrameLives, IsListed, ContextLives, all_listings}
+use Rattle.lam_worlds.specs.Valid.{IsKnown, AreKnown, Lives, IsListed, ContextLives, all_listings}
 use Rattle.lam_living.specs.Living.{InsideLives}
 
 same_name : (q r : Name) → eq_by_cmp name_cmp q r ≡ true → q ≡ r
@@ -204,13 +203,15 @@ module _ (w : World) (t : ℕ) where
 
   pub placed : (cs : List Context) → AllByRecursion (ContextLives w t) cs → AllByRecursion (IsPlaced w) cs
   placed [] h = tt
-  placed (c ∷ cs) h =
-      (record {
-        label = (h.0).label;
-        caps = (h.0).caps;
-        inside = record { frame = (h.0).frame; callers = (h.0).callers };
-        held = own_things c c.held (h.0).held;
-      }, placed cs h.1)
+  placed (c ∷ cs) h = (
+    record {
+      label = (h.0).label;
+      caps = (h.0).caps;
+      inside = record { frame = (h.0).frame; callers = (h.0).callers };
+      held = own_things c c.held (h.0).held;
+    },
+    placed cs h.1,
+  )
 
   -- what is listed is held, as often as the monitor is
   abbrev AllMine : Name → Type 0
@@ -266,11 +267,13 @@ module _ (w : World) (t : ℕ) where
 
   pub lived : (cs : List Context) → AllByRecursion (IsPlaced w) cs → HoldsAll w.monitors t cs → AllByRecursion (ContextLives w t) cs
   lived [] h most = tt
-  lived (c ∷ cs) h most =
-      (record {
-        label = (h.0).label;
-        caps = (h.0).caps;
-        frame = (h.0).inside.frame;
-        callers = (h.0).inside.callers;
-        held = listed c c.held (h.0).held (λ n. let l = most n in omega arith);
-      }, lived cs h.1 (λ n. let l = most n in omega arith))
+  lived (c ∷ cs) h most = (
+    record {
+      label = (h.0).label;
+      caps = (h.0).caps;
+      frame = (h.0).inside.frame;
+      callers = (h.0).inside.callers;
+      held = listed c c.held (h.0).held (λ n. let l = most n in omega arith);
+    },
+    lived cs h.1 (λ n. let l = most n in omega arith),
+  )

@@ -4,7 +4,7 @@ use Rattle.std.specs.Prelude.{IsTrue, is_some, is_none, not, ◌&&◌, replicate
 use Rattle.std.specs.List.{AllByRecursion}
 use Rattle.std.specs.Map.{lookup}
 use Rattle.std.specs.Ordering.{eq_by_cmp}
-use Rattle.std.specs.FinMap.{get, contains_key}
+use Rattle.std.specs.FinMap.{get}
 use Rattle.flow_labels.specs.declared.Label.{Label}
 use Rattle.flow_labels.specs.declared.Denied.{Denied}
 use Rattle.flow_labels.specs.Failing.{Test, first_failing, same_test}
@@ -12,7 +12,7 @@ use Rattle.capabilities.specs.declared.Caps.{Caps}
 use Rattle.lam_value.specs.declared.names.Name.{Name}
 use Rattle.lam_value.specs.Names.{name_cmp}
 use Rattle.lam_value.specs.declared.values.Value.{Value}
-use Rattle.lam_value.specs.declared.values.Value.TheVariants.{Nothing, Obj, Arr, File, Dir, Pipe, Tag, CapV}
+use Rattle.lam_value.specs.declared.values.Value.TheVariants.{Nothing, Obj, Arr, File, Dir, Tag, CapV}
 use Rattle.lam_value.specs.declared.shapes.Shape.{Shape}
 use Rattle.lam_value.specs.declared.shapes.Shape.TheVariants.{Class, Array}
 use Rattle.lam_value.specs.Homes.{home_of, name_of, count_in}
@@ -35,19 +35,18 @@ use Rattle.lam_asks.specs.declared.fault.Fault.TheVariants.{NoEntry, Child}
 use Rattle.lam_asks.specs.declared.answer.Outcome.{Outcome}
 use Rattle.lam_asks.specs.declared.answer.Outcome.TheVariants as outcome
 use Rattle.lam_asks.specs.declared.answer.Answer.{Answer}
-use Rattle.lam_asks.specs.declared.answer.Answer.TheVariants.{Done, Entered, Val, Refused, Failed}
+use Rattle.lam_asks.specs.declared.answer.Answer.TheVariants.{Val, Refused, Failed}
 use Rattle.lam_asks.specs.declared.ask.Ask.{Ask}
 use Rattle.lam_asks.specs.declared.ask.Ask.TheVariants as ask
 use Rattle.lam_bytecode.specs.Codes.{CodeTree}
 use Rattle.thread_steps.specs.Threads.{Inside, Context}
 use Rattle.thread_steps.specs.Threads as threads
-use Rattle.thread_steps.specs.Ops.{is_held}
 use Rattle.thread_steps.specs.Next.{gains, given, started}
 use Rattle.lam_worlds.specs.Worlds.{World, thread_at, result_in, result_at}
-use Rattle.lam_worlds.specs.Deeds.{takes_tag, adds_thing, adds_copy, takes_monitor, gives_back, drops, adds_file, adds_dir, adds_pipe, receives, adds_thread, effect_of, Deed, answers, does, under, unless, on_thing}
+use Rattle.lam_worlds.specs.Deeds.{adds_thing, adds_copy, takes_monitor, gives_back, drops, receives, effect_of, Deed, answers, does, under, unless, on_thing}
 use Rattle.lam_worlds.specs.Serving.{slot_at, reference, renamed, opened, received, joined, serve}
 use Rattle.lam_worlds.specs.Turns.{lists, may_ask, is_taken, waits}
-use Rattle.lam_worlds.specs.Valid.{IsKnown, IsKnownName, Lives, AllLive, EntryLives, MessageLives, OutcomeLives, StoresLive, IsValid, all_listings}
+use Rattle.lam_worlds.specs.Valid.{IsKnown, IsKnownName, Lives, EntryLives, MessageLives, OutcomeLives, IsValid, all_listings}
 use Rattle.lam_isolation.proofs.RowLemmas.{RefersTo, under_by, unless_by, on_thing_by}
 use Rattle.lam_isolation.proofs.ThreadLemmas.{front}
 use Rattle.lam_living.specs.Living.{AskLives}

@@ -1,5 +1,5 @@
 -- The contexts of a thread after an answer: what stands in them lives, they are stacked, and the thread has ended where none is left.
-use Rattle.std.proofs.Common.{◌≡◌, ℕ, Bool, true, false, cond, List, [], ◌∷◌, ◌++◌, Option, Some, None, refl, sym, ap, subst, ◌∙◌}
+use Rattle.std.proofs.Common.{◌≡◌, ℕ, Bool, true, false, cond, List, [], ◌∷◌, Option, refl, sym, ap, ◌∙◌}
 use Rattle.std.specs.Prelude.{is_none}
 use Rattle.std.specs.List.{AllByRecursion}
 use Rattle.flow_labels.specs.declared.Label.{Label}
@@ -15,13 +15,13 @@ use Rattle.lam_asks.specs.declared.answer.Answer.TheVariants.{Done, Entered, Val
 use Rattle.lam_asks.specs.declared.ask.Ask.{Ask}
 use Rattle.lam_asks.specs.declared.ask.Ask.TheVariants as ask
 use Rattle.lam_bytecode.specs.Codes.{CodeTree}
-use Rattle.thread_steps.specs.Threads.{Frame, Inside, Phase, Bottom, Body, Catch, Context}
+use Rattle.thread_steps.specs.Threads.{Frame, Inside, Context}
 use Rattle.thread_steps.specs.Equal.{same_names}
 use Rattle.thread_steps.specs.Next.{with_inside, with_caps, with_held, faulted, given, without, held_by, outermost, catching, region_context, gains, done, entered, answered, result_after}
 use Rattle.lam_worlds.specs.Worlds.{World}
 use Rattle.lam_worlds.specs.Turns.{is_bottom}
-use Rattle.lam_worlds.specs.Valid.{IsKnown, AreKnown, Lives, AllLive, OutcomeLives, FrameLives, IsFirst, StandsOn, AreStacked, has_contexts}
-use Rattle.lam_isolation.proofs.ThreadLemmas.{IsOwn, KeepsOwn, front, answered_front}
+use Rattle.lam_worlds.specs.Valid.{IsKnown, AreKnown, Lives, AllLive, OutcomeLives, FrameLives, IsFirst, AreStacked, has_contexts}
+use Rattle.lam_isolation.proofs.ThreadLemmas.{IsOwn, KeepsOwn, front}
 use Rattle.lam_living.specs.Living.{InsideLives, AskLives}
 use Rattle.lam_living.proofs.TagLemmas.{below_insert, below_union}
 use Rattle.lam_living.proofs.PrivateLemmas.{entered_live}

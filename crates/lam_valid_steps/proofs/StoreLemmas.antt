@@ -1,5 +1,5 @@
 -- What stands in the stores lives after an effect, where what the effect puts there does.
-use Rattle.std.proofs.Common.{◌≡◌, ℕ, ◌+◌, ◌<◌, Bool, true, false, cond, List, [], ◌∷◌, ◌++◌, Option, Some, None, length, refl, sym, ap, subst, ◌∙◌, arith}
+use Rattle.std.proofs.Common.{◌≡◌, ℕ, ◌+◌, Bool, true, false, cond, List, [], ◌∷◌, ◌++◌, Option, Some, None, length, refl, sym, ap, subst, ◌∙◌}
 use Rattle.std.specs.Prelude.{IsTrue, is_some, nat_lt, slice_set, unwrap_or}
 use Rattle.std.specs.List.{AllByRecursion}
 use Rattle.std.specs.Ordering.{eq_by_cmp}
@@ -8,14 +8,12 @@ use Rattle.std.specs.FinMap.{FinMap, get, insert, contains_key, get-insert}
 use Rattle.lam_value.specs.declared.names.Name.{Name}
 use Rattle.lam_value.specs.Names.{name_cmp}
 use Rattle.lam_value.specs.declared.values.Value.{Value}
-use Rattle.lam_value.specs.declared.values.Value.TheVariants.{Obj, File, Dir, Pipe}
 use Rattle.lam_value.specs.Homes.{Home, Counts, home_cmp, name_of, count_in, counted}
 use Rattle.lam_value.proofs.Keys.{name_total, name_exact, home_total, home_exact}
 use Rattle.labelled_heap.specs.Things as heap
 use Rattle.labelled_heap.specs.Things.{Things, slots_at}
 use Rattle.monitor_core.specs.declared.Holder.{Holder}
-use Rattle.monitor_core.specs.Held.{Held, once_more, entered, one_less, left, dropped}
-use Rattle.labelled_files.specs.declared.directory.Target.{Target}
+use Rattle.monitor_core.specs.Held.{Held, once_more, one_less, left, dropped}
 use Rattle.labelled_files.specs.declared.directory.EntryKind.{EntryKind}
 use Rattle.labelled_files.specs.declared.directory.EntryKind.TheVariants as kind
 use Rattle.labelled_files.specs.Entries.{Entries, text_eq, without}
@@ -104,8 +102,17 @@ pub record LinesLive (w : World) (q : Queues) : Type 0 where
 together : (w : World) → HeapLives w w.heap → AreKnownNames w w.monitors → TreeLives w w.files → LinesLive w w.pipes → StoresLive w
 together w h m t q =
     record {
-      slots = h.slots; entries = t.entries; messages = q.messages; things = h.things; held = m; dirs = t.dirs; files = t.files;
-      pipes = q.pipes; heap_homes = h.homes; file_homes = t.homes; pipe_homes = q.homes;
+      slots = h.slots;
+      entries = t.entries;
+      messages = q.messages;
+      things = h.things;
+      held = m;
+      dirs = t.dirs;
+      files = t.files;
+      pipes = q.pipes;
+      heap_homes = h.homes;
+      file_homes = t.homes;
+      pipe_homes = q.homes;
     }
 
 module _ (w u : World) (g : Grows w u) where

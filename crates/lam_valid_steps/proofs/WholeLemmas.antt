@@ -1,29 +1,28 @@
 -- A turn keeps validity: the threads beside the acting one, the acting one, a new one, the stores, and so whole runs.
 use Rattle.std.proofs.Common.{◌≡◌, ℕ, zero, suc, ◌+◌, ◌≤◌, ◌⊎◌, inl, inr, Bool, true, false, List, [], ◌∷◌, ◌++◌, Option, Some, None, length, refl, sym, ap, subst, ◌∙◌, arith, length-append}
-use Rattle.std.specs.Prelude.{is_none, not, ◌&&◌, slice_get, slice_set}
+use Rattle.std.specs.Prelude.{is_none, not, slice_get, slice_set}
 use Rattle.std.specs.List.{AllByRecursion}
-use Rattle.std.specs.FinMap.{get}
 use Rattle.lam_value.specs.declared.names.Name.{Name}
 use Rattle.lam_value.specs.declared.values.Value.{Value}
 use Rattle.lam_value.specs.declared.values.Value.TheVariants.{Obj, Arr, File, Dir, Pipe, Thread}
 use Rattle.lam_value.specs.Shapes.{slots_of}
 use Rattle.capabilities.specs.declared.Caps.{Caps}
-use Rattle.monitor_core.specs.Held.{takings, listings}
+use Rattle.monitor_core.specs.Held.{takings}
 use Rattle.lam_asks.specs.declared.answer.Outcome.{Outcome}
 use Rattle.lam_asks.specs.declared.answer.Outcome.TheVariants as outcome
 use Rattle.lam_asks.specs.declared.answer.Answer.{Answer}
-use Rattle.lam_asks.specs.declared.answer.Answer.TheVariants.{Done, Entered, Val, Refused, Failed}
+use Rattle.lam_asks.specs.declared.answer.Answer.TheVariants.{Val}
 use Rattle.lam_asks.specs.declared.ask.Ask.{Ask}
 use Rattle.lam_asks.specs.declared.ask.Ask.TheVariants as ask
-use Rattle.lam_bytecode.specs.Codes.{CodeTree, IsCode}
+use Rattle.lam_bytecode.specs.Codes.{CodeTree}
 use Rattle.thread_steps.specs.Threads.{Frame, Inside, Context}
 use Rattle.thread_steps.specs.Threads as threads
-use Rattle.thread_steps.specs.Next.{Next, goes, asks, stuck, next_of, with_inside, answered, takes, started}
+use Rattle.thread_steps.specs.Next.{Next, goes, asks, stuck, next_of, with_inside, takes, started}
 use Rattle.lam_worlds.specs.Worlds.{World, thread_at, with_thread}
 use Rattle.lam_worlds.specs.Deeds.{Effect, nothing, takes_tag, sets_slot, adds_thing, adds_copy, takes_monitor, gives_back, drops, adds_file, adds_dir, removes, appends, cuts, adds_pipe, sends, receives, adds_thread, effect_of, Deed}
 use Rattle.lam_worlds.specs.Serving.{serve}
 use Rattle.lam_worlds.specs.Turns.{may_ask, waits, is_ready, Moment, goes_on, served, turn_by, step, and_then, moments, left_by}
-use Rattle.lam_worlds.specs.Valid.{IsKnown, AreKnown, Lives, AllLive, OutcomeLives, FrameLives, ContextLives, AreStacked, has_contexts, all_listings, AreSoundStores, StoresLive, IsValidThread, IsValid}
+use Rattle.lam_worlds.specs.Valid.{AreKnown, Lives, AllLive, OutcomeLives, FrameLives, ContextLives, AreStacked, has_contexts, all_listings, StoresLive, IsValidThread, IsValid}
 use Rattle.lam_isolation.proofs.FlowLemmas.{both_true}
 use Rattle.lam_isolation.proofs.ThreadLemmas.{some_inj, length-set, front, answered_front}
 use Rattle.lam_isolation.proofs.RowLemmas.{served_proper}
