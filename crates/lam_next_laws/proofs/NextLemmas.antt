@@ -139,7 +139,7 @@ module _ (code : CodeTree) (c : Context) where
   at_write depth n h top =
       at_op (WriteBarrier depth) h ∙ ap (next_by code c.phase c.inside) (top_tested c.inside.frame.stack (drop depth c.inside.frame.stack) n (may_write c.label) top) ∙ barrier_next (first_failing (write_test c.label n.own))
 
-  barred_at : (op : Op) (d : Denied) → StandsAt code c op → IsBarred c.label c.inside.frame.stack d op → next_of code c ≡ asks (ask.Barred d) (past c.inside c.inside.frame.stack)
+  pub barred_at : (op : Op) (d : Denied) → StandsAt code c op → IsBarred c.label c.inside.frame.stack d op → next_of code c ≡ asks (ask.Barred d) (past c.inside c.inside.frame.stack)
   barred_at (ReadBarrier depth) d h b = at_read depth b.0 h b.1 ∙ ap (after_test c) b.2
   barred_at (WriteBarrier depth) d h b = at_write depth b.0 h b.1 ∙ ap (after_test c) b.2
   barred_at op d h b = absurd b
