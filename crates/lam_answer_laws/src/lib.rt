@@ -4,6 +4,7 @@
 ghost use Rattle.lam_bytecode.specs.Codes.{CodeTree};
 ghost use Rattle.lam_answer_laws.specs.Faults.{AnswersFollowTheRows};
 ghost use Rattle.lam_answer_laws.specs.Events.{FailingTestsAreEvents};
+ghost use Rattle.lam_answer_laws.specs.Suiting.{AnswersSuit};
 ghost use Rattle.lam_answer_laws.specs.Ready.{ReadyThreadsCanGo, EndedAreNotReady, StandsOneWay};
 
 /// An ask is refused where a test of it fails, by the first rule that does; else it fails where it has a fault, with
@@ -31,4 +32,10 @@ pub fn worlds_stand_one_way()
 /// rule with its least tag, and all that it does is to raise Denied.
 pub fn failing_tests_are_events()
     ensures { (code : CodeTree) → FailingTestsAreEvents code }
+{}
+
+/// Each answer suits the ask of a thread that it answers: it is of the sort that the ask wants, or a refusal or a fault
+/// that the ask may have. Of a read and a join it is a value of some sort.
+pub fn answers_suit()
+    ensures { (code : CodeTree) → AnswersSuit code }
 {}
