@@ -85,6 +85,11 @@ module _ {A : Type 0} where
   entry_at (e ∷ es) zero k v at = let same : e ≡ (k, v) = cc in ap (λ (p : Vec ℕ A × Target). Some (p.0.items, p.1)) same
   entry_at (e ∷ es) (suc i) k v at = entry_at es i k v at
 
+  pub entry_seen : (es : List (Vec ℕ A × Target)) (i : ℕ) → option_map (λ (e : Vec ℕ A × Target). (e.0.items, e.1)) (slice_get es i) ≡ slice_get (entries_of es) i
+  entry_seen [] i = refl
+  entry_seen (e ∷ es) zero = refl
+  entry_seen (e ∷ es) (suc i) = entry_seen es i
+
   pub alike_there : (es fs : List (Vec ℕ A × Target)) (i : ℕ) (k l : Vec ℕ A) (v w : Target) → slice_get es i ≡ Some (k, v) → slice_get fs i ≡ Some (l, w) → entries_of es ≡ entries_of fs → (k.items ≡ l.items) × (v ≡ w)
   alike_there es fs i k l v w at there same =
       let one : ◌≡◌ {A = Option (List ℕ × Target)} (Some (k.items, v)) (Some (l.items, w)) = sym (entry_at es i k v at) ∙ ap (λ xs. slice_get xs i) same ∙ entry_at fs i l w there in

@@ -19,6 +19,10 @@ is_entry_name bs =
 abbrev pub Entries : Type 0
 Entries = List (List ℕ × Target)
 
+-- an entry of that name, which leads to a thing of that kind and name
+abbrev pub entry_of : List ℕ → EntryKind → Name → List ℕ × Target
+entry_of text kind name = (text, record { kind = kind; name = name })
+
 -- the entries without the one of that name
 abbrev pub without : List ℕ → Entries → Entries
 without text [] = []

@@ -9,12 +9,6 @@ use Rattle.labelled_files.proofs.SeenLemmas.{kept, file_made, next_seen}
 use Rattle.labelled_files.proofs.SoundLemmas.{sound_file}
 use Rattle.labelled_files.proofs.files.Files.make_file.Goals as goal
 
-pub add_file-requires-clause-next : goal.add_file-requires-clause-next
-add_file-requires-clause-next c =
-    let home = home_of c.args.maker.now c.args.own.now in
-    let named = next_seen c.self.inside.dirs.entries c.self.inside.files.entries c.self.inside.counters c.self.inside.root c.args.self.now c.self.view_is home c.in_ok-name.name (c.in_ok-name.ensures ∙ ap (name_of home) c.next-number.ensures.value) in
-    ap (λ (k : Name). k.n) named ∙ sym (ap (λ (k : Name). count_in c.self.inside.counters (home_of k.maker k.own)) named)
-
 pub add_file-requires-clause-room : goal.add_file-requires-clause-room
 add_file-requires-clause-room c =
     subst (λ (k : Name). k.n < 65536) (sym c.in_ok-name.ensures) (free c.args.self.now c.args.dir.now c.args.entry.now c.next-number.result (sym c.fault_at.ensures ∙ c.in_default.is) c.next-number.ensures.bound)
