@@ -1,14 +1,14 @@
 -- The entries of a directory against the map in which they are kept.
-use Rattle.std.proofs.Common.{◌≡◌, ◌≤◌, ◌<◌, ◌+◌, cond, ℕ, suc, zero, List, [], ◌∷◌, ◌++◌, length, take, slice_get, Option, Some, None, is_some, refl, sym, ap, ◌∙◌, add-one, subst, Bool, true, false}
+use Rattle.std.proofs.Common.{◌≡◌, ◌+◌, cond, ℕ, suc, zero, List, [], ◌∷◌, ◌++◌, length, take, slice_get, Option, Some, None, refl, sym, ap, ◌∙◌, add-one, subst, true, false}
 use Rattle.std.specs.Option.{option_map, unwrap_or}
 use Rattle.std.specs.Map.{lookup, remove_entry, keys_of}
 use Rattle.std.specs.List.{IsDistinct, AllByRecursion}
-use Rattle.std.specs.Prelude.{Vec, map}
+use Rattle.std.specs.Prelude.{Vec}
 use Rattle.std.specs.Cmp.Lexicographic.{nat_list_eq_equiv}
 use Rattle.indexmap.specs.IndexMap.{IndexMap, insert_entry}
 use Rattle.indexmap.proofs.CallerLemmas.{insert_entry-new}
 use Rattle.labelled_files.specs.declared.directory.Target.{Target}
-use Rattle.labelled_files.specs.Entries.{Entries, text_eq, without, vec_eq, entries_of}
+use Rattle.labelled_files.specs.Entries.{text_eq, without, vec_eq, entries_of}
 
 module _ {A : Type 0} where
   -- an entry is found by its name

@@ -1,5 +1,5 @@
 -- Files as a whole against what is seen of them.
-use Rattle.std.proofs.Common.{◌≡◌, ◌+◌, ◌<◌, ◌≤◌, Bool, true, false, cond, ℕ, List, [], Option, Some, None, is_some, sym, ap, subst, ◌∙◌, arith}
+use Rattle.std.proofs.Common.{◌≡◌, ◌+◌, ◌<◌, Bool, true, false, cond, ℕ, List, [], Some, None, is_some, sym, ap, subst, ◌∙◌, arith}
 use Rattle.std.specs.Map.{lookup}
 use Rattle.std.specs.FinMap.{get, insert}
 use Rattle.lam_value.specs.declared.names.Name.{Name}
@@ -7,14 +7,13 @@ use Rattle.lam_value.specs.Homes.{Home, Counts, home_of, name_of, count_in, coun
 use Rattle.std.specs.Prelude.{IsTrue, nat_lt}
 use Rattle.std.proofs.lemmas.Bool.Decides.{nat_tests}
 use Rattle.lam_value.specs.Names.{name_cmp}
-use Rattle.lam_value.specs.Alike.{AreAlikeWhere}
 use Rattle.lam_value.proofs.Keys.{name_eq, name_total, name_exact, name_ties}
 use Rattle.lam_value.proofs.SameLemmas.{seen_where, where_seen, seen_same_map, same_map_alike}
 use Rattle.labelled_files.specs.declared.directory.Directory.{Directory}
 use Rattle.labelled_files.specs.declared.directory.EntryKind.TheVariants.{File, Dir}
 use Rattle.labelled_files.specs.declared.contents.Contents.{Contents}
 use Rattle.labelled_files.specs.Entries.{Entries}
-use Rattle.labelled_files.specs.Trees.{Tree, entries_at, bytes_at, changed_at, joined, next_name, with_file, with_dir, placed, with_count}
+use Rattle.labelled_files.specs.Trees.{Tree, entries_at, bytes_at, changed_at, joined, with_file, with_dir, placed, with_count}
 use Rattle.labelled_files.specs.Seen.{shown, held, dirs_of, files_of, at, tree_of, SameDirs, SameFiles}
 use Rattle.labelled_files.proofs.TreeLemmas.{lives_seen, none_there, some_there}
 

@@ -1,9 +1,9 @@
 -- What holds of all files and directories holds after each call.
-use Rattle.std.proofs.Common.{◌≡◌, ◌≤◌, ◌<◌, ◌+◌, cond, ℕ, suc, List, [], ◌∷◌, ◌++◌, length, take, Option, Some, None, is_some, refl, sym, ap, ◌∙◌, arith, subst, Bool, true, false}
-use Rattle.std.specs.Prelude.{IsTrue, ◌||◌, nat_eq}
+use Rattle.std.proofs.Common.{◌≡◌, ◌≤◌, ◌<◌, cond, ℕ, suc, List, [], ◌∷◌, ◌++◌, length, Option, Some, None, is_some, refl, sym, ap, ◌∙◌, arith, subst, Bool, true, false}
+use Rattle.std.specs.Prelude.{IsTrue}
 use Rattle.std.specs.Option.{option_or, unwrap_or}
 use Rattle.std.specs.Map.{lookup, keys_of}
-use Rattle.std.specs.List.{IsDistinct, AllByRecursion, list_any}
+use Rattle.std.specs.List.{IsDistinct, AllByRecursion}
 use Rattle.std.specs.FinMap.{FinMap, get, insert, empty, contains_key, get-empty, get-insert}
 use Rattle.std.specs.Ordering.{eq_by_cmp}
 use Rattle.std.specs.Cmp.{Equal-is, eq_by_cmp_equiv}
@@ -12,7 +12,7 @@ use Rattle.std.proofs.lemmas.Map.Keys.{IsDistinct-push}
 use Rattle.std.proofs.lemmas.Map.Made.{is_some-lookup}
 use Rattle.lam_value.specs.declared.names.Name.{Name}
 use Rattle.lam_value.specs.Names.{name_cmp}
-use Rattle.lam_value.specs.Homes.{Home, Counts, home_of, name_of, count_in, counted, AreCounted, AreWithin}
+use Rattle.lam_value.specs.Homes.{Home, Counts, home_of, count_in, counted, AreCounted, AreWithin}
 use Rattle.lam_value.proofs.Keys.{name_total, name_exact, home_total}
 use Rattle.lam_value.proofs.Rows.{lookup-append}
 use Rattle.lam_value.proofs.CountLemmas.{counted_none, counted_put, counted_more, counted_change, next_is_new, within_more, within_insert, within_none, within_raised, counted_raised, count_next, count_insert}

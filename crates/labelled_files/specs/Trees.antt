@@ -1,5 +1,5 @@
 -- What files are seen as, and what their calls make of them.
-use Rattle.std.specs.Prelude.{◌≡◌, ◌≤◌, IsTrue, false, ℕ, ◌+◌, ◌-◌, ◌++◌, ◌∷◌, Bool, cond, not, nat_eq, if◌then◌else◌, List, [], length, take, Option, Some, None, is_some, unwrap_or, refl}
+use Rattle.std.specs.Prelude.{◌≡◌, ◌≤◌, IsTrue, false, ℕ, ◌-◌, ◌++◌, ◌∷◌, Bool, not, nat_eq, if◌then◌else◌, List, [], length, take, Option, Some, None, is_some, unwrap_or, refl}
 use Rattle.std.specs.Coded.{Coded, code_by, coded×, coded_list, coded_ℕ}
 use Rattle.std.specs.FinMap as map
 use Rattle.std.specs.FinMap.{FinMap, get, insert}
@@ -15,7 +15,7 @@ use Rattle.labelled_files.specs.declared.directory.EntryKind.{EntryKind}
 use Rattle.labelled_files.specs.declared.directory.EntryKind.TheVariants.{File, Dir}
 use Rattle.labelled_files.specs.contracts.directory.Target as target
 use Rattle.labelled_files.specs.declared.files.FileFault.{FileFault}
-use Rattle.labelled_files.specs.declared.files.FileFault.TheVariants.{BadName, Exists, DirFull, HomeFull, NoMemory}
+use Rattle.labelled_files.specs.declared.files.FileFault.TheVariants.{BadName, Exists, DirFull, HomeFull}
 use Rattle.labelled_files.specs.Entries.{Entries, text_eq, is_entry_name, entry_of, without}
 
 -- The entries of each directory, the bytes of each file, how many files and directories each home has made, and

@@ -1,4 +1,4 @@
-use Rattle.std.proofs.Common.{◌≡◌, true, false, refl, sym, ap}
+use Rattle.std.proofs.Common.{refl, ap}
 use Rattle.std.specs.Prelude.{slice_get}
 use Rattle.tag_name_lists.proofs.ListLemmas.{alike_more, alike_all}
 use Rattle.tag_name_lists.proofs.begin_alike.Goals as goal

@@ -1,4 +1,4 @@
-use Rattle.std.proofs.Common.{◌≡◌, ◌<◌, ◌+◌, ◌∙◌, sym, ap, subst, cond, Some, None, [], length}
+use Rattle.std.proofs.Common.{◌<◌, ◌+◌, ◌∙◌, sym, ap, subst, [], length}
 use Rattle.std.specs.Map.{lookup}
 use Rattle.std.specs.FinMap.{insert}
 use Rattle.lam_value.specs.declared.names.Name.{Name}

@@ -1,7 +1,6 @@
-use Rattle.std.proofs.Common.{◌≤◌, ◌<◌, ◌∙◌, sym, ap, subst, length, None, ◌≡◌, [], arith}
+use Rattle.std.proofs.Common.{◌<◌, ◌∙◌, sym, ap, subst, length, []}
 use Rattle.std.specs.Option.{option_copied_mut}
 use Rattle.std.specs.Map.{lookup}
-use Rattle.indexmap.specs.IndexMap.{spare}
 use Rattle.lam_value.proofs.Maps.{some_is, on_ok_so, on_err_so, on_ok, on_err}
 use Rattle.labelled_files.specs.Entries.{text_eq}
 use Rattle.labelled_files.specs.Trees.{joined}

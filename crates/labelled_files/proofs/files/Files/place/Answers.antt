@@ -1,6 +1,6 @@
-use Rattle.std.proofs.Common.{◌≡◌, ◌<◌, ◌≤◌, ◌∙◌, sym, subst, None}
+use Rattle.std.proofs.Common.{◌∙◌, sym, subst}
 use Rattle.labelled_files.specs.Trees.{IsSound}
-use Rattle.labelled_files.proofs.MakeLemmas.{fine, new, room, room_kept, new_kept}
+use Rattle.labelled_files.proofs.MakeLemmas.{fine, new, room}
 use Rattle.labelled_files.proofs.SeenLemmas.{file_placed, dir_placed}
 use Rattle.labelled_files.proofs.SoundLemmas.{sound_placed_file, sound_placed_dir}
 use Rattle.labelled_files.proofs.files.Files.place.Goals as goal

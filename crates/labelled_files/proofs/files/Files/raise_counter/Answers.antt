@@ -1,4 +1,4 @@
-use Rattle.std.proofs.Common.{◌≡◌, ◌∙◌, sym, subst, refl}
+use Rattle.std.proofs.Common.{sym, subst, refl}
 use Rattle.lam_value.specs.Homes.{home_of}
 use Rattle.lam_value.proofs.Maps.{on_ok_so, on_err_so}
 use Rattle.lam_value.proofs.CountLemmas.{either_way}
