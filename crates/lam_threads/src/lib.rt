@@ -17,6 +17,6 @@ mod thread;
 
 pub use context::Context;
 pub use frame::Frame;
-pub use operands::{Operands, filled};
+pub use operands::{Operands, filled, listed};
 pub use phase::Phase;
 pub use thread::{LamThread, locals_of};

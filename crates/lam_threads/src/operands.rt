@@ -101,6 +101,23 @@ impl Operands {
         put_last(&mut self.items, count, value);
     }
 
+    /// Puts an operand in the place of the top ones, of so many.
+    ///
+    /// # Errors
+    ///
+    /// `NoMemory` where memory is refused; the operands are then as they were.
+    pub fn place(&mut self, count: usize, value: Value) -> Result<(), NoMemory>
+        requires { count ≤ length self.old }
+        ensures ok { OnOk result (self.new ≡ value ∷ drop count self.old) }
+        ensures err { OnErr result (self.new ≡ self.old) }
+    {
+        if count == 0 {
+            return self.push(value);
+        }
+        self.put(count, value);
+        Ok(())
+    }
+
     /// Takes so many operands away that stand right below the top one, which stays. Takes no memory.
     pub fn drop_under(&mut self, count: usize)
         requires { count < length self.old }
@@ -224,7 +241,8 @@ fn fill(items: &mut Vec<Value>, size: usize)
     requires { size ≤ vec_capacity items.old }
     ensures { items.new.items ≡ items.old.items ++ replicate (size - length items.old.items) null }
 {
-    for _ in items.len()..size {
+    let missing = size.saturating_sub(items.len());
+    for _ in 0..missing {
         items.push_reserved(Value::Nothing);
     }
 }
@@ -243,6 +261,18 @@ pub fn filled(alloc: Global, values: &[Value], size: usize) -> Result<Values, No
     }
     fill(&mut out, size);
     Ok(Values::from_vec(out))
+}
+
+/// The values of a slice, which are copied.
+///
+/// # Errors
+///
+/// `NoMemory` where memory is refused.
+pub fn listed(alloc: Global, values: &[Value]) -> Result<Values, NoMemory>
+    ensures { IfOk result (λ vs. vs ≡ values.now) }
+{
+    let items = copied(alloc, values)?;
+    Ok(Values::from_vec(items))
 }
 
 fn copied(alloc: Global, values: &[Value]) -> Result<Vec<Value>, NoMemory>
