@@ -1,5 +1,8 @@
 -- What the code of an operation says of it, and what it leaves of the operands.
-use Rattle.std.specs.Prelude.{◌≡◌, ℕ, Bool, true, false, List, [], ◌∷◌, ◌++◌, map, drop, length, slice_get}
+use Rattle.std.specs.Prelude.{ℕ, Bool, true, false, List, [], ◌∷◌, ◌++◌, map, reverse, take, drop, length, slice_get, slice_set}
+use Rattle.std.specs.FinSet.{insert, from_list}
+use Rattle.tag_sets.specs.Tags.{Tags}
+use Rattle.capabilities.specs.Changes.{no_caps}
 use Rattle.std.specs.Fmt.{signed_decimal}
 use Rattle.flow_labels.specs.declared.Label.{Label}
 use Rattle.capabilities.specs.declared.Caps.{Caps}
@@ -18,8 +21,6 @@ use Rattle.thread_steps.specs.Operators.{Pure, label_from, with_sign}
 use Rattle.thread_steps.specs.Builtins as built
 use Rattle.thread_steps.specs.Builtins.{Calls, builtin, root_name}
 use Rattle.thread_steps.specs.Ops.{Did, gives, sets, jumps, calls, returns, fails, wants, leaves, breaks, on_any, on_int, on_many, on_known, on_caps, on_label, operated, new_object, region_takes, region_in, function_takes, called}
-use Rattle.thread_ops.specs.declared.acted.Acted.{Acted}
-use Rattle.thread_ops.specs.declared.acted.Acted.TheVariants as acted
 use Rattle.thread_ops.specs.declared.acted.Computed.{Computed}
 use Rattle.thread_ops.specs.declared.acted.Computed.TheVariants as computed
 use Rattle.thread_ops.specs.declared.acted.Sketch.{Sketch}
@@ -30,24 +31,6 @@ use Rattle.thread_ops.specs.declared.acted.Called.{Called}
 use Rattle.thread_ops.specs.declared.acted.Called.TheVariants as calling
 use Rattle.thread_ops.specs.declared.acted.Sight.{Sight}
 use Rattle.thread_ops.specs.declared.acted.Sight.TheVariants as sight
-
--- an operation that changes the operands alone: where it goes on they are those that it gives, and else as they were
-abbrev pub Acts : Did → List Value → List Value → Acted → Type 0
-Acts (gives s) before after a = (a ≡ acted.Goes) × (after ≡ s)
-Acts (fails f) before after a = (a ≡ acted.Fails f) × (after ≡ before)
-Acts breaks before after a = (a ≡ acted.Breaks) × (after ≡ before)
-Acts (wants k s) before after a = ⊥
-Acts (sets locals s) before after a = ⊥
-Acts (jumps to s) before after a = ⊥
-Acts (calls u vs s) before after a = ⊥
-Acts (returns v) before after a = ⊥
-Acts leaves before after a = ⊥
-
--- what an operator gives
-abbrev pub pure_of : Computed → Pure
-pure_of (computed.Fine v) = operators.fine v
-pure_of (computed.Faults f) = operators.faults f
-pure_of computed.Wrong = operators.wrong
 
 -- ---- asks and values whose parts are borrowed
 
@@ -80,14 +63,35 @@ ask_of (sketch.Spawn unit args plus minus) = ask.Spawn unit args.now (record { p
 ask_of (sketch.Join thread) = ask.Join thread
 ask_of (sketch.Say bytes) = ask.Say bytes.now
 
+-- the tags among values
+abbrev pub tag_list : List Value → List ℕ
+tag_list [] = []
+tag_list (value.Tag t ∷ vs) = t ∷ tag_list vs
+tag_list (v ∷ vs) = tag_list vs
+
+abbrev pub signed : Bool → Tags → Tags → ℕ → Value
+signed true p m t = value.CapV (insert p t) m
+signed false p m t = value.CapV p (insert m t)
+
 abbrev pub value_of : Worth → Value
 value_of (worth.Int n) = value.Int n
+value_of (worth.Bool b) = value.Bool b
+value_of (worth.Same v) = v.now
 value_of (worth.Bytes bytes) = value.Bytes bytes.now
 value_of (worth.Joined a b) = value.Bytes (a.now ++ b.now)
 value_of (worth.Text n) = value.Bytes (signed_decimal n)
 value_of (worth.Lab label) = value.Lab label.now
+value_of (worth.OfTags secrets vouchers) = value.Lab (record { s = from_list (tag_list secrets.now); i = from_list (tag_list vouchers.now) })
 value_of (worth.Caps caps) = value.CapV caps.now.plus caps.now.minus
+value_of worth.NoCaps = value.CapV no_caps.plus no_caps.minus
+value_of (worth.Signed sign plus minus tag) = signed sign plus.now minus.now tag
 value_of worth.Root = value.Dir root_name
+
+-- what an operator gives
+abbrev pub pure_of : Computed → Pure
+pure_of (computed.Fine w) = operators.fine (value_of w)
+pure_of (computed.Faults f) = operators.faults f
+pure_of computed.Wrong = operators.wrong
 
 abbrev pub calls_of : Called → Calls
 calls_of (calling.Now w) = built.now (value_of w)
@@ -101,13 +105,18 @@ abbrev pub left_over : ℕ → Bool → List Value → List Value
 left_over takes true s = value.Nothing ∷ drop takes s
 left_over takes false s = drop takes s
 
--- what an operation does to the operands, as it was seen
-abbrev pub did_of : Sight → List Value → Did
-did_of sight.Goes s = gives s
-did_of (sight.Puts takes w) s = gives (value_of w ∷ drop takes s)
-did_of (sight.Fails f) s = fails f
-did_of (sight.Asks k takes leaves_null) s = wants (ask_of k) (left_over takes leaves_null s)
-did_of sight.Breaks s = breaks
+-- what an operation does to the locals and the operands, as it was seen
+abbrev pub did_of : Sight → List Value → List Value → Did
+did_of (sight.Drops takes) locals s = gives (drop takes s)
+did_of (sight.Puts takes w) locals s = gives (value_of w ∷ drop takes s)
+did_of (sight.Sets local) locals s = on_any s (λ v s. sets (slice_set locals local v) s)
+did_of (sight.Jumps to takes) locals s = jumps to (drop takes s)
+did_of (sight.Calls unit count) locals s = calls unit (reverse (take count s)) (drop count s)
+did_of sight.Returns locals s = on_any s (λ v s. returns v)
+did_of (sight.Fails f) locals s = fails f
+did_of (sight.Asks k takes leaves_null) locals s = wants (ask_of k) (left_over takes leaves_null s)
+did_of sight.Leaves locals s = leaves
+did_of sight.Breaks locals s = breaks
 
 -- ---- operations
 

@@ -17,10 +17,10 @@ use lam_threads::Operands;
 use lam_value::{Kind, Name, Value};
 
 fn barred(denied: Option<Denied>) -> Sight<'static>
-    ensures { (s : List Value) → did_of result s ≡ barrier s denied }
+    ensures { (locals s : List Value) → did_of result locals s ≡ barrier s denied }
 {
     match denied {
-        None => Sight::Goes,
+        None => Sight::Drops { takes: 0 },
         Some(denied) => Sight::Asks {
             ask: Sketch::Barred(denied),
             takes: 0,
@@ -42,7 +42,7 @@ fn asks(ask: Sketch<'_>, takes: usize) -> Sight<'_>
 
 /// Tests that the thing so far below the top may be read.
 pub fn read_barrier<'a>(stack: &'a Operands, below: usize, label: &Label) -> Sight<'a>
-    ensures { did_of result stack.now ≡ tested stack.now below (may_read label.now) }
+    ensures { (locals : List Value) → did_of result locals stack.now ≡ tested stack.now below (may_read label.now) }
 {
     let Some(v) = stack.get(below) else {
         return Sight::Breaks;
@@ -58,7 +58,7 @@ pub fn read_barrier<'a>(stack: &'a Operands, below: usize, label: &Label) -> Sig
 
 /// Tests that the thing so far below the top may be written.
 pub fn write_barrier<'a>(stack: &'a Operands, below: usize, label: &Label) -> Sight<'a>
-    ensures { did_of result stack.now ≡ tested stack.now below (may_write label.now) }
+    ensures { (locals : List Value) → did_of result locals stack.now ≡ tested stack.now below (may_write label.now) }
 {
     let Some(v) = stack.get(below) else {
         return Sight::Breaks;
@@ -74,7 +74,7 @@ pub fn write_barrier<'a>(stack: &'a Operands, below: usize, label: &Label) -> Si
 
 /// Asks for a field of the object on top.
 pub fn get_field<'a>(stack: &'a Operands, at: u32, label: &Label) -> Sight<'a>
-    ensures { did_of result stack.now ≡ gets_field label.now at stack.now }
+    ensures { (locals : List Value) → did_of result locals stack.now ≡ gets_field label.now at stack.now }
 {
     let Some(r) = stack.get(0) else {
         return Sight::Breaks;
@@ -91,7 +91,7 @@ pub fn get_field<'a>(stack: &'a Operands, at: u32, label: &Label) -> Sight<'a>
 
 /// Asks that the top operand be put into a field of the object below it.
 pub fn put_field<'a>(stack: &'a Operands, at: u32, label: &Label) -> Sight<'a>
-    ensures { did_of result stack.now ≡ on_any stack.now (λ v s. puts_field label.now at v s) }
+    ensures { (locals : List Value) → did_of result locals stack.now ≡ on_any stack.now (λ v s. puts_field label.now at v s) }
 {
     let Some(v) = stack.get(0) else {
         return Sight::Breaks;
@@ -122,7 +122,7 @@ fn place_of(i: i64, len: u64) -> Option<u64>
 
 /// Asks for an element, at the number on top, of the array below it.
 pub fn get_element<'a>(stack: &'a Operands, label: &Label) -> Sight<'a>
-    ensures { did_of result stack.now ≡ on_int stack.now (λ i s. gets_element label.now i s) }
+    ensures { (locals : List Value) → did_of result locals stack.now ≡ on_int stack.now (λ i s. gets_element label.now i s) }
 {
     let Some(Value::Int(i)) = stack.get(0) else {
         return Sight::Breaks;
@@ -144,7 +144,7 @@ pub fn get_element<'a>(stack: &'a Operands, label: &Label) -> Sight<'a>
 
 /// Asks that the top operand be put into an element, at the number below it, of the array below that.
 pub fn put_element<'a>(stack: &'a Operands, label: &Label) -> Sight<'a>
-    ensures { did_of result stack.now ≡ on_any stack.now (λ v s. on_int s (λ i s. puts_element label.now i v s)) }
+    ensures { (locals : List Value) → did_of result locals stack.now ≡ on_any stack.now (λ v s. on_int s (λ i s. puts_element label.now i v s)) }
 {
     let Some(v) = stack.get(0) else {
         return Sight::Breaks;
@@ -169,7 +169,7 @@ pub fn put_element<'a>(stack: &'a Operands, label: &Label) -> Sight<'a>
 
 /// Asks for a new object of a class.
 pub fn new_object<'a>(classes: &'a [Kinds], class: u32) -> Sight<'a>
-    ensures { (s : List Value) → did_of result s ≡ makes_object classes.now class s }
+    ensures { (locals s : List Value) → did_of result locals s ≡ makes_object classes.now class s }
 {
     match classes.get(class as usize) {
         None => Sight::Breaks,
@@ -182,7 +182,7 @@ pub fn new_object<'a>(classes: &'a [Kinds], class: u32) -> Sight<'a>
 
 /// Asks for a new array, as long as the number on top.
 pub fn new_array(stack: &Operands, kind: Kind) -> Sight<'_>
-    ensures { did_of result stack.now ≡ on_int stack.now (λ n s. new_array kind s n) }
+    ensures { (locals : List Value) → did_of result locals stack.now ≡ on_int stack.now (λ n s. new_array kind s n) }
 {
     let Some(Value::Int(n)) = stack.get(0) else {
         return Sight::Breaks;
@@ -199,7 +199,7 @@ pub fn new_array(stack: &Operands, kind: Kind) -> Sight<'_>
 
 /// Asks for the monitor of the thing on top.
 pub fn enter_monitor(stack: &Operands) -> Sight<'_>
-    ensures { did_of result stack.now ≡ monitor_of (λ r. ask.MonEnter r) (λ n. true) stack.now }
+    ensures { (locals : List Value) → did_of result locals stack.now ≡ monitor_of (λ r. ask.MonEnter r) (λ n. true) stack.now }
 {
     let Some(r) = stack.get(0) else {
         return Sight::Breaks;
@@ -227,7 +227,7 @@ fn is_held(name: &Name, taken: &[Name]) -> bool
 
 /// Gives the monitor of the thing on top back, where it was taken.
 pub fn leave_monitor<'a>(stack: &'a Operands, taken: &[Name]) -> Sight<'a>
-    ensures { did_of result stack.now ≡ monitor_of (λ r. ask.MonLeave r) (λ n. is_held n (reverse taken.now)) stack.now }
+    ensures { (locals : List Value) → did_of result locals stack.now ≡ monitor_of (λ r. ask.MonLeave r) (λ n. is_held n (reverse taken.now)) stack.now }
 {
     let Some(r) = stack.get(0) else {
         return Sight::Breaks;

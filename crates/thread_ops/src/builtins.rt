@@ -496,7 +496,7 @@ pub fn builtin<'a>(label: &'a Label, caps: &'a Caps, b: Builtin, args: &'a [Valu
 
 /// A call that takes so many operands.
 fn sight_of(called: Called<'_>, takes: usize) -> Sight<'_>
-    ensures { (s : List Value) → did_of result s ≡ called_as (drop takes s) (calls_of called) }
+    ensures { (locals s : List Value) → did_of result locals s ≡ called_as (drop takes s) (calls_of called) }
 {
     match called {
         Called::Now(worth) => Sight::Puts { takes, worth },
@@ -517,7 +517,7 @@ fn sight_of(called: Called<'_>, takes: usize) -> Sight<'_>
 
 /// A built-in call with the arguments on top, at a label with capabilities.
 pub fn system<'a>(stack: &'a Operands, label: &'a Label, caps: &'a Caps, b: Builtin) -> Sight<'a>
-    ensures { did_of result stack.now ≡ systems label.now caps.now b stack.now }
+    ensures { (locals : List Value) → did_of result locals stack.now ≡ systems label.now caps.now b stack.now }
 {
     let takes = b.arity();
     match stack.last_many(takes) {

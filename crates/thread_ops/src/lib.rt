@@ -27,8 +27,8 @@ pub use acted::{Acted, Called, Computed, Sight, Sketch, Worth};
 pub use asking::{ask_from, value_from};
 pub use builtins::{builtin, system};
 pub use equal::{same_names, same_values};
-pub use operators::{add_cap, before, between, label_from, make_label, operator, prefix, with_sign};
-pub use reading::{
-    is_null, label_in, number_in, object_in, some_null, tag_in, thing_in, truth_in,
+pub use operators::{
+    add_cap, before, between, label_from, make_label, operator, prefix, with_sign,
 };
+pub use reading::{is_null, label_in, number_in, object_in, some_null, tag_in, thing_in, truth_in};
 pub use units::{UnitAt, enter_region, function_takes, region_in, region_takes, spawn};

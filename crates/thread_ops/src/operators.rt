@@ -19,23 +19,23 @@ use std::alloc::Global;
 use tag_sets::{TagId, TagSet};
 use want_of_memory::NoMemory;
 
-fn truth(b: bool) -> Computed
-    ensures { result ≡ Computed.Fine (Value.Bool b) }
+fn truth(b: bool) -> Computed<'static>
+    ensures { result ≡ Computed.Fine (Worth.Bool b) }
 {
-    Computed::Fine(Value::Bool(b))
+    Computed::Fine(Worth::Bool(b))
 }
 
 /// A number of 64 bits, or Overflow.
-fn number(n: Option<i64>) -> Computed
+fn number(n: Option<i64>) -> Computed<'static>
     ensures { pure_of result ≡ number_if n }
 {
     match n {
-        Some(n) => Computed::Fine(Value::Int(n)),
+        Some(n) => Computed::Fine(Worth::Int(n)),
         None => Computed::Faults(Fault::Overflow),
     }
 }
 
-fn divided(a: i64, b: i64) -> Computed
+fn divided(a: i64, b: i64) -> Computed<'static>
     ensures { pure_of result ≡ operator BinaryOp.Div (Value.Int a) (Value.Int b) }
 {
     if b == 0 {
@@ -44,35 +44,35 @@ fn divided(a: i64, b: i64) -> Computed
     number(a.checked_div(b))
 }
 
-fn remainder(a: i64, b: i64) -> Computed
+fn remainder(a: i64, b: i64) -> Computed<'static>
     ensures { pure_of result ≡ operator BinaryOp.Rem (Value.Int a) (Value.Int b) }
 {
     if b == 0 {
         return Computed::Faults(Fault::Zero);
     }
-    Computed::Fine(Value::Int(a.wrapping_rem(b)))
+    Computed::Fine(Worth::Int(a.wrapping_rem(b)))
 }
 
-fn sum(a: i64, b: i64) -> Computed
+fn sum(a: i64, b: i64) -> Computed<'static>
     ensures { pure_of result ≡ operator BinaryOp.Add (Value.Int a) (Value.Int b) }
 {
     number(a.checked_add(b))
 }
 
-fn difference(a: i64, b: i64) -> Computed
+fn difference(a: i64, b: i64) -> Computed<'static>
     ensures { pure_of result ≡ operator BinaryOp.Sub (Value.Int a) (Value.Int b) }
 {
     number(a.checked_sub(b))
 }
 
-fn product(a: i64, b: i64) -> Computed
+fn product(a: i64, b: i64) -> Computed<'static>
     ensures { pure_of result ≡ operator BinaryOp.Mul (Value.Int a) (Value.Int b) }
 {
     number(a.checked_mul(b))
 }
 
 /// What an operator gives of two numbers.
-fn of_numbers(op: BinaryOp, a: i64, b: i64) -> Computed
+fn of_numbers(op: BinaryOp, a: i64, b: i64) -> Computed<'static>
     ensures { pure_of result ≡ operator op (Value.Int a) (Value.Int b) }
 {
     match op {
@@ -93,7 +93,7 @@ fn of_numbers(op: BinaryOp, a: i64, b: i64) -> Computed
 }
 
 /// What an operator gives of two values that are not both numbers.
-fn of_others(op: BinaryOp, v: &Value, w: &Value) -> Computed
+fn of_others(op: BinaryOp, v: &Value, w: &Value) -> Computed<'static>
     requires { number_in v.now ≡ None ⊎ number_in w.now ≡ None }
     ensures { pure_of result ≡ operator op v.now w.now }
 {
@@ -105,7 +105,7 @@ fn of_others(op: BinaryOp, v: &Value, w: &Value) -> Computed
 }
 
 /// What an operator between two values gives.
-pub fn operator(op: BinaryOp, v: &Value, w: &Value) -> Computed
+pub fn operator(op: BinaryOp, v: &Value, w: &Value) -> Computed<'static>
     ensures { pure_of result ≡ operator op v.now w.now }
 {
     let Some(a) = number_in(v) else {
@@ -118,7 +118,7 @@ pub fn operator(op: BinaryOp, v: &Value, w: &Value) -> Computed
 }
 
 /// What an operator before a value gives.
-pub fn prefix(op: UnaryOp, v: &Value) -> Computed
+pub fn prefix(op: UnaryOp, v: &Value) -> Computed<'static>
     ensures { pure_of result ≡ prefix op v.now }
 {
     match (op, v) {
@@ -128,155 +128,113 @@ pub fn prefix(op: UnaryOp, v: &Value) -> Computed
     }
 }
 
+/// What an operator gave in the place of so many operands.
+fn sight_of(computed: Computed<'_>, takes: usize) -> Sight<'_>
+    ensures { (locals s : List Value) → did_of result locals s ≡ operated (drop takes s) (pure_of computed) }
+{
+    match computed {
+        Computed::Fine(worth) => Sight::Puts { takes, worth },
+        Computed::Faults(fault) => Sight::Fails(fault),
+        Computed::Wrong => Sight::Breaks,
+    }
+}
+
 /// An operator between the two top operands.
-pub fn between(op: BinaryOp, stack: &mut Operands) -> Acted
-    ensures { Acts (between op stack.old) stack.old stack.new result }
+pub fn between(op: BinaryOp, stack: &Operands) -> Sight<'_>
+    ensures { (locals : List Value) → did_of result locals stack.now ≡ between op stack.now }
 {
     let Some(w) = stack.get(0) else {
-        return Acted::Breaks;
+        return Sight::Breaks;
     };
     let Some(v) = stack.get(1) else {
-        return Acted::Breaks;
+        return Sight::Breaks;
     };
-    match operator(op, v, w) {
-        Computed::Fine(value) => {
-            stack.put(2, value);
-            Acted::Goes
-        }
-        Computed::Faults(fault) => Acted::Fails(fault),
-        Computed::Wrong => Acted::Breaks,
-    }
+    sight_of(operator(op, v, w), 2)
 }
 
 /// An operator before the top operand.
-pub fn before(op: UnaryOp, stack: &mut Operands) -> Acted
-    ensures { Acts (before op stack.old) stack.old stack.new result }
+pub fn before(op: UnaryOp, stack: &Operands) -> Sight<'_>
+    ensures { (locals : List Value) → did_of result locals stack.now ≡ before op stack.now }
 {
-    let Some(v) = stack.get(0) else {
-        return Acted::Breaks;
-    };
-    match prefix(op, v) {
-        Computed::Fine(value) => {
-            stack.put(1, value);
-            Acted::Goes
-        }
-        Computed::Faults(fault) => Acted::Fails(fault),
-        Computed::Wrong => Acted::Breaks,
+    match stack.get(0) {
+        None => Sight::Breaks,
+        Some(v) => sight_of(prefix(op, v), 1),
     }
 }
 
-/// The tags that values are, `None` where one is no tag.
-fn tags_in(alloc: Global, values: &[Value]) -> Result<Option<Vec<TagId>>, NoMemory>
-    ensures { IfOk result (λ o. items_in o ≡ tags_in values.now) }
+/// Whether all values are tags.
+fn are_tags(values: &[Value]) -> bool
+    ensures { result ≡ is_some (tags_in values.now) }
 {
-    let mut tags = Vec::with_capacity(alloc, values.len())?;
     for value in values {
-        match tag_in(value) {
-            Some(tag) => tags.push(tag)?,
-            None => return Ok(None),
+        if tag_in(value).is_none() {
+            return false;
         }
     }
-    Ok(Some(tags))
+    true
 }
 
 /// The label of tags of secrecy and of integrity.
-pub fn label_from(
-    alloc: Global,
-    secrets: &[Value],
-    vouchers: &[Value],
-) -> Result<Computed, NoMemory>
-    ensures { IfOk result (λ p. pure_of p ≡ label_from secrets.now vouchers.now) }
+pub fn label_from<'a>(secrets: &'a [Value], vouchers: &'a [Value]) -> Computed<'a>
+    ensures { pure_of result ≡ label_from secrets.now vouchers.now }
 {
     if some_null(secrets) || some_null(vouchers) {
-        return Ok(Computed::Faults(Fault::Null));
+        return Computed::Faults(Fault::Null);
     }
-    let Some(s) = tags_in(alloc, secrets)? else {
-        return Ok(Computed::Wrong);
-    };
-    let Some(i) = tags_in(alloc, vouchers)? else {
-        return Ok(Computed::Wrong);
-    };
-    let s = TagSet::from_slice(alloc, s.as_slice())?;
-    let i = TagSet::from_slice(alloc, i.as_slice())?;
-    Ok(Computed::Fine(Value::Lab(Label { s, i })))
+    if are_tags(secrets) && are_tags(vouchers) {
+        Computed::Fine(Worth::OfTags { secrets, vouchers })
+    } else {
+        Computed::Wrong
+    }
 }
 
 /// Capabilities with the plus of a tag, or with its minus.
-pub fn with_sign(plus: bool, c: &Value, t: &Value) -> Result<Computed, NoMemory>
-    ensures { IfOk result (λ p. pure_of p ≡ with_sign plus c.now t.now) }
+pub fn with_sign<'a>(sign: bool, c: &'a Value, t: &'a Value) -> Computed<'a>
+    ensures { pure_of result ≡ with_sign sign c.now t.now }
 {
     match c {
-        Value::CapV { plus: p, minus: m } => match t {
-            Value::Tag(tag) => Ok(Computed::Fine(signed(plus, p.copy()?, m.copy()?, *tag)?)),
-            Value::Nothing => Ok(Computed::Faults(Fault::Null)),
-            _ => Ok(Computed::Wrong),
+        Value::CapV { plus, minus } => match t {
+            Value::Tag(tag) => Computed::Fine(Worth::Signed {
+                sign,
+                plus,
+                minus,
+                tag: *tag,
+            }),
+            Value::Nothing => Computed::Faults(Fault::Null),
+            _ => Computed::Wrong,
         },
         Value::Nothing => match t {
-            Value::Tag(_) => Ok(Computed::Faults(Fault::Null)),
-            Value::Nothing => Ok(Computed::Faults(Fault::Null)),
-            _ => Ok(Computed::Wrong),
+            Value::Tag(_) => Computed::Faults(Fault::Null),
+            Value::Nothing => Computed::Faults(Fault::Null),
+            _ => Computed::Wrong,
         },
-        _ => Ok(Computed::Wrong),
+        _ => Computed::Wrong,
     }
-}
-
-fn signed(plus: bool, mut p: TagSet, mut m: TagSet, tag: TagId) -> Result<Value, NoMemory>
-    ensures { IfOk result (λ v. with_sign plus (Value.CapV p m) (Value.Tag tag) ≡ fine v) }
-{
-    if plus {
-        p.insert(tag)?;
-    } else {
-        m.insert(tag)?;
-    }
-    Ok(Value::CapV { plus: p, minus: m })
 }
 
 /// The label of so many tags of secrecy and, above them, so many of integrity.
-///
-/// # Errors
-///
-/// `NoMemory` where memory is refused; the operands are then as they were.
-pub fn make_label(stack: &mut Operands, secrecy: usize, integrity: usize) -> Result<Acted, NoMemory>
-    requires { secrecy + integrity < 2 ^ 64 }
-    ensures ok { IfOk result (λ a. Acts (labelled secrecy integrity stack.old) stack.old stack.new a) }
-    ensures err { OnErr result (stack.new ≡ stack.old) }
+pub fn make_label(stack: &Operands, secrecy: u32, integrity: u32) -> Sight<'_>
+    ensures { (locals : List Value) → did_of result locals stack.now ≡ labelled secrecy integrity stack.now }
 {
-    let count = secrecy + integrity;
-    let Some(tags) = stack.last_many(count) else {
-        return Ok(Acted::Breaks);
-    };
-    let (secrets, vouchers) = tags.split_at(secrecy);
-    match label_from(stack.allocator(), secrets, vouchers)? {
-        Computed::Fine(value) => {
-            stack.place(count, value)?;
-            Ok(Acted::Goes)
+    let takes = secrecy as usize + integrity as usize;
+    match stack.last_many(takes) {
+        None => Sight::Breaks,
+        Some(tags) => {
+            let (secrets, vouchers) = tags.split_at(secrecy as usize);
+            sight_of(label_from(secrets, vouchers), takes)
         }
-        Computed::Faults(fault) => Ok(Acted::Fails(fault)),
-        Computed::Wrong => Ok(Acted::Breaks),
     }
 }
 
 /// Capabilities and a tag above them, to capabilities with the tag's plus or its minus.
-///
-/// # Errors
-///
-/// `NoMemory` where memory is refused; the operands are then as they were.
-pub fn add_cap(plus: bool, stack: &mut Operands) -> Result<Acted, NoMemory>
-    ensures ok { IfOk result (λ a. Acts (signs plus stack.old) stack.old stack.new a) }
-    ensures err { OnErr result (stack.new ≡ stack.old) }
+pub fn add_cap(sign: bool, stack: &Operands) -> Sight<'_>
+    ensures { (locals : List Value) → did_of result locals stack.now ≡ signs sign stack.now }
 {
     let Some(t) = stack.get(0) else {
-        return Ok(Acted::Breaks);
+        return Sight::Breaks;
     };
     let Some(c) = stack.get(1) else {
-        return Ok(Acted::Breaks);
+        return Sight::Breaks;
     };
-    match with_sign(plus, c, t)? {
-        Computed::Fine(value) => {
-            stack.put(2, value);
-            Ok(Acted::Goes)
-        }
-        Computed::Faults(fault) => Ok(Acted::Fails(fault)),
-        Computed::Wrong => Ok(Acted::Breaks),
-    }
+    sight_of(with_sign(sign, c, t), 2)
 }

@@ -1,6 +1,7 @@
 //! Units, and the operations that begin one.
 
-ghost use Rattle.std.specs.Prelude.{◌≡◌, slice_get};
+ghost use Rattle.std.specs.Prelude.{◌≡◌, List, slice_get};
+ghost use Rattle.lam_value.specs.declared.values.Value.{Value};
 ghost use Rattle.thread_steps.specs.Ops.{function_takes, is_region, region_in, region_takes, captures_of};
 ghost use Rattle.thread_ops.specs.Units.{unit_at};
 ghost use Rattle.thread_ops.specs.Acting.{did_of, enters, spawns};
@@ -77,7 +78,7 @@ pub fn region_takes(units: &[CodeUnit], region: u32) -> Option<u32>
 
 /// Asks that a region be entered, with the label, the capabilities and the captures that stand on top.
 pub fn enter_region<'a>(stack: &'a Operands, units: &[CodeUnit], region: u32) -> Sight<'a>
-    ensures { did_of result stack.now ≡ enters units.now region stack.now }
+    ensures { (locals : List Value) → did_of result locals stack.now ≡ enters units.now region stack.now }
 {
     let Some(count) = region_takes(units, region) else {
         return Sight::Breaks;
@@ -120,7 +121,7 @@ pub fn enter_region<'a>(stack: &'a Operands, units: &[CodeUnit], region: u32) ->
 
 /// Asks for a thread that runs a function, with the capabilities and the arguments that stand on top.
 pub fn spawn<'a>(stack: &'a Operands, units: &[CodeUnit], unit: u32) -> Sight<'a>
-    ensures { did_of result stack.now ≡ spawns units.now unit stack.now }
+    ensures { (locals : List Value) → did_of result locals stack.now ≡ spawns units.now unit stack.now }
 {
     let Some(count) = function_takes(units, unit) else {
         return Sight::Breaks;

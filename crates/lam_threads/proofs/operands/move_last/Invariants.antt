@@ -5,4 +5,5 @@ abbrev pub invariant-loop : goal.invariant-loop
 invariant-loop l = record {
   parts : l.initial.items.items ≡ l.items.items ++ reverse l.out.items;
   count : length l.out.items ≡ l.counter;
-  room : vec_capacity l.out ≡ vec_capacity l.initial.out }
+  room : vec_capacity l.out ≡ vec_capacity l.initial.out;
+}
