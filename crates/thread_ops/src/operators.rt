@@ -1,0 +1,240 @@
+//! Operators, and the operands that they take.
+
+ghost use Rattle.std.specs.Prelude.{◌≡◌, ◌<◌, ◌+◌, ◌^◌, ◌⊎◌, IfOk, OnErr, None};
+ghost use Rattle.thread_steps.specs.Operators.{operator, prefix, fine, label_from, with_sign, tags_in};
+ghost use Rattle.thread_steps.specs.Ops.{between, before};
+ghost use Rattle.thread_ops.specs.Acting.{Acts, labelled, signs, pure_of};
+ghost use Rattle.thread_ops.specs.Reading.{number_in};
+ghost use Rattle.thread_ops.specs.Fitting.{number_if, items_in};
+
+use crate::acted::{Acted, Computed};
+use crate::equal::same_values;
+use crate::reading::{number_in, some_null, tag_in};
+use flow_labels::Label;
+use lam_asks::Fault;
+use lam_syntax::{BinaryOp, UnaryOp};
+use lam_threads::Operands;
+use lam_value::Value;
+use std::alloc::Global;
+use tag_sets::{TagId, TagSet};
+use want_of_memory::NoMemory;
+
+fn truth(b: bool) -> Computed<'static>
+    ensures { result ≡ Computed.Fine (Worth.Bool b) }
+{
+    Computed::Fine(Worth::Bool(b))
+}
+
+/// A number of 64 bits, or Overflow.
+fn number(n: Option<i64>) -> Computed<'static>
+    ensures { pure_of result ≡ number_if n }
+{
+    match n {
+        Some(n) => Computed::Fine(Worth::Int(n)),
+        None => Computed::Faults(Fault::Overflow),
+    }
+}
+
+fn divided(a: i64, b: i64) -> Computed<'static>
+    ensures { pure_of result ≡ operator BinaryOp.Div (Value.Int a) (Value.Int b) }
+{
+    if b == 0 {
+        return Computed::Faults(Fault::Zero);
+    }
+    number(a.checked_div(b))
+}
+
+fn remainder(a: i64, b: i64) -> Computed<'static>
+    ensures { pure_of result ≡ operator BinaryOp.Rem (Value.Int a) (Value.Int b) }
+{
+    if b == 0 {
+        return Computed::Faults(Fault::Zero);
+    }
+    Computed::Fine(Worth::Int(a.wrapping_rem(b)))
+}
+
+fn sum(a: i64, b: i64) -> Computed<'static>
+    ensures { pure_of result ≡ operator BinaryOp.Add (Value.Int a) (Value.Int b) }
+{
+    number(a.checked_add(b))
+}
+
+fn difference(a: i64, b: i64) -> Computed<'static>
+    ensures { pure_of result ≡ operator BinaryOp.Sub (Value.Int a) (Value.Int b) }
+{
+    number(a.checked_sub(b))
+}
+
+fn product(a: i64, b: i64) -> Computed<'static>
+    ensures { pure_of result ≡ operator BinaryOp.Mul (Value.Int a) (Value.Int b) }
+{
+    number(a.checked_mul(b))
+}
+
+/// What an operator gives of two numbers.
+fn of_numbers(op: BinaryOp, a: i64, b: i64) -> Computed<'static>
+    ensures { pure_of result ≡ operator op (Value.Int a) (Value.Int b) }
+{
+    match op {
+        BinaryOp::Or => Computed::Wrong,
+        BinaryOp::And => Computed::Wrong,
+        BinaryOp::Eq => truth(a == b),
+        BinaryOp::Ne => truth(a != b),
+        BinaryOp::Lt => truth(a < b),
+        BinaryOp::Le => truth(a <= b),
+        BinaryOp::Gt => truth(a > b),
+        BinaryOp::Ge => truth(a >= b),
+        BinaryOp::Add => sum(a, b),
+        BinaryOp::Sub => difference(a, b),
+        BinaryOp::Mul => product(a, b),
+        BinaryOp::Div => divided(a, b),
+        BinaryOp::Rem => remainder(a, b),
+    }
+}
+
+/// What an operator gives of two values that are not both numbers.
+fn of_others(op: BinaryOp, v: &Value, w: &Value) -> Computed<'static>
+    requires { number_in v.now ≡ None ⊎ number_in w.now ≡ None }
+    ensures { pure_of result ≡ operator op v.now w.now }
+{
+    match op {
+        BinaryOp::Eq => truth(same_values(v, w)),
+        BinaryOp::Ne => truth(!same_values(v, w)),
+        _ => Computed::Wrong,
+    }
+}
+
+/// What an operator between two values gives.
+pub fn operator(op: BinaryOp, v: &Value, w: &Value) -> Computed<'static>
+    ensures { pure_of result ≡ operator op v.now w.now }
+{
+    let Some(a) = number_in(v) else {
+        return of_others(op, v, w);
+    };
+    let Some(b) = number_in(w) else {
+        return of_others(op, v, w);
+    };
+    of_numbers(op, a, b)
+}
+
+/// What an operator before a value gives.
+pub fn prefix(op: UnaryOp, v: &Value) -> Computed<'static>
+    ensures { pure_of result ≡ prefix op v.now }
+{
+    match (op, v) {
+        (UnaryOp::Not, Value::Bool(b)) => truth(!*b),
+        (UnaryOp::Neg, Value::Int(n)) => number(n.checked_neg()),
+        _ => Computed::Wrong,
+    }
+}
+
+/// What an operator gave in the place of so many operands.
+fn sight_of(computed: Computed<'_>, takes: usize) -> Sight<'_>
+    ensures { (locals s : List Value) → did_of result locals s ≡ operated (drop takes s) (pure_of computed) }
+{
+    match computed {
+        Computed::Fine(worth) => Sight::Puts { takes, worth },
+        Computed::Faults(fault) => Sight::Fails(fault),
+        Computed::Wrong => Sight::Breaks,
+    }
+}
+
+/// An operator between the two top operands.
+pub fn between(op: BinaryOp, stack: &Operands) -> Sight<'_>
+    ensures { (locals : List Value) → did_of result locals stack.now ≡ between op stack.now }
+{
+    let Some(w) = stack.get(0) else {
+        return Sight::Breaks;
+    };
+    let Some(v) = stack.get(1) else {
+        return Sight::Breaks;
+    };
+    sight_of(operator(op, v, w), 2)
+}
+
+/// An operator before the top operand.
+pub fn before(op: UnaryOp, stack: &Operands) -> Sight<'_>
+    ensures { (locals : List Value) → did_of result locals stack.now ≡ before op stack.now }
+{
+    match stack.get(0) {
+        None => Sight::Breaks,
+        Some(v) => sight_of(prefix(op, v), 1),
+    }
+}
+
+/// Whether all values are tags.
+fn are_tags(values: &[Value]) -> bool
+    ensures { result ≡ is_some (tags_in values.now) }
+{
+    for value in values {
+        if tag_in(value).is_none() {
+            return false;
+        }
+    }
+    true
+}
+
+/// The label of tags of secrecy and of integrity.
+pub fn label_from<'a>(secrets: &'a [Value], vouchers: &'a [Value]) -> Computed<'a>
+    ensures { pure_of result ≡ label_from secrets.now vouchers.now }
+{
+    if some_null(secrets) || some_null(vouchers) {
+        return Computed::Faults(Fault::Null);
+    }
+    if are_tags(secrets) && are_tags(vouchers) {
+        Computed::Fine(Worth::OfTags { secrets, vouchers })
+    } else {
+        Computed::Wrong
+    }
+}
+
+/// Capabilities with the plus of a tag, or with its minus.
+pub fn with_sign<'a>(sign: bool, c: &'a Value, t: &'a Value) -> Computed<'a>
+    ensures { pure_of result ≡ with_sign sign c.now t.now }
+{
+    match c {
+        Value::CapV { plus, minus } => match t {
+            Value::Tag(tag) => Computed::Fine(Worth::Signed {
+                sign,
+                plus,
+                minus,
+                tag: *tag,
+            }),
+            Value::Nothing => Computed::Faults(Fault::Null),
+            _ => Computed::Wrong,
+        },
+        Value::Nothing => match t {
+            Value::Tag(_) => Computed::Faults(Fault::Null),
+            Value::Nothing => Computed::Faults(Fault::Null),
+            _ => Computed::Wrong,
+        },
+        _ => Computed::Wrong,
+    }
+}
+
+/// The label of so many tags of secrecy and, above them, so many of integrity.
+pub fn make_label(stack: &Operands, secrecy: u32, integrity: u32) -> Sight<'_>
+    ensures { (locals : List Value) → did_of result locals stack.now ≡ labelled secrecy integrity stack.now }
+{
+    let takes = secrecy as usize + integrity as usize;
+    match stack.last_many(takes) {
+        None => Sight::Breaks,
+        Some(tags) => {
+            let (secrets, vouchers) = tags.split_at(secrecy as usize);
+            sight_of(label_from(secrets, vouchers), takes)
+        }
+    }
+}
+
+/// Capabilities and a tag above them, to capabilities with the tag's plus or its minus.
+pub fn add_cap(sign: bool, stack: &Operands) -> Sight<'_>
+    ensures { (locals : List Value) → did_of result locals stack.now ≡ signs sign stack.now }
+{
+    let Some(t) = stack.get(0) else {
+        return Sight::Breaks;
+    };
+    let Some(c) = stack.get(1) else {
+        return Sight::Breaks;
+    };
+    sight_of(with_sign(sign, c, t), 2)
+}
