@@ -157,7 +157,7 @@ impl Effect {
 
     /// Each of these monitors is given back, the last one first.
     pub fn drops(alloc: Global, things: &[Name]) -> Result<Effect, NoMemory>
-        ensures { IfOk result (λ e. meaning e ≡ told.drops things.now) }
+        ensures { IfOk result (λ e. meaning e ≡ told.drops (reverse things.now)) }
     {
         let things = reversed(alloc, things)?;
         Ok(Effect::Drops { things })

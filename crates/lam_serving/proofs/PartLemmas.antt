@@ -1,12 +1,15 @@
 -- A row that reads some parts of a world and of a context serves its ask in each world and context with these parts.
-use Rattle.std.proofs.Common.{◌≡◌, ℕ, Option, Result, Ok, Err, IfOk, refl, sym, ap, subst, ◌∙◌}
+use Rattle.std.proofs.Common.{◌≡◌, ℕ, List, length, Option, Result, Ok, Err, IfOk, refl, sym, ap, subst, ◌∙◌}
 use Rattle.want_of_memory.specs.declared.NoMemory.{NoMemory}
 use Rattle.flow_labels.specs.declared.Label.{Label}
 use Rattle.capabilities.specs.declared.Caps.{Caps}
 use Rattle.lam_asks.specs.declared.answer.Outcome.{Outcome}
+use Rattle.lam_value.specs.declared.names.Name.{Name}
 use Rattle.lam_asks.specs.declared.ask.Ask.{Ask}
+use Rattle.lam_asks.specs.declared.ask.Ask.TheVariants.{Join}
 use Rattle.thread_steps.specs.Threads.{Context}
-use Rattle.lam_worlds.specs.Worlds.{World}
+use Rattle.lam_worlds.specs.Worlds.{World, result_at}
+use Rattle.lam_worlds.specs.Deeds.{drops, does}
 use Rattle.lam_worlds.specs.Serving.{serve}
 use Rattle.lam_stores.specs.declared.Stores.{Stores}
 use Rattle.lam_deeds.specs.declared.deed.Deed.{Deed}
@@ -57,3 +60,18 @@ module _ (a : Ask) (s : Stores) (n : ℕ) (o : Option Outcome) (who : Acting) wh
 
     pub depth_is : (p : Label) (k : Caps) (depth : ℕ) → p ≡ who.label → k ≡ who.caps → depth ≡ who.depth → at_depth p k depth c ≡ c
     depth_is p k depth e f g = (λ i. at_depth (e i) (f i) (g i) c) ∙ ap (λ (x : Acting). at_depth x.label x.caps x.depth c) (sym h.who)
+
+  -- a row that gives back the monitors of the context
+  pub released : (ns : List Name) (r : Result Deed NoMemory) → ns ≡ who.held → IfOk r (λ d. DoesAs d (does (drops ns))) → IfOk r (λ d. (w : World) (c : Context) → Reads w c a s n o who → DoesAs d (does (drops c.held)))
+  released ns (Ok d) e h = λ w c k. subst (λ ms. DoesAs d (does (drops ms))) (e ∙ ap (λ (x : Acting). x.held) (sym k.who)) h
+  released ns (Err e) f h = tt
+
+  -- a row that reads how many threads there are
+  pub among : (p : Label) (k : Caps) (r : Result Deed NoMemory) → p ≡ who.label → k ≡ who.caps → IfOk r (λ d. (w : World) (c : Context) → length w.threads ≡ n → DoesAs d (serve w (acting_by p k c) a)) → IfOk r (ServesAll a s n o who)
+  among p k (Ok d) e f serves = λ w c h. subst (λ x. DoesAs d (serve w x a)) (caps_is w c h p k e f) (serves w c h.threads)
+  among p k (Err x) e f serves = tt
+
+-- a row that reads how a thread ended
+pub joining : (t : ℕ) (s : Stores) (n : ℕ) (o : Option Outcome) (who : Acting) (p : Label) (r : Result Deed NoMemory) → p ≡ who.label → IfOk r (λ d. (w : World) (c : Context) (u : ℕ) → result_at w u ≡ o → DoesAs d (serve w (at_label p c) (Join u))) → IfOk r (ServesAll (Join t) s n o who)
+joining t s n o who p (Ok d) e serves = λ w c h. subst (λ x. DoesAs d (serve w x (Join t))) (label_is (Join t) s n o who w c h p e) (serves w c t h.ended)
+joining t s n o who p (Err x) e serves = tt
