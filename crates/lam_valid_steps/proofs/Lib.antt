@@ -1,0 +1,5 @@
+pub mod HoldLemmas
+pub mod StoreLemmas
+pub mod RowLemmas
+pub mod StackLemmas
+pub mod WholeLemmas
