@@ -1,0 +1,2 @@
+//! That nested code does what its program means.
+#![tactic(auto)]
