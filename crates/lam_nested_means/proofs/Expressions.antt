@@ -170,7 +170,7 @@ module _ (r : ResolvedTree) (call : means.Caller) (caller : Caller) (same_calls 
         let is = given_args (heads_of r) env (exact_places hd.params) args first ha in
         let at = head_at r.functions f hd e in
         binds_where kp H H (λ vs. push_all s vs) (onto s) (λ vs. length vs ≡ count args) _ st _ _ _ (counted r call args p n st.own) (args_same args is.0 p n s st size)
-        (λ vs many n st l. call_at f at.0 vs p n s st at.1 (many ∙ is.1 ∙ length-map exactly hd.params ∙ sym (ap (λ hd. length hd.params) at.2)) l)
+        (λ vs many n st l. call_at f at.0 vs p n s st at.1 (many ∙ is.1 ∙ length-map hd.params exactly ∙ sym (ap (λ hd. length hd.params) at.2)) l)
     eval_same (builtin_of b args t) g (first, ha, h, ht) p n s st size =
         let is = given_args (heads_of r) env (row_by ℕ b).signature.takes args first ha in
         binds_where kp H H (λ vs. push_all s vs) (onto s) (λ vs. length vs ≡ count args) _ st _ _ _ (counted r call args p n st.own) (args_same args is.0 p n s st size)
@@ -191,7 +191,7 @@ module _ (r : ResolvedTree) (call : means.Caller) (caller : Caller) (same_calls 
         let at = head_at r.functions f hd e in
         binds kp H H (onto s) (onto s) _ st _ _ _ (eval_same c hc.0 hc.1 p n s st size) (λ c n st l.
         binds_where kp H H (λ vs. push_all (c ∷ s) vs) (onto s) (λ vs. length vs ≡ count args) _ st _ _ _ (counted r call args p n st.own) (args_same args is.0 p n (c ∷ s) st l) (λ vs many n st l.
-        instead (onto s) _ st p n (H st.own.locals) _ _ (spawn_is (around code p (H st.own.locals) st) s f c vs (takes_params r f at.0 at.1 ∙ ap Some (sym (many ∙ is.1 ∙ length-map exactly hd.params ∙ sym (ap (λ hd. length hd.params) at.2)))))
+        instead (onto s) _ st p n (H st.own.locals) _ _ (spawn_is (around code p (H st.own.locals) st) s f c vs (takes_params r f at.0 at.1 ∙ ap Some (sym (many ∙ is.1 ∙ length-map hd.params exactly ∙ sym (ap (λ hd. length hd.params) at.2)))))
         (spawn_at f c vs p n s st l)))
 
     args_same : (args : Expressions) → AreGiven (heads_of r) env args → (p : At) (n : ℕ) (s : List Value) (st : Along) → length st.own.locals ≡ kp.size → MatchesAt kp H (λ vs. push_all s vs) (eval_all r call args p n st.own) st (acts code caller again (expressions_code args) p n s (H st.own.locals) st)

@@ -6,7 +6,7 @@ use Rattle.flow_labels.specs.declared.Denied.{Denied as Denial}
 use Rattle.capabilities.specs.declared.Caps.{Caps}
 use Rattle.lam_value.specs.declared.names.Name.{Name}
 use Rattle.lam_value.specs.declared.values.Value.{Value}
-use Rattle.lam_value.specs.declared.values.Value.TheVariants.{Int, Bool as Truth, Bytes, Nothing, Obj, Arr, File, Dir, Pipe, Tag, Lab, CapV}
+use Rattle.lam_value.specs.declared.values.Value.TheVariants.{Int, Bool as Truth, Bytes, Nothing, Obj, Arr, File, Dir, Pipe, Thread, Tag, Lab, CapV}
 use Rattle.decimal_text.specs.Decimal.{int_of}
 use Rattle.lam_value.specs.declared.shapes.Kind.{Kind}
 use Rattle.lam_value.specs.declared.shapes.Shape.TheVariants.{Array}
@@ -238,7 +238,7 @@ module _ (kp : Keep) (H : Held) (code : CodeTree) (caller : Caller) (p : At) (n 
   unfolding effect
   give_at (Obj m) = give_ask m (Obj m) (λ c l. refl)
   give_at (Arr m len) = give_ask m (Arr m len) (λ c l. refl)
-  give_at Nothing = fails_at kp H caller never_enters p n s st size (stays s) Null _
+  give_at Nothing = fails_at kp H caller never_enters p n s st size (stays s) Null (H st.own.locals)
   give_at v = record { by = λ ok. absurd ok; keeps = tt }
 
 -- ---- locals
@@ -303,16 +303,30 @@ calls_plain l c call.Size (Bytes bs ∷ []) = if_plain (is_small (pos (length bs
 calls_plain l c call.Byte (Bytes bs ∷ Int i ∷ []) = byte_at_plain bs i
 calls_plain l c call.Slice (Bytes bs ∷ Int i ∷ Int j ∷ []) = slice_plain bs i j
 calls_plain l c call.Cat (Bytes a ∷ Bytes b ∷ []) = if_plain (nat_le (length (a ++ b)) 65536) _ _ tt tt
+calls_plain l c call.Text (Int i ∷ []) = tt
 calls_plain l c call.Number (Bytes bs ∷ []) = number_plain (int_of bs)
+calls_plain l c call.MyLabel [] = tt
+calls_plain l c call.MyCaps [] = tt
+calls_plain l c call.Root [] = tt
 calls_plain l c call.LabelOf (v ∷ []) = label_plain v
 calls_plain l c call.Copy (v ∷ Lab x ∷ []) = copy_plain v x
+calls_plain l c call.Mint [] = tt
 calls_plain l c call.Say (Bytes bs ∷ []) = λ s n held st. refl
+calls_plain l c call.MakeFile (Dir d ∷ Bytes n ∷ Lab x ∷ []) = tt
+calls_plain l c call.MakeDir (Dir d ∷ Bytes n ∷ Lab x ∷ []) = tt
+calls_plain l c call.OpenFile (Dir d ∷ Bytes n ∷ []) = tt
+calls_plain l c call.OpenDir (Dir d ∷ Bytes n ∷ []) = tt
 calls_plain l c call.Remove (Dir d ∷ Bytes n ∷ []) = λ s n held st. refl
 calls_plain l c call.Read (File f ∷ Int at ∷ Int n ∷ []) = read_plain f at n
+calls_plain l c call.Length (File f ∷ []) = tt
 calls_plain l c call.Append (File f ∷ Bytes bs ∷ []) = λ s n held st. refl
 calls_plain l c call.Cut (File f ∷ Int n ∷ []) = cut_plain f n
+calls_plain l c call.MakePipe (Lab x ∷ []) = tt
 calls_plain l c call.Send (Pipe d ∷ Bytes bs ∷ []) = if_plain (nat_le (length bs) 4096) _ _ (λ s n held st. refl) tt
 calls_plain l c call.SendCaps (Pipe d ∷ CapV plus minus ∷ []) = λ s n held st. refl
+calls_plain l c call.Receive (Pipe d ∷ []) = tt
+calls_plain l c call.ReceiveCaps (Pipe d ∷ []) = tt
+calls_plain l c call.Join (Thread t ∷ []) = tt
 calls_plain l c b vs = tt
 
 pub builtin_plain : (l : Label) (c : Caps) (b : Builtin) (vs : List Value) → ActsPlainly (builtin l c b vs)

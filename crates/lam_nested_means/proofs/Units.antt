@@ -34,7 +34,7 @@ unfolding scheme
 function_unit r f fn e = draft_at (all_constants [] (drafts r)) r.functions (all_regions r.functions) f fn e
 
 pub takes_params : (r : ResolvedTree) (f : ℕ) (fn : ResolvedFunction) → slice_get r.functions f ≡ Some fn → function_takes (slice_get (scheme r).units f) ≡ Some (length fn.params)
-takes_params r f fn e = ap function_takes (function_unit r f fn e) ∙ ap Some (length-map arg_kind fn.params)
+takes_params r f fn e = ap function_takes (function_unit r f fn e) ∙ ap Some (length-map fn.params arg_kind)
 
 class_at : (cs : List (List ResolvedType)) (c : ℕ) → c < length cs → (ts : List ResolvedType) × (slice_get cs c ≡ Some ts) × (slice_get (map (λ ts. map kind_of ts) cs) c ≡ Some (map kind_of ts))
 class_at [] c h = absurd (omega (arith, h))
