@@ -4,3 +4,4 @@ pub mod Operations
 pub mod Units
 pub mod Effects
 pub mod Expressions
+pub mod Regions

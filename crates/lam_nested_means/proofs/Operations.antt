@@ -21,7 +21,7 @@ use Rattle.lam_asks.specs.declared.ask.Ask.TheVariants as ask
 use Rattle.lam_asks.specs.Suits.{Sort, numbers, fits}
 use Rattle.lam_bytecode.specs.Codes.{CodeTree}
 use Rattle.lam_bytecode.specs.declared.op.Op.{Op}
-use Rattle.lam_bytecode.specs.declared.op.Op.TheVariants.{Load, Store, Return, Throw, ReadBarrier, WriteBarrier, GetField, PutField, GetElement, PutElement, NewArray, EnterMonitor, LeaveMonitor}
+use Rattle.lam_bytecode.specs.declared.op.Op.TheVariants.{Load, Store, Pop, Return, Throw, ReadBarrier, WriteBarrier, GetField, PutField, GetElement, PutElement, NewArray, EnterMonitor, LeaveMonitor}
 use Rattle.thread_steps.specs.Operators.{Pure, fine, faults, wrong, is_small, some_null}
 use Rattle.thread_steps.specs.Builtins as calls
 use Rattle.thread_steps.specs.Builtins.{Calls, builtin, own_label, copied, read_from, cut_to, byte_at, byte_now, slice_at, number_in}
@@ -33,7 +33,7 @@ use Rattle.lam_meaning.specs.Trees as tree
 use Rattle.lam_meaning.specs.Trees.{Own, Asked, asked, End, goes, raises, leaves, Tree, ends, broken, fails, asks, on_end, purely, value_reply, nothing_gained, ask_value, done_reply, ask_done, ask_unit, unless_denied, on_object, on_array, on_thing, on_truth, gained, local, with_local, spend}
 use Rattle.lam_meaning.specs.Means.{At, may_read, may_write, within, on_number, makes_array, result_sort, called_in, take, give_back, throws}
 use Rattle.lam_meaning.specs.Plays.{waits}
-use Rattle.lam_block_meaning.specs.Gathers.{Along, with_locals, answered, Out, gone, stops, and_on, Caller, Enters, never_enters, done, replied, awaits, did, op_does, picks, use_unit}
+use Rattle.lam_block_meaning.specs.Gathers.{Along, with_locals, answered, Out, gone, returned, and_on, Caller, Enters, never_enters, done, replied, awaits, did, op_does, picks, use_unit}
 use Rattle.lam_nested_means.proofs.Plays.{Keep, Held, along, played, told, Matches, MatchesAt, suits_same}
 use Rattle.lam_nested_means.proofs.Lists.{at_slot, slot_there, length-set_slot, is_below, listed, first_held, first_back}
 
@@ -251,6 +251,14 @@ module _ (code : CodeTree) (caller : Caller) (enter : Enters) (p : At) (n : ℕ)
   pub store_is : (x : ℕ) (v : Value) → x < length st.own.locals → op_does code caller enter (Store x) p n (v ∷ s) held st ≡ gone s n held (with_locals st (slice_set st.own.locals x v))
   unfolding effect
   store_is x v lt = ap (λ b. did caller enter (if b then sets (slice_set st.own.locals x v) s else breaks) p n held st) (is_below x (length st.own.locals) lt)
+
+  pub pop_is : (v : Value) → op_does code caller enter Pop p n (v ∷ s) held st ≡ gone s n held st
+  unfolding effect
+  pop_is v = refl
+
+  pub return_is : (v : Value) → op_does code caller enter Return p n (v ∷ s) held st ≡ returned v n held st
+  unfolding effect
+  return_is v = refl
 
 -- ---- built-in calls
 
