@@ -5,3 +5,5 @@ pub mod Units
 pub mod Effects
 pub mod Expressions
 pub mod Regions
+pub mod Scopes
+pub mod Statements
