@@ -1,5 +1,5 @@
 -- What operations do with the operands that the scheme puts there.
-use Rattle.std.proofs.Common.{◌≡◌, ℕ, Bool, true, false, List, [], ◌∷◌, length, map, Option, Some, None, refl, sym, ap, ◌∙◌}
+use Rattle.std.proofs.Common.{◌≡◌, ℕ, Bool, true, false, List, ◌∷◌, length, map, Some, refl, ap, ◌∙◌}
 use Rattle.std.specs.Prelude.{if◌then◌else◌, nat_lt, slice_get}
 use Rattle.lam_value.specs.declared.values.Value.{Value}
 use Rattle.lam_value.specs.declared.shapes.Kind.{Kind}
@@ -14,7 +14,7 @@ use Rattle.lam_asks.specs.declared.ask.Ask.TheVariants as ask
 use Rattle.lam_bytecode.specs.declared.op.Op.TheVariants.{Call, NewObject, MakeLabel, System, EnterRegion, Spawn}
 use Rattle.thread_steps.specs.Operators.{prefix, label_from, with_sign}
 use Rattle.thread_steps.specs.Builtins.{builtin}
-use Rattle.thread_steps.specs.Ops.{Did, calls, fails, wants, Around, effect, operated, called, on_known, on_many, on_caps, on_label, new_object, function_takes, region_takes, region_in, frames_limit}
+use Rattle.thread_steps.specs.Ops.{calls, fails, wants, Around, effect, operated, called, on_known, on_many, on_caps, on_label, new_object, function_takes, region_takes, region_in, frames_limit}
 use Rattle.lam_scheme.specs.Scheme.{prefix_op, sign_op}
 use Rattle.lam_nested_means.proofs.Lists.{push_all, many_same}
 

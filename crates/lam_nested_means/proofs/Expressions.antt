@@ -1,8 +1,7 @@
 -- Nested code of expressions gives what they mean, above the operands.
-use Rattle.std.proofs.Common.{◌≡◌, ℕ, suc, ◌<◌, ◌+◌, Bool, true, false, List, [], ◌∷◌, length, map, Option, Some, None, refl, sym, ap, ◌∙◌, subst, arith}
+use Rattle.std.proofs.Common.{◌≡◌, ℕ, ◌<◌, Bool, true, false, List, [], ◌∷◌, length, Option, Some, None, refl, sym, ap, ◌∙◌, subst, arith}
 use Rattle.std.proofs.lemmas.List.{length-map}
 use Rattle.std.specs.Prelude.{if◌then◌else◌, nat_lt, slice_get}
-use Rattle.capabilities.specs.declared.Caps.{Caps}
 use Rattle.capabilities.specs.Changes.{no_caps}
 use Rattle.lam_value.specs.declared.names.Name.{Name}
 use Rattle.lam_value.specs.declared.values.Value.{Value}
@@ -10,14 +9,14 @@ use Rattle.lam_value.specs.declared.values.Value.TheVariants.{Bool as Truth, Not
 use Rattle.lam_value.specs.declared.shapes.Shape.TheVariants.{Class}
 use Rattle.lam_syntax.specs.declared.BinaryOp.{BinaryOp}
 use Rattle.lam_syntax.specs.declared.BinaryOp.TheVariants as binary
-use Rattle.lam_builtins.specs.Types.{a_value, exactly}
+use Rattle.lam_builtins.specs.Types.{exactly}
 use Rattle.lam_builtins.specs.Operators.{operand}
-use Rattle.lam_builtins.specs.Builtins.{row, row_by}
+use Rattle.lam_builtins.specs.Builtins.{row_by}
 use Rattle.lam_asks.specs.declared.fault.Fault.TheVariants.{Deep, Null}
 use Rattle.lam_asks.specs.declared.ask.Ask.TheVariants as ask
 use Rattle.lam_asks.specs.Suits.{numbers}
 use Rattle.lam_bytecode.specs.Codes.{CodeTree}
-use Rattle.lam_bytecode.specs.declared.op.Op.TheVariants.{Load, System, Call, Spawn, NewObject, MakeLabel, EnterRegion}
+use Rattle.lam_bytecode.specs.declared.op.Op.TheVariants.{Load, Call}
 use Rattle.thread_steps.specs.Operators.{operator, prefix, label_from, with_sign}
 use Rattle.thread_steps.specs.Builtins.{builtin}
 use Rattle.thread_steps.specs.Ops as ops
@@ -28,10 +27,10 @@ use Rattle.lam_meaning.specs.Trees as tree
 use Rattle.lam_meaning.specs.Trees.{Own, local, asked, Tree, ends, on_end, and_then, purely, ask_value, nothing_gained, on_truth}
 use Rattle.lam_meaning.specs.Means as means
 use Rattle.lam_meaning.specs.Means.{At, sort_of, kind_of, class_fields, called_in, signed, two, eval, eval_all}
-use Rattle.lam_scheme.specs.Scheme.{scheme, count, prefix_op, sign_op}
+use Rattle.lam_scheme.specs.Scheme.{scheme, count, sign_op}
 use Rattle.lam_block_meaning.specs.Nested.{Nested, operator_code, signs_code, expression_code, expressions_code}
 use Rattle.lam_block_meaning.specs.Gathers.{Along, Out, gone, raised, and_on, Does, Caller, never_enters, did, around, op_does, picks, acts}
-use Rattle.lam_nested_means.proofs.Plays.{Keep, Held, Matches, MatchesAt, All, all_any, all_then, binds_where, binds, maps, onto_same}
+use Rattle.lam_nested_means.proofs.Plays.{Keep, Held, MatchesAt, All, all_any, all_then, binds_where, binds, maps, onto_same}
 use Rattle.lam_nested_means.proofs.Lists.{push_all}
 use Rattle.lam_nested_means.proofs.Operations.{onto, fails_at, pure_at, value_at, called_at, read_field, read_element, array_at, load_is, builtin_plain}
 use Rattle.lam_nested_means.proofs.Effects.{prefix_is, sign_is, call_is, spawn_is, system_is, label_is, object_is}

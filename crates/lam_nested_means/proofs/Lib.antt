@@ -7,3 +7,4 @@ pub mod Expressions
 pub mod Regions
 pub mod Scopes
 pub mod Statements
+pub mod Threads

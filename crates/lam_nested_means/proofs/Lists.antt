@@ -1,5 +1,5 @@
 -- Operands above other operands, locals, and monitors.
-use Rattle.std.proofs.Common.{◌≡◌, ℕ, zero, suc, ◌<◌, ◌≤◌, Bool, true, false, List, [], ◌∷◌, ◌++◌, length, take, drop, Option, Some, None, refl, sym, ap, ◌∙◌, subst, arith, append_assoc, length-append}
+use Rattle.std.proofs.Common.{◌≡◌, ℕ, zero, suc, ◌<◌, true, false, List, [], ◌∷◌, ◌++◌, length, take, drop, Some, refl, sym, ap, ◌∙◌, arith, append_assoc, length-append}
 use Rattle.std.proofs.lemmas.Bool.Decides.{nat_tests}
 use Rattle.std.proofs.lemmas.List.{reverse-reverse, length-reverse, take-append-le, drop-append-le, take_all, drop_all}
 use Rattle.std.proofs.lemmas.Grind.{reverse_onto}
@@ -8,7 +8,6 @@ use Rattle.std.specs.Ordering.{is_eq}
 use Rattle.std.proofs.lemmas.Cmp.{tied_itself}
 use Rattle.std.specs.List.{list_any}
 use Rattle.lam_value.specs.declared.names.Name.{Name}
-use Rattle.lam_value.specs.Names.{name_cmp}
 use Rattle.lam_value.proofs.Keys.{name_total}
 use Rattle.lam_value.specs.declared.values.Value.{Value}
 use Rattle.thread_steps.specs.Equal.{same_names}

@@ -1,19 +1,19 @@
 -- Single operations, beside what the tree does there.
-use Rattle.std.proofs.Common.{◌≡◌, ℕ, ◌<◌, ℤ, pos, negsuc, Bool, true, false, List, [], ◌∷◌, ◌++◌, length, Option, Some, None, refl, sym, ap, ◌∙◌, subst, arith}
+use Rattle.std.proofs.Common.{◌≡◌, ℕ, ◌<◌, ℤ, pos, negsuc, Bool, true, false, List, [], ◌∷◌, ◌++◌, length, Option, Some, None, refl, sym, ap, ◌∙◌, subst}
 use Rattle.std.specs.Prelude.{if◌then◌else◌, ◌&&◌, nat_lt, nat_le, slice_get, slice_set}
 use Rattle.flow_labels.specs.declared.Label.{Label}
 use Rattle.flow_labels.specs.declared.Denied.{Denied as Denial}
 use Rattle.capabilities.specs.declared.Caps.{Caps}
 use Rattle.lam_value.specs.declared.names.Name.{Name}
 use Rattle.lam_value.specs.declared.values.Value.{Value}
-use Rattle.lam_value.specs.declared.values.Value.TheVariants.{Int, Bool as Truth, Bytes, Nothing, Obj, Arr, File, Dir, Pipe, Thread, Tag, Lab, CapV}
+use Rattle.lam_value.specs.declared.values.Value.TheVariants.{Int, Bytes, Nothing, Obj, Arr, File, Dir, Pipe, Thread, Tag, Lab, CapV}
 use Rattle.decimal_text.specs.Decimal.{int_of}
 use Rattle.lam_value.specs.declared.shapes.Kind.{Kind}
 use Rattle.lam_value.specs.declared.shapes.Shape.TheVariants.{Array}
 use Rattle.lam_builtins.specs.declared.Builtin.{Builtin}
 use Rattle.lam_builtins.specs.declared.Builtin.TheVariants as call
 use Rattle.lam_asks.specs.declared.fault.Fault.{Fault}
-use Rattle.lam_asks.specs.declared.fault.Fault.TheVariants.{Denied, Null, Index, Long}
+use Rattle.lam_asks.specs.declared.fault.Fault.TheVariants.{Null, Index, Long}
 use Rattle.lam_asks.specs.declared.answer.Answer.{Answer}
 use Rattle.lam_asks.specs.declared.answer.Answer.TheVariants.{Done, Entered, Val, Refused, Failed}
 use Rattle.lam_asks.specs.declared.ask.Ask.{Ask}
@@ -29,13 +29,11 @@ use Rattle.thread_steps.specs.Ops as ops
 use Rattle.thread_steps.specs.Ops.{Did, breaks, wants, sets, on_constant, effect, operated, barrier, new_array, monitor_of, is_held}
 use Rattle.thread_steps.specs.Next.{held_by, without}
 use Rattle.resolved_tree.specs.Tree.{ResolvedType}
-use Rattle.lam_meaning.specs.Trees as tree
-use Rattle.lam_meaning.specs.Trees.{Own, Asked, asked, End, goes, raises, leaves, Tree, ends, broken, fails, asks, on_end, purely, value_reply, nothing_gained, ask_value, done_reply, ask_done, ask_unit, unless_denied, on_object, on_array, on_thing, on_truth, gained, local, with_local, spend}
+use Rattle.lam_meaning.specs.Trees.{Own, Asked, asked, Tree, broken, fails, asks, on_end, purely, value_reply, nothing_gained, ask_value, done_reply, ask_done, ask_unit, unless_denied, on_object, on_array, gained, local}
 use Rattle.lam_meaning.specs.Means.{At, may_read, may_write, within, on_number, makes_array, result_sort, called_in, take, give_back, throws}
-use Rattle.lam_meaning.specs.Plays.{waits}
-use Rattle.lam_block_meaning.specs.Gathers.{Along, with_locals, answered, Out, gone, returned, and_on, Caller, Enters, never_enters, done, replied, awaits, did, op_does, picks, use_unit}
-use Rattle.lam_nested_means.proofs.Plays.{Keep, Held, along, played, told, Matches, MatchesAt, suits_same}
-use Rattle.lam_nested_means.proofs.Lists.{at_slot, slot_there, length-set_slot, is_below, listed, first_held, first_back}
+use Rattle.lam_block_meaning.specs.Gathers.{Along, with_locals, answered, Out, gone, returned, and_on, Caller, Enters, never_enters, done, replied, awaits, did, op_does}
+use Rattle.lam_nested_means.proofs.Plays.{Keep, Held, along, Matches, MatchesAt, suits_same}
+use Rattle.lam_nested_means.proofs.Lists.{slot_there, is_below, listed, first_held, first_back}
 
 abbrev pub onto : List Value → Value → List Value
 onto s v = v ∷ s

@@ -55,7 +55,7 @@ told h (stops how made) = stops how made
 abbrev pub Sized : {A : Type 0} → ℕ → Out A → Type 0
 Sized size (gone a n held st) = length st.own.locals ≡ size
 Sized size (raised f n st) = length st.own.locals ≡ size
-Sized size (returned v n held st) = Unit {0}
+Sized size (returned v n held st) = length st.own.locals ≡ size
 Sized size (stops how made) = Unit {0}
 
 -- the tree, played, gives what stands beside it, under h, unless it is broken
@@ -101,7 +101,7 @@ all_then P Q (asks q j) f h k = λ x. all_then P Q (j x) f (h x) k
 abbrev pub EndSized : {A : Type 0} → ℕ → End A → Type 0
 EndSized size (goes a n o) = length o.locals ≡ size
 EndSized size (raises f n o) = length o.locals ≡ size
-EndSized size (leaves v n o) = Unit {0}
+EndSized size (leaves v n o) = length o.locals ≡ size
 
 -- two plays with the same answer
 split : {A B C D : Type 0} (b : Bool) (size size2 : ℕ) (h : A → B) (k : C → D) (p : Out A) (q : Out C) (made : List Ask) (r : Out B) (r2 : Out D) → (NotBroken (tested b p made) → told h (tested b p made) ≡ r) → Sized size (tested b p made) → ((NotBroken p → told h p ≡ r) → Sized size p → (NotBroken q → told k q ≡ r2) × Sized size2 q) → (NotBroken (tested b q made) → told k (tested b q made) ≡ r2) × Sized size2 (tested b q made)
@@ -113,7 +113,7 @@ module _ {A B C D : Type 0} (kp kp2 : Keep) (H H2 : Held) (h : A → B) (k : C �
   unfolding on_end
   ends_where P (ends (goes a n o)) xs made r F G all stop f m = subst (λ r. Matches kp2 H2 k (F (goes a n o)) xs made (G r)) (m.by tt) (f (goes a n o) all m.keeps xs made)
   ends_where P (ends (raises x n o)) xs made r F G all stop f m = subst (λ r. Matches kp2 H2 k (F (raises x n o)) xs made (G r)) (m.by tt) (f (raises x n o) all m.keeps xs made)
-  ends_where P (ends (leaves v n o)) xs made r F G all stop f m = subst (λ r. Matches kp2 H2 k (F (leaves v n o)) xs made (G r)) (m.by tt) (f (leaves v n o) all tt xs made)
+  ends_where P (ends (leaves v n o)) xs made r F G all stop f m = subst (λ r. Matches kp2 H2 k (F (leaves v n o)) xs made (G r)) (m.by tt) (f (leaves v n o) all m.keeps xs made)
   ends_where P spent xs made r F G all stop f m = record { by = λ ok. stop is_spent made ∙ ap G (m.by tt); keeps = tt }
   ends_where P broken xs made r F G all stop f m = record { by = λ ok. absurd ok; keeps = tt }
   ends_where P (asks q j) [] made r F G all stop f m = record { by = λ ok. stop waits (made ++ q.ask ∷ []) ∙ ap G (m.by tt); keeps = tt }
@@ -133,7 +133,7 @@ module _ {A B C D : Type 0} (kp : Keep) (H H2 : Held) (h : A → B) (k : C → D
       go : (e : End A) → EndAll P e → EndSized kp.size e → (xs : List Answer) (made : List Ask) → Matches kp H2 k (next f e) xs made (and_on (told h (stands kp H e xs made)) g)
       go (goes a n o) all sized xs made = mf a all n (along o xs made) sized
       go (raises x n o) all sized xs made = record { by = λ ok. refl; keeps = sized }
-      go (leaves v n o) all sized xs made = record { by = λ ok. refl; keeps = tt }
+      go (leaves v n o) all sized xs made = record { by = λ ok. refl; keeps = sized }
 
   pub binds : (t : Tree A) (st : Along) (r : Out B) (f : A → ℕ → Own → Tree C) (g : B → ℕ → List Name → Along → Out D) → MatchesAt kp H h t st r → ((a : A) (n : ℕ) (st : Along) → length st.own.locals ≡ kp.size → MatchesAt kp H2 k (f a n st.own) st (g (h a) n (H st.own.locals) st)) → MatchesAt kp H2 k (and_then t f) st (and_on r g)
   binds t st r f g m mf = binds_where (λ a. Unit {0}) t st r f g (all_any t) m (λ a p n st sized. mf a n st sized)
@@ -145,7 +145,7 @@ maps {A = A} kp H f k t st r m = end_on kp kp H H (λ a. k (f a)) k t st.answers
     go : (e : End A) → EndSized kp.size e → (xs : List Answer) (made : List Ask) → Matches kp H k (next (λ a n o. ends (goes (f a) n o)) e) xs made (told (λ a. k (f a)) (stands kp H e xs made))
     go (goes a n o) sized xs made = record { by = λ ok. refl; keeps = sized }
     go (raises x n o) sized xs made = record { by = λ ok. refl; keeps = sized }
-    go (leaves v n o) sized xs made = record { by = λ ok. refl; keeps = tt }
+    go (leaves v n o) sized xs made = record { by = λ ok. refl; keeps = sized }
 
 told_on : {A B : Type 0} (h : A → B) (r : Out A) → told h r ≡ and_on (told (λ a. a) r) (λ a n held st. gone (h a) n held st)
 told_on h (gone a n held st) = refl

@@ -1,9 +1,8 @@
 -- Regions, beside those of nested code.
-use Rattle.std.proofs.Common.{◌≡◌, ℕ, ℤ, true, List, [], ◌∷◌, ◌++◌, length, refl, sym, ap, ◌∙◌, subst}
+use Rattle.std.proofs.Common.{◌≡◌, ℕ, ℤ, true, List, [], ◌∷◌, ◌++◌, length, refl, subst}
 use Rattle.std.specs.Prelude.{◌-◌, replicate}
 use Rattle.flow_labels.specs.declared.Label.{Label}
 use Rattle.capabilities.specs.declared.Caps.{Caps}
-use Rattle.lam_value.specs.declared.names.Name.{Name}
 use Rattle.lam_value.specs.declared.values.Value.{Value}
 use Rattle.lam_value.specs.declared.values.Value.TheVariants.{Int, Nothing, Lab, CapV}
 use Rattle.lam_asks.specs.declared.fault.Fault.{Fault}
@@ -15,10 +14,10 @@ use Rattle.lam_asks.specs.declared.ask.Ask.{Ask}
 use Rattle.lam_asks.specs.declared.ask.Ask.TheVariants as ask
 use Rattle.lam_asks.specs.Suits.{numbers, is_done, always, fits}
 use Rattle.thread_steps.specs.Ops.{wants, on_caps, on_label}
-use Rattle.lam_meaning.specs.Trees.{Own, with_local, asked, End, goes, raises, leaves, Tree, asks, on_end, done_reply, ask_unit, and_then, on_region}
+use Rattle.lam_meaning.specs.Trees.{Own, with_local, asked, End, goes, raises, leaves, Tree, asks, on_end, done_reply, on_region}
 use Rattle.lam_meaning.specs.Means as means
 use Rattle.lam_meaning.specs.Means.{At, inside, caught_end, body_end, enter_reply, region}
-use Rattle.lam_block_meaning.specs.Gathers.{Along, with_own, answered, Out, gone, and_on, Does, Caller, Enters, replied, did, awaits, ends_by, after_catch, caught, after_body, region_by}
+use Rattle.lam_block_meaning.specs.Gathers.{Along, with_own, answered, Out, gone, and_on, Does, Caller, replied, did, awaits, ends_by, after_catch, caught, after_body, region_by}
 use Rattle.lam_nested_means.proofs.Plays.{Keep, Held, along, stands, told, EndSized, Matches, MatchesAt, end_on, onto_same}
 use Rattle.lam_nested_means.proofs.Operations.{stays, ask_at, fails_at}
 

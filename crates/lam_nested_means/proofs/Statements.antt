@@ -1,28 +1,26 @@
 -- Nested code of statements does what they mean.
-use Rattle.std.proofs.Common.{◌≡◌, ℕ, zero, suc, ◌<◌, ℤ, Bool, true, false, List, [], ◌∷◌, ◌++◌, length, map, Option, Some, None, refl, sym, ap, ◌∙◌, subst, arith, length-append}
+use Rattle.std.proofs.Common.{◌≡◌, ℕ, zero, suc, ◌<◌, true, false, List, [], ◌∷◌, ◌++◌, length, map, Option, Some, None, refl, sym, ap, ◌∙◌, subst, arith, length-append}
 use Rattle.std.proofs.lemmas.List.{length-map, length-replicate}
 use Rattle.std.proofs.lemmas.Option.{slice_get_within}
-use Rattle.std.specs.Prelude.{◌-◌, replicate, slice_get, slice_set}
-use Rattle.flow_labels.specs.declared.Label.{Label}
-use Rattle.capabilities.specs.declared.Caps.{Caps}
+use Rattle.std.specs.Prelude.{◌-◌, replicate, slice_set}
 use Rattle.lam_value.specs.declared.names.Name.{Name}
 use Rattle.lam_value.specs.declared.values.Value.{Value}
 use Rattle.lam_value.specs.declared.values.Value.TheVariants.{Int, Bool as Truth, Nothing}
 use Rattle.lam_builtins.specs.Types.{int}
 use Rattle.lam_bytecode.specs.Codes.{CodeTree}
-use Rattle.lam_bytecode.specs.declared.op.Op.TheVariants.{Load, Store, Pop, Return, LeaveMonitor, EnterMonitor, EnterRegion}
-use Rattle.thread_steps.specs.Ops.{effect, region_in, region_takes, on_caps, on_label, wants}
+use Rattle.lam_bytecode.specs.declared.op.Op.TheVariants.{Load, Store, Return, LeaveMonitor, EnterMonitor, EnterRegion}
+use Rattle.thread_steps.specs.Ops.{region_in, region_takes}
 use Rattle.resolved_tree.specs.Tree.{ResolvedType, ResolvedGiven, Expression, Statement, let_slot, if_block, while_block, return_value, throw_value, sync_block, region_block, do_value, set_local, set_field, set_element, Block, block_end, block_more, OtherBlock, no_other, other_block, ResolvedTree}
-use Rattle.resolved_tree.specs.Typing.{Heads, heads_of, Use, a_local, a_monitor, Scope, with_use, locals_of, Gives, Returning, in_region, in_function, Returns, AreCaptured, after, IsStatement, IsBlock, IsOther}
+use Rattle.resolved_tree.specs.Typing.{heads_of, a_local, a_monitor, Scope, with_use, locals_of, Gives, Returning, in_region, in_function, Returns, AreCaptured, after, IsStatement, IsBlock, IsOther}
 use Rattle.lam_meaning.specs.Trees as tree
 use Rattle.lam_meaning.specs.Trees.{Own, with_local, local, Tree, ends, leaves, on_end, and_then, on_truth, spend}
 use Rattle.lam_meaning.specs.Means as means
 use Rattle.lam_meaning.specs.Means.{At, Open, take, give_back, returns, captured, inside, eval_option, exec, exec_block, exec_other}
 use Rattle.lam_scheme.specs.Scheme.{scheme}
-use Rattle.lam_block_meaning.specs.Nested.{Nested, loads_code, gives_back_code, value_code, expression_code, statement_code, block_code, branches_code}
+use Rattle.lam_block_meaning.specs.Nested.{Nested, loads_code, gives_back_code, value_code, statement_code, block_code, branches_code}
 use Rattle.lam_block_meaning.specs.Gathers.{Along, with_locals, Out, gone, and_on, Does, Caller, never_enters, around, did, op_does, region_by, picks, use_unit, acts}
-use Rattle.lam_nested_means.proofs.Plays.{Keep, Held, Matches, MatchesAt, binds, and_assoc}
-use Rattle.lam_nested_means.proofs.Lists.{push_all, at_slot, length-set_slot, set_there, listed, monitors, AllApart, monitors_set}
+use Rattle.lam_nested_means.proofs.Plays.{Keep, Held, MatchesAt, binds, and_assoc}
+use Rattle.lam_nested_means.proofs.Lists.{push_all, length-set_slot, set_there, listed, monitors, AllApart, monitors_set}
 use Rattle.lam_nested_means.proofs.Operations.{onto, stays, write_field, write_element, throw_at, take_at, give_at, load_is, store_is, pop_is, return_is}
 use Rattle.lam_nested_means.proofs.Effects.{region_is}
 use Rattle.lam_nested_means.proofs.Expressions.{SameCalls, Inside, eval_same}
@@ -86,7 +84,7 @@ module _ (r : ResolvedTree) (call : means.Caller) (caller : Caller) (same_calls 
 
   -- a `return`, with the monitors of the open `sync`s
   returns_at : (kp : Keep) (H : Held) (env : Scope) (os : List ℕ) (v : Value) (p : At) (n : ℕ) (s : List Value) (st : Along) → AreOpen env os → Inside kp.size env → length st.own.locals ≡ kp.size → MatchesAt kp H (stays s) (returns os v n st.own) st (and_on (acts code caller again' (gives_back_code os) p n (v ∷ s) (monitors os kp.base st.own.locals) st) (λ s n held st. op_does code caller never_enters Return p n s held st))
-  returns_at kp H env [] v p n s st op is l = record { by = λ ok. sym (return_is code caller never_enters p n s kp.base st v); keeps = tt }
+  returns_at kp H env [] v p n s st op is l = record { by = λ ok. sym (return_is code caller never_enters p n s kp.base st v); keeps = l }
   returns_at kp H env (x ∷ os) v p n s st op is l =
       let held = monitors (x ∷ os) kp.base st.own.locals in
       let last = λ (s : List Value) (n : ℕ) (held : List Name) (st : Along). op_does code caller never_enters Return p n s held st in

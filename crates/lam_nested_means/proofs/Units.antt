@@ -1,5 +1,5 @@
 -- What the scheme's code says of a program's functions and classes.
-use Rattle.std.proofs.Common.{◌≡◌, ℕ, zero, suc, ◌<◌, List, [], ◌∷◌, ◌++◌, length, map, Option, Some, None, refl, sym, ap, ◌∙◌, subst, arith}
+use Rattle.std.proofs.Common.{◌≡◌, ℕ, zero, suc, ◌<◌, List, [], ◌∷◌, ◌++◌, length, map, Option, Some, refl, sym, ap, ◌∙◌, arith}
 use Rattle.std.proofs.lemmas.List.{length-map}
 use Rattle.std.specs.Prelude.{slice_get}
 use Rattle.lam_value.specs.declared.values.Value.{Value}
@@ -8,7 +8,6 @@ use Rattle.lam_value.specs.Shapes.{zero_of}
 use Rattle.lam_builtins.specs.declared.Builtin.{Builtin}
 use Rattle.lam_builtins.specs.declared.Builtin.TheVariants as call
 use Rattle.lam_builtins.specs.Builtins.{row, row_by}
-use Rattle.lam_bytecode.specs.declared.unit.CodeUnit.{CodeUnit}
 use Rattle.thread_steps.specs.Ops.{function_takes}
 use Rattle.resolved_tree.specs.Tree.{ResolvedType, ResolvedFunction, ResolvedTree}
 use Rattle.resolved_tree.specs.Typing.{Head, head_of}
