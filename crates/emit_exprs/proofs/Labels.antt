@@ -12,6 +12,7 @@ use Rattle.emit_parts.specs.declared.buffer.Stop.TheVariants.{TooLong, Wide, NoM
 use Rattle.emit_parts.specs.Emits.{State, are_narrow, EmitsBy, Emits, IsCount}
 use Rattle.emit_parts.proofs.Flat.{length-flat, size-joined, narrow-joined}
 use Rattle.emit_parts.proofs.Joins.{joins}
+use Rattle.emit_exprs.specs.Labels.{MakesLabel}
 
 first_part : (ps qs : Pieces) → 0 < size ps → 0 < size (joined ps qs)
 first_part ps qs h = omega (arith, h, size-joined ps qs)
@@ -85,7 +86,6 @@ module _ (s i : List Expr) (n m : ℕ) where
       let ms : m ≡ count (exprs_tree i) = k2.by (omega (arith, ly, lz, at_most (exprs_tree i), counted i)) ∙ counted i in
       subst (λ j. EmitsBy (Ok x) d (label_pieces S I (MakeLabel (count (exprs_tree s)) j))) ms (subst (λ j. EmitsBy (Ok x) d (label_pieces S I (MakeLabel j m))) ns e)
 
-pub label_emits : {a b c d : State} {n m : ℕ} (s i : List Expr) → Emits a b (expressions (exprs_tree s)) → Emits b c (expressions (exprs_tree i)) → IsCount c n (length s) → IsCount c m (length i) → Emits c d (op (MakeLabel n m)) →
-    Emits a d (expression (label_of (exprs_tree s) (exprs_tree i)))
-label_emits {a = a} {b = b} {c = c} {d = d} {n = n} {m = m} s i e1 e2 k1 k2 e3 =
-    record { by = label_by s i n m a b c d e1.by e2.by k1 k2 (joins e1 (joins e2 e3)).by e3.by }
+pub label_emits : {a b c d : State} (s i : List Expr) → Emits a b (expressions (exprs_tree s)) → Emits b c (expressions (exprs_tree i)) → MakesLabel c d (length s) (length i) → Emits a d (expression (label_of (exprs_tree s) (exprs_tree i)))
+label_emits {a = a} {b = b} {c = c} {d = d} s i e1 e2 k =
+    record { by = label_by s i k.secrecy k.integrity a b c d e1.by e2.by k.s k.i (joins e1 (joins e2 k.emits)).by k.emits.by }

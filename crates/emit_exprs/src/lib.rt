@@ -5,14 +5,15 @@
 //! pieces of the scheme that it adds.
 #![tactic(auto)]
 
-ghost use Rattle.std.specs.Prelude.{◌≡◌, true, false};
+ghost use Rattle.std.specs.Prelude.{◌≡◌, length, true, false};
 ghost use Rattle.lam_value.specs.declared.values.Value.TheVariants.{Bool as a_bool};
 ghost use Rattle.lam_bytecode.specs.declared.op.Op.TheVariants.{Load};
-ghost use Rattle.resolved_tree.specs.Tree.{type_tree, expr_tree, exprs_tree, caps_tree, text_value, label_of};
+ghost use Rattle.resolved_tree.specs.Tree.{type_tree, expr_tree, exprs_tree, caps_tree, text_value};
 ghost use Rattle.lam_scheme.specs.Pieces.{joined, one, op, either, puts};
 ghost use Rattle.lam_scheme.specs.Scheme.{between, prefix_op, sign_op, signs, expression, expressions};
 ghost use Rattle.lam_meaning.specs.Means.{kind_of};
 ghost use Rattle.emit_parts.specs.Emits.{Emits};
+ghost use Rattle.emit_exprs.specs.Labels.{MakesLabel};
 
 use emit_parts::{Buffer, Constant};
 use lam_bytecode::Op;
@@ -75,6 +76,18 @@ fn emit_bytes(out: &mut Buffer, bytes: &Vec<u8>)
     }
 }
 
+/// The label of tags that are on the operand stack.
+fn emit_label(out: &mut Buffer, s: &Vec<Expr>, i: &Vec<Expr>)
+    ensures { MakesLabel out.old out.new (length s.now.items) (length i.now.items) }
+{
+    let secrecy = out.count(s.len());
+    let integrity = out.count(i.len());
+    out.push(Op::MakeLabel {
+        secrecy,
+        integrity,
+    })
+}
+
 /// Puts the code of an expression, which leaves its value on the operand stack.
 #[cycle(expr)]
 pub fn emit_expr(out: &mut Buffer, e: &Expr)
@@ -114,7 +127,11 @@ pub fn emit_expr(out: &mut Buffer, e: &Expr)
         Expr::NewArray { element, length } => {
             emit_then(out, length, Op::NewArray(kind_of(element)))
         }
-        Expr::LabelOf { s, i } => emit_label(out, s, i),
+        Expr::LabelOf { s, i } => {
+            emit_exprs(out, s);
+            emit_exprs(out, i);
+            emit_label(out, s, i)
+        }
         Expr::CapsOf(items) => {
             out.push(Op::NoCaps);
             emit_signs(out, items)
@@ -190,21 +207,6 @@ fn emit_or(out: &mut Buffer, right: &Expr)
     let end = out.len();
     out.point(test, Op::JumpIfFalse(other));
     out.point(skip, Op::Jump(end))
-}
-
-/// The tags of a label's two parts, and the label.
-#[cycle(expr)]
-fn emit_label(out: &mut Buffer, s: &Vec<Expr>, i: &Vec<Expr>)
-    ensures { Emits out.old out.new (expression (label_of (exprs_tree s.now.items) (exprs_tree i.now.items))) }
-{
-    emit_exprs(out, s);
-    emit_exprs(out, i);
-    let secrecy = out.count(s.len());
-    let integrity = out.count(i.len());
-    out.push(Op::MakeLabel {
-        secrecy,
-        integrity,
-    })
 }
 
 /// Puts the code of expressions, one after another.
