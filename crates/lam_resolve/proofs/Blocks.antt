@@ -8,7 +8,7 @@ use Rattle.resolved_tree.specs.declared.Stmt.{Stmt as Resolved}
 use Rattle.resolved_tree.specs.Tree.{Block, block_end, block_more, stmt_tree as resolved_stmt, stmts_tree as resolved_stmts}
 use Rattle.lam_resolved.specs.Resolved.{then_some, Tables, Locals, State, Step, step_as, Closed, closed_as, resolve_stmt, resolve_stmts}
 use Rattle.lam_resolve_exprs.specs.declared.values.Local.{Local}
-use Rattle.lam_resolve_exprs.proofs.Options.{first_some, goes, one_more}
+use Rattle.lam_resolve_tables.proofs.Options.{first_some, goes, one_more}
 use Rattle.lam_resolve.specs.Meets.{Extends}
 use Rattle.lam_resolve.proofs.Sizes.{stmt_size, stmts_size, item_smaller}
 use Rattle.lam_resolve.proofs.UnitSteps.{seen}

@@ -7,10 +7,10 @@ use Rattle.resolved_tree.specs.declared.Class.{Class}
 use Rattle.resolved_tree.specs.declared.Function.{Function}
 use Rattle.resolved_tree.specs.Tree.{ResolvedType, ResolvedFunction, ResolvedTree, Block, class_tree, classes_tree, function_tree, functions_tree}
 use Rattle.lam_resolved.specs.Resolved.{then_some, Tables, Locals, State, state_as, Closed, locals_from, types_of, resolve_vars, resolve_result, resolve_stmts, function_as, resolve_function, resolve_functions, tables, resolved}
-use Rattle.lam_resolve_exprs.specs.declared.kinds.Kind.{Kind}
-use Rattle.lam_resolve_exprs.specs.declared.named.Named.{Named}
-use Rattle.lam_resolve_exprs.specs.Tables.{fields, all_fields}
-use Rattle.lam_resolve_exprs.proofs.Options.{first_some, next_some, goes, Collected, collected_some, one_more}
+use Rattle.lam_resolve_tables.specs.declared.kinds.Kind.{Kind}
+use Rattle.lam_resolve_tables.specs.declared.named.Named.{Named}
+use Rattle.lam_resolve_tables.specs.Tables.{fields, all_fields}
+use Rattle.lam_resolve_tables.proofs.Options.{first_some, next_some, goes, Collected, collected_some, one_more}
 use Rattle.lam_resolve.specs.Meets.{types_of_all, IsAdded}
 
 module _ (t : Tables) (m : ℕ) (f : FunctionTree) where

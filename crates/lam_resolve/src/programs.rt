@@ -4,15 +4,15 @@ ghost use Rattle.std.specs.Prelude.{◌≡◌, ◌∷◌, [], IfOk, IsSome, OnOk
 ghost use Rattle.lam_syntax.specs.Tree.{program_tree, items_tree, item_tree, function_tree};
 ghost use Rattle.resolved_tree.specs.Tree.{function_tree as resolved_function, functions_tree, classes_tree, option_type_tree, resolved_tree};
 ghost use Rattle.lam_resolved.specs.Resolved.{resolve_function as function_resolved, resolve_functions as functions_resolved, resolved, types_of};
-ghost use Rattle.lam_resolve_exprs.specs.Kinds.{kind_type};
-ghost use Rattle.lam_resolve_exprs.specs.Tables.{tables, all_fields};
+ghost use Rattle.lam_resolve_tables.specs.Kinds.{kind_type};
+ghost use Rattle.lam_resolve_tables.specs.Tables.{tables, all_fields};
 ghost use Rattle.lam_resolve.specs.Meets.{IsAdded, types_of_all};
 
 use crate::stmts::resolve_block;
 use crate::units::open_unit;
-use lam_resolve_exprs::kinds::{Kind, option_value_type, resolve_result};
-use lam_resolve_exprs::named::Named;
-use lam_resolve_exprs::tables::{Tables, field_types, resolve_vars, types_of_vars};
+use lam_resolve_tables::kinds::{Kind, option_value_type, resolve_result};
+use lam_resolve_tables::named::Named;
+use lam_resolve_tables::tables::{Tables, field_types, resolve_vars, types_of_vars};
 use lam_syntax::{Function, Item, Program};
 use resolved_tree::{Class, Function as ResolvedFunction, Resolved};
 use std::alloc::Global;

@@ -4,14 +4,14 @@ ghost use Rattle.std.specs.Prelude.{◌≡◌, ◌+◌, IfOk, IsSome, OnOk, Some
 ghost use Rattle.lam_syntax.specs.Tree.{ids_tree, id_tree};
 ghost use Rattle.resolved_tree.specs.Tree.{types_tree};
 ghost use Rattle.lam_resolved.specs.Resolved.{then_some, with_local, locals_from, local_named as first_local, next_slot, state_as, types_of, resolve_captures as resolved_captures, slots_of as slots_of_locals, taken_over as taken};
-ghost use Rattle.lam_resolve_exprs.specs.Kinds.{kind_type};
-ghost use Rattle.lam_resolve_exprs.specs.Tables.{vars as seen_vars};
+ghost use Rattle.lam_resolve_tables.specs.Kinds.{kind_type};
+ghost use Rattle.lam_resolve_tables.specs.Tables.{vars as seen_vars};
 ghost use Rattle.lam_resolve_exprs.specs.Values.{local, locals};
 ghost use Rattle.lam_resolve.specs.Seen.{state, captured, entered, entered_by};
 
-use lam_resolve_exprs::kinds::{Kind, value_type};
-use lam_resolve_exprs::named::Named;
-use lam_resolve_exprs::tables::types_of_vars;
+use lam_resolve_tables::kinds::{Kind, value_type};
+use lam_resolve_tables::named::Named;
+use lam_resolve_tables::tables::types_of_vars;
 use lam_resolve_exprs::values::{Local, local_named};
 use lam_syntax::Id;
 use resolved_tree::ValueType;

@@ -7,7 +7,7 @@ use Rattle.resolved_tree.specs.declared.Expr.{Expr as Resolved}
 use Rattle.resolved_tree.specs.Tree.{ResolvedGiven, Expressions, args_end, args_more, expr_tree as resolved_tree, exprs_tree as resolved_row}
 use Rattle.lam_resolved.specs.Resolved.{then_some, Tables, Locals, Value, Args, args_as, resolve, resolve_args}
 use Rattle.lam_resolve_exprs.specs.Meets.{first_of}
-use Rattle.lam_resolve_exprs.proofs.Options.{first_some, goes, one_more}
+use Rattle.lam_resolve_tables.proofs.Options.{first_some, goes, one_more}
 use Rattle.lam_resolve_exprs.proofs.Sizes.{expr_size, args_size}
 
 pub item_smaller : (xs : List Expr) (i : ℕ) (x : Expr) → i < length xs → x ≡ get_or xs i x → expr_size (expr_tree x) < args_size (exprs_tree xs)

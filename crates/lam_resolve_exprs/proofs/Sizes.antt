@@ -1,15 +1,6 @@
--- How large trees are, so that each call of a recursion goes down.
-use Rattle.std.proofs.Common.{◌≡◌, ℕ, ◌+◌, ◌<◌, List, arith, ap, sym, ◌∙◌, subst}
-use Rattle.lam_syntax.specs.declared.TypeExpr.{TypeExpr}
-use Rattle.lam_syntax.specs.Tree.{TypeTree, type_node, TypeForm, array_type, type_tree, ExprTree, expr_node, ExprForm, binary_expr, unary_expr, field_expr, element_expr, call_expr, new_array_expr, label_expr, spawn_expr, ExprList, no_exprs, exprs}
-
-abbrev mutual
-  pub type_size : TypeTree → ℕ
-  type_size (type_node at form) = 1 + type_form_size form
-
-  pub type_form_size : TypeForm → ℕ
-  type_form_size (array_type t) = type_size t
-  type_form_size _ = 0
+-- How large expressions are, so that each call of a recursion goes down.
+use Rattle.std.proofs.Common.{ℕ, ◌+◌}
+use Rattle.lam_syntax.specs.Tree.{ExprTree, expr_node, ExprForm, binary_expr, unary_expr, field_expr, element_expr, call_expr, new_array_expr, label_expr, spawn_expr, ExprList, no_exprs, exprs}
 
 abbrev mutual
   pub expr_size : ExprTree → ℕ

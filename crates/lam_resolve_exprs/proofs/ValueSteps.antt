@@ -9,16 +9,16 @@ use Rattle.resolved_tree.specs.Tree.{ResolvedType, ResolvedGiven, Expression, fi
 use Rattle.resolved_tree.specs.declared.CapItem.{CapItem as CapSlotItem}
 use Rattle.lam_syntax.specs.declared.CapItem.{CapItem}
 use Rattle.lam_resolved.specs.Resolved.{then_some, Found, found, Locals, local_named, Value, value_as, Tables, field_read, Args, called, resolve_caps}
-use Rattle.lam_resolve_exprs.specs.declared.kinds.Kind.{Kind}
+use Rattle.lam_resolve_tables.specs.declared.kinds.Kind.{Kind}
 use Rattle.lam_resolve_exprs.specs.declared.values.Local.{Local}
-use Rattle.lam_resolve_exprs.specs.declared.named.Named.{Named}
-use Rattle.lam_resolve_exprs.specs.Entries.{entries_of}
-use Rattle.lam_resolve_exprs.specs.Kinds.{kind_type, class_given}
-use Rattle.lam_resolve_exprs.specs.Named.{seen_found}
-use Rattle.lam_resolve_exprs.specs.Tables.{fields, all_fields, head, heads}
-use Rattle.lam_resolve_exprs.specs.declared.tables.Head.{Head as FunctionHead}
+use Rattle.lam_resolve_tables.specs.declared.named.Named.{Named}
+use Rattle.lam_resolve_tables.specs.Entries.{entries_of}
+use Rattle.lam_resolve_tables.specs.Kinds.{kind_type, class_given}
+use Rattle.lam_resolve_tables.specs.Named.{seen_found}
+use Rattle.lam_resolve_tables.specs.Tables.{fields, all_fields, head, heads}
+use Rattle.lam_resolve_tables.specs.declared.tables.Head.{Head as FunctionHead}
 use Rattle.lam_resolve_exprs.specs.Values.{local, locals, called_seen, cap_at}
-use Rattle.lam_resolve_exprs.proofs.Options.{seen_it, found_seen, first_some, next_some, goes, then_map, one_more}
+use Rattle.lam_resolve_tables.proofs.Options.{seen_it, found_seen, first_some, next_some, goes, then_map, one_more}
 
 it_of : (o : Option (Found Local)) → then_some (option_map (seen_it local) o) (λ l. Some l.it) ≡ option_map local (option_map (λ f. f.it) o)
 unfolding then_some

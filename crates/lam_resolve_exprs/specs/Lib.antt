@@ -1,6 +1,2 @@
-pub mod Named
-pub mod Entries
-pub mod Kinds
-pub mod Tables
 pub mod Meets
 pub mod Values

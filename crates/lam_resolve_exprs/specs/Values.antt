@@ -4,14 +4,14 @@ use Rattle.lam_syntax.specs.Tree.{Word}
 use Rattle.resolved_tree.specs.Tree.{ResolvedType, ResolvedGiven, CapSlot, expr_tree, exprs_tree}
 use Rattle.resolved_tree.specs.Typing.{Head, given_by}
 use Rattle.lam_resolved.specs.Resolved.{Local as ResolvedLocal, Locals, Value as ResolvedValue, value_as, Args as ResolvedArgs, args_as, Found}
-use Rattle.lam_resolve_exprs.specs.declared.kinds.Kind.{Kind}
-use Rattle.lam_resolve_exprs.specs.declared.kinds.Given.{Given}
-use Rattle.lam_resolve_exprs.specs.declared.named.Named.{Named}
+use Rattle.lam_resolve_tables.specs.declared.kinds.Kind.{Kind}
+use Rattle.lam_resolve_tables.specs.declared.kinds.Given.{Given}
+use Rattle.lam_resolve_tables.specs.declared.named.Named.{Named}
 use Rattle.lam_resolve_exprs.specs.declared.values.Local.{Local}
 use Rattle.lam_resolve_exprs.specs.declared.values.Value.{Value}
 use Rattle.lam_resolve_exprs.specs.declared.values.Args.{Args}
-use Rattle.lam_resolve_exprs.specs.Entries.{entries_of}
-use Rattle.lam_resolve_exprs.specs.Kinds.{kind_type, given}
+use Rattle.lam_resolve_tables.specs.Entries.{entries_of}
+use Rattle.lam_resolve_tables.specs.Kinds.{kind_type, given}
 
 abbrev pub local : Local → ResolvedLocal
 local l = record { slot = l.slot; ty = kind_type l.kind }

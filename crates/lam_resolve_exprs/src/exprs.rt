@@ -3,14 +3,14 @@
 ghost use Rattle.std.specs.Prelude.{◌≡◌, IfOk, IsSome, Some};
 ghost use Rattle.lam_syntax.specs.Tree.{expr_tree, exprs_tree};
 ghost use Rattle.lam_resolved.specs.Resolved.{resolve, resolve_args as resolved_args};
-ghost use Rattle.lam_resolve_exprs.specs.Kinds.{given};
+ghost use Rattle.lam_resolve_tables.specs.Kinds.{given};
 ghost use Rattle.lam_resolve_exprs.specs.Meets.{first_of};
-ghost use Rattle.lam_resolve_exprs.specs.Tables.{tables};
+ghost use Rattle.lam_resolve_tables.specs.Tables.{tables};
 ghost use Rattle.lam_resolve_exprs.specs.Values.{locals, value, args as seen_args};
 
-use crate::kinds::{Base, Given, resolve_type};
-use crate::named::Named;
-use crate::tables::Tables;
+use lam_resolve_tables::kinds::{Base, Given, resolve_type};
+use lam_resolve_tables::named::Named;
+use lam_resolve_tables::tables::Tables;
 use crate::values::{
     Args, Local, Value, binary, called, caps_of, element_read, field_read, function_number,
     label_of, local_value, new_array, new_object, plain_value, spawn, unary,

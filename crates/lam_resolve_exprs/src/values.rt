@@ -11,17 +11,17 @@ ghost use Rattle.lam_builtins.specs.Builtins.{row_by, answered as answered_by};
 ghost use Rattle.resolved_tree.specs.Tree.{expr_tree, exprs_tree, cap_tree, caps_tree, local_value as local_tree, option_type_tree, new_object as new_object_tree, unary_of, builtin_of, call_of, field_of, binary_of, new_array as new_array_tree, label_of as label_tree, caps_of as caps_of_tree, spawn_of};
 ghost use Rattle.lam_resolved.specs.Resolved.{then_some, value_as, local_named as first_local, field_read as read_field, element_read as read_element, builtin_value as value_of_builtin, called as called_by, found, resolve_caps as resolved_caps};
 ghost use Rattle.lam_builtins.specs.Builtins.{builtin_named};
-ghost use Rattle.lam_resolve_exprs.specs.Kinds.{base_type, kind_type, given};
-ghost use Rattle.lam_resolve_exprs.specs.Tables.{tables, heads};
+ghost use Rattle.lam_resolve_tables.specs.Kinds.{base_type, kind_type, given};
+ghost use Rattle.lam_resolve_tables.specs.Tables.{tables, heads};
 ghost use Rattle.resolved_tree.specs.Typing.{given_by as result_given};
 ghost use Rattle.lam_resolve_exprs.specs.Values.{local, locals, value, args as seen_args, field_seen, function_seen, called_seen, cap_at};
 
-use crate::kinds::{
+use lam_resolve_tables::kinds::{
     Base, Given, Kind, array_of, class_of, element_of, given_kind, option_value_type, plain,
     value_type,
 };
-use crate::named::Named;
-use crate::tables::Tables;
+use lam_resolve_tables::named::Named;
+use lam_resolve_tables::tables::Tables;
 use lam_builtins::Builtin;
 use lam_syntax::{BinaryOp, CapItem as WrittenCap, UnaryOp};
 use resolved_tree::{CapItem, Expr, ValueType};

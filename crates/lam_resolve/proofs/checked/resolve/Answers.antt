@@ -6,7 +6,7 @@ use Rattle.resolved_tree.specs.Regions.{AreNumbered}
 use Rattle.resolved_tree.specs.Slots.{SlotsDiffer}
 use Rattle.lam_resolved.specs.Resolved.{resolved}
 use Rattle.lam_resolved.specs.Names.{names_of, program_named}
-use Rattle.lam_resolve_exprs.proofs.Options.{if_ok}
+use Rattle.lam_resolve_tables.proofs.Options.{if_ok}
 use Rattle.lam_resolve.proofs.ProgramSteps.{holds_of}
 use Rattle.region_check.specs.Seen.{checked_tree}
 use Rattle.lam_resolve.proofs.checked.resolve.Goals as goal

@@ -1,5 +1,5 @@
 use Rattle.lam_syntax.specs.Tree.{expr_tree}
-use Rattle.lam_resolve_exprs.specs.Tables.{tables}
+use Rattle.lam_resolve_tables.specs.Tables.{tables}
 use Rattle.lam_resolve_exprs.specs.Values.{locals, value}
 use Rattle.resolved_tree.specs.Tree.{stmt_tree}
 use Rattle.lam_resolve.proofs.PartSteps.{assign_place, assign_value, assign_needs, assign_done}

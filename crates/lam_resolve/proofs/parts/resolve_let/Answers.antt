@@ -1,6 +1,6 @@
 use Rattle.lam_syntax.specs.Tree.{expr_tree, var_tree}
-use Rattle.lam_resolve_exprs.specs.Kinds.{kind_type}
-use Rattle.lam_resolve_exprs.specs.Tables.{tables}
+use Rattle.lam_resolve_tables.specs.Kinds.{kind_type}
+use Rattle.lam_resolve_tables.specs.Tables.{tables}
 use Rattle.lam_resolve_exprs.specs.Values.{locals, value}
 use Rattle.lam_resolve.specs.Seen.{state}
 use Rattle.lam_resolve.proofs.PartSteps.{let_type, let_value, let_done}

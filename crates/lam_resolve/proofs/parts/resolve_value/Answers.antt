@@ -1,6 +1,6 @@
 use Rattle.std.proofs.Common.{ap}
 use Rattle.lam_syntax.specs.Tree.{expr_tree, option_expr_tree}
-use Rattle.lam_resolve_exprs.specs.Tables.{tables}
+use Rattle.lam_resolve_tables.specs.Tables.{tables}
 use Rattle.lam_resolve_exprs.specs.Values.{locals, value}
 use Rattle.lam_resolve.proofs.PartSteps.{value_some, value_done}
 use Rattle.lam_resolve.proofs.parts.resolve_value.Goals as goal

@@ -4,9 +4,9 @@ use Rattle.std.specs.Prelude.{string_bytes}
 use Rattle.lam_syntax.specs.Tree.{function_tree, vars_tree}
 use Rattle.resolved_tree.specs.Tree.{stmts_tree, types_tree, option_type_tree}
 use Rattle.lam_resolved.specs.Resolved.{resolve_vars, closed_as, locals_from, state_as, types_of}
-use Rattle.lam_resolve_exprs.specs.Entries.{entries_of}
-use Rattle.lam_resolve_exprs.specs.Kinds.{kind_type}
-use Rattle.lam_resolve_exprs.specs.Tables.{tables, vars}
+use Rattle.lam_resolve_tables.specs.Entries.{entries_of}
+use Rattle.lam_resolve_tables.specs.Kinds.{kind_type}
+use Rattle.lam_resolve_tables.specs.Tables.{tables, vars}
 use Rattle.lam_resolve_exprs.specs.Values.{locals}
 use Rattle.lam_resolve.specs.Seen.{state}
 use Rattle.lam_resolve.proofs.ProgramSteps.{function_params, function_result, function_body, function_done}

@@ -2,7 +2,7 @@ use Rattle.lam_syntax.specs.Tree.{stmt_tree, stmts_tree, else_tree}
 use Rattle.lam_resolve.proofs.Sizes.{stmt_size, stmts_size, else_size}
 use Rattle.std.proofs.Common.{◌+◌, drop}
 use Rattle.lam_resolved.specs.Resolved.{resolve_stmts}
-use Rattle.lam_resolve_exprs.specs.Tables.{tables}
+use Rattle.lam_resolve_tables.specs.Tables.{tables}
 use Rattle.lam_resolve_exprs.specs.Values.{locals}
 use Rattle.lam_resolve.specs.Seen.{state}
 use Rattle.lam_resolve.specs.Meets.{Extends}

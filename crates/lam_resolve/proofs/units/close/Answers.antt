@@ -1,6 +1,6 @@
 use Rattle.std.proofs.Common.{◌≡◌, ap, sym, ◌∙◌, map}
 use Rattle.std.proofs.lemmas.List.{take-map}
-use Rattle.lam_resolve_exprs.specs.Entries.{entries_of}
+use Rattle.lam_resolve_tables.specs.Entries.{entries_of}
 use Rattle.lam_resolve_exprs.specs.Values.{local}
 use Rattle.lam_resolve.proofs.UnitSteps.{seen}
 use Rattle.lam_resolve.proofs.units.close.Goals as goal

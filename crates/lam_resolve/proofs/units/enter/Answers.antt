@@ -1,7 +1,7 @@
 use Rattle.std.proofs.Common.{◌≡◌, ap, ◌∙◌}
 use Rattle.lam_syntax.specs.Tree.{ids_tree}
 use Rattle.lam_resolved.specs.Resolved.{resolve_captures, slots_of, taken_over, locals_from, state_as, types_of}
-use Rattle.lam_resolve_exprs.specs.Tables.{vars}
+use Rattle.lam_resolve_tables.specs.Tables.{vars}
 use Rattle.lam_resolve_exprs.specs.Values.{locals}
 use Rattle.lam_resolve.specs.Seen.{state, captured}
 use Rattle.lam_resolve.proofs.PartSteps.{enter_done}

@@ -1,4 +1,4 @@
-use Rattle.lam_resolve_exprs.specs.Entries.{entries_of}
+use Rattle.lam_resolve_tables.specs.Entries.{entries_of}
 use Rattle.lam_resolve.proofs.UnitSteps.{locals_step}
 use Rattle.lam_resolve.proofs.units.first_locals.Goals as goal
 

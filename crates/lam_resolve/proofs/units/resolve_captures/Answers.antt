@@ -3,7 +3,7 @@ use Rattle.std.proofs.lemmas.List.{drop_all}
 use Rattle.lam_syntax.specs.Tree.{ids_tree, id_tree}
 use Rattle.lam_resolved.specs.Resolved.{resolve_captures}
 use Rattle.lam_resolve_exprs.specs.Values.{locals, local}
-use Rattle.lam_resolve_exprs.proofs.Options.{collected_first, collected_some, collected_one, collected_last, first_some, map_push}
+use Rattle.lam_resolve_tables.proofs.Options.{collected_first, collected_some, collected_one, collected_last, first_some, map_push}
 use Rattle.lam_resolve.specs.Seen.{captured}
 use Rattle.lam_resolve.proofs.UnitSteps.{captures_step}
 use Rattle.lam_resolve.proofs.units.resolve_captures.Goals as goal

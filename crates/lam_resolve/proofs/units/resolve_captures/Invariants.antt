@@ -2,7 +2,7 @@ use Rattle.std.proofs.Common.{drop}
 use Rattle.lam_syntax.specs.Tree.{ids_tree}
 use Rattle.lam_resolved.specs.Resolved.{resolve_captures}
 use Rattle.lam_resolve_exprs.specs.Values.{locals}
-use Rattle.lam_resolve_exprs.proofs.Options.{Collected}
+use Rattle.lam_resolve_tables.proofs.Options.{Collected}
 use Rattle.lam_resolve.specs.Seen.{captured}
 use Rattle.lam_resolve.proofs.units.resolve_captures.Given as goal
 

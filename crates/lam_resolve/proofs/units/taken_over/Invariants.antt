@@ -1,6 +1,6 @@
 use Rattle.std.proofs.Common.{◌≡◌, ◌++◌, drop}
 use Rattle.lam_resolved.specs.Resolved.{taken_over}
-use Rattle.lam_resolve_exprs.specs.Tables.{vars}
+use Rattle.lam_resolve_tables.specs.Tables.{vars}
 use Rattle.lam_resolve.specs.Seen.{captured}
 use Rattle.lam_resolve.proofs.units.taken_over.Given as goal
 

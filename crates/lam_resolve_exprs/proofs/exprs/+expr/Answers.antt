@@ -3,10 +3,10 @@ use Rattle.std.proofs.lemmas.List.{drop_all}
 use Rattle.lam_syntax.specs.Tree.{expr_form, expr_tree, exprs_tree, id_tree, type_tree, caps_tree}
 use Rattle.lam_syntax.proofs.Rows.{call_row, label_row, spawn_row}
 use Rattle.lam_resolved.specs.Resolved.{resolve_args}
-use Rattle.lam_resolve_exprs.specs.Kinds.{kind_type, given}
-use Rattle.lam_resolve_exprs.specs.Tables.{tables}
+use Rattle.lam_resolve_tables.specs.Kinds.{kind_type, given}
+use Rattle.lam_resolve_tables.specs.Tables.{tables}
 use Rattle.lam_resolve_exprs.specs.Values.{locals, value, args as seen_args}
-use Rattle.lam_resolve_exprs.proofs.Options.{if_ok}
+use Rattle.lam_resolve_tables.proofs.Options.{if_ok}
 use Rattle.lam_resolve_exprs.proofs.Arms
 use Rattle.lam_resolve_exprs.proofs.Arguments.{args_first, args_needs, args_next, args_last}
 use Rattle.lam_resolve_exprs.proofs.exprs.+expr.Goals as goal

@@ -1,8 +1,8 @@
 use Rattle.std.proofs.Common.{drop}
 use Rattle.lam_syntax.specs.Tree.{expr_tree, exprs_tree}
 use Rattle.lam_resolved.specs.Resolved.{resolve_args}
-use Rattle.lam_resolve_exprs.specs.Kinds.{given}
-use Rattle.lam_resolve_exprs.specs.Tables.{tables}
+use Rattle.lam_resolve_tables.specs.Kinds.{given}
+use Rattle.lam_resolve_tables.specs.Tables.{tables}
 use Rattle.lam_resolve_exprs.specs.Values.{locals}
 use Rattle.lam_resolve_exprs.proofs.Arguments.{ArgsSoFar}
 use Rattle.lam_resolve_exprs.proofs.Sizes.{expr_size, args_size}

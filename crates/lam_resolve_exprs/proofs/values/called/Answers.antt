@@ -1,8 +1,8 @@
 use Rattle.std.proofs.Common.{◌≡◌, Some, ap, sym, ◌∙◌}
 use Rattle.std.specs.Option.{option_map}
-use Rattle.lam_resolve_exprs.specs.Tables.{tables}
+use Rattle.lam_resolve_tables.specs.Tables.{tables}
 use Rattle.lam_resolve_exprs.specs.Values.{args as seen_args, function_seen}
-use Rattle.lam_resolve_exprs.proofs.Options.{some_not_none}
+use Rattle.lam_resolve_tables.proofs.Options.{some_not_none}
 use Rattle.lam_resolve_exprs.proofs.ValueSteps.{called_needs, called_done}
 use Rattle.lam_resolve_exprs.proofs.values.called.Goals as goal
 

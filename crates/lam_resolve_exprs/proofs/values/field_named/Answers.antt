@@ -1,8 +1,8 @@
 use Rattle.std.proofs.Common.{◌≡◌, ap, sym, ◌∙◌, slice_get}
 use Rattle.std.specs.Option.{option_map, option_copied}
-use Rattle.lam_resolve_exprs.specs.Kinds.{kind_type}
-use Rattle.lam_resolve_exprs.specs.Named.{seen_found}
-use Rattle.lam_resolve_exprs.proofs.Options.{seen_it}
+use Rattle.lam_resolve_tables.specs.Kinds.{kind_type}
+use Rattle.lam_resolve_tables.specs.Named.{seen_found}
+use Rattle.lam_resolve_tables.proofs.Options.{seen_it}
 use Rattle.lam_resolve_exprs.proofs.ValueSteps.{field_none, field_some}
 use Rattle.lam_resolve_exprs.proofs.values.field_named.Goals as goal
 

@@ -1,10 +1,10 @@
 use Rattle.std.proofs.Common.{◌≡◌, Some, ap, sym, ◌∙◌}
 use Rattle.std.specs.Option.{option_map}
 use Rattle.resolved_tree.specs.Tree.{expr_tree}
-use Rattle.lam_resolve_exprs.specs.Kinds.{given}
-use Rattle.lam_resolve_exprs.specs.Tables.{tables}
+use Rattle.lam_resolve_tables.specs.Kinds.{given}
+use Rattle.lam_resolve_tables.specs.Tables.{tables}
 use Rattle.lam_resolve_exprs.specs.Values.{field_seen}
-use Rattle.lam_resolve_exprs.proofs.Options.{some_not_none, if_ok}
+use Rattle.lam_resolve_tables.proofs.Options.{some_not_none, if_ok}
 use Rattle.lam_resolve_exprs.proofs.ValueSteps.{read_needs, read_done}
 use Rattle.lam_resolve_exprs.proofs.values.field_read.Goals as goal
 

@@ -1,8 +1,8 @@
 use Rattle.std.proofs.Common.{◌≡◌, Some, ap, sym, ◌∙◌}
 use Rattle.std.specs.Option.{option_map}
-use Rattle.lam_resolve_exprs.specs.Named.{seen_found}
-use Rattle.lam_resolve_exprs.specs.Tables.{head}
-use Rattle.lam_resolve_exprs.proofs.Options.{seen_it, some_not_none}
+use Rattle.lam_resolve_tables.specs.Named.{seen_found}
+use Rattle.lam_resolve_tables.specs.Tables.{head}
+use Rattle.lam_resolve_tables.proofs.Options.{seen_it, some_not_none}
 use Rattle.lam_resolve_exprs.proofs.ValueSteps.{heads_found}
 use Rattle.lam_resolve_exprs.proofs.values.function_number.Goals as goal
 

@@ -1,6 +1,6 @@
 use Rattle.std.proofs.Common.{◌≡◌, ap, sym, ◌∙◌}
 use Rattle.std.specs.Option.{option_map}
-use Rattle.lam_resolve_exprs.specs.Named.{seen_found}
+use Rattle.lam_resolve_tables.specs.Named.{seen_found}
 use Rattle.lam_resolve_exprs.specs.Values.{local}
 use Rattle.lam_resolve_exprs.proofs.ValueSteps.{local_found}
 use Rattle.lam_resolve_exprs.proofs.values.local_named.Goals as goal

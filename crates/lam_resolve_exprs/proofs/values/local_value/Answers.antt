@@ -1,7 +1,7 @@
 use Rattle.std.proofs.Common.{◌≡◌, Some, ap, sym, ◌∙◌}
 use Rattle.std.specs.Option.{option_map}
 use Rattle.lam_resolve_exprs.specs.Values.{local}
-use Rattle.lam_resolve_exprs.proofs.Options.{some_not_none, goes}
+use Rattle.lam_resolve_tables.proofs.Options.{some_not_none, goes}
 use Rattle.lam_resolve_exprs.proofs.values.local_value.Goals as goal
 
 pub unreachable-requires : goal.unreachable-requires

@@ -4,7 +4,7 @@ use Rattle.lam_syntax.specs.Tree.{caps_tree as written_caps, cap_tree as written
 use Rattle.resolved_tree.specs.Tree.{caps_tree, cap_tree}
 use Rattle.lam_resolved.specs.Resolved.{resolve_caps}
 use Rattle.lam_resolve_exprs.specs.Values.{locals}
-use Rattle.lam_resolve_exprs.proofs.Options.{collected_first, collected_some, collected_one, collected_last, one_more}
+use Rattle.lam_resolve_tables.proofs.Options.{collected_first, collected_some, collected_one, collected_last, one_more}
 use Rattle.lam_resolve_exprs.proofs.ValueSteps.{cap_needs, caps_step, caps_push}
 use Rattle.lam_resolve_exprs.proofs.values.resolve_caps.Goals as goal
 

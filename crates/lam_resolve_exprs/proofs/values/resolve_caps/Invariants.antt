@@ -3,7 +3,7 @@ use Rattle.lam_syntax.specs.Tree.{caps_tree as written_caps}
 use Rattle.resolved_tree.specs.Tree.{caps_tree}
 use Rattle.lam_resolved.specs.Resolved.{resolve_caps}
 use Rattle.lam_resolve_exprs.specs.Values.{locals}
-use Rattle.lam_resolve_exprs.proofs.Options.{Collected}
+use Rattle.lam_resolve_tables.proofs.Options.{Collected}
 use Rattle.lam_resolve_exprs.proofs.values.resolve_caps.Given as goal
 
 abbrev pub invariant-loop-item : goal.invariant-loop-item

@@ -1,6 +1,0 @@
-use Rattle.lam_syntax.specs.Tree.{type_tree}
-use Rattle.lam_resolve_exprs.proofs.Sizes.{type_size}
-use Rattle.lam_resolve_exprs.proofs.kinds.+resolve_type.Given as goal
-
-abbrev pub decreases-resolve_type : goal.decreases-resolve_type
-decreases-resolve_type l = type_size (type_tree l.t.now)

@@ -1,8 +1,0 @@
-use Rattle.std.proofs.Common.{◌≡◌, ◌++◌, drop}
-use Rattle.resolved_tree.specs.Tree.{types_tree}
-use Rattle.lam_resolved.specs.Resolved.{types_of}
-use Rattle.lam_resolve_exprs.specs.Tables.{vars}
-use Rattle.lam_resolve_exprs.proofs.tables.types_of_vars.Given as goal
-
-abbrev pub invariant-loop-var : goal.invariant-loop-var
-invariant-loop-var l = types_tree l.types.items ++ types_of (vars (drop l.var-index l.vars)) ≡ types_of (vars l.vars)
