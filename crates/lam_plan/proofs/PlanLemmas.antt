@@ -3,7 +3,7 @@ use Rattle.std.proofs.Common.{◌≡◌, ◌<◌, ◌≤◌, ℕ, length, Option
 use Rattle.lam_io.specs.Outside.{Files}
 use Rattle.lam_print.specs.Canon.{canon}
 use Rattle.lam_front.proofs.Once.{one_spelt, spelt_or_misspelt, one_misspelt, fine_or_broken, one_broken}
-use Rattle.lam_words.specs.Words.{Text, Request, play, check, format, request_of}
+use Rattle.lam_words.specs.Words.{Text, Request, play, check, format, help, request_of}
 use Rattle.lam_plan.specs.Plan.{Plan, prints, no_program, IsUnread, IsOfFile, WithFile, unread, of_file, Plays, Formats, canonical, misspelt, Checks, fine, broken, IsPlanOf, PlansAreOne, script_limit, program_limit}
 
 one_unread : (found : Option Text) (name : Text) (limit : ℕ) (p q : Plan) → IsUnread found name limit p → IsUnread found name limit q → p ≡ q
@@ -52,6 +52,7 @@ one_plan_of (Err index) files p q h k = h ∙ sym k
 one_plan_of (Ok (play file observer)) files p q h k = one_with_file (files file) file script_limit (Plays observer) (one_plays observer) p q h k
 one_plan_of (Ok (check file)) files p q h k = one_with_file (files file) file program_limit Checks one_checks p q h k
 one_plan_of (Ok (format file)) files p q h k = one_with_file (files file) file program_limit Formats one_formats p q h k
+one_plan_of (Ok help) files p q h k = h ∙ sym k
 
 pub plans_are_one : PlansAreOne
 plans_are_one ws files p q none h k = one_plan_of (request_of ws) files p q h k

@@ -21,7 +21,7 @@ use Rattle.lam_front.specs.Programs.{IsSpelt, IsMisspelt, IsFine, IsBroken}
 use Rattle.lam_plan.specs.declared.Status.{Status}
 use Rattle.lam_plan.specs.declared.Status.TheVariants.{Done, NoMemory, Words, Program, Missing}
 use Rattle.lam_plan.specs.Codes.{code_of}
-use Rattle.lam_words.specs.Words.{Text, Request, play, check, format, request_of}
+use Rattle.lam_words.specs.Words.{Text, Request, play, check, format, help, request_of, forms, help_lines}
 
 -- how a call ends, what it prints, and the file that it writes, if any, by its name and its bytes
 pub record Plan : Type 0 where
@@ -116,6 +116,7 @@ IsPlanOf (Err index) files plan = plan ≡ no_word index
 IsPlanOf (Ok (play file observer)) files plan = WithFile (files file) file script_limit (Plays observer) plan
 IsPlanOf (Ok (check file)) files plan = WithFile (files file) file program_limit Checks plan
 IsPlanOf (Ok (format file)) files plan = WithFile (files file) file program_limit Formats plan
+IsPlanOf (Ok help) files plan = plan ≡ prints (help_lines forms)
 
 -- the plan of words and files, in the order of reading: words, file, and then what the file is read for
 abbrev pub IsPlan : List Text → Files → Plan → Type 0

@@ -1,11 +1,11 @@
 //! The words of the command line: the forms that they may have, and the commands that they ask.
 //!
-//! The forms are a table, `Form::kinds`: a command adds a line to it, its name, and a case to [`read_words`]. Words that
+//! The forms are a table, `Form::kinds`: a command adds a line to it, its name, a line of [`help_text`], and a case to [`read_words`]. Words that
 //! are in no form are refused at the least index at which no form agrees with them.
 #![tactic(auto)]
 
-ghost use Rattle.std.specs.Prelude.{◌≡◌, ◌≤◌, length, map, find, string_bytes};
-ghost use Rattle.lam_words.specs.Words.{name, fits, kinds, forms, agreed, is_in, longest, word, request_of, Reads};
+ghost use Rattle.std.specs.Prelude.{◌≡◌, ◌≤◌, IfOk, length, map, find, string_bytes};
+ghost use Rattle.lam_words.specs.Words.{name, help_lines, fits, kinds, forms, agreed, is_in, longest, word, request_of, Reads};
 ghost use Rattle.lam_words.specs.declared.WordFault.TheVariants.{NoMemory as no_memory};
 
 use flow_labels::{Form as TwoLists, bad_place};
@@ -21,6 +21,8 @@ enum Form {
     Check,
     /// `format P`
     Format,
+    /// `help`
+    Help,
 }
 
 impl Form {
@@ -32,6 +34,7 @@ impl Form {
             Form::Play => "play",
             Form::Check => "check",
             Form::Format => "format",
+            Form::Help => "help",
         }
     }
 
@@ -42,6 +45,7 @@ impl Form {
             Form::Play => &[Kind::Name(Form::Play), Kind::File, Kind::Observer],
             Form::Check => &[Kind::Name(Form::Check), Kind::File],
             Form::Format => &[Kind::Name(Form::Format), Kind::File],
+            Form::Help => &[Kind::Name(Form::Help)],
         }
     }
 }
@@ -72,7 +76,7 @@ impl Kind {
 fn forms() -> &'static [Form]
     ensures { result.now ≡ forms }
 {
-    &[Form::Play, Form::Check, Form::Format]
+    &[Form::Play, Form::Check, Form::Format, Form::Help]
 }
 
 /// What the words ask, with its parts as texts of its own.
@@ -84,6 +88,8 @@ pub enum Command {
     Check { program: String },
     /// `format P`: a program in canonical text.
     Format { program: String },
+    /// `help`: the forms of the words.
+    Help,
 }
 
 /// Why words are no command.
@@ -142,7 +148,22 @@ pub fn read_words(alloc: Global, words: &[String]) -> Result<Command, WordFault>
         Form::Format => Ok(Command::Format {
             program: String::from_str(alloc, word_at(words, 1))?,
         }),
+        Form::Help => Ok(Command::Help),
     }
+}
+
+/// The forms of the words, a line for each.
+///
+/// # Errors
+///
+/// `NoMemory` where memory runs out.
+pub fn help_text(alloc: Global) -> Result<String, NoMemory>
+    ensures { IfOk result (λ text. string_bytes text ≡ help_lines forms) }
+{
+    Ok(String::from_str(
+        alloc,
+        "lam play FILE OBS\nlam check P\nlam format P\nlam help\n",
+    )?)
 }
 
 fn form_of(words: &[String]) -> Option<Form>
