@@ -7,9 +7,9 @@ use Rattle.flow_labels.specs.declared.two_lists.Form.TheVariants.{Label}
 use Rattle.lam_words.specs.declared.Kind.{Kind}
 use Rattle.lam_words.specs.declared.Kind.TheVariants.{Name, File, Observer}
 use Rattle.lam_words.specs.declared.Form.{Form}
-use Rattle.lam_words.specs.declared.Form.TheVariants.{Play as play_form, Check as check_form, Format as format_form, Help as help_form}
+use Rattle.lam_words.specs.declared.Form.TheVariants.{Play as play_form, Check as check_form, Format as format_form, Code as code_form, Help as help_form}
 use Rattle.lam_words.specs.declared.Command.{Command}
-use Rattle.lam_words.specs.declared.Command.TheVariants.{Play, Check, Format, Help}
+use Rattle.lam_words.specs.declared.Command.TheVariants.{Play, Check, Format, Code, Help}
 use Rattle.lam_words.specs.declared.WordFault.{WordFault}
 use Rattle.lam_words.specs.declared.WordFault.TheVariants.{Word, NoMemory}
 
@@ -21,6 +21,7 @@ abbrev pub name : Form → Text
 name play_form = codes "play"
 name check_form = codes "check"
 name format_form = codes "format"
+name code_form = codes "code"
 name help_form = codes "help"
 
 -- a form as a reader of the help text sees it
@@ -28,6 +29,7 @@ abbrev pub shown : Form → Text
 shown play_form = codes "play FILE OBS"
 shown check_form = codes "check P"
 shown format_form = codes "format P"
+shown code_form = codes "code P"
 shown help_form = codes "help"
 
 -- a line for each form
@@ -46,10 +48,11 @@ abbrev pub kinds : Form → List Kind
 kinds play_form = Name play_form ∷ File ∷ Observer ∷ []
 kinds check_form = Name check_form ∷ File ∷ []
 kinds format_form = Name format_form ∷ File ∷ []
+kinds code_form = Name code_form ∷ File ∷ []
 kinds help_form = Name help_form ∷ []
 
 abbrev pub forms : List Form
-forms = play_form ∷ check_form ∷ format_form ∷ help_form ∷ []
+forms = play_form ∷ check_form ∷ format_form ∷ code_form ∷ help_form ∷ []
 
 -- with how many first words the words of a form agree
 abbrev pub agreed : List Kind → List Text → ℕ
@@ -70,6 +73,7 @@ pub data Request : Type 0 where
   play : (file observer : Text) → Request
   check : (program : Text) → Request
   format : (program : Text) → Request
+  code : (program : Text) → Request
   help : Request
 
 abbrev pub word : List Text → ℕ → Text
@@ -79,6 +83,7 @@ abbrev pub requested : List Text → Form → Request
 requested ws play_form = play (word ws 1) (word ws 2)
 requested ws check_form = check (word ws 1)
 requested ws format_form = format (word ws 1)
+requested ws code_form = code (word ws 1)
 requested ws help_form = help
 
 abbrev pub request_in : List Text → Option Form → Result Request ℕ
@@ -94,6 +99,7 @@ abbrev pub asked : Command → Request
 asked (Play file observer) = play (string_bytes file) (string_bytes observer)
 asked (Check program) = check (string_bytes program)
 asked (Format program) = format (string_bytes program)
+asked (Code program) = code (string_bytes program)
 asked Help = help
 
 -- What reading words answers: a command that asks what they ask, or the index at which they are in no form.
@@ -126,7 +132,7 @@ word_too_many_of_help : request_of (codes "help" ∷ codes "me" ∷ []) ≡ Err 
 word_too_many_of_help = refl
 
 -- the help text
-text_of_help : help_lines forms ≡ codes "lam play FILE OBS\nlam check P\nlam format P\nlam help\n"
+text_of_help : help_lines forms ≡ codes "lam play FILE OBS\nlam check P\nlam format P\nlam code P\nlam help\n"
 text_of_help = refl
 
 -- an empty word fits nothing

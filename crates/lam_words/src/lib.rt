@@ -21,6 +21,8 @@ enum Form {
     Check,
     /// `format P`
     Format,
+    /// `code P`
+    Code,
     /// `help`
     Help,
 }
@@ -34,6 +36,7 @@ impl Form {
             Form::Play => "play",
             Form::Check => "check",
             Form::Format => "format",
+            Form::Code => "code",
             Form::Help => "help",
         }
     }
@@ -45,6 +48,7 @@ impl Form {
             Form::Play => &[Kind::Name(Form::Play), Kind::File, Kind::Observer],
             Form::Check => &[Kind::Name(Form::Check), Kind::File],
             Form::Format => &[Kind::Name(Form::Format), Kind::File],
+            Form::Code => &[Kind::Name(Form::Code), Kind::File],
             Form::Help => &[Kind::Name(Form::Help)],
         }
     }
@@ -76,7 +80,13 @@ impl Kind {
 fn forms() -> &'static [Form]
     ensures { result.now ≡ forms }
 {
-    &[Form::Play, Form::Check, Form::Format, Form::Help]
+    &[
+        Form::Play,
+        Form::Check,
+        Form::Format,
+        Form::Code,
+        Form::Help,
+    ]
 }
 
 /// What the words ask, with its parts as texts of its own.
@@ -84,10 +94,12 @@ fn forms() -> &'static [Form]
 pub enum Command {
     /// `play FILE OBS`: the steps of a script as an observer sees them.
     Play { file: String, obs: String },
-    /// `check P`: whether a program keeps the type rules and the region rules.
+    /// `check P`: whether a program keeps the type rules and the region rules, and has code.
     Check { program: String },
     /// `format P`: a program in canonical text.
     Format { program: String },
+    /// `code P`: the listing of a program's code.
+    Code { program: String },
     /// `help`: the forms of the words.
     Help,
 }
@@ -148,6 +160,9 @@ pub fn read_words(alloc: Global, words: &[String]) -> Result<Command, WordFault>
         Form::Format => Ok(Command::Format {
             program: String::from_str(alloc, word_at(words, 1))?,
         }),
+        Form::Code => Ok(Command::Code {
+            program: String::from_str(alloc, word_at(words, 1))?,
+        }),
         Form::Help => Ok(Command::Help),
     }
 }
@@ -162,7 +177,7 @@ pub fn help_text(alloc: Global) -> Result<String, NoMemory>
 {
     Ok(String::from_str(
         alloc,
-        "lam play FILE OBS\nlam check P\nlam format P\nlam help\n",
+        "lam play FILE OBS\nlam check P\nlam format P\nlam code P\nlam help\n",
     )?)
 }
 
