@@ -4,13 +4,13 @@ use Rattle.lam_io.specs.Outside.{Files}
 use Rattle.lam_print.specs.Canon.{canon}
 use Rattle.lam_front.proofs.Once.{one_spelt, spelt_or_misspelt, one_misspelt, fine_or_broken, one_broken}
 use Rattle.lam_syntax.specs.Tree.{ProgramTree}
-use Rattle.resolved_tree.specs.Tree.{ResolvedTree}
-use Rattle.lam_resolved.specs.Resolved.{resolved}
+use Rattle.barrier_compiler.specs.Compiled.{IsCompiledTo}
+use Rattle.barrier_compiler.proofs.Once.{one_compiled}
 use Rattle.lam_bytecode.specs.Codes.{CodeTree}
 use Rattle.lam_bytecode.specs.Listing.{listing_text}
 use Rattle.lam_front.specs.Programs.{IsFine}
 use Rattle.lam_words.specs.Words.{Text, Request, play, check, format, code, help, request_of}
-use Rattle.lam_plan.specs.Plan.{Plan, prints, no_program, IsUnread, IsOfFile, WithFile, unread, of_file, Plays, Formats, canonical, misspelt, Compiles, fine, broken, compiled, IsCompiled, by_code, Checks, Lists, IsPlanOf, PlansAreOne, script_limit, program_limit}
+use Rattle.lam_plan.specs.Plan.{Plan, prints, no_program, IsUnread, IsOfFile, WithFile, unread, of_file, Plays, Formats, canonical, misspelt, Compiles, fine, broken, IsCompiled, by_code, Checks, Lists, IsPlanOf, PlansAreOne, script_limit, program_limit}
 
 one_unread : (found : Option Text) (name : Text) (limit : ℕ) (p q : Plan) → IsUnread found name limit p → IsUnread found name limit q → p ≡ q
 one_unread None name limit p q h k = h ∙ sym k
@@ -50,13 +50,8 @@ one_formats bytes p q (misspelt f m e) (misspelt g n d) = e ∙ ap no_program (o
 one_fine : (bytes : Text) (p q : ProgramTree) → IsFine bytes p → IsFine bytes q → p ≡ q
 one_fine bytes p q h k = one_spelt bytes p q h.spelt k.spelt
 
-one_tree : {r t : ResolvedTree} → Some r ≡ Some t → r ≡ t
-one_tree e = cc
-
 one_made : (bytes : Text) (m n : Result CodeTree ℕ) → IsCompiled bytes m → IsCompiled bytes n → m ≡ n
-one_made bytes m n h k =
-    let trees : h.tree ≡ k.tree = one_tree (sym h.resolves ∙ ap resolved (one_fine bytes h.program k.program h.fine k.fine) ∙ k.resolves) in
-    sym h.makes ∙ ap compiled trees ∙ k.makes
+one_made bytes m n h k = one_compiled k.program m n (subst (λ p. IsCompiledTo p m) (one_fine bytes h.program k.program h.fine k.fine) h.makes) k.makes
 
 one_compiles : (shown : CodeTree → Text) (bytes : Text) (p q : Plan) → Compiles shown bytes p → Compiles shown bytes q → p ≡ q
 one_compiles shown bytes p q (fine m c e) (fine n d i) = e ∙ ap (λ x. by_code x shown) (one_made bytes m n c d) ∙ sym i

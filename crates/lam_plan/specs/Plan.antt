@@ -18,12 +18,9 @@ use Rattle.lam_front.specs.declared.fault.ProgramFault.{ProgramFault}
 use Rattle.lam_front.specs.declared.fault.ProgramFault.TheVariants.{NotUtf8, At, NoMemory as no_memory}
 use Rattle.lam_front.specs.Faults.{flaw_name}
 use Rattle.lam_front.specs.Programs.{IsSpelt, IsMisspelt, IsFine, IsBroken}
-use Rattle.resolved_tree.specs.Tree.{ResolvedTree}
-use Rattle.lam_resolved.specs.Resolved.{resolved}
 use Rattle.lam_bytecode.specs.Codes.{CodeTree}
 use Rattle.lam_bytecode.specs.Listing.{listing_text}
-use Rattle.lam_scheme.specs.Scheme.{scheme}
-use Rattle.lam_scheme.specs.Long.{first_long_unit}
+use Rattle.barrier_compiler.specs.Compiled.{IsCompiledTo}
 use Rattle.lam_plan.specs.declared.Status.{Status}
 use Rattle.lam_plan.specs.declared.Status.TheVariants.{Done, NoMemory, Words, Program, Missing}
 use Rattle.lam_plan.specs.Codes.{code_of}
@@ -112,22 +109,12 @@ pub data Formats (bytes : Text) (plan : Plan) : Type 0 where
 
 -- ---- `check` and `code`
 
-abbrev pub unless_long : Option ℕ → CodeTree → Result CodeTree ℕ
-unless_long None tree = Ok tree
-unless_long (Some unit) tree = Err unit
-
--- the code of a program, or the number of its first unit that is too long
-abbrev pub compiled : ResolvedTree → Result CodeTree ℕ
-compiled r = unless_long (first_long_unit r) (scheme r)
-
--- The bytes spell a program that keeps the type rules and the region rules, and this is what it is compiled to, once its
--- names are resolved.
+-- the bytes spell a program that keeps the type rules and the region rules, and this is what it is compiled to: its
+-- code, or the number of its first unit that is too long
 pub record IsCompiled (bytes : Text) (made : Result CodeTree ℕ) : Type 0 where
   pub program : ProgramTree
   pub fine : IsFine bytes program
-  pub tree : ResolvedTree
-  pub resolves : resolved program ≡ Some tree
-  pub makes : compiled tree ≡ made
+  pub makes : IsCompiledTo program made
 
 -- a unit that is too long
 abbrev pub no_code : ℕ → Plan
