@@ -1,5 +1,5 @@
 -- What the code of an operation says of it, and what it leaves of the operands.
-use Rattle.std.specs.Prelude.{ℕ, Bool, true, false, List, [], ◌∷◌, ◌++◌, map, reverse, take, drop, length, slice_get, slice_set}
+use Rattle.std.specs.Prelude.{ℕ, nat_lt, if◌then◌else◌, Bool, true, false, List, [], ◌∷◌, ◌++◌, map, reverse, take, drop, length, slice_get, slice_set}
 use Rattle.std.specs.FinSet.{insert, from_list}
 use Rattle.tag_sets.specs.Tags.{Tags}
 use Rattle.capabilities.specs.Changes.{no_caps}
@@ -20,7 +20,8 @@ use Rattle.thread_steps.specs.Operators as operators
 use Rattle.thread_steps.specs.Operators.{Pure, label_from, with_sign}
 use Rattle.thread_steps.specs.Builtins as built
 use Rattle.thread_steps.specs.Builtins.{Calls, builtin, root_name}
-use Rattle.thread_steps.specs.Ops.{Did, gives, sets, jumps, calls, returns, fails, wants, leaves, breaks, on_any, on_int, on_many, on_known, on_caps, on_label, operated, new_object, region_takes, region_in, function_takes, called}
+use Rattle.thread_steps.specs.Ops.{Did, gives, sets, jumps, calls, returns, fails, wants, leaves, breaks, on_any, on_many, on_known, on_caps, on_label, operated, new_object, region_takes, region_in, function_takes, called, frames_limit}
+use Rattle.lam_asks.specs.declared.fault.Fault.TheVariants as fault
 use Rattle.thread_ops.specs.declared.acted.Computed.{Computed}
 use Rattle.thread_ops.specs.declared.acted.Computed.TheVariants as computed
 use Rattle.thread_ops.specs.declared.acted.Sketch.{Sketch}
@@ -142,3 +143,7 @@ spawns us u s = on_known (function_takes (slice_get us u)) (λ n. on_many n s (�
 -- a built-in call with the arguments on top
 abbrev pub systems : Label → Caps → Builtin → List Value → Did
 systems p c b s = on_many (length (row b).signature.takes) s (λ args s. called s (builtin p c b args))
+
+-- a function is called, by its number, where so many calls are open
+abbrev pub calls_unit : List CodeUnit → ℕ → ℕ → List Value → Did
+calls_unit us frames u s = on_known (function_takes (slice_get us u)) (λ n. on_many n s (λ args s. if nat_lt frames frames_limit then calls u args s else fails fault.Deep))

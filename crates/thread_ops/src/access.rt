@@ -29,17 +29,6 @@ fn barred(denied: Option<Denied>) -> Sight<'static>
     }
 }
 
-/// An ask that takes so many operands, and has a value.
-fn asks(ask: Sketch<'_>, takes: usize) -> Sight<'_>
-    ensures { result ≡ Sight.Asks ask takes false }
-{
-    Sight::Asks {
-        ask,
-        takes,
-        leaves_null: false,
-    }
-}
-
 /// Tests that the thing so far below the top may be read.
 pub fn read_barrier<'a>(stack: &'a Operands, below: usize, label: &Label) -> Sight<'a>
     ensures { (locals : List Value) → did_of result locals stack.now ≡ tested stack.now below (may_read label.now) }
@@ -86,7 +75,11 @@ pub fn get_field<'a>(stack: &'a Operands, at: u32, label: &Label) -> Sight<'a>
         return Sight::Breaks;
     }
     let at = u64::from(at);
-    asks(Sketch::Read { r, at }, 1)
+    Sight::Asks {
+        ask: Sketch::Read { r, at },
+        takes: 1,
+        leaves_null: false,
+    }
 }
 
 /// Asks that the top operand be put into a field of the object below it.
@@ -106,7 +99,11 @@ pub fn put_field<'a>(stack: &'a Operands, at: u32, label: &Label) -> Sight<'a>
         return Sight::Breaks;
     }
     let at = u64::from(at);
-    asks(Sketch::Write { r, at, v }, 2)
+    Sight::Asks {
+        ask: Sketch::Write { r, at, v },
+        takes: 2,
+        leaves_null: false,
+    }
 }
 
 /// The place within a length that a number is.
@@ -138,7 +135,11 @@ pub fn get_element<'a>(stack: &'a Operands, label: &Label) -> Sight<'a>
     }
     match place_of(*i, *len) {
         None => Sight::Fails(Fault::Index),
-        Some(at) => asks(Sketch::Read { r, at }, 2),
+        Some(at) => Sight::Asks {
+            ask: Sketch::Read { r, at },
+            takes: 2,
+            leaves_null: false,
+        },
     }
 }
 
@@ -163,7 +164,11 @@ pub fn put_element<'a>(stack: &'a Operands, label: &Label) -> Sight<'a>
     }
     match place_of(*i, *len) {
         None => Sight::Fails(Fault::Index),
-        Some(at) => asks(Sketch::Write { r, at, v }, 3),
+        Some(at) => Sight::Asks {
+            ask: Sketch::Write { r, at, v },
+            takes: 3,
+            leaves_null: false,
+        },
     }
 }
 
@@ -175,7 +180,11 @@ pub fn new_object<'a>(classes: &'a [Kinds], class: u32) -> Sight<'a>
         None => Sight::Breaks,
         Some(kinds) => {
             let kinds = kinds.as_slice();
-            asks(Sketch::NewObject { class, kinds }, 0)
+            Sight::Asks {
+                ask: Sketch::NewObject { class, kinds },
+                takes: 0,
+                leaves_null: false,
+            }
         }
     }
 }
@@ -194,7 +203,11 @@ pub fn new_array(stack: &Operands, kind: Kind) -> Sight<'_>
     if len > 65_536 {
         return Sight::Fails(Fault::Long);
     }
-    asks(Sketch::NewArray { kind, len }, 1)
+    Sight::Asks {
+        ask: Sketch::NewArray { kind, len },
+        takes: 1,
+        leaves_null: false,
+    }
 }
 
 /// Asks for the monitor of the thing on top.
@@ -209,7 +222,11 @@ pub fn enter_monitor(stack: &Operands) -> Sight<'_>
     }
     match thing_in(r) {
         None => Sight::Breaks,
-        Some(_) => asks(Sketch::MonEnter { r }, 1),
+        Some(_) => Sight::Asks {
+            ask: Sketch::MonEnter { r },
+            takes: 1,
+            leaves_null: false,
+        },
     }
 }
 
@@ -239,7 +256,11 @@ pub fn leave_monitor<'a>(stack: &'a Operands, taken: &[Name]) -> Sight<'a>
         None => Sight::Breaks,
         Some(name) => {
             if is_held(name, taken) {
-                asks(Sketch::MonLeave { r }, 1)
+                Sight::Asks {
+                    ask: Sketch::MonLeave { r },
+                    takes: 1,
+                    leaves_null: false,
+                }
             } else {
                 Sight::Breaks
             }
