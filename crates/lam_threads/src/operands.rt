@@ -1,6 +1,6 @@
 //! The operands of a call.
 
-ghost use Rattle.std.specs.Prelude.{◌≡◌, ◌↔◌, ◌<◌, ◌≤◌, ◌+◌, ◌-◌, ◌++◌, ◌∷◌, [], length, take, drop, reverse, replicate, slice_get, IsTrue, IfOk, OnOk, OnErr, MatchOption, vec_capacity};
+ghost use Rattle.std.specs.Prelude.{◌≡◌, ◌↔◌, ◌<◌, ◌≤◌, ◌-◌, ◌++◌, ◌∷◌, [], length, take, drop, reverse, replicate, slice_get, IsTrue, IfOk, OnOk, OnErr, MatchOption, vec_capacity};
 ghost use Rattle.std.specs.Option.{option_copied};
 ghost use Rattle.lam_value.specs.declared.values.Value.TheVariants.{Nothing as null};
 ghost use Rattle.lam_threads.specs.Seen.{filled_to};
@@ -116,7 +116,7 @@ impl Operands {
 
     /// Takes so many operands away that stand below the top ones, of so many, which stay. Takes no memory.
     pub fn drop_under(&mut self, keep: usize, count: usize)
-        ensures { self.new ≡ take keep self.old ++ drop (keep + count) self.old }
+        ensures { self.new ≡ take keep self.old ++ drop count (drop keep self.old) }
     {
         cut_under(&mut self.items, keep, count);
     }
@@ -192,7 +192,7 @@ fn put_last(items: &mut Vec<Value>, count: usize, value: Value)
 }
 
 fn cut_under(items: &mut Vec<Value>, keep: usize, count: usize)
-    ensures { reverse items.new.items ≡ take keep (reverse items.old.items) ++ drop (keep + count) (reverse items.old.items) }
+    ensures { reverse items.new.items ≡ take keep (reverse items.old.items) ++ drop count (drop keep (reverse items.old.items)) }
 {
     let top = items.len().saturating_sub(keep);
     let bottom = top.saturating_sub(count);

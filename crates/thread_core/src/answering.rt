@@ -1,7 +1,7 @@
 //! Answers.
 
 ghost use Rattle.std.specs.Prelude.{◌≡◌, ◌<◌, ◌∷◌, List, length, take, drop, reverse, IfOk, OnErr, IfErr};
-ghost use Rattle.std.specs.Option.{option_copied};;
+ghost use Rattle.std.specs.Option.{option_copied};
 ghost use Rattle.std.specs.List.{remove};
 ghost use Rattle.thread_steps.specs.Ops.{region_in};
 ghost use Rattle.lam_asks.specs.declared.ask.Ask.{Ask};
@@ -41,7 +41,9 @@ fn left(c: &Context, code: &Code) -> Left
         Coming::Handles(_) => stays(c),
         Coming::Sees(sight) => match sight {
             Sight::Asks {
-                takes, leaves_null, ..
+                takes,
+                leaves_null,
+                ..
             } => Left {
                 at: c.at + 1,
                 takes,
@@ -110,12 +112,7 @@ fn gained(caps: &Caps, ask: &Ask, value: &Value) -> Result<Option<Caps>, NoMemor
     }
 }
 
-fn plan_value(
-    c: &mut Context,
-    code: &Code,
-    ask: &Ask,
-    value: Value,
-) -> Result<Going, NoMemory>
+fn plan_value(c: &mut Context, code: &Code, ask: &Ask, value: Value) -> Result<Going, NoMemory>
     ensures before { IfOk result (λ g. undone g c.new ≡ c.old) }
     ensures after { IfOk result (λ g. (i : Inside) → next_of code.now c.old ≡ asks ask.now i → gone g c.new ≡ gains ask.now value (given c.old i value)) }
     ensures err { OnErr result (c.new ≡ c.old) }
@@ -336,11 +333,7 @@ fn plan_last_done(contexts: &mut Vec<Context>, code: &Code, ask: &Ask) -> Result
     plan_done(&mut contexts[last], code, ask)
 }
 
-fn plan_last_entered(
-    contexts: &mut Vec<Context>,
-    code: &Code,
-    ask: &Ask,
-) -> Result<Plan, NoMemory>
+fn plan_last_entered(contexts: &mut Vec<Context>, code: &Code, ask: &Ask) -> Result<Plan, NoMemory>
     requires { 0 < length contexts.old.items }
     ensures before { IfOk result (λ p. undone_in p (reverse contexts.new.items) ≡ reverse contexts.old.items) }
     ensures after { IfOk result (λ p. (c : Plain) (rest : List Plain) (i : Inside) → reverse contexts.old.items ≡ c ∷ rest → next_of code.now c ≡ asks ask.now i → done_in p (reverse contexts.new.items) ≡ entered code.now c rest i ask.now) }
@@ -354,8 +347,14 @@ fn plan_last_entered(
             region,
             args,
         } => {
-            let inner =
-                region_context(&contexts[last], code, label, caps, *region, args.as_slice())?;
+            let inner = region_context(
+                &contexts[last],
+                code,
+                label,
+                caps,
+                *region,
+                args.as_slice(),
+            )?;
             contexts.push(inner)?;
             match plan_rest(&mut contexts[last], code) {
                 Ok(going) => Ok(Plan::Enters(going)),
@@ -576,7 +575,9 @@ impl Prepared {
         ensures { result ≡ self.before }
     {
         let Prepared {
-            mut thread, plan, ..
+            mut thread,
+            plan,
+            ..
         } = self;
         undo_plan(&mut thread.contexts, plan);
         thread

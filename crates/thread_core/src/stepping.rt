@@ -327,7 +327,19 @@ pub fn context_waits<'a>(c: &'a Context, code: &'a Code) -> Waits<'a>
     ensures { awaited_by result ≡ awaited (asked (next_of code.now c.now)) }
 {
     match next(c, code) {
-        Coming::Sees(Sight::Asks { ask, .. }) => awaited_by_sketch(&ask),
-        _ => Waits::Nobody,
+        Coming::Nothing => Waits::Nobody,
+        Coming::Handles(_) => Waits::Nobody,
+        Coming::Sees(sight) => match sight {
+            Sight::Asks { ask, .. } => awaited_by_sketch(&ask),
+            Sight::Drops { .. } => Waits::Nobody,
+            Sight::Puts { .. } => Waits::Nobody,
+            Sight::Sets { .. } => Waits::Nobody,
+            Sight::Jumps { .. } => Waits::Nobody,
+            Sight::Calls { .. } => Waits::Nobody,
+            Sight::Returns => Waits::Nobody,
+            Sight::Fails(_) => Waits::Nobody,
+            Sight::Leaves => Waits::Nobody,
+            Sight::Breaks => Waits::Nobody,
+        },
     }
 }

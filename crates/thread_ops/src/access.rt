@@ -234,12 +234,10 @@ pub fn enter_monitor(stack: &Operands) -> Sight<'_>
 fn is_held(name: &Name, taken: &[Name]) -> bool
     ensures { result ≡ is_held name.now (reverse taken.now) }
 {
-    for at in 0..taken.len() {
-        if same_names(name, &taken[taken.len() - 1 - at]) {
-            return true;
-        }
-    }
-    false
+    taken
+        .iter()
+        .rev()
+        .any(|other| same_names(name, other))
 }
 
 /// Gives the monitor of the thing on top back, where it was taken.

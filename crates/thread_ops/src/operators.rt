@@ -5,7 +5,8 @@ ghost use Rattle.lam_value.specs.declared.values.Value.{Value};
 ghost use Rattle.thread_steps.specs.Operators.{operator, prefix, label_from, with_sign, tags_in};
 ghost use Rattle.thread_steps.specs.Ops.{between, before};
 ghost use Rattle.thread_ops.specs.Acting.{did_of, labelled, signs, pure_of};
-ghost use Rattle.thread_ops.specs.Reading.{number_in};
+ghost use Rattle.thread_ops.specs.Reading.{number_in, tag_in};
+ghost use Rattle.std.specs.List.{list_all};
 ghost use Rattle.thread_ops.specs.Fitting.{number_if};
 
 use crate::acted::{Computed, Sight, Worth};
@@ -156,16 +157,17 @@ pub fn before(op: UnaryOp, stack: &Operands) -> Sight<'_>
     }
 }
 
+fn all_tags(values: &[Value]) -> bool
+    ensures { result ≡ list_all (λ v. is_some (tag_in v)) values.now }
+{
+    values.iter().all(|v| tag_in(v).is_some())
+}
+
 /// Whether all values are tags.
 fn are_tags(values: &[Value]) -> bool
     ensures { result ≡ is_some (tags_in values.now) }
 {
-    for value in values {
-        if tag_in(value).is_none() {
-            return false;
-        }
-    }
-    true
+    all_tags(values)
 }
 
 /// The label of tags of secrecy and of integrity.

@@ -2,6 +2,7 @@
 
 ghost use Rattle.std.specs.Prelude.{◌≡◌};
 ghost use Rattle.std.specs.Option.{option_copied};
+ghost use Rattle.std.specs.List.{list_any};
 ghost use Rattle.thread_steps.specs.Operators.{is_null, some_null};
 ghost use Rattle.thread_ops.specs.Reading.{number_in, truth_in, thing_in, tag_in};
 
@@ -56,14 +57,15 @@ pub fn is_null(v: &Value) -> bool
     matches!(v, Value::Nothing)
 }
 
+fn any_null(values: &[Value]) -> bool
+    ensures { result ≡ list_any (λ v. is_null v) values.now }
+{
+    values.iter().any(|v| is_null(v))
+}
+
 /// Whether one of some values is null.
 pub fn some_null(values: &[Value]) -> bool
     ensures { result ≡ some_null values.now }
 {
-    for value in values {
-        if is_null(value) {
-            return true;
-        }
-    }
-    false
+    any_null(values)
 }

@@ -47,11 +47,9 @@ pub fn region_in(units: &[CodeUnit], region: u32) -> Option<UnitAt<'_>>
     ensures { unit_at result ≡ region_in region units.now }
 {
     for number in 0..units.len() {
-        if is_region(region, &units[number].kind) {
-            return Some(UnitAt {
-                number,
-                it: &units[number],
-            });
+        let it = &units[number];
+        if is_region(region, &it.kind) {
+            return Some(UnitAt { number, it });
         }
     }
     None
