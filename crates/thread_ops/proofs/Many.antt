@@ -59,9 +59,9 @@ runs : (p q : ℕ) (s : List Value) → p + q ≤ length s → reverse (take (p 
 runs p q s h =
     let n : p + q ≡ q + p = omega arith in
     let split : take (p + q) s ≡ take q s ++ take p (drop q s) =
-        sym (take-append-drop q (take (p + q) s))
-        ∙ (ap (λ l. l ++ drop q (take (p + q) s)) (take-take q (p + q) s (omega arith))
-        ∙ ap (λ l. take q s ++ l) (ap (λ k. drop q (take k s)) n ∙ drop-take q p s)) in
+    sym (take-append-drop q (take (p + q) s))
+    ∙ (ap (λ l. l ++ drop q (take (p + q) s)) (take-take q (p + q) s (omega arith))
+    ∙ ap (λ l. take q s ++ l) (ap (λ k. drop q (take k s)) n ∙ drop-take q p s)) in
     ap reverse split ∙ reverse-append (take q s) (take p (drop q s))
 
 front_length : (p q : ℕ) (s : List Value) → p + q ≤ length s → length (reverse (take p (drop q s))) ≡ p
@@ -95,4 +95,3 @@ labelled_by p q s h true true e f = absurd (omega (arith, leb-true q (length s) 
 
 pub labelled_short : (p q : ℕ) (s : List Value) → length s < p + q → labelled p q s ≡ breaks
 labelled_short p q s h = labelled_by p q s h (nat_le q (length s)) (nat_le p (length (drop q s))) refl refl
-

@@ -133,12 +133,20 @@ signs plus s = on_any s (λ t s. on_any s (λ c s. operated s (with_sign plus c 
 abbrev pub makes_object : List (List Kind) → ℕ → List Value → Did
 makes_object classes c s = new_object c s (slice_get classes c)
 
+-- a region is entered with captures, and with the label and the capabilities that stand on top
+abbrev pub enters_with : ℕ → List Value → List Value → Did
+enters_with r args s = on_caps s (λ c s. on_label s (λ l s. wants (ask.Enter l c r args) s))
+
 -- a region is entered with what stands on top: its label, its capabilities, and the captures above them
 abbrev pub enters : List CodeUnit → ℕ → List Value → Did
-enters us r s = on_known (region_takes (region_in r us)) (λ n. on_many n s (λ args s. on_caps s (λ c s. on_label s (λ l s. wants (ask.Enter l c r args) s))))
+enters us r s = on_known (region_takes (region_in r us)) (λ n. on_many n s (λ args s. enters_with r args s))
+
+-- a thread is made with arguments, and with the capabilities that stand on top
+abbrev pub spawns_with : ℕ → List Value → List Value → Did
+spawns_with u args s = on_caps s (λ c s. wants (ask.Spawn u args c) s)
 
 abbrev pub spawns : List CodeUnit → ℕ → List Value → Did
-spawns us u s = on_known (function_takes (slice_get us u)) (λ n. on_many n s (λ args s. on_caps s (λ c s. wants (ask.Spawn u args c) s)))
+spawns us u s = on_known (function_takes (slice_get us u)) (λ n. on_many n s (λ args s. spawns_with u args s))
 
 -- a built-in call with the arguments on top
 abbrev pub systems : Label → Caps → Builtin → List Value → Did

@@ -1,8 +1,8 @@
 //! Barriers, accesses, monitors, and what is made.
 
-ghost use Rattle.std.specs.Prelude.{◌≡◌, true, false, reverse, List};
+ghost use Rattle.std.specs.Prelude.{◌≡◌, ◌∷◌, true, reverse, List};
 ghost use Rattle.lam_asks.specs.declared.ask.Ask.TheVariants as ask;
-ghost use Rattle.thread_steps.specs.Ops.{tested, may_read, may_write, barrier, gets_field, puts_field, gets_element, puts_element, new_array, on_any, on_int, monitor_of, is_held};
+ghost use Rattle.thread_steps.specs.Ops.{tested, on_thing, may_read, may_write, barrier, gets_field, puts_field, gets_element, puts_element, new_array, on_any, on_int, monitor_of, is_held};
 ghost use Rattle.lam_value.specs.declared.values.Value.{Value};
 ghost use Rattle.thread_ops.specs.Acting.{did_of, makes_object};
 ghost use Rattle.thread_ops.specs.Fitting.{place_in};
@@ -29,35 +29,47 @@ fn barred(denied: Option<Denied>) -> Sight<'static>
     }
 }
 
+/// Tests that a thing may be read.
+fn reading(v: &Value, label: &Label) -> Sight<'static>
+    ensures { (locals s rest : List Value) → did_of result locals s ≡ on_thing (v.now ∷ rest) (λ n r. barrier s (may_read label.now n.own)) }
+{
+    match v {
+        Value::Obj(name) => barred(read_rule(label, name.own())),
+        Value::Arr { name, .. } => barred(read_rule(label, name.own())),
+        Value::Nothing => Sight::Fails(Fault::Null),
+        _ => Sight::Breaks,
+    }
+}
+
+/// Tests that a thing may be written.
+fn writing(v: &Value, label: &Label) -> Sight<'static>
+    ensures { (locals s rest : List Value) → did_of result locals s ≡ on_thing (v.now ∷ rest) (λ n r. barrier s (may_write label.now n.own)) }
+{
+    match v {
+        Value::Obj(name) => barred(write_rule(label, name.own())),
+        Value::Arr { name, .. } => barred(write_rule(label, name.own())),
+        Value::Nothing => Sight::Fails(Fault::Null),
+        _ => Sight::Breaks,
+    }
+}
+
 /// Tests that the thing so far below the top may be read.
-pub fn read_barrier<'a>(stack: &'a Operands, below: usize, label: &Label) -> Sight<'a>
+pub fn read_barrier(stack: &Operands, below: usize, label: &Label) -> Sight<'static>
     ensures { (locals : List Value) → did_of result locals stack.now ≡ tested stack.now below (may_read label.now) }
 {
-    let Some(v) = stack.get(below) else {
-        return Sight::Breaks;
-    };
-    if is_null(v) {
-        return Sight::Fails(Fault::Null);
-    }
-    match thing_in(v) {
+    match stack.get(below) {
         None => Sight::Breaks,
-        Some(name) => barred(read_rule(label, name.own())),
+        Some(v) => reading(v, label),
     }
 }
 
 /// Tests that the thing so far below the top may be written.
-pub fn write_barrier<'a>(stack: &'a Operands, below: usize, label: &Label) -> Sight<'a>
+pub fn write_barrier(stack: &Operands, below: usize, label: &Label) -> Sight<'static>
     ensures { (locals : List Value) → did_of result locals stack.now ≡ tested stack.now below (may_write label.now) }
 {
-    let Some(v) = stack.get(below) else {
-        return Sight::Breaks;
-    };
-    if is_null(v) {
-        return Sight::Fails(Fault::Null);
-    }
-    match thing_in(v) {
+    match stack.get(below) {
         None => Sight::Breaks,
-        Some(name) => barred(write_rule(label, name.own())),
+        Some(v) => writing(v, label),
     }
 }
 
@@ -234,10 +246,7 @@ pub fn enter_monitor(stack: &Operands) -> Sight<'_>
 fn is_held(name: &Name, taken: &[Name]) -> bool
     ensures { result ≡ is_held name.now (reverse taken.now) }
 {
-    taken
-        .iter()
-        .rev()
-        .any(|other| same_names(name, other))
+    taken.iter().rev().any(|other| same_names(name, other))
 }
 
 /// Gives the monitor of the thing on top back, where it was taken.

@@ -1,8 +1,8 @@
 //! Operators, and what makes labels and capabilities.
 
-ghost use Rattle.std.specs.Prelude.{◌≡◌, ◌⊎◌, List, None, is_some};
+ghost use Rattle.std.specs.Prelude.{◌≡◌, ◌⊎◌, ◌++◌, ◌&&◌, List, None, is_some};
 ghost use Rattle.lam_value.specs.declared.values.Value.{Value};
-ghost use Rattle.thread_steps.specs.Operators.{operator, prefix, label_from, with_sign, tags_in};
+ghost use Rattle.thread_steps.specs.Operators.{operator, prefix, label_from, with_sign, some_null, tags_in};
 ghost use Rattle.thread_steps.specs.Ops.{between, before};
 ghost use Rattle.thread_ops.specs.Acting.{did_of, labelled, signs, pure_of};
 ghost use Rattle.thread_ops.specs.Reading.{number_in, tag_in};
@@ -170,14 +170,27 @@ fn are_tags(values: &[Value]) -> bool
     all_tags(values)
 }
 
+#[tactic(auto, using(crate::proofs::Many::either_null))]
+fn have_null(secrets: &[Value], vouchers: &[Value]) -> bool
+    ensures { result ≡ some_null (secrets.now ++ vouchers.now) }
+{
+    some_null(secrets) || some_null(vouchers)
+}
+
+fn are_all_tags(secrets: &[Value], vouchers: &[Value]) -> bool
+    ensures { result ≡ (is_some (tags_in secrets.now) && is_some (tags_in vouchers.now)) }
+{
+    are_tags(secrets) && are_tags(vouchers)
+}
+
 /// The label of tags of secrecy and of integrity.
 pub fn label_from<'a>(secrets: &'a [Value], vouchers: &'a [Value]) -> Computed<'a>
     ensures { pure_of result ≡ label_from secrets.now vouchers.now }
 {
-    if some_null(secrets) || some_null(vouchers) {
+    if have_null(secrets, vouchers) {
         return Computed::Faults(Fault::Null);
     }
-    if are_tags(secrets) && are_tags(vouchers) {
+    if are_all_tags(secrets, vouchers) {
         Computed::Fine(Worth::OfTags { secrets, vouchers })
     } else {
         Computed::Wrong

@@ -14,12 +14,12 @@ use Rattle.thread_steps.specs.Threads.{Frame, Inside, Catch, Context, Thread}
 use Rattle.thread_steps.specs.Next.{frame_at, outermost, with_held, held_by, without}
 use Rattle.thread_ops.specs.Acting.{left_over}
 use Rattle.thread_core.specs.Moves.{failed}
-use Rattle.thread_core.specs.declared.plan.Left.{Left}
-use Rattle.thread_core.specs.declared.plan.Monitor.{Monitor}
-use Rattle.thread_core.specs.declared.plan.Monitor.TheVariants as monitor
-use Rattle.thread_core.specs.declared.plan.Going.{Going}
-use Rattle.thread_core.specs.declared.plan.Plan.{Plan}
-use Rattle.thread_core.specs.declared.plan.Plan.TheVariants as plan
+use Rattle.thread_answers.specs.declared.plan.Left.{Left}
+use Rattle.thread_answers.specs.declared.plan.Monitor.{Monitor}
+use Rattle.thread_answers.specs.declared.plan.Monitor.TheVariants as monitor
+use Rattle.thread_answers.specs.declared.plan.Going.{Going}
+use Rattle.thread_answers.specs.declared.plan.Plan.{Plan}
+use Rattle.thread_answers.specs.declared.plan.Plan.TheVariants as plan
 
 -- what stands when an ask was answered, below its value
 abbrev pub after_of : Left → Inside → Inside

@@ -8,9 +8,9 @@ ghost use Rattle.lam_asks.specs.declared.ask.Ask.{Ask};
 ghost use Rattle.thread_steps.specs.Threads.{Inside, Context as Plain};
 ghost use Rattle.thread_steps.specs.Next.{next_of, asks, takes, answered, done, entered, gains, given, with_caps, with_inside, region_context, without, catch_at, catching, unit_number, catch_place};
 ghost use Rattle.lam_threads.specs.Seen.{phase_of};
-ghost use Rattle.thread_core.specs.Preparing.{taken_by, given_by, thing_in, caught, catch_place_in, after_of, nulls, added_ones, without_at, caps_or, gone, undone, done_in, undone_in, ending_of};
+ghost use Rattle.thread_answers.specs.Preparing.{taken_by, given_by, thing_in, caught, catch_place_in, after_of, nulls, added_ones, without_at, caps_or, gone, undone, done_in, undone_in, ending_of};
 
-use crate::coming::{Coming, next};
+use thread_core::{Coming, next};
 use crate::plan::{Going, Left, Monitor, Plan};
 use capabilities::Caps;
 use flow_labels::Label;
@@ -410,14 +410,14 @@ pub struct Prepared {
 }
 
 impl Model for Prepared {
-    ghost use Rattle.thread_core.specs.Preparing.{Ready};
-    ghost use Rattle.thread_core.specs.Coding.{coded_ready};
+    ghost use Rattle.thread_answers.specs.Preparing.{Ready};
+    ghost use Rattle.thread_answers.specs.Coding.{coded_ready};
 
     ghost Value = { Ready };
 
     ghost coded = { coded_ready };
 
-    ghost use Rattle.thread_core.specs.Preparing.{ready_of};
+    ghost use Rattle.thread_answers.specs.Preparing.{ready_of};
 
     ghost view = { λ p. ready_of p.thread p.plan p.result };
 }
