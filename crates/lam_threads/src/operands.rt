@@ -3,6 +3,7 @@
 ghost use Rattle.std.specs.Prelude.{◌≡◌, ◌↔◌, ◌<◌, ◌≤◌, ◌-◌, ◌++◌, ◌∷◌, [], length, take, drop, reverse, replicate, slice_get, IsTrue, IfOk, OnOk, OnErr, MatchOption, vec_capacity};
 ghost use Rattle.std.specs.Option.{option_copied};
 ghost use Rattle.lam_value.specs.declared.values.Value.TheVariants.{Nothing as null};
+ghost use Rattle.lam_threads.specs.Seen.{filled_to};
 
 use lam_value::{Value, Values, same_values};
 use std::alloc::Global;
@@ -101,41 +102,34 @@ impl Operands {
         put_last(&mut self.items, count, value);
     }
 
-    /// Puts an operand in the place of the top ones, of so many.
+    /// Puts an operand in the place of the top ones, of so many, or of all where there are fewer.
     ///
     /// # Errors
     ///
     /// `NoMemory` where memory is refused; the operands are then as they were.
     pub fn place(&mut self, count: usize, value: Value) -> Result<(), NoMemory>
-        requires { count ≤ length self.old }
         ensures ok { OnOk result (self.new ≡ value ∷ drop count self.old) }
         ensures err { OnErr result (self.new ≡ self.old) }
     {
-        if count == 0 {
-            return self.push(value);
-        }
-        self.put(count, value);
-        Ok(())
+        place_last(&mut self.items, count, value)
     }
 
-    /// Takes so many operands away that stand right below the top one, which stays. Takes no memory.
-    pub fn drop_under(&mut self, count: usize)
-        requires { count < length self.old }
-        ensures { self.new ≡ take 1 self.old ++ drop count (drop 1 self.old) }
+    /// Takes so many operands away that stand below the top ones, of so many, which stay. Takes no memory.
+    pub fn drop_under(&mut self, keep: usize, count: usize)
+        ensures { self.new ≡ take keep self.old ++ drop count (drop keep self.old) }
     {
-        cut_under(&mut self.items, count);
+        cut_under(&mut self.items, keep, count);
     }
 
-    /// Takes so many operands away, and gives them in the order in which they were put there, with null behind them
-    /// up to a length.
+    /// Takes so many operands away, or all where there are fewer, and gives them in the order in which they were put
+    /// there, with null behind them up to a length.
     ///
     /// # Errors
     ///
     /// `NoMemory` where memory is refused; the operands are then as they were.
     pub fn take_many(&mut self, count: usize, size: usize) -> Result<Values, NoMemory>
-        requires { count ≤ length self.old }
         ensures ok { OnOk result (self.new ≡ drop count self.old) }
-        ensures taken { IfOk result (λ vs. vs ≡ reverse (take count self.old) ++ replicate (size - count) null) }
+        ensures taken { IfOk result (λ vs. vs ≡ filled_to size (reverse (take count self.old))) }
         ensures err { OnErr result (self.new ≡ self.old) }
     {
         let items = taken(&mut self.items, count, size)?;
@@ -197,24 +191,36 @@ fn put_last(items: &mut Vec<Value>, count: usize, value: Value)
     items[at] = value;
 }
 
-fn cut_under(items: &mut Vec<Value>, count: usize)
-    requires { count < length (reverse items.old.items) }
-    ensures { reverse items.new.items ≡ take 1 (reverse items.old.items) ++ drop count (drop 1 (reverse items.old.items)) }
+fn cut_under(items: &mut Vec<Value>, keep: usize, count: usize)
+    ensures { reverse items.new.items ≡ take keep (reverse items.old.items) ++ drop count (drop keep (reverse items.old.items)) }
 {
-    if count == 0 {
-        return;
+    let top = items.len().saturating_sub(keep);
+    let bottom = top.saturating_sub(count);
+    for taken in 0..top - bottom {
+        let _ = items.remove(top - 1 - taken);
     }
-    let top = items.take_last();
-    put_last(items, count, top);
+}
+
+fn place_last(items: &mut Vec<Value>, count: usize, value: Value) -> Result<(), NoMemory>
+    ensures ok { OnOk result (reverse items.new.items ≡ value ∷ drop count (reverse items.old.items)) }
+    ensures err { OnErr result (items.new.items ≡ items.old.items) }
+{
+    let count = count.min(items.len());
+    if count == 0 {
+        items.push(value)?;
+        return Ok(());
+    }
+    put_last(items, count, value);
+    Ok(())
 }
 
 /// The last so many of a vector, which leave it, with null behind them up to a length.
 fn taken(items: &mut Vec<Value>, count: usize, size: usize) -> Result<Vec<Value>, NoMemory>
-    requires { count ≤ length (reverse items.old.items) }
     ensures ok { OnOk result (reverse items.new.items ≡ drop count (reverse items.old.items)) }
-    ensures taken { IfOk result (λ v. v.items ≡ reverse (take count (reverse items.old.items)) ++ replicate (size - count) null) }
+    ensures taken { IfOk result (λ v. v.items ≡ filled_to size (reverse (take count (reverse items.old.items)))) }
     ensures err { OnErr result (items.new.items ≡ items.old.items) }
 {
+    let count = count.min(items.len());
     let mut out = Vec::with_capacity(*items.allocator(), size.max(count))?;
     move_last(items, count, &mut out);
     fill(&mut out, size);
@@ -253,7 +259,7 @@ fn fill(items: &mut Vec<Value>, size: usize)
 ///
 /// `NoMemory` where memory is refused.
 pub fn filled(alloc: Global, values: &[Value], size: usize) -> Result<Values, NoMemory>
-    ensures { IfOk result (λ vs. vs ≡ values.now ++ replicate (size - length values.now) null) }
+    ensures { IfOk result (λ vs. vs ≡ filled_to size values.now) }
 {
     let mut out = Vec::with_capacity(alloc, size.max(values.len()))?;
     for value in values {

@@ -1,5 +1,5 @@
 -- What the code of an operation says of it, and what it leaves of the operands.
-use Rattle.std.specs.Prelude.{ℕ, Bool, true, false, List, [], ◌∷◌, ◌++◌, map, reverse, take, drop, length, slice_get, slice_set}
+use Rattle.std.specs.Prelude.{ℕ, nat_lt, if◌then◌else◌, Bool, true, false, List, [], ◌∷◌, ◌++◌, map, reverse, take, drop, length, slice_get, slice_set}
 use Rattle.std.specs.FinSet.{insert, from_list}
 use Rattle.tag_sets.specs.Tags.{Tags}
 use Rattle.capabilities.specs.Changes.{no_caps}
@@ -20,7 +20,8 @@ use Rattle.thread_steps.specs.Operators as operators
 use Rattle.thread_steps.specs.Operators.{Pure, label_from, with_sign}
 use Rattle.thread_steps.specs.Builtins as built
 use Rattle.thread_steps.specs.Builtins.{Calls, builtin, root_name}
-use Rattle.thread_steps.specs.Ops.{Did, gives, sets, jumps, calls, returns, fails, wants, leaves, breaks, on_any, on_int, on_many, on_known, on_caps, on_label, operated, new_object, region_takes, region_in, function_takes, called}
+use Rattle.thread_steps.specs.Ops.{Did, gives, sets, jumps, calls, returns, fails, wants, leaves, breaks, on_any, on_many, on_known, on_caps, on_label, operated, new_object, region_takes, region_in, function_takes, called, frames_limit}
+use Rattle.lam_asks.specs.declared.fault.Fault.TheVariants as fault
 use Rattle.thread_ops.specs.declared.acted.Computed.{Computed}
 use Rattle.thread_ops.specs.declared.acted.Computed.TheVariants as computed
 use Rattle.thread_ops.specs.declared.acted.Sketch.{Sketch}
@@ -132,13 +133,25 @@ signs plus s = on_any s (λ t s. on_any s (λ c s. operated s (with_sign plus c 
 abbrev pub makes_object : List (List Kind) → ℕ → List Value → Did
 makes_object classes c s = new_object c s (slice_get classes c)
 
+-- a region is entered with captures, and with the label and the capabilities that stand on top
+abbrev pub enters_with : ℕ → List Value → List Value → Did
+enters_with r args s = on_caps s (λ c s. on_label s (λ l s. wants (ask.Enter l c r args) s))
+
 -- a region is entered with what stands on top: its label, its capabilities, and the captures above them
 abbrev pub enters : List CodeUnit → ℕ → List Value → Did
-enters us r s = on_known (region_takes (region_in r us)) (λ n. on_many n s (λ args s. on_caps s (λ c s. on_label s (λ l s. wants (ask.Enter l c r args) s))))
+enters us r s = on_known (region_takes (region_in r us)) (λ n. on_many n s (λ args s. enters_with r args s))
+
+-- a thread is made with arguments, and with the capabilities that stand on top
+abbrev pub spawns_with : ℕ → List Value → List Value → Did
+spawns_with u args s = on_caps s (λ c s. wants (ask.Spawn u args c) s)
 
 abbrev pub spawns : List CodeUnit → ℕ → List Value → Did
-spawns us u s = on_known (function_takes (slice_get us u)) (λ n. on_many n s (λ args s. on_caps s (λ c s. wants (ask.Spawn u args c) s)))
+spawns us u s = on_known (function_takes (slice_get us u)) (λ n. on_many n s (λ args s. spawns_with u args s))
 
 -- a built-in call with the arguments on top
 abbrev pub systems : Label → Caps → Builtin → List Value → Did
 systems p c b s = on_many (length (row b).signature.takes) s (λ args s. called s (builtin p c b args))
+
+-- a function is called, by its number, where so many calls are open
+abbrev pub calls_unit : List CodeUnit → ℕ → ℕ → List Value → Did
+calls_unit us frames u s = on_known (function_takes (slice_get us u)) (λ n. on_many n s (λ args s. if nat_lt frames frames_limit then calls u args s else fails fault.Deep))

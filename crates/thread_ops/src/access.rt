@@ -1,8 +1,8 @@
 //! Barriers, accesses, monitors, and what is made.
 
-ghost use Rattle.std.specs.Prelude.{◌≡◌, true, false, reverse, List};
+ghost use Rattle.std.specs.Prelude.{◌≡◌, ◌∷◌, true, reverse, List};
 ghost use Rattle.lam_asks.specs.declared.ask.Ask.TheVariants as ask;
-ghost use Rattle.thread_steps.specs.Ops.{tested, may_read, may_write, barrier, gets_field, puts_field, gets_element, puts_element, new_array, on_any, on_int, monitor_of, is_held};
+ghost use Rattle.thread_steps.specs.Ops.{tested, on_thing, may_read, may_write, barrier, gets_field, puts_field, gets_element, puts_element, new_array, on_any, on_int, monitor_of, is_held};
 ghost use Rattle.lam_value.specs.declared.values.Value.{Value};
 ghost use Rattle.thread_ops.specs.Acting.{did_of, makes_object};
 ghost use Rattle.thread_ops.specs.Fitting.{place_in};
@@ -29,46 +29,47 @@ fn barred(denied: Option<Denied>) -> Sight<'static>
     }
 }
 
-/// An ask that takes so many operands, and has a value.
-fn asks(ask: Sketch<'_>, takes: usize) -> Sight<'_>
-    ensures { result ≡ Sight.Asks ask takes false }
+/// Tests that a thing may be read.
+fn reading(v: &Value, label: &Label) -> Sight<'static>
+    ensures { (locals s rest : List Value) → did_of result locals s ≡ on_thing (v.now ∷ rest) (λ n r. barrier s (may_read label.now n.own)) }
 {
-    Sight::Asks {
-        ask,
-        takes,
-        leaves_null: false,
+    match v {
+        Value::Obj(name) => barred(read_rule(label, name.own())),
+        Value::Arr { name, .. } => barred(read_rule(label, name.own())),
+        Value::Nothing => Sight::Fails(Fault::Null),
+        _ => Sight::Breaks,
+    }
+}
+
+/// Tests that a thing may be written.
+fn writing(v: &Value, label: &Label) -> Sight<'static>
+    ensures { (locals s rest : List Value) → did_of result locals s ≡ on_thing (v.now ∷ rest) (λ n r. barrier s (may_write label.now n.own)) }
+{
+    match v {
+        Value::Obj(name) => barred(write_rule(label, name.own())),
+        Value::Arr { name, .. } => barred(write_rule(label, name.own())),
+        Value::Nothing => Sight::Fails(Fault::Null),
+        _ => Sight::Breaks,
     }
 }
 
 /// Tests that the thing so far below the top may be read.
-pub fn read_barrier<'a>(stack: &'a Operands, below: usize, label: &Label) -> Sight<'a>
+pub fn read_barrier(stack: &Operands, below: usize, label: &Label) -> Sight<'static>
     ensures { (locals : List Value) → did_of result locals stack.now ≡ tested stack.now below (may_read label.now) }
 {
-    let Some(v) = stack.get(below) else {
-        return Sight::Breaks;
-    };
-    if is_null(v) {
-        return Sight::Fails(Fault::Null);
-    }
-    match thing_in(v) {
+    match stack.get(below) {
         None => Sight::Breaks,
-        Some(name) => barred(read_rule(label, name.own())),
+        Some(v) => reading(v, label),
     }
 }
 
 /// Tests that the thing so far below the top may be written.
-pub fn write_barrier<'a>(stack: &'a Operands, below: usize, label: &Label) -> Sight<'a>
+pub fn write_barrier(stack: &Operands, below: usize, label: &Label) -> Sight<'static>
     ensures { (locals : List Value) → did_of result locals stack.now ≡ tested stack.now below (may_write label.now) }
 {
-    let Some(v) = stack.get(below) else {
-        return Sight::Breaks;
-    };
-    if is_null(v) {
-        return Sight::Fails(Fault::Null);
-    }
-    match thing_in(v) {
+    match stack.get(below) {
         None => Sight::Breaks,
-        Some(name) => barred(write_rule(label, name.own())),
+        Some(v) => writing(v, label),
     }
 }
 
@@ -86,7 +87,11 @@ pub fn get_field<'a>(stack: &'a Operands, at: u32, label: &Label) -> Sight<'a>
         return Sight::Breaks;
     }
     let at = u64::from(at);
-    asks(Sketch::Read { r, at }, 1)
+    Sight::Asks {
+        ask: Sketch::Read { r, at },
+        takes: 1,
+        leaves_null: false,
+    }
 }
 
 /// Asks that the top operand be put into a field of the object below it.
@@ -106,7 +111,11 @@ pub fn put_field<'a>(stack: &'a Operands, at: u32, label: &Label) -> Sight<'a>
         return Sight::Breaks;
     }
     let at = u64::from(at);
-    asks(Sketch::Write { r, at, v }, 2)
+    Sight::Asks {
+        ask: Sketch::Write { r, at, v },
+        takes: 2,
+        leaves_null: false,
+    }
 }
 
 /// The place within a length that a number is.
@@ -138,7 +147,11 @@ pub fn get_element<'a>(stack: &'a Operands, label: &Label) -> Sight<'a>
     }
     match place_of(*i, *len) {
         None => Sight::Fails(Fault::Index),
-        Some(at) => asks(Sketch::Read { r, at }, 2),
+        Some(at) => Sight::Asks {
+            ask: Sketch::Read { r, at },
+            takes: 2,
+            leaves_null: false,
+        },
     }
 }
 
@@ -163,7 +176,11 @@ pub fn put_element<'a>(stack: &'a Operands, label: &Label) -> Sight<'a>
     }
     match place_of(*i, *len) {
         None => Sight::Fails(Fault::Index),
-        Some(at) => asks(Sketch::Write { r, at, v }, 3),
+        Some(at) => Sight::Asks {
+            ask: Sketch::Write { r, at, v },
+            takes: 3,
+            leaves_null: false,
+        },
     }
 }
 
@@ -175,7 +192,11 @@ pub fn new_object<'a>(classes: &'a [Kinds], class: u32) -> Sight<'a>
         None => Sight::Breaks,
         Some(kinds) => {
             let kinds = kinds.as_slice();
-            asks(Sketch::NewObject { class, kinds }, 0)
+            Sight::Asks {
+                ask: Sketch::NewObject { class, kinds },
+                takes: 0,
+                leaves_null: false,
+            }
         }
     }
 }
@@ -194,7 +215,11 @@ pub fn new_array(stack: &Operands, kind: Kind) -> Sight<'_>
     if len > 65_536 {
         return Sight::Fails(Fault::Long);
     }
-    asks(Sketch::NewArray { kind, len }, 1)
+    Sight::Asks {
+        ask: Sketch::NewArray { kind, len },
+        takes: 1,
+        leaves_null: false,
+    }
 }
 
 /// Asks for the monitor of the thing on top.
@@ -209,7 +234,11 @@ pub fn enter_monitor(stack: &Operands) -> Sight<'_>
     }
     match thing_in(r) {
         None => Sight::Breaks,
-        Some(_) => asks(Sketch::MonEnter { r }, 1),
+        Some(_) => Sight::Asks {
+            ask: Sketch::MonEnter { r },
+            takes: 1,
+            leaves_null: false,
+        },
     }
 }
 
@@ -217,12 +246,7 @@ pub fn enter_monitor(stack: &Operands) -> Sight<'_>
 fn is_held(name: &Name, taken: &[Name]) -> bool
     ensures { result ≡ is_held name.now (reverse taken.now) }
 {
-    for at in 0..taken.len() {
-        if same_names(name, &taken[taken.len() - 1 - at]) {
-            return true;
-        }
-    }
-    false
+    taken.iter().rev().any(|other| same_names(name, other))
 }
 
 /// Gives the monitor of the thing on top back, where it was taken.
@@ -239,7 +263,11 @@ pub fn leave_monitor<'a>(stack: &'a Operands, taken: &[Name]) -> Sight<'a>
         None => Sight::Breaks,
         Some(name) => {
             if is_held(name, taken) {
-                asks(Sketch::MonLeave { r }, 1)
+                Sight::Asks {
+                    ask: Sketch::MonLeave { r },
+                    takes: 1,
+                    leaves_null: false,
+                }
             } else {
                 Sight::Breaks
             }

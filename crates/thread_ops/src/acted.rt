@@ -174,15 +174,28 @@ pub enum Called<'a> {
 #[derive(Clone, Copy)]
 pub enum Sight<'a> {
     /// It takes so many operands away.
-    Drops { takes: usize },
+    Drops {
+        takes: usize,
+    },
     /// It puts a value in the place of so many operands.
-    Puts { takes: usize, worth: Worth<'a> },
+    Puts {
+        takes: usize,
+        worth: Worth<'a>,
+    },
     /// It puts the top operand into a local.
-    Sets { local: usize },
+    Sets {
+        local: usize,
+    },
     /// It goes on at an address, and takes so many operands away.
-    Jumps { to: usize, takes: usize },
+    Jumps {
+        to: usize,
+        takes: usize,
+    },
     /// It calls a function with so many arguments.
-    Calls { unit: usize, count: usize },
+    Calls {
+        unit: usize,
+        count: usize,
+    },
     /// It returns the top operand.
     Returns,
     /// It raises a fault.

@@ -1,12 +1,14 @@
 //! Asks and values, made of parts that are copied.
 
 ghost use Rattle.std.specs.Prelude.{◌≡◌, ◌++◌, map, IfOk};
+ghost use Rattle.std.specs.FinSet.{from_list};
 ghost use Rattle.std.specs.Fmt.{signed_decimal};
 ghost use Rattle.lam_value.specs.Shapes.{zero_of};
 ghost use Rattle.thread_steps.specs.Builtins.{root_name};
-ghost use Rattle.thread_ops.specs.Acting.{ask_of, value_of};
+ghost use Rattle.thread_ops.specs.Acting.{ask_of, value_of, signed, tag_list};
 
 use crate::acted::{Sketch, Worth};
+use crate::reading::tag_in;
 use capabilities::Caps;
 use decimal_text::push_int_bytes;
 use flow_labels::Label;
@@ -14,7 +16,7 @@ use lam_asks::Ask;
 use lam_threads::listed;
 use lam_value::{ByteText, Kind, Name, Shape, Value, Values};
 use std::alloc::Global;
-use tag_sets::TagSet;
+use tag_sets::{TagId, TagSet};
 use want_of_memory::NoMemory;
 
 fn zeros(alloc: Global, kinds: &[Kind]) -> Result<Values, NoMemory>
@@ -232,15 +234,18 @@ fn mon_leave(r: &Value) -> Result<Ask, NoMemory>
 /// # Errors
 ///
 /// `NoMemory` where memory is refused.
-pub fn ask_from(alloc: Global, sketch: Sketch<'_>) -> Result<Ask, NoMemory>
-    ensures { IfOk result (λ a. a ≡ ask_of sketch.entry) }
+pub fn ask_from(alloc: Global, sketch: &Sketch<'_>) -> Result<Ask, NoMemory>
+    ensures { IfOk result (λ a. a ≡ ask_of sketch.now) }
 {
     match sketch {
-        Sketch::Read { r, at } => read(r, at),
-        Sketch::Write { r, at, v } => write(r, at, v),
-        Sketch::NewObject { class, kinds } => new_object(alloc, class, kinds),
+        Sketch::Read { r, at } => read(r, *at),
+        Sketch::Write { r, at, v } => write(r, *at, v),
+        Sketch::NewObject { class, kinds } => new_object(alloc, *class, kinds),
         Sketch::NewArray { kind, len } => Ok(Ask::New {
-            shape: Shape::Array { kind, len },
+            shape: Shape::Array {
+                kind: *kind,
+                len: *len,
+            },
         }),
         Sketch::CopyTo { r, own } => copy_to(r, own),
         Sketch::Mint => Ok(Ask::Mint),
@@ -250,8 +255,8 @@ pub fn ask_from(alloc: Global, sketch: Sketch<'_>) -> Result<Ask, NoMemory>
             minus,
             region,
             args,
-        } => enter(label, plus, minus, region, args),
-        Sketch::Barred(denied) => Ok(Ask::Barred(denied)),
+        } => enter(label, plus, minus, *region, args),
+        Sketch::Barred(denied) => Ok(Ask::Barred(*denied)),
         Sketch::MonEnter { r } => mon_enter(r),
         Sketch::MonLeave { r } => mon_leave(r),
         Sketch::Spawn {
@@ -259,17 +264,17 @@ pub fn ask_from(alloc: Global, sketch: Sketch<'_>) -> Result<Ask, NoMemory>
             args,
             plus,
             minus,
-        } => spawn(alloc, unit, args, plus, minus),
-        Sketch::Join { thread } => Ok(Ask::Join { thread }),
+        } => spawn(alloc, *unit, args, plus, minus),
+        Sketch::Join { thread } => Ok(Ask::Join { thread: *thread }),
         Sketch::MakeFile { dir, entry, own } => make_file(dir, entry, own),
         Sketch::MakeDir { dir, entry, own } => make_dir(dir, entry, own),
         Sketch::OpenFile { dir, entry } => open_file(dir, entry),
         Sketch::OpenDir { dir, entry } => open_dir(dir, entry),
         Sketch::Remove { dir, entry } => remove(dir, entry),
-        Sketch::FileRead { file, at, n } => file_read(file, at, n),
+        Sketch::FileRead { file, at, n } => file_read(file, *at, *n),
         Sketch::FileLength { file } => file_length(file),
         Sketch::Append { file, bytes } => append(file, bytes),
-        Sketch::Cut { file, len } => cut(file, len),
+        Sketch::Cut { file, len } => cut(file, *len),
         Sketch::MakePipe { own } => make_pipe(own),
         Sketch::Send { pipe, bytes } => send(pipe, bytes),
         Sketch::SendCaps { pipe, plus, minus } => send_caps(pipe, plus, minus),
@@ -317,6 +322,39 @@ fn caps_value(caps: &Caps) -> Result<Value, NoMemory>
     Ok(Value::CapV { plus, minus })
 }
 
+fn tags_from(alloc: Global, values: &[Value]) -> Result<TagSet, NoMemory>
+    ensures { IfOk result (λ t. t ≡ from_list (tag_list values.now)) }
+{
+    let mut tags = Vec::with_capacity(alloc, values.len())?;
+    for value in values {
+        if let Some(tag) = tag_in(value) {
+            tags.push(tag)?;
+        }
+    }
+    TagSet::from_slice(alloc, tags.as_slice())
+}
+
+fn label_of(alloc: Global, secrets: &[Value], vouchers: &[Value]) -> Result<Value, NoMemory>
+    ensures { IfOk result (λ v. v ≡ Value.Lab (record { s = from_list (tag_list secrets.now); i = from_list (tag_list vouchers.now) })) }
+{
+    let s = tags_from(alloc, secrets)?;
+    let i = tags_from(alloc, vouchers)?;
+    Ok(Value::Lab(Label { s, i }))
+}
+
+fn signed(sign: bool, plus: &TagSet, minus: &TagSet, tag: TagId) -> Result<Value, NoMemory>
+    ensures { IfOk result (λ v. v ≡ signed sign plus.now minus.now tag) }
+{
+    let mut plus = plus.copy()?;
+    let mut minus = minus.copy()?;
+    if sign {
+        plus.insert(tag)?;
+    } else {
+        minus.insert(tag)?;
+    }
+    Ok(Value::CapV { plus, minus })
+}
+
 fn root(alloc: Global) -> Result<Value, NoMemory>
     ensures { IfOk result (λ v. v ≡ Value.Dir root_name) }
 {
@@ -329,16 +367,29 @@ fn root(alloc: Global) -> Result<Value, NoMemory>
 /// # Errors
 ///
 /// `NoMemory` where memory is refused.
-pub fn value_from(alloc: Global, worth: Worth<'_>) -> Result<Value, NoMemory>
-    ensures { IfOk result (λ v. v ≡ value_of worth.entry) }
+pub fn value_from(alloc: Global, worth: &Worth<'_>) -> Result<Value, NoMemory>
+    ensures { IfOk result (λ v. v ≡ value_of worth.now) }
 {
     match worth {
-        Worth::Int(n) => Ok(Value::Int(n)),
+        Worth::Int(n) => Ok(Value::Int(*n)),
+        Worth::Bool(b) => Ok(Value::Bool(*b)),
+        Worth::Same(v) => v.copy(),
         Worth::Bytes(bytes) => copied(alloc, bytes),
         Worth::Joined(a, b) => joined(alloc, a, b),
-        Worth::Text(n) => text_of(alloc, n),
+        Worth::Text(n) => text_of(alloc, *n),
         Worth::Lab(label) => label_value(label),
+        Worth::OfTags { secrets, vouchers } => label_of(alloc, secrets, vouchers),
         Worth::Caps(caps) => caps_value(caps),
+        Worth::NoCaps => Ok(Value::CapV {
+            plus: TagSet::empty(alloc),
+            minus: TagSet::empty(alloc),
+        }),
+        Worth::Signed {
+            sign,
+            plus,
+            minus,
+            tag,
+        } => signed(*sign, plus, minus, *tag),
         Worth::Root => root(alloc),
     }
 }

@@ -3,13 +3,12 @@
 //! A built-in call is seen before it is done, without memory: its value, fault or ask stands as [`Called`], with the
 //! parts of its arguments where they are.
 
-ghost use Rattle.std.specs.Prelude.{◌≡◌, ◌≤◌, ◌++◌, ◌∷◌, [], pos, length, drop, List};
+ghost use Rattle.std.specs.Prelude.{◌≡◌, ◌≤◌, ◌++◌, ◌∷◌, [], pos, length, List};
 ghost use Rattle.decimal_text.specs.Decimal.{int_of};
 ghost use Rattle.flow_labels.specs.declared.Label.{Label};
 ghost use Rattle.capabilities.specs.declared.Caps.{Caps};
 ghost use Rattle.thread_steps.specs.Builtins.{calls, builtin, number_now, bytes_now, byte_at, slice_at, own_label, copied, read_from, cut_to, send_into, number_in as number_from};
 ghost use Rattle.thread_ops.specs.Acting.{calls_of, did_of, systems};
-ghost use Rattle.thread_steps.specs.Ops.{called as called_as};
 ghost use Rattle.lam_value.specs.declared.values.Value.{Value};
 
 use crate::acted::{Called, Sight, Sketch, Worth};
@@ -494,11 +493,15 @@ pub fn builtin<'a>(label: &'a Label, caps: &'a Caps, b: Builtin, args: &'a [Valu
     of_some(label, caps, b, args)
 }
 
-/// A call that takes so many operands.
-fn sight_of(called: Called<'_>, takes: usize) -> Sight<'_>
-    ensures { (locals s : List Value) → did_of result locals s ≡ called_as (drop takes s) (calls_of called) }
+/// A built-in call with the arguments on top, at a label with capabilities.
+pub fn system<'a>(stack: &'a Operands, label: &'a Label, caps: &'a Caps, b: Builtin) -> Sight<'a>
+    ensures { (locals : List Value) → did_of result locals stack.now ≡ systems label.now caps.now b stack.now }
 {
-    match called {
+    let takes = b.arity();
+    let Some(args) = stack.last_many(takes) else {
+        return Sight::Breaks;
+    };
+    match builtin(label, caps, b, args) {
         Called::Now(worth) => Sight::Puts { takes, worth },
         Called::Faults(fault) => Sight::Fails(fault),
         Called::Asks(ask) => Sight::Asks {
@@ -512,16 +515,5 @@ fn sight_of(called: Called<'_>, takes: usize) -> Sight<'_>
             leaves_null: true,
         },
         Called::Wrong => Sight::Breaks,
-    }
-}
-
-/// A built-in call with the arguments on top, at a label with capabilities.
-pub fn system<'a>(stack: &'a Operands, label: &'a Label, caps: &'a Caps, b: Builtin) -> Sight<'a>
-    ensures { (locals : List Value) → did_of result locals stack.now ≡ systems label.now caps.now b stack.now }
-{
-    let takes = b.arity();
-    match stack.last_many(takes) {
-        None => Sight::Breaks,
-        Some(args) => sight_of(builtin(label, caps, b, args), takes),
     }
 }

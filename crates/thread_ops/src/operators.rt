@@ -1,23 +1,21 @@
-//! Operators, and the operands that they take.
+//! Operators, and what makes labels and capabilities.
 
-ghost use Rattle.std.specs.Prelude.{◌≡◌, ◌<◌, ◌+◌, ◌^◌, ◌⊎◌, IfOk, OnErr, None};
-ghost use Rattle.thread_steps.specs.Operators.{operator, prefix, fine, label_from, with_sign, tags_in};
+ghost use Rattle.std.specs.Prelude.{◌≡◌, ◌⊎◌, ◌++◌, ◌&&◌, List, None, is_some};
+ghost use Rattle.lam_value.specs.declared.values.Value.{Value};
+ghost use Rattle.thread_steps.specs.Operators.{operator, prefix, label_from, with_sign, some_null, tags_in};
 ghost use Rattle.thread_steps.specs.Ops.{between, before};
-ghost use Rattle.thread_ops.specs.Acting.{Acts, labelled, signs, pure_of};
-ghost use Rattle.thread_ops.specs.Reading.{number_in};
-ghost use Rattle.thread_ops.specs.Fitting.{number_if, items_in};
+ghost use Rattle.thread_ops.specs.Acting.{did_of, labelled, signs, pure_of};
+ghost use Rattle.thread_ops.specs.Reading.{number_in, tag_in};
+ghost use Rattle.std.specs.List.{list_all};
+ghost use Rattle.thread_ops.specs.Fitting.{number_if};
 
-use crate::acted::{Acted, Computed};
+use crate::acted::{Computed, Sight, Worth};
 use crate::equal::same_values;
 use crate::reading::{number_in, some_null, tag_in};
-use flow_labels::Label;
 use lam_asks::Fault;
 use lam_syntax::{BinaryOp, UnaryOp};
 use lam_threads::Operands;
 use lam_value::Value;
-use std::alloc::Global;
-use tag_sets::{TagId, TagSet};
-use want_of_memory::NoMemory;
 
 fn truth(b: bool) -> Computed<'static>
     ensures { result ≡ Computed.Fine (Worth.Bool b) }
@@ -128,17 +126,6 @@ pub fn prefix(op: UnaryOp, v: &Value) -> Computed<'static>
     }
 }
 
-/// What an operator gave in the place of so many operands.
-fn sight_of(computed: Computed<'_>, takes: usize) -> Sight<'_>
-    ensures { (locals s : List Value) → did_of result locals s ≡ operated (drop takes s) (pure_of computed) }
-{
-    match computed {
-        Computed::Fine(worth) => Sight::Puts { takes, worth },
-        Computed::Faults(fault) => Sight::Fails(fault),
-        Computed::Wrong => Sight::Breaks,
-    }
-}
-
 /// An operator between the two top operands.
 pub fn between(op: BinaryOp, stack: &Operands) -> Sight<'_>
     ensures { (locals : List Value) → did_of result locals stack.now ≡ between op stack.now }
@@ -149,39 +136,61 @@ pub fn between(op: BinaryOp, stack: &Operands) -> Sight<'_>
     let Some(v) = stack.get(1) else {
         return Sight::Breaks;
     };
-    sight_of(operator(op, v, w), 2)
+    match operator(op, v, w) {
+        Computed::Fine(worth) => Sight::Puts { takes: 2, worth },
+        Computed::Faults(fault) => Sight::Fails(fault),
+        Computed::Wrong => Sight::Breaks,
+    }
 }
 
 /// An operator before the top operand.
 pub fn before(op: UnaryOp, stack: &Operands) -> Sight<'_>
     ensures { (locals : List Value) → did_of result locals stack.now ≡ before op stack.now }
 {
-    match stack.get(0) {
-        None => Sight::Breaks,
-        Some(v) => sight_of(prefix(op, v), 1),
+    let Some(v) = stack.get(0) else {
+        return Sight::Breaks;
+    };
+    match prefix(op, v) {
+        Computed::Fine(worth) => Sight::Puts { takes: 1, worth },
+        Computed::Faults(fault) => Sight::Fails(fault),
+        Computed::Wrong => Sight::Breaks,
     }
+}
+
+fn all_tags(values: &[Value]) -> bool
+    ensures { result ≡ list_all (λ v. is_some (tag_in v)) values.now }
+{
+    values.iter().all(|v| tag_in(v).is_some())
 }
 
 /// Whether all values are tags.
 fn are_tags(values: &[Value]) -> bool
     ensures { result ≡ is_some (tags_in values.now) }
 {
-    for value in values {
-        if tag_in(value).is_none() {
-            return false;
-        }
-    }
-    true
+    all_tags(values)
+}
+
+#[tactic(auto, using(crate::proofs::Many::either_null))]
+fn have_null(secrets: &[Value], vouchers: &[Value]) -> bool
+    ensures { result ≡ some_null (secrets.now ++ vouchers.now) }
+{
+    some_null(secrets) || some_null(vouchers)
+}
+
+fn are_all_tags(secrets: &[Value], vouchers: &[Value]) -> bool
+    ensures { result ≡ (is_some (tags_in secrets.now) && is_some (tags_in vouchers.now)) }
+{
+    are_tags(secrets) && are_tags(vouchers)
 }
 
 /// The label of tags of secrecy and of integrity.
 pub fn label_from<'a>(secrets: &'a [Value], vouchers: &'a [Value]) -> Computed<'a>
     ensures { pure_of result ≡ label_from secrets.now vouchers.now }
 {
-    if some_null(secrets) || some_null(vouchers) {
+    if have_null(secrets, vouchers) {
         return Computed::Faults(Fault::Null);
     }
-    if are_tags(secrets) && are_tags(vouchers) {
+    if are_all_tags(secrets, vouchers) {
         Computed::Fine(Worth::OfTags { secrets, vouchers })
     } else {
         Computed::Wrong
@@ -217,12 +226,14 @@ pub fn make_label(stack: &Operands, secrecy: u32, integrity: u32) -> Sight<'_>
     ensures { (locals : List Value) → did_of result locals stack.now ≡ labelled secrecy integrity stack.now }
 {
     let takes = secrecy as usize + integrity as usize;
-    match stack.last_many(takes) {
-        None => Sight::Breaks,
-        Some(tags) => {
-            let (secrets, vouchers) = tags.split_at(secrecy as usize);
-            sight_of(label_from(secrets, vouchers), takes)
-        }
+    let Some(tags) = stack.last_many(takes) else {
+        return Sight::Breaks;
+    };
+    let (secrets, vouchers) = tags.split_at(secrecy as usize);
+    match label_from(secrets, vouchers) {
+        Computed::Fine(worth) => Sight::Puts { takes, worth },
+        Computed::Faults(fault) => Sight::Fails(fault),
+        Computed::Wrong => Sight::Breaks,
     }
 }
 
@@ -236,5 +247,9 @@ pub fn add_cap(sign: bool, stack: &Operands) -> Sight<'_>
     let Some(c) = stack.get(1) else {
         return Sight::Breaks;
     };
-    sight_of(with_sign(sign, c, t), 2)
+    match with_sign(sign, c, t) {
+        Computed::Fine(worth) => Sight::Puts { takes: 2, worth },
+        Computed::Faults(fault) => Sight::Fails(fault),
+        Computed::Wrong => Sight::Breaks,
+    }
 }

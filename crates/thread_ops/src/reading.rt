@@ -2,10 +2,10 @@
 
 ghost use Rattle.std.specs.Prelude.{◌≡◌};
 ghost use Rattle.std.specs.Option.{option_copied};
+ghost use Rattle.std.specs.List.{list_any};
 ghost use Rattle.thread_steps.specs.Operators.{is_null, some_null};
-ghost use Rattle.thread_ops.specs.Reading.{number_in, truth_in, object_in, thing_in, label_in, tag_in};
+ghost use Rattle.thread_ops.specs.Reading.{number_in, truth_in, thing_in, tag_in};
 
-use flow_labels::Label;
 use lam_value::{Name, Value};
 use tag_sets::TagId;
 
@@ -29,16 +29,6 @@ pub fn truth_in(v: &Value) -> Option<bool>
     }
 }
 
-/// The name of an object.
-pub fn object_in(v: &Value) -> Option<&Name>
-    ensures { option_copied result ≡ object_in v.now }
-{
-    match v {
-        Value::Obj(name) => Some(name),
-        _ => None,
-    }
-}
-
 /// The name of an object or an array.
 pub fn thing_in(v: &Value) -> Option<&Name>
     ensures { option_copied result ≡ thing_in v.now }
@@ -46,16 +36,6 @@ pub fn thing_in(v: &Value) -> Option<&Name>
     match v {
         Value::Obj(name) => Some(name),
         Value::Arr { name, .. } => Some(name),
-        _ => None,
-    }
-}
-
-/// The label that a value is.
-pub fn label_in(v: &Value) -> Option<&Label>
-    ensures { option_copied result ≡ label_in v.now }
-{
-    match v {
-        Value::Lab(label) => Some(label),
         _ => None,
     }
 }
@@ -77,14 +57,15 @@ pub fn is_null(v: &Value) -> bool
     matches!(v, Value::Nothing)
 }
 
+fn any_null(values: &[Value]) -> bool
+    ensures { result ≡ list_any (λ v. is_null v) values.now }
+{
+    values.iter().any(|v| is_null(v))
+}
+
 /// Whether one of some values is null.
 pub fn some_null(values: &[Value]) -> bool
     ensures { result ≡ some_null values.now }
 {
-    for value in values {
-        if is_null(value) {
-            return true;
-        }
-    }
-    false
+    any_null(values)
 }

@@ -1,13 +1,14 @@
-use Rattle.std.proofs.Common.{arith}
-use Rattle.std.proofs.lemmas.List.{length-reverse}
-use Rattle.lam_value.specs.declared.values.Value.TheVariants.{Nothing}
-use Rattle.lam_threads.proofs.Ends.{cut_reversed, taken_is}
+use Rattle.std.proofs.Common.{◌≡◌, ◌∙◌, ap, length, min, arith}
+use Rattle.lam_threads.specs.Seen.{filled_to}
+use Rattle.lam_threads.proofs.Ends.{cut_within, end_within}
 use Rattle.lam_threads.proofs.operands.taken.Goals as goal
 
 pub returns-clause-ok : goal.returns-clause-ok
-returns-clause-ok c = rw c.move_last.ensures.items (cut_reversed c.args.count c.args.items.now.items)
+returns-clause-ok c =
+    let m : c.min-count.result ≡ min c.args.count (length c.args.items.now.items) = omega arith in
+    rw c.move_last.ensures.items (cut_within c.args.items.now.items c.args.count c.min-count.result m)
 
 pub returns-clause-taken : goal.returns-clause-taken
 returns-clause-taken c =
-    taken_is c.args.items.now.items c.move_last.new.out.items c.fill.new.items.items c.args.count c.args.size Nothing
-    (omega (arith, length-reverse c.args.items.now.items)) c.move_last.ensures.out c.fill.ensures
+    let m : c.min-count.result ≡ min c.args.count (length c.args.items.now.items) = omega arith in
+    c.fill.ensures ∙ ap (filled_to c.args.size) (c.move_last.ensures.out ∙ end_within c.args.items.now.items c.args.count c.min-count.result m)
