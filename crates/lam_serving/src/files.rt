@@ -1,6 +1,6 @@
 //! Files and directories.
 
-ghost use Rattle.std.specs.Prelude.{◌≡◌, IfOk};
+ghost use Rattle.std.specs.Prelude.{◌≡◌, pos, length, IfOk};
 ghost use Rattle.lam_value.specs.Homes.{home_of};
 ghost use Rattle.labelled_files.specs.Trees as tree;
 ghost use Rattle.labelled_files.specs.Trees.{target_at, next_name};
@@ -190,8 +190,15 @@ pub fn file_length(files: &Files, p: &Label, file: &Name) -> Deed
 {
     match read_rule(p, file.own()) {
         Some(denied) => Deed::refused(denied),
-        None => Deed::gives(Value::Int(files.length(file) as i64), Effect::Nothing),
+        None => Deed::gives(length_of(files, file), Effect::Nothing),
     }
+}
+
+/// The number of bytes of a file, as a value.
+fn length_of(files: &Files, file: &Name) -> Value
+    ensures { result ≡ Value.Int (pos (length (tree.bytes_at files.now file.now))) }
+{
+    Value::Int(files.length(file) as i64)
 }
 
 /// Bytes are put to a file's end.
