@@ -141,11 +141,11 @@ returns-in-Leave c =
 
 pub returns-in-Barred : goal.returns-in-Barred
 returns-in-Barred c =
-    moved _ _ _ _ _ _ _ c.in-Barred.is (λ w k h. c.done.ensures)
+    moved _ _ _ _ _ _ _ c.in-Barred.is (λ w k h. c.done-in-Barred.ensures)
 
 pub returns-in-Say : goal.returns-in-Say
 returns-in-Say c =
-    moved _ _ _ _ _ _ _ c.in-Say.is (λ w k h. c.done.ensures)
+    moved _ _ _ _ _ _ _ c.in-Say.is (λ w k h. c.done-in-Say.ensures)
 
 pub returns-in-Caught : goal.returns-in-Caught
 returns-in-Caught c =
@@ -153,11 +153,11 @@ returns-in-Caught c =
 
 pub returns-in-Suppressed : goal.returns-in-Suppressed
 returns-in-Suppressed c =
-    moved_ok _ _ _ _ _ _ _ c.in-Suppressed.is (released _ _ _ _ _ _ _ c.held.ensures c.release.ensures)
+    moved_ok _ _ _ _ _ _ _ c.in-Suppressed.is (released _ _ _ _ _ _ _ c.held-in-Suppressed.ensures c.release-in-Suppressed.ensures)
 
 pub returns-in-End : goal.returns-in-End
 returns-in-End c =
-    moved_ok _ _ _ _ _ _ _ c.in-End.is (released _ _ _ _ _ _ _ c.held.ensures c.release.ensures)
+    moved_ok _ _ _ _ _ _ _ c.in-End.is (released _ _ _ _ _ _ _ c.held-in-End.ensures c.release-in-End.ensures)
 
 pub returns-in-Spawn : goal.returns-in-Spawn
 returns-in-Spawn c =
