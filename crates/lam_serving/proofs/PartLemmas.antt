@@ -22,6 +22,13 @@ use Rattle.lam_serving.specs.Serves.{Reads}
 abbrev pub ServesAll : Ask → Stores → ℕ → Option Outcome → Acting → Deed → Type 0
 ServesAll a s n o who d = (w : World) (c : Context) → Reads w c a s n o who → DoesAs d (serve w c a)
 
+-- an ask that is another one is served alike
+pub moved : (a b : Ask) (s : Stores) (n : ℕ) (o : Option Outcome) (who : Acting) (d : Deed) → b ≡ a → ServesAll a s n o who d → ServesAll b s n o who d
+moved a b s n o who d e serves = subst (λ x. ServesAll x s n o who d) (sym e) serves
+
+pub moved_ok : (a b : Ask) (s : Stores) (n : ℕ) (o : Option Outcome) (who : Acting) (r : Result Deed NoMemory) → b ≡ a → IfOk r (ServesAll a s n o who) → IfOk r (ServesAll b s n o who)
+moved_ok a b s n o who r e serves = subst (λ x. IfOk r (ServesAll x s n o who)) (sym e) serves
+
 module _ (a : Ask) (s : Stores) (n : ℕ) (o : Option Outcome) (who : Acting) where
   -- a world and a context have these parts
   abbrev pub Has : (World → World) → (Context → Context) → Type 0
@@ -53,17 +60,17 @@ module _ (a : Ask) (s : Stores) (n : ℕ) (o : Option Outcome) (who : Acting) wh
     pipes_is = ap (λ (t : Stores). with_pipes t.pipes w) (sym h.stores)
 
     pub label_is : (p : Label) → p ≡ who.label → at_label p c ≡ c
-    label_is p e = ap (λ l. at_label l c) e ∙ ap (λ (x : Acting). at_label x.label c) (sym h.who)
+    label_is p e = ap (λ l. at_label l c) e ∙ ap (λ (x : Acting). at_label x.label c) (sym h.acting)
 
     pub caps_is : (p : Label) (k : Caps) → p ≡ who.label → k ≡ who.caps → acting_by p k c ≡ c
-    caps_is p k e f = (λ i. acting_by (e i) (f i) c) ∙ ap (λ (x : Acting). acting_by x.label x.caps c) (sym h.who)
+    caps_is p k e f = (λ i. acting_by (e i) (f i) c) ∙ ap (λ (x : Acting). acting_by x.label x.caps c) (sym h.acting)
 
     pub depth_is : (p : Label) (k : Caps) (depth : ℕ) → p ≡ who.label → k ≡ who.caps → depth ≡ who.depth → at_depth p k depth c ≡ c
-    depth_is p k depth e f g = (λ i. at_depth (e i) (f i) (g i) c) ∙ ap (λ (x : Acting). at_depth x.label x.caps x.depth c) (sym h.who)
+    depth_is p k depth e f g = (λ i. at_depth (e i) (f i) (g i) c) ∙ ap (λ (x : Acting). at_depth x.label x.caps x.depth c) (sym h.acting)
 
   -- a row that gives back the monitors of the context
   pub released : (ns : List Name) (r : Result Deed NoMemory) → ns ≡ who.held → IfOk r (λ d. DoesAs d (does (drops ns))) → IfOk r (λ d. (w : World) (c : Context) → Reads w c a s n o who → DoesAs d (does (drops c.held)))
-  released ns (Ok d) e h = λ w c k. subst (λ ms. DoesAs d (does (drops ms))) (e ∙ ap (λ (x : Acting). x.held) (sym k.who)) h
+  released ns (Ok d) e h = λ w c k. subst (λ ms. DoesAs d (does (drops ms))) (e ∙ ap (λ (x : Acting). x.held) (sym k.acting)) h
   released ns (Err e) f h = tt
 
   -- a row that reads how many threads there are

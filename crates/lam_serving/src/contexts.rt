@@ -41,13 +41,7 @@ pub fn mint(tags: u64, p: &Label) -> Deed
 }
 
 /// A region is entered: its label, its capabilities, its number and the values that it captures.
-pub fn enter(
-    p: &Label,
-    caps: &Caps,
-    depth: u32,
-    label: &Label,
-    some: &Caps,
-) -> Deed
+pub fn enter(p: &Label, caps: &Caps, depth: u32, label: &Label, some: &Caps) -> Deed
     ensures { (region : ℕ) (args : List AValue) → Serves any_world (at_depth p.now caps.now depth) (Ask.Enter label.now some.now region args) result }
 {
     if let Some(denied) = enter_rule(p, caps, label, some) {

@@ -1,6 +1,6 @@
 //! Files and directories.
 
-ghost use Rattle.std.specs.Prelude.{◌≡◌, IfOk};
+ghost use Rattle.std.specs.Prelude.{◌≡◌, pos, length, IfOk};
 ghost use Rattle.lam_value.specs.Homes.{home_of};
 ghost use Rattle.labelled_files.specs.Trees as tree;
 ghost use Rattle.labelled_files.specs.Trees.{target_at, next_name};
@@ -62,13 +62,7 @@ pub fn make_dir(
 }
 
 /// Why nothing can be made in a directory.
-fn first_fault(
-    files: &Files,
-    dir: &Name,
-    entry: &ByteText,
-    p: &Label,
-    own: &Label,
-) -> Option<Fault>
+fn first_fault(files: &Files, dir: &Name, entry: &ByteText, p: &Label, own: &Label) -> Option<Fault>
     ensures { result ≡ file_faults (tree.first_fault files.now dir.now entry.now (home_of p.now own.now)) }
 {
     match files.first_fault(dir, entry.bytes(), p, own) {
@@ -98,12 +92,7 @@ fn next_name(files: &Files, p: &Label, own: &Label) -> Result<Name, NoMemory>
 }
 
 /// The file of an entry.
-pub fn open_file(
-    files: &Files,
-    p: &Label,
-    dir: &Name,
-    entry: &ByteText,
-) -> Result<Deed, NoMemory>
+pub fn open_file(files: &Files, p: &Label, dir: &Name, entry: &ByteText) -> Result<Deed, NoMemory>
     ensures { IfOk result (Serves (with_files files.now) (at_label p.now) (Ask.OpenFile dir.now entry.now)) }
 {
     if let Some(denied) = read_rule(p, dir.own()) {
@@ -117,12 +106,7 @@ pub fn open_file(
 }
 
 /// The directory of an entry.
-pub fn open_dir(
-    files: &Files,
-    p: &Label,
-    dir: &Name,
-    entry: &ByteText,
-) -> Result<Deed, NoMemory>
+pub fn open_dir(files: &Files, p: &Label, dir: &Name, entry: &ByteText) -> Result<Deed, NoMemory>
     ensures { IfOk result (Serves (with_files files.now) (at_label p.now) (Ask.OpenDir dir.now entry.now)) }
 {
     if let Some(denied) = read_rule(p, dir.own()) {
@@ -136,12 +120,7 @@ pub fn open_dir(
 }
 
 /// An entry is taken away.
-pub fn remove(
-    files: &Files,
-    p: &Label,
-    dir: &Name,
-    entry: &ByteText,
-) -> Result<Deed, NoMemory>
+pub fn remove(files: &Files, p: &Label, dir: &Name, entry: &ByteText) -> Result<Deed, NoMemory>
     ensures { IfOk result (Serves (with_files files.now) (at_label p.now) (Ask.Remove dir.now entry.now)) }
 {
     if let Some(denied) = remove_rule(p, dir.own()) {
@@ -168,13 +147,7 @@ fn absent(files: &Files, dir: &Name, entry: &ByteText) -> Option<Fault>
 }
 
 /// Bytes of a file from a place on.
-pub fn read_file(
-    files: &Files,
-    p: &Label,
-    file: &Name,
-    at: u64,
-    n: u64,
-) -> Result<Deed, NoMemory>
+pub fn read_file(files: &Files, p: &Label, file: &Name, at: u64, n: u64) -> Result<Deed, NoMemory>
     ensures { IfOk result (Serves (with_files files.now) (at_label p.now) (Ask.FileRead file.now at n)) }
 {
     if let Some(denied) = read_rule(p, file.own()) {
@@ -190,8 +163,15 @@ pub fn file_length(files: &Files, p: &Label, file: &Name) -> Deed
 {
     match read_rule(p, file.own()) {
         Some(denied) => Deed::refused(denied),
-        None => Deed::gives(Value::Int(files.length(file) as i64), Effect::Nothing),
+        None => Deed::gives(length_of(files, file), Effect::Nothing),
     }
+}
+
+/// The number of bytes of a file, as a value.
+fn length_of(files: &Files, file: &Name) -> Value
+    ensures { result ≡ Value.Int (pos (length (tree.bytes_at files.now file.now))) }
+{
+    Value::Int(files.length(file) as i64)
 }
 
 /// Bytes are put to a file's end.

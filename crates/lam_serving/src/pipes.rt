@@ -16,12 +16,7 @@ use lam_value::{ByteText, Name, Value};
 use want_of_memory::NoMemory;
 
 /// A new pipe.
-pub fn make_pipe(
-    pipes: &Pipes,
-    p: &Label,
-    caps: &Caps,
-    own: &Label,
-) -> Result<Deed, NoMemory>
+pub fn make_pipe(pipes: &Pipes, p: &Label, caps: &Caps, own: &Label) -> Result<Deed, NoMemory>
     ensures { IfOk result (Serves (with_pipes pipes.now) (acting_by p.now caps.now) (Ask.MakePipe own.now)) }
 {
     if let Some(denied) = make_rule(p, caps, own) {

@@ -74,8 +74,6 @@ fn is_taken(monitors: &Monitors, thread: u32, p: &Label, r: &Value) -> bool
 {
     match thing_of(r) {
         None => false,
-        Some(name) => {
-            same_rule(p, name.own()).is_none() && !monitors.is_free_for(name, thread)
-        }
+        Some(name) => { same_rule(p, name.own()).is_none() && !monitors.is_free_for(name, thread) }
     }
 }
