@@ -139,7 +139,7 @@ module _ (code : CodeTree) (c : Context) where
   at_write depth n h top =
       at_op (WriteBarrier depth) h ∙ ap (next_by code c.phase c.inside) (top_tested c.inside.frame.stack (drop depth c.inside.frame.stack) n (may_write c.label) top) ∙ barrier_next (first_failing (write_test c.label n.own))
 
-  barred_at : (op : Op) (d : Denied) → StandsAt code c op → IsBarred c.label c.inside.frame.stack d op → next_of code c ≡ asks (ask.Barred d) (past c.inside c.inside.frame.stack)
+  pub barred_at : (op : Op) (d : Denied) → StandsAt code c op → IsBarred c.label c.inside.frame.stack d op → next_of code c ≡ asks (ask.Barred d) (past c.inside c.inside.frame.stack)
   barred_at (ReadBarrier depth) d h b = at_read depth b.0 h b.1 ∙ ap (after_test c) b.2
   barred_at (WriteBarrier depth) d h b = at_write depth b.0 h b.1 ∙ ap (after_test c) b.2
   barred_at op d h b = absurd b
@@ -173,19 +173,19 @@ may_write_it p (Arr m len) n h e = subst (λ (k : Name). first_failing (write_te
 may_write_it p r n h e = absurd e
 
 -- a reference is followed
-followed : (r : Value) (n : Name) (go : Name → Deed) → LeadsTo r n → on_thing r go ≡ go n
+pub followed : (r : Value) (n : Name) (go : Name → Deed) → LeadsTo r n → on_thing r go ≡ go n
 unfolding on_thing
 followed (Obj m) n go e = ap go e
 followed (Arr m len) n go e = ap go e
 followed r n go e = absurd e
 
-gives_slot : (c : Context) (r : Value) (at : ℕ) → IsRead c.label r → GivesSlot c r at
+pub gives_slot : (c : Context) (r : Value) (at : ℕ) → IsRead c.label r → GivesSlot c r at
 unfolding under
 gives_slot c r at h w n e =
     followed r n (λ k. under (read_test c.label k.own) (answers (Val (slot_at w.heap k at)))) e
     ∙ allowed (first_failing (read_test c.label n.own)) (answers (Val (slot_at w.heap n at))) (may_read_it c.label r n h e)
 
-sets_it : (c : Context) (r v : Value) (at : ℕ) → IsWritten c.label r → SetsSlot c r at v
+pub sets_it : (c : Context) (r v : Value) (at : ℕ) → IsWritten c.label r → SetsSlot c r at v
 unfolding under
 sets_it c r v at h w n e =
     followed r n (λ k. under (write_test c.label k.own) (does (sets_slot k at v))) e

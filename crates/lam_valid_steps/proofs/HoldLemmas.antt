@@ -249,7 +249,7 @@ module _ (w : World) (t : ℕ) where
   takings_all cs h n = let l = h n in let most = mine_at_most (get w.monitors n) t in omega arith
 
   -- and back
-  the_holder : (o : Option Holder) → 0 < mine o t → (count : ℕ) × (o ≡ Some (record { thread = t; count = count }))
+  pub the_holder : (o : Option Holder) → 0 < mine o t → (count : ℕ) × (o ≡ Some (record { thread = t; count = count }))
   the_holder None l = absurd (omega arith)
   the_holder (Some h) l = by (nat_eq h.thread t) refl l
     where

@@ -52,7 +52,7 @@ abbrev pub Each : {X : Type 0} → (X → Type 0) → FinMap name_cmp X → Type
 Each {X} P m = (n : Name) (x : X) → get m n ≡ Some x → P x
 
 module _ {X : Type 0} (P : X → Type 0) (m : FinMap name_cmp X) (all : Each P m) where
-  put_each : (k : Name) (x : X) → P x → Each P (insert m k x)
+  pub put_each : (k : Name) (x : X) → P x → Each P (insert m k x)
   put_each k x here n y e = by (eq_by_cmp name_cmp n k) (sym (get-insert name_total m k x n) ∙ e)
     where
       by : (b : Bool) → cond b (Some x) (get m n) ≡ Some y → P y
@@ -63,7 +63,7 @@ module _ {X : Type 0} (P : X → Type 0) (m : FinMap name_cmp X) (all : Each P m
   changed_each n f kept None e = all
   changed_each n f kept (Some x) e = put_each n (f x) (kept x (all n x e))
 
-put_known : {X : Type 0} (w : World) (m : FinMap name_cmp X) (k : Name) (x : X) → AreKnownNames w m → IsKnownName w k → AreKnownNames w (insert m k x)
+pub put_known : {X : Type 0} (w : World) (m : FinMap name_cmp X) (k : Name) (x : X) → AreKnownNames w m → IsKnownName w k → AreKnownNames w (insert m k x)
 put_known w m k x all here n lives = by (eq_by_cmp name_cmp n k) refl (sym (ap is_some (get-insert name_total m k x n)) ∙ lives)
   where
     by : (b : Bool) → eq_by_cmp name_cmp n k ≡ b → is_some (cond b (Some x) (get m n)) ≡ true → IsKnownName w n

@@ -149,7 +149,7 @@ listings_append n (c ∷ cs) ds = let e = listings_append n cs ds in omega arith
 
 -- ---- a new thread
 
-started_valid : (u : World) (j : ℕ) (code : CodeTree) (unit : ℕ) (args : List Value) (caps : Caps) → AllLive u args → AreKnown u caps → IsValidThread u j (started code unit args caps)
+pub started_valid : (u : World) (j : ℕ) (code : CodeTree) (unit : ℕ) (args : List Value) (caps : Caps) → AllLive u args → AreKnown u caps → IsValidThread u j (started code unit args caps)
 started_valid u j code unit args caps h k =
     let th = started code unit args caps in
     let none : HoldsAll u.monitors j th.contexts = λ n. omega arith in
