@@ -1,2 +1,4 @@
 pub mod Turns
 pub mod Steps
+pub mod Stands
+pub mod Contexts
