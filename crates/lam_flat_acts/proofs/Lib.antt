@@ -2,3 +2,4 @@ pub mod Turns
 pub mod Steps
 pub mod Stands
 pub mod Contexts
+pub mod Runs
