@@ -3,3 +3,5 @@ pub mod Steps
 pub mod Stands
 pub mod Contexts
 pub mod Runs
+pub mod Constants
+pub mod Layout
