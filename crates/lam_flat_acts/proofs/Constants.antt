@@ -36,27 +36,27 @@ exact v w h e = absurd h
 -- a constant that is among others stands at its place
 pub place_there : (vs : List Value) (v : Value) → IsConstant v → is_in v vs ≡ true → slice_get vs (place_of vs v) ≡ Some v
 place_there [] v h e = absurd cc
-place_there (w ∷ ws) v h e = go (same_values v w) refl e
+place_there (w ∷ ws) v h e = go (same_values v w) refl e (λ e. place_there ws v h e)
   where
-    go : (b : Bool) → same_values v w ≡ b → (if b then true else is_in v ws) ≡ true → slice_get (w ∷ ws) (if b then 0 else suc (place_of ws v)) ≡ Some v
-    go true k e = ap (λ (x : Value). Some x) (sym (exact v w h k))
-    go false k e = place_there ws v h e
+    go : (b : Bool) → same_values v w ≡ b → (if b then true else is_in v ws) ≡ true → (is_in v ws ≡ true → slice_get ws (place_of ws v) ≡ Some v) → slice_get (w ∷ ws) (if b then 0 else suc (place_of ws v)) ≡ Some v
+    go true k e f = ap (λ (x : Value). Some x) (sym (exact v w h k))
+    go false k e f = f e
 
 in_more : (vs more : List Value) (v : Value) → is_in v vs ≡ true → is_in v (vs ++ more) ≡ true
 in_more [] more v e = absurd cc
-in_more (w ∷ ws) more v e = go (same_values v w) e
+in_more (w ∷ ws) more v e = go (same_values v w) e (λ e. in_more ws more v e)
   where
-    go : (b : Bool) → (if b then true else is_in v ws) ≡ true → (if b then true else is_in v (ws ++ more)) ≡ true
-    go true e = refl
-    go false e = in_more ws more v e
+    go : (b : Bool) → (if b then true else is_in v ws) ≡ true → (is_in v ws ≡ true → is_in v (ws ++ more) ≡ true) → (if b then true else is_in v (ws ++ more)) ≡ true
+    go true e f = refl
+    go false e f = f e
 
 in_last : (vs : List Value) (v : Value) → IsConstant v → is_in v (vs ++ v ∷ []) ≡ true
 in_last [] v h = ap (λ b. if b then true else false) (itself v h)
-in_last (w ∷ ws) v h = go (same_values v w)
+in_last (w ∷ ws) v h = go (same_values v w) (in_last ws v h)
   where
-    go : (b : Bool) → (if b then true else is_in v (ws ++ v ∷ [])) ≡ true
-    go true = refl
-    go false = in_last ws v h
+    go : (b : Bool) → is_in v (ws ++ v ∷ []) ≡ true → (if b then true else is_in v (ws ++ v ∷ [])) ≡ true
+    go true f = refl
+    go false f = f
 
 in_with : (vs : List Value) (v w : Value) → is_in v vs ≡ true → is_in v (with_constant vs w) ≡ true
 in_with vs v w e = go (is_in w vs)

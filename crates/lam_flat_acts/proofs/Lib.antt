@@ -4,4 +4,5 @@ pub mod Stands
 pub mod Contexts
 pub mod Runs
 pub mod Constants
-pub mod Layout
+pub mod Laid
+pub mod Places

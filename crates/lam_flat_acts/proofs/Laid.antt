@@ -1,5 +1,5 @@
 -- The layout of pieces: how long it is, and what stands at each address.
-use Rattle.std.proofs.Common.{◌≡◌, ℕ, zero, suc, ◌+◌, ◌<◌, ◌≤◌, List, [], ◌∷◌, ◌++◌, length, Option, Some, None, refl, sym, ap, ◌∙◌, subst, arith, append_assoc, length-append}
+use Rattle.std.proofs.Common.{◌≡◌, ℕ, true, zero, suc, ◌+◌, ◌<◌, ◌≤◌, List, [], ◌∷◌, ◌++◌, length, Option, Some, None, refl, sym, ap, ◌∙◌, subst, arith, append_assoc, length-append}
 use Rattle.std.proofs.lemmas.List.{append-nil}
 use Rattle.std.proofs.lemmas.Option.{slice_get-get_or}
 use Rattle.std.proofs.Math.Seq.{get_or-append_seam}
@@ -32,7 +32,8 @@ mutual
   length_of at (laid.loops t b) =
       let x = flat at t in
       let y = flat (at + size t + 1) b in
-      omega (arith, length-append x (an_op (JumpIfFalse (at + size t + 1 + size b + 1)) ∷ y ++ an_op (Jump at) ∷ []), length-append y (an_op (Jump at) ∷ []), flat_length at t, flat_length (at + size t + 1) b)
+      let j = an_op (JumpIfFalse (at + size t + 1 + size b + 1)) in
+      omega (arith, length-append (x ++ (j ∷ y)) (an_op (Jump at) ∷ []), length-append x (j ∷ y), flat_length at t, flat_length (at + size t + 1) b)
 
   pub flat_length : (at : ℕ) (ps : Pieces) → length (flat at ps) ≡ size ps
   flat_length at no_pieces = refl
