@@ -21,6 +21,7 @@ pub record Placed (r : ResolvedTree) (number : ℕ) (d : Draft) : Type 0 where
   pub unit : ℕ
   pub found : region_in number (scheme r).units ≡ Some (record { number = unit; it = unit_of (constants_of r) d })
   pub there : slice_get (scheme r).units unit ≡ Some (unit_of (constants_of r) d)
+  pub drafted : slice_get (drafts r) unit ≡ Some d
 
 -- the regions of a statement have their units in the code
 abbrev mutual
@@ -48,6 +49,14 @@ draft_at : (vs : List Value) (fs : List ResolvedFunction) (more : List Draft) (f
 draft_at vs [] more f fn e = absurd cc
 draft_at vs (g ∷ fs) more zero fn e = ap (λ (x : ResolvedFunction). Some (unit_of vs (function_draft x))) (some_is g fn e)
 draft_at vs (g ∷ fs) more (suc f) fn e = draft_at vs fs more f fn e
+
+draft_first : (fs : List ResolvedFunction) (more : List Draft) (f : ℕ) (fn : ResolvedFunction) → slice_get fs f ≡ Some fn → slice_get (map function_draft fs ++ more) f ≡ Some (function_draft fn)
+draft_first [] more f fn e = absurd cc
+draft_first (g ∷ fs) more zero fn e = ap (λ (x : ResolvedFunction). Some (function_draft x)) (some_is g fn e)
+draft_first (g ∷ fs) more (suc f) fn e = draft_first fs more f fn e
+
+pub function_drafted : (r : ResolvedTree) (f : ℕ) (fn : ResolvedFunction) → slice_get r.functions f ≡ Some fn → slice_get (drafts r) f ≡ Some (function_draft fn)
+function_drafted r f fn e = draft_first r.functions (all_regions r.functions) f fn e
 
 pub function_unit : (r : ResolvedTree) (f : ℕ) (fn : ResolvedFunction) → slice_get r.functions f ≡ Some fn → slice_get (scheme r).units f ≡ Some (unit_of (constants_of r) (function_draft fn))
 unfolding scheme
@@ -145,6 +154,12 @@ slice_past vs (f ∷ fs) ds i d e =
     let z : suc (length fs + i) ≡ length (f ∷ fs) + i = omega arith in
     subst (λ k. slice_get (map (unit_of vs) (map function_draft (f ∷ fs) ++ ds)) k ≡ Some (unit_of vs d)) z (slice_past vs fs ds i d e)
 
+draft_past : (fs : List ResolvedFunction) (ds : List Draft) (i : ℕ) (d : Draft) → slice_get ds i ≡ Some d → slice_get (map function_draft fs ++ ds) (length fs + i) ≡ Some d
+draft_past [] ds i d e = let z : i ≡ 0 + i = omega arith in subst (λ k. slice_get ds k ≡ Some d) z e
+draft_past (f ∷ fs) ds i d e =
+    let z : suc (length fs + i) ≡ length (f ∷ fs) + i = omega arith in
+    subst (λ k. slice_get (map function_draft (f ∷ fs) ++ ds) k ≡ Some d) z (draft_past fs ds i d e)
+
 placed_at : (r : ResolvedTree) (i : ℕ) (d : Draft) → AreNumbered r → slice_get (all_regions r.functions) i ≡ Some d → Placed r i d
 unfolding scheme
 placed_at r i d numbered e =
@@ -157,6 +172,7 @@ placed_at r i d numbered e =
           past_functions vs r.functions ds i 0 (length r.functions) (omega arith) ∙ ap (λ k. region_from (length r.functions) k (map (unit_of vs) ds)) z ∙
           find_region vs ds 0 i (length r.functions) d (counted_all r numbered) e;
       there = slice_past vs r.functions ds i d e;
+      drafted = draft_past r.functions ds i d e;
     }
 
 -- its place among the regions is its number
