@@ -8,7 +8,7 @@ use std::alloc::Global;
 use tag_sets::{NoMemory, TagId};
 
 /// Whether an ask is copied.
-fn copies(ask: Ask) -> bool {
+fn copies(ask: &Ask) -> bool {
     ask.copy().is_ok()
 }
 
@@ -43,10 +43,10 @@ fn denied() -> Denied {
 
 fn copies_slots(alloc: Global) -> Result<bool, NoMemory> {
     let r = object(alloc)?;
-    let read = copies(Ask::Read { r, at: 2 });
+    let read = copies(&Ask::Read { r, at: 2 });
     let r = object(alloc)?;
     let v = Value::Bool(true);
-    Ok(read & copies(Ask::Write { r, at: 2, v }))
+    Ok(read & copies(&Ask::Write { r, at: 2, v }))
 }
 
 fn copies_new(alloc: Global) -> Result<bool, NoMemory> {
@@ -54,27 +54,27 @@ fn copies_new(alloc: Global) -> Result<bool, NoMemory> {
         kind: Kind::Int,
         len: 4,
     };
-    let made = copies(Ask::New { shape });
+    let made = copies(&Ask::New { shape });
     let r = object(alloc)?;
     let own = Label::public(alloc);
-    Ok(made & copies(Ask::CopyTo { r, own }))
+    Ok(made & copies(&Ask::CopyTo { r, own }))
 }
 
 fn copies_monitors(alloc: Global) -> Result<bool, NoMemory> {
     let r = object(alloc)?;
-    let enter = copies(Ask::MonEnter { r });
+    let enter = copies(&Ask::MonEnter { r });
     let r = object(alloc)?;
-    Ok(enter & copies(Ask::MonLeave { r }))
+    Ok(enter & copies(&Ask::MonLeave { r }))
 }
 
 fn copies_regions(alloc: Global) -> Result<bool, NoMemory> {
-    let enter = copies(Ask::Enter {
+    let enter = copies(&Ask::Enter {
         label: Label::public(alloc),
         caps: Caps::none(alloc),
         region: 0,
         args: values(alloc)?,
     });
-    Ok(enter & copies(Ask::Leave))
+    Ok(enter & copies(&Ask::Leave))
 }
 
 #[test]
@@ -87,52 +87,52 @@ fn asks_of_things_are_copied(rt: HostRuntime) {
 
 #[test]
 fn asks_of_a_thread_alone_are_copied(rt: HostRuntime) {
-    assert!(rt; copies(Ask::Mint));
-    assert!(rt; copies(Ask::Barred(denied())));
-    assert!(rt; copies(Ask::Caught(Fault::Index)));
-    assert!(rt; copies(Ask::Suppressed(Fault::Thrown(7))));
-    assert!(rt; copies(Ask::Join { thread: 1 }));
-    assert!(rt; copies(Ask::End(Outcome::Failed(Fault::Deep))));
-    assert!(rt; copies(Ask::End(Outcome::Value(Value::Int(0)))));
+    assert!(rt; copies(&Ask::Mint));
+    assert!(rt; copies(&Ask::Barred(denied())));
+    assert!(rt; copies(&Ask::Caught(Fault::Index)));
+    assert!(rt; copies(&Ask::Suppressed(Fault::Thrown(7))));
+    assert!(rt; copies(&Ask::Join { thread: 1 }));
+    assert!(rt; copies(&Ask::End(Outcome::Failed(Fault::Deep))));
+    assert!(rt; copies(&Ask::End(Outcome::Value(Value::Int(0)))));
 }
 
 fn copies_makers(alloc: Global) -> Result<bool, NoMemory> {
-    let file = copies(Ask::MakeFile {
+    let file = copies(&Ask::MakeFile {
         dir: name(alloc)?,
         entry: bytes(alloc)?,
         own: Label::public(alloc),
     });
-    let dir = copies(Ask::MakeDir {
+    let dir = copies(&Ask::MakeDir {
         dir: name(alloc)?,
         entry: bytes(alloc)?,
         own: Label::public(alloc),
     });
     let own = Label::public(alloc);
-    Ok(file & dir & copies(Ask::MakePipe { own }))
+    Ok(file & dir & copies(&Ask::MakePipe { own }))
 }
 
 fn copies_entries(alloc: Global) -> Result<bool, NoMemory> {
     let dir = name(alloc)?;
     let entry = bytes(alloc)?;
-    let file = copies(Ask::OpenFile { dir, entry });
+    let file = copies(&Ask::OpenFile { dir, entry });
     let dir = name(alloc)?;
     let entry = bytes(alloc)?;
-    let opened = copies(Ask::OpenDir { dir, entry });
+    let opened = copies(&Ask::OpenDir { dir, entry });
     let dir = name(alloc)?;
     let entry = bytes(alloc)?;
-    Ok(file & opened & copies(Ask::Remove { dir, entry }))
+    Ok(file & opened & copies(&Ask::Remove { dir, entry }))
 }
 
 fn copies_contents(alloc: Global) -> Result<bool, NoMemory> {
     let file = name(alloc)?;
-    let read = copies(Ask::FileRead { file, at: 1, n: 2 });
+    let read = copies(&Ask::FileRead { file, at: 1, n: 2 });
     let file = name(alloc)?;
-    let length = copies(Ask::FileLength { file });
+    let length = copies(&Ask::FileLength { file });
     let file = name(alloc)?;
     let bytes = bytes(alloc)?;
-    let append = copies(Ask::Append { file, bytes });
+    let append = copies(&Ask::Append { file, bytes });
     let file = name(alloc)?;
-    Ok(read & length & append & copies(Ask::Cut { file, len: 3 }))
+    Ok(read & length & append & copies(&Ask::Cut { file, len: 3 }))
 }
 
 #[test]
@@ -145,20 +145,20 @@ fn asks_of_files_are_copied(rt: HostRuntime) {
 fn copies_messages(alloc: Global) -> Result<bool, NoMemory> {
     let pipe = name(alloc)?;
     let bytes = bytes(alloc)?;
-    let send = copies(Ask::Send { pipe, bytes });
+    let send = copies(&Ask::Send { pipe, bytes });
     let pipe = name(alloc)?;
     let caps = Caps::none(alloc);
-    let send_caps = copies(Ask::SendCaps { pipe, caps });
+    let send_caps = copies(&Ask::SendCaps { pipe, caps });
     let pipe = name(alloc)?;
-    let receive = copies(Ask::Receive { pipe });
+    let receive = copies(&Ask::Receive { pipe });
     let pipe = name(alloc)?;
-    Ok(send & send_caps & receive & copies(Ask::ReceiveCaps { pipe }))
+    Ok(send & send_caps & receive & copies(&Ask::ReceiveCaps { pipe }))
 }
 
 fn copies_speech(alloc: Global) -> Result<bool, NoMemory> {
     let bytes = bytes(alloc)?;
-    let say = copies(Ask::Say { bytes });
-    let spawn = copies(Ask::Spawn {
+    let say = copies(&Ask::Say { bytes });
+    let spawn = copies(&Ask::Spawn {
         unit: 2,
         args: values(alloc)?,
         caps: Caps::none(alloc),
@@ -172,7 +172,7 @@ fn asks_of_pipes_and_threads_are_copied(rt: HostRuntime) {
     assert!(rt; copies_speech(rt.alloc()) == Ok(true));
 }
 
-fn copies_answer(answer: Answer) -> bool {
+fn copies_answer(answer: &Answer) -> bool {
     answer.copy().is_ok()
 }
 
@@ -193,11 +193,11 @@ fn copies_event(alloc: Global) -> Result<bool, NoMemory> {
 
 #[test]
 fn answers_are_copied(rt: HostRuntime) {
-    assert!(rt; copies_answer(Answer::Done));
-    assert!(rt; copies_answer(Answer::Entered));
-    assert!(rt; copies_answer(Answer::Val(Value::Nothing)));
-    assert!(rt; copies_answer(Answer::Refused(denied())));
-    assert!(rt; copies_answer(Answer::Failed(Fault::Thrown(-3))));
+    assert!(rt; copies_answer(&Answer::Done));
+    assert!(rt; copies_answer(&Answer::Entered));
+    assert!(rt; copies_answer(&Answer::Val(Value::Nothing)));
+    assert!(rt; copies_answer(&Answer::Refused(denied())));
+    assert!(rt; copies_answer(&Answer::Failed(Fault::Thrown(-3))));
     assert!(rt; copies_event(rt.alloc()) == Ok(true));
 }
 
