@@ -5,11 +5,11 @@ use Rattle.std.specs.Option.{option_map}
 use Rattle.lam_syntax.specs.declared.Expr.{Expr}
 use Rattle.lam_syntax.specs.declared.BinaryOp.{BinaryOp}
 use Rattle.lam_syntax.specs.declared.UnaryOp.{UnaryOp}
-use Rattle.lam_syntax.specs.Tree.{Word, IdTree, TypeTree, ExprTree, ExprForm, ExprList, CapTree, expr_tree, exprs_tree, binary_expr, unary_expr, field_expr, element_expr, name_expr, call_expr, new_class_expr, new_array_expr, label_expr, caps_expr, spawn_expr}
+use Rattle.lam_syntax.specs.Tree.{Word, IdTree, TypeTree, ExprForm, ExprList, CapTree, expr_tree, binary_expr, unary_expr, field_expr, element_expr, name_expr, call_expr, new_class_expr, new_array_expr, label_expr, caps_expr, spawn_expr}
 use Rattle.lam_builtins.specs.Types.{a_value, object, array, label, caps, thread}
 use Rattle.lam_builtins.specs.Operators.{operator_type, unary_type}
 use Rattle.lam_builtins.specs.Builtins.{builtin_named}
-use Rattle.resolved_tree.specs.Tree.{ResolvedType, Expression, unary_of, binary_of, new_array, label_of, caps_of, spawn_of, local_value, new_object}
+use Rattle.resolved_tree.specs.Tree.{ResolvedType, unary_of, binary_of, new_array, label_of, caps_of, spawn_of, local_value, new_object}
 use Rattle.resolved_tree.specs.Typing.{Head}
 use Rattle.lam_resolved.specs.Resolved.{then_some, Found, found, Tables, Locals, local_named, Value, value_as, Args, field_read, element_read, called, resolve, resolve_form, resolve_args, resolve_caps, resolve_type}
 use Rattle.lam_resolve_tables.proofs.Options.{first_some, next_some, goes}

@@ -1,6 +1,6 @@
-use Rattle.std.proofs.Common.{rules, ◌≡◌, arith, refl, get_or, ap, sym, ◌∙◌}
+use Rattle.std.proofs.Common.{rules, arith, refl, get_or, ap, ◌∙◌}
 use Rattle.std.proofs.lemmas.List.{drop_all}
-use Rattle.lam_syntax.specs.Tree.{expr_form, expr_tree, exprs_tree, id_tree, type_tree, caps_tree}
+use Rattle.lam_syntax.specs.Tree.{expr_form, exprs_tree, id_tree, type_tree, caps_tree}
 use Rattle.lam_syntax.proofs.Rows.{call_row, label_row, spawn_row}
 use Rattle.lam_resolved.specs.Resolved.{resolve_args}
 use Rattle.lam_resolve_tables.specs.Kinds.{kind_type, given}

@@ -1,4 +1,4 @@
-use Rattle.std.proofs.Common.{◌≡◌, Some, ap, sym, ◌∙◌}
+use Rattle.std.proofs.Common.{Some, ap, sym, ◌∙◌}
 use Rattle.lam_resolve_tables.proofs.Options.{goes}
 use Rattle.lam_resolve_exprs.proofs.values.caps_of.Goals as goal
 

@@ -1,4 +1,4 @@
-use Rattle.std.proofs.Common.{◌≡◌, ap, sym, ◌∙◌, slice_get}
+use Rattle.std.proofs.Common.{ap, sym, ◌∙◌, slice_get}
 use Rattle.std.specs.Option.{option_map, option_copied}
 use Rattle.lam_resolve_tables.specs.Kinds.{kind_type}
 use Rattle.lam_resolve_tables.specs.Named.{seen_found}

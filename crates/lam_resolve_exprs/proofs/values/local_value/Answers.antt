@@ -1,4 +1,4 @@
-use Rattle.std.proofs.Common.{◌≡◌, Some, ap, sym, ◌∙◌}
+use Rattle.std.proofs.Common.{ap, sym, ◌∙◌}
 use Rattle.std.specs.Option.{option_map}
 use Rattle.lam_resolve_exprs.specs.Values.{local}
 use Rattle.lam_resolve_tables.proofs.Options.{some_not_none, goes}

@@ -1,4 +1,4 @@
-use Rattle.std.proofs.Common.{◌≡◌, Some, ap, sym, ◌∙◌}
+use Rattle.std.proofs.Common.{Some, ap, sym, ◌∙◌}
 use Rattle.lam_resolve_tables.specs.Named.{seen_found}
 use Rattle.lam_resolve_tables.proofs.Options.{some_not_none, goes}
 use Rattle.lam_resolve_exprs.proofs.values.new_object.Goals as goal

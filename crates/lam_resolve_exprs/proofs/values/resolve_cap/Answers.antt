@@ -1,6 +1,5 @@
-use Rattle.std.proofs.Common.{◌≡◌, Some, ap, sym, ◌∙◌, is_some}
+use Rattle.std.proofs.Common.{ap, sym, ◌∙◌}
 use Rattle.std.specs.Option.{option_map}
-use Rattle.lam_syntax.specs.Tree.{cap_tree}
 use Rattle.lam_resolved.specs.Resolved.{local_named}
 use Rattle.lam_resolve_exprs.specs.Values.{local, locals, cap_at}
 use Rattle.lam_resolve_tables.proofs.Options.{some_not_none}
