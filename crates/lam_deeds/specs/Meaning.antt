@@ -3,7 +3,6 @@ use Rattle.std.specs.Prelude.{◌≡◌, ℕ, List}
 use Rattle.lam_value.specs.Homes.{home_of}
 use Rattle.lam_value.specs.Shapes.{slots_of}
 use Rattle.labelled_heap.specs.Things.{sort_of}
-use Rattle.lam_asks.specs.declared.answer.Answer.{Answer}
 use Rattle.lam_bytecode.specs.Codes.{CodeTree}
 use Rattle.thread_steps.specs.Threads.{Thread}
 use Rattle.lam_worlds.specs.Deeds as told

@@ -1,5 +1,5 @@
 -- A row that reads some parts of a world and of a context serves its ask in each world and context with these parts.
-use Rattle.std.proofs.Common.{◌≡◌, ℕ, List, length, Option, Result, Ok, Err, IfOk, refl, sym, ap, subst, ◌∙◌}
+use Rattle.std.proofs.Common.{◌≡◌, ℕ, List, length, Option, Result, Ok, Err, IfOk, sym, ap, subst, ◌∙◌}
 use Rattle.want_of_memory.specs.declared.NoMemory.{NoMemory}
 use Rattle.flow_labels.specs.declared.Label.{Label}
 use Rattle.capabilities.specs.declared.Caps.{Caps}
@@ -14,8 +14,8 @@ use Rattle.lam_worlds.specs.Serving.{serve}
 use Rattle.lam_stores.specs.declared.Stores.{Stores}
 use Rattle.lam_deeds.specs.declared.deed.Deed.{Deed}
 use Rattle.lam_deeds.specs.Meaning.{DoesAs}
-use Rattle.lam_serving.specs.Acting.{Acting, acting_of}
-use Rattle.lam_serving.specs.Rows.{Serves, any_world, any_context, with_tags, with_heap, with_monitors, with_files, with_pipes, at_label, acting_by, at_depth}
+use Rattle.lam_serving.specs.Acting.{Acting}
+use Rattle.lam_serving.specs.Rows.{Serves, with_tags, with_heap, with_monitors, with_files, with_pipes, at_label, acting_by, at_depth}
 use Rattle.lam_serving.specs.Serves.{Reads}
 
 -- what is promised of all rows

@@ -1,5 +1,5 @@
 -- What a row owes at each of its returns: what its deed stands under, and the deed itself.
-use Rattle.std.proofs.Common.{◌≡◌, Option, Some, None, refl, sym, ap, subst, ◌∙◌}
+use Rattle.std.proofs.Common.{◌≡◌, Option, Some, None, refl, sym, ap, subst}
 use Rattle.flow_labels.specs.declared.Denied.{Denied}
 use Rattle.flow_labels.specs.Failing.{Test, first_failing}
 use Rattle.lam_value.specs.declared.names.Name.{Name}

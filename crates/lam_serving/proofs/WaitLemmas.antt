@@ -1,5 +1,5 @@
 -- The order of what a context lists does not matter.
-use Rattle.std.proofs.Common.{◌≡◌, List, reverse, refl, sym}
+use Rattle.std.proofs.Common.{◌≡◌, List, reverse, refl}
 use Rattle.std.proofs.lemmas.List.Sorted.{list_any-IsPermutation, IsPermutation-reverse}
 use Rattle.lam_value.specs.declared.names.Name.{Name}
 use Rattle.lam_value.specs.declared.values.Value.{Value}

@@ -1,5 +1,5 @@
-use Rattle.std.proofs.Common.{◌≡◌, ◌∙◌, ap, refl, sym}
-use Rattle.lam_serving.proofs.RowLemmas.{answers_as, does_as, gives_as, makes_as, refused_as, passes_as, fails_as, holds_as, null_as, thing_as}
+use Rattle.std.proofs.Common.{refl}
+use Rattle.lam_serving.proofs.RowLemmas.{refused_as, passes_as, fails_as, holds_as}
 use Rattle.lam_serving.proofs.contexts.enter.Goals as goal
 
 pub returns-in-Some : goal.returns-in-Some

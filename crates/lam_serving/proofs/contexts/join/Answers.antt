@@ -1,6 +1,6 @@
-use Rattle.std.proofs.Common.{◌≡◌, ◌∙◌, ap, refl, sym}
-use Rattle.lam_worlds.specs.Serving.{reference, renamed, opened, received, joined}
-use Rattle.lam_serving.proofs.RowLemmas.{answers_as, does_as, gives_as, makes_as, refused_as, passes_as, fails_as, holds_as, null_as, thing_as}
+use Rattle.std.proofs.Common.{◌∙◌, ap, refl, sym}
+use Rattle.lam_worlds.specs.Serving.{joined}
+use Rattle.lam_serving.proofs.RowLemmas.{answers_as, refused_as, passes_as}
 use Rattle.lam_serving.proofs.contexts.join.Goals as goal
 
 pub returns-in-Some : goal.returns-in-Some

@@ -1,7 +1,6 @@
-use Rattle.std.proofs.Common.{◌≡◌, ◌∙◌, ap, refl, sym}
+use Rattle.std.proofs.Common.{ap, sym}
 use Rattle.lam_value.specs.declared.values.Value.TheVariants as value
-use Rattle.lam_asks.specs.declared.answer.Answer.TheVariants as answer
-use Rattle.lam_serving.proofs.RowLemmas.{answers_as, does_as, gives_as, makes_as, refused_as, passes_as, fails_as, holds_as, null_as, thing_as}
+use Rattle.lam_serving.proofs.RowLemmas.{makes_as, refused_as, passes_as, fails_as, holds_as}
 use Rattle.lam_serving.proofs.contexts.spawn.Goals as goal
 
 pub returns-in-Some : goal.returns-in-Some

@@ -1,7 +1,7 @@
-use Rattle.std.proofs.Common.{◌≡◌, ◌∙◌, ap, refl, sym}
+use Rattle.std.proofs.Common.{◌∙◌, ap}
 use Rattle.lam_value.specs.declared.values.Value.TheVariants as value
 use Rattle.lam_asks.specs.declared.answer.Answer.TheVariants as answer
-use Rattle.lam_serving.proofs.RowLemmas.{answers_as, does_as, gives_as, makes_as, refused_as, passes_as, fails_as, holds_as, null_as, thing_as}
+use Rattle.lam_serving.proofs.RowLemmas.{answers_as, refused_as, passes_as}
 use Rattle.lam_serving.proofs.files.read_file.Goals as goal
 
 pub returns-in-Some : goal.returns-in-Some

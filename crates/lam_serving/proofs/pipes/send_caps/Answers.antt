@@ -1,5 +1,4 @@
-use Rattle.std.proofs.Common.{◌≡◌, ◌∙◌, ap, refl, sym}
-use Rattle.lam_serving.proofs.RowLemmas.{answers_as, does_as, gives_as, makes_as, refused_as, passes_as, fails_as, holds_as, null_as, thing_as}
+use Rattle.lam_serving.proofs.RowLemmas.{does_as, refused_as, passes_as}
 use Rattle.lam_serving.proofs.pipes.send_caps.Goals as goal
 
 pub returns-in-Some : goal.returns-in-Some

@@ -1,4 +1,4 @@
-use Rattle.std.proofs.Common.{◌≡◌, refl}
+use Rattle.std.proofs.Common.{refl}
 use Rattle.lam_serving.specs.Rows.{any_world, any_context, with_tags, with_heap, with_monitors, with_files, with_pipes, at_label, acting_by, at_depth}
 use Rattle.lam_serving.proofs.PartLemmas.{moved, moved_ok, one, each, tags_is, heap_is, monitors_is, files_is, pipes_is, label_is, caps_is, depth_is, released, among, joining}
 use Rattle.lam_serving.proofs.rows.serve.Goals as goal

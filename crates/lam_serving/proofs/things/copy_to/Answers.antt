@@ -1,7 +1,7 @@
-use Rattle.std.proofs.Common.{◌≡◌, ◌∙◌, ap, refl, sym}
-use Rattle.lam_worlds.specs.Serving.{reference, renamed, opened, received, joined}
+use Rattle.std.proofs.Common.{◌∙◌, ap}
+use Rattle.lam_worlds.specs.Serving.{renamed}
 use Rattle.lam_value.specs.Homes.{home_of, name_of}
-use Rattle.lam_serving.proofs.RowLemmas.{answers_as, does_as, gives_as, makes_as, refused_as, passes_as, fails_as, holds_as, null_as, thing_as}
+use Rattle.lam_serving.proofs.RowLemmas.{makes_as, refused_as, passes_as, fails_as, holds_as, null_as, thing_as}
 use Rattle.lam_serving.proofs.things.copy_to.Goals as goal
 
 pub returns-in_default : goal.returns-in_default

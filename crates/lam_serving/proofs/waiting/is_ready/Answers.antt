@@ -1,4 +1,4 @@
-use Rattle.std.proofs.Common.{◌≡◌, ◌∙◌, Bool, true, not, ◌&&◌, ap, sym}
+use Rattle.std.proofs.Common.{◌≡◌, ◌∙◌, true, not, ◌&&◌, ap, sym}
 use Rattle.lam_worlds.specs.Turns as turns
 use Rattle.lam_serving.specs.Acting.{Acting}
 use Rattle.lam_serving.specs.Rows.{with_monitors, at_label}

@@ -1,4 +1,4 @@
-use Rattle.std.proofs.Common.{◌≡◌, ◌∙◌, ap, sym}
+use Rattle.std.proofs.Common.{◌∙◌, ap, sym}
 use Rattle.lam_worlds.specs.Turns as turns
 use Rattle.lam_serving.specs.Acting.{Acting}
 use Rattle.lam_serving.proofs.WaitLemmas.{lists_reverse}
