@@ -1,11 +1,10 @@
 -- Each ask once: its answer is that of its first rule that fails, of its fault, or it is done.
-use Rattle.std.proofs.Common.{◌≡◌, ℕ, Bool, true, false, List, [], ◌∷◌, ◌++◌, Option, Some, None, refl}
+use Rattle.std.proofs.Common.{[], Option, Some, None, refl}
 use Rattle.flow_labels.specs.declared.Denied.{Denied}
 use Rattle.flow_labels.specs.Failing.{Test, first_failing}
 use Rattle.lam_value.specs.declared.names.Name.{Name}
 use Rattle.lam_value.specs.declared.values.Value.{Value}
 use Rattle.lam_value.specs.declared.values.Value.TheVariants.{Obj, Arr}
-use Rattle.labelled_files.specs.declared.directory.Target.{Target}
 use Rattle.lam_asks.specs.declared.fault.Fault.{Fault}
 use Rattle.lam_asks.specs.declared.fault.Fault.TheVariants.{NoEntry}
 use Rattle.lam_asks.specs.declared.answer.Outcome.{Outcome}
@@ -14,7 +13,7 @@ use Rattle.lam_asks.specs.declared.ask.Ask.{Ask}
 use Rattle.lam_asks.specs.declared.ask.Ask.TheVariants as ask
 use Rattle.thread_steps.specs.Threads.{Context}
 use Rattle.lam_worlds.specs.Worlds.{World, result_at}
-use Rattle.lam_worlds.specs.Deeds.{Deed, answers, does, gives_back, unless_denied, under, unless, on_thing}
+use Rattle.lam_worlds.specs.Deeds.{Deed, does, gives_back, unless_denied, under, unless, on_thing}
 use Rattle.lam_worlds.specs.Serving.{opened, joined, serve}
 use Rattle.lam_turn_laws.specs.Tests.{of_thing, tests_of}
 use Rattle.lam_answer_laws.specs.Faults.{at_thing, where_none, child_fault, fault_by, IsDone, Says, AnswersFollowTheRows}

@@ -1,28 +1,24 @@
 -- A test that fails is an event.
-use Rattle.std.proofs.Common.{◌≡◌, ℕ, Bool, true, false, cond, List, [], ◌∷◌, Option, Some, None, refl, sym, ap, subst, ◌∙◌}
+use Rattle.std.proofs.Common.{◌≡◌, ℕ, Bool, true, false, cond, List, ◌∷◌, Option, Some, None, refl, ap, subst, ◌∙◌}
 use Rattle.std.specs.Prelude.{is_none, not, ◌&&◌}
 use Rattle.flow_labels.specs.declared.Denied.{Denied}
 use Rattle.flow_labels.specs.Flow.{public_label}
 use Rattle.flow_labels.specs.Failing.{first_failing, same_test, read_test}
-use Rattle.lam_value.specs.declared.names.Name.{Name}
 use Rattle.lam_value.specs.declared.values.Value.{Value}
 use Rattle.lam_value.specs.declared.values.Value.TheVariants.{Obj, Arr}
 use Rattle.monitor_core.specs.Held.{is_free}
-use Rattle.lam_asks.specs.declared.fault.Fault.TheVariants as fault
-use Rattle.lam_asks.specs.declared.answer.Answer.{Answer}
 use Rattle.lam_asks.specs.declared.answer.Answer.TheVariants.{Done, Refused}
 use Rattle.lam_asks.specs.declared.answer.What.TheVariants.{Asked}
 use Rattle.lam_asks.specs.declared.ask.Ask.{Ask}
 use Rattle.lam_asks.specs.declared.ask.Ask.TheVariants as ask
 use Rattle.lam_bytecode.specs.Codes.{CodeTree}
 use Rattle.thread_steps.specs.Threads.{Inside, Context, Thread}
-use Rattle.thread_steps.specs.Next.{Next, goes, asks, stuck, past, next_of}
+use Rattle.thread_steps.specs.Next.{asks, past, next_of}
 use Rattle.lam_worlds.specs.Worlds.{World, thread_at, contexts_in, contexts_at}
 use Rattle.lam_worlds.specs.Serving.{serve}
-use Rattle.lam_worlds.specs.Turns.{may_ask, is_taken, is_living, waits, is_ready, Moment, served, turn_by, turn_on, turn_in, step}
-use Rattle.lam_next_laws.specs.Laws.{IsBarred, StandsAt}
+use Rattle.lam_worlds.specs.Turns.{may_ask, is_taken, is_living, waits, served, turn_by, turn_on, turn_in, step}
 use Rattle.lam_next_laws.proofs.NextLemmas.{what_it_may, barred_at}
-use Rattle.lam_turn_laws.specs.Tests.{tests_of, OnlyFaults}
+use Rattle.lam_turn_laws.specs.Tests.{tests_of}
 use Rattle.lam_turn_laws.proofs.RefusalLemmas.{change_nothing}
 use Rattle.lam_answer_laws.specs.Events.{IsDenied, FailingTestsAreEvents}
 use Rattle.lam_answer_laws.specs.Faults.{fault_by, Says}
@@ -60,10 +56,13 @@ module _ (code : CodeTree) (w : World) (t : ℕ) (c : Context) (rest : List Cont
   unfolding step
   asked_turn a i e quick =
       let h = the_thread (thread_at w t) c rest list in
-      let th = h.0 in
-      (th, h.1, h.2,
-      ap (turn_in code w t) h.1 ∙ ap (turn_on code w t th) h.2 ∙ ap (turn_by code w t th c rest) e
-      ∙ ap (λ b. cond b (Some (served code w t th c rest a i (serve w c a))) None) (both (may_ask c a) (waits w t c a) (what_it_may code c a i e) quick))
+      let th = h.0 in (
+        th,
+        h.1,
+        h.2,
+        ap (turn_in code w t) h.1 ∙ ap (turn_on code w t th) h.2 ∙ ap (turn_by code w t th c rest) e
+            ∙ ap (λ b. cond b (Some (served code w t th c rest a i (serve w c a))) None) (both (may_ask c a) (waits w t c a) (what_it_may code c a i e) quick),
+      )
 
   refused_turn : (a : Ask) (i : Inside) (d : Denied) → next_of code c ≡ asks a i → first_failing (tests_of c a) ≡ Some d → IsDenied code w t a (Refused d)
   refused_turn a i d e f =
@@ -74,9 +73,12 @@ module _ (code : CodeTree) (w : World) (t : ℕ) (c : Context) (rest : List Cont
 
   barred_turn : (d : Denied) (i : Inside) → next_of code c ≡ asks (ask.Barred d) i → IsDenied code w t (ask.Barred d) Done
   barred_turn d i e =
-      let h = asked_turn (ask.Barred d) i e refl in
-      (served code w t h.0 c rest (ask.Barred d) i (serve w c (ask.Barred d)), h.3, refl,
-      record { thread = h.0; top = c; rest = rest; at = h.1; list = h.2; made = refl; world = refl })
+      let h = asked_turn (ask.Barred d) i e refl in (
+        served code w t h.0 c rest (ask.Barred d) i (serve w c (ask.Barred d)),
+        h.3,
+        refl,
+        record { thread = h.0; top = c; rest = rest; at = h.1; list = h.2; made = refl; world = refl },
+      )
 
 pub failing_events : (code : CodeTree) → FailingTestsAreEvents code
 failing_events code =

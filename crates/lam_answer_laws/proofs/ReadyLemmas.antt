@@ -3,13 +3,12 @@ use Rattle.std.proofs.Common.{◌≡◌, ℕ, zero, suc, ◌<◌, ◌≤◌, ◌
 use Rattle.std.specs.Prelude.{is_some, is_none, not, ◌&&◌, nat_lt, slice_get}
 use Rattle.std.proofs.lemmas.Bool.Decides.{nat_tests}
 use Rattle.lam_asks.specs.declared.answer.Outcome.{Outcome}
-use Rattle.lam_asks.specs.declared.ask.Ask.{Ask}
 use Rattle.lam_bytecode.specs.Codes.{CodeTree}
-use Rattle.thread_steps.specs.Threads.{Inside, Context, Thread}
+use Rattle.thread_steps.specs.Threads.{Context, Thread}
 use Rattle.thread_steps.specs.Next.{Next, goes, asks, stuck, next_of}
-use Rattle.lam_worlds.specs.Worlds.{World, thread_at, contexts_in, contexts_at}
+use Rattle.lam_worlds.specs.Worlds.{World, thread_at, contexts_in}
 use Rattle.lam_worlds.specs.Serving.{serve}
-use Rattle.lam_worlds.specs.Turns.{may_ask, waits, is_ready, Moment, served, turn_by, turn_on, turn_in, step, ready, IsDone, AllWait, is_living}
+use Rattle.lam_worlds.specs.Turns.{waits, is_ready, Moment, served, turn_by, turn_on, turn_in, step, ready, IsDone, AllWait, is_living}
 use Rattle.lam_worlds.specs.Valid.{has_contexts, IsValid}
 use Rattle.lam_isolation.proofs.ThreadLemmas.{some_inj}
 use Rattle.lam_next_laws.proofs.NextLemmas.{what_it_may}

@@ -1,10 +1,8 @@
 -- Each ask once: its answer is of the form that the ask wants.
-use Rattle.std.proofs.Common.{◌≡◌, ℕ, Bool, true, false, cond, List, [], ◌∷◌, ◌++◌, Option, Some, None, refl, sym, ap, subst, ◌∙◌}
+use Rattle.std.proofs.Common.{◌≡◌, ℕ, Bool, true, false, cond, List, [], ◌∷◌, Option, Some, None, refl, sym, ap, subst}
 use Rattle.std.specs.Prelude.{nat_lt}
-use Rattle.flow_labels.specs.declared.Label.{Label}
 use Rattle.flow_labels.specs.declared.Denied.{Denied}
-use Rattle.flow_labels.specs.Flow.{public_label}
-use Rattle.flow_labels.specs.Failing.{Test, first_failing, read_test, write_test, same_test}
+use Rattle.flow_labels.specs.Failing.{Test, first_failing}
 use Rattle.lam_value.specs.declared.names.Name.{Name}
 use Rattle.lam_value.specs.declared.values.Value.{Value}
 use Rattle.lam_value.specs.declared.values.Value.TheVariants.{Obj, Arr, File, Dir}
@@ -19,11 +17,9 @@ use Rattle.labelled_pipes.specs.declared.message.MessageKind.TheVariants as sort
 use Rattle.labelled_pipes.specs.Messages.{front_of}
 use Rattle.labelled_pipes.specs.Queues.{waiting_at}
 use Rattle.lam_asks.specs.declared.fault.Fault.{Fault}
-use Rattle.lam_asks.specs.declared.fault.Fault.TheVariants.{HomeFull, Deep, BadName, Exists, DirFull, NoEntry, Child}
+use Rattle.lam_asks.specs.declared.fault.Fault.TheVariants.{HomeFull, Deep, BadName, Exists, DirFull, NoEntry}
 use Rattle.lam_asks.specs.declared.answer.Outcome.{Outcome}
 use Rattle.lam_asks.specs.declared.answer.Outcome.TheVariants as outcome
-use Rattle.lam_asks.specs.declared.answer.Answer.{Answer}
-use Rattle.lam_asks.specs.declared.answer.Answer.TheVariants.{Done, Entered, Val, Refused, Failed}
 use Rattle.lam_asks.specs.declared.ask.Ask.{Ask}
 use Rattle.lam_asks.specs.declared.ask.Ask.TheVariants as ask
 use Rattle.lam_asks.specs.Suits as suit
@@ -32,9 +28,9 @@ use Rattle.lam_bytecode.specs.Codes.{CodeTree}
 use Rattle.thread_steps.specs.Threads.{Context}
 use Rattle.lam_worlds.specs.Worlds.{World, result_at}
 use Rattle.lam_worlds.specs.Deeds.{Deed, answers, does, gives_back, unless_denied, under, unless, full, on_thing}
-use Rattle.lam_worlds.specs.Serving.{reference, renamed, fault_of, file_faults, opened, absent, received, joined, serve}
+use Rattle.lam_worlds.specs.Serving.{reference, renamed, file_faults, opened, absent, received, joined, serve}
 use Rattle.lam_worlds.specs.Turns.{lists}
-use Rattle.lam_next_laws.specs.Laws.{LeadsTo, IsRead, IsWritten}
+use Rattle.lam_next_laws.specs.Laws.{LeadsTo}
 use Rattle.lam_next_laws.proofs.EffectLemmas.{IsThing}
 use Rattle.lam_next_laws.proofs.NextLemmas.{AskIs, ask_is, followed, gives_slot, sets_it}
 use Rattle.lam_answer_laws.specs.Suiting.{Joined, with_value, forbidden, without_value, Suits, AnswersSuit}

@@ -1,5 +1,5 @@
 -- The fault of each ask, one clause for each, where no rule refuses it.
-use Rattle.std.specs.Prelude.{◌≡◌, ℕ, List, length, Option, Some, None}
+use Rattle.std.specs.Prelude.{◌≡◌, length, Option, Some, None}
 use Rattle.flow_labels.specs.declared.Denied.{Denied}
 use Rattle.flow_labels.specs.Failing.{first_failing}
 use Rattle.lam_value.specs.declared.names.Name.{Name}

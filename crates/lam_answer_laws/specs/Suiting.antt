@@ -1,5 +1,5 @@
 -- Answers suit the asks that contexts make.
-use Rattle.std.specs.Prelude.{◌≡◌, ◌⊎◌, ℕ, true}
+use Rattle.std.specs.Prelude.{◌≡◌, true}
 use Rattle.flow_labels.specs.declared.Denied.{Denied}
 use Rattle.lam_value.specs.declared.values.Value.{Value}
 use Rattle.lam_asks.specs.declared.fault.Fault.TheVariants.{Child}

@@ -1,5 +1,5 @@
 -- A turn only adds to a world, and what lives in one lives in a greater one.
-use Rattle.std.proofs.Common.{◌≡◌, ℕ, zero, suc, ◌+◌, ◌<◌, ◌≤◌, Bool, true, false, List, [], ◌∷◌, ◌++◌, Option, Some, None, length, refl, sym, ap, ◌∙◌, subst, arith, length-append}
+use Rattle.std.proofs.Common.{◌≡◌, ℕ, zero, suc, ◌+◌, ◌≤◌, Bool, true, false, List, [], ◌∷◌, ◌++◌, Option, Some, None, length, refl, sym, ap, ◌∙◌, subst, arith, length-append}
 use Rattle.std.specs.Prelude.{cond, IsTrue, is_some, unwrap_or, slice_set}
 use Rattle.std.proofs.Math.Bool.{true≢false}
 use Rattle.std.specs.Ordering.{eq_by_cmp}
@@ -167,7 +167,6 @@ pub same_stores : (w : World) (t : ℕ) (to : threads.Thread) → AreSoundStores
 same_stores w t to s = record { heap = s.heap; monitors = s.monitors; files = s.files; root = s.root; pipes = s.pipes }
 
 -- ---- turns
-
 
 next_goes_on : (code : CodeTree) (w : World) (t : ℕ) (th : threads.Thread) (c : Context) (rest : List Context) (nx : Next) (m : Moment) → AreSoundStores w → turn_by code w t th c rest nx ≡ Some m → (v : Value) → Lives w v → Lives m.world v
 next_goes_on code w t th c rest (goes i) m s h v l =

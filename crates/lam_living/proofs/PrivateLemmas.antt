@@ -1,10 +1,8 @@
 -- A private turn keeps that what stands in the acting context lives, and an ask holds only what lives, row by row.
-use Rattle.std.proofs.Common.{◌≡◌, ℕ, zero, suc, ◌+◌, ◌<◌, ℤ, pos, negsuc, Bool, true, false, List, [], ◌∷◌, ◌++◌, Option, Some, None, length, take, drop, refl, sym, subst}
-use Rattle.std.specs.Prelude.{◌+ℤ◌, ◌-ℤ◌, ◌*ℤ◌, neg_ℤ, int_div, int_rem, cond, not, nat_lt, nat_le, ◌&&◌, ◌-◌, reverse, replicate, map, slice_get, slice_set, IsTrue, if◌then◌else◌}
+use Rattle.std.proofs.Common.{◌≡◌, ℕ, zero, suc, ◌<◌, ℤ, pos, negsuc, Bool, true, false, List, [], ◌∷◌, ◌++◌, Option, Some, None, length, take, drop, refl, subst}
+use Rattle.std.specs.Prelude.{◌+ℤ◌, ◌-ℤ◌, ◌*ℤ◌, neg_ℤ, int_div, int_rem, nat_lt, nat_le, ◌&&◌, ◌-◌, reverse, replicate, map, slice_get, slice_set, IsTrue, if◌then◌else◌}
 use Rattle.std.specs.List.{AllByRecursion}
 use Rattle.std.specs.FinMap as map_of
-use Rattle.std.specs.FinSet.{from_list}
-use Rattle.std.specs.Fmt.{signed_decimal}
 use Rattle.decimal_text.specs.Decimal.{int_of}
 use mathlib.Core.List.{reverse_aux}
 use Rattle.flow_labels.specs.declared.Label.{Label}
@@ -32,16 +30,15 @@ use Rattle.lam_bytecode.specs.Codes.{CodeTree, IsCode, IsConstant}
 use Rattle.lam_bytecode.specs.declared.op.Op.{Op}
 use Rattle.lam_bytecode.specs.declared.op.Op.TheVariants.{Const, Load, Store, Pop, Add, Sub, Mul, Div, Rem, Neg, Not, Eq, Ne, Lt, Le, Gt, Ge, Jump, JumpIfFalse, Call, Return, Throw, ReadBarrier, WriteBarrier, GetField, PutField, GetElement, PutElement, NewObject, NewArray, MakeLabel, NoCaps, WithPlus, WithMinus, System, EnterMonitor, LeaveMonitor, EnterRegion, LeaveRegion, Spawn}
 use Rattle.thread_steps.specs.Threads.{Frame, Inside, Phase, Bottom, Body, Catch, Context}
-use Rattle.thread_steps.specs.Threads as threads
 use Rattle.thread_steps.specs.Operators as operators
 use Rattle.thread_steps.specs.Operators.{Pure, fine, of_numbers, by_divisor, number, is_small, is_zero, operator, prefix, some_null, tag_before, tags_in, label_by, label_from, with_sign}
 use Rattle.thread_steps.specs.Builtins as builtins
 use Rattle.thread_steps.specs.Builtins.{Calls, now, faults, asks, acts, wrong, root_name, number_now, bytes_now, byte_now, byte_at, slice_at, number_in, own_label, copied, read_from, cut_to, send_into, builtin}
-use Rattle.thread_steps.specs.Ops.{Did, gives, sets, jumps, calls, returns, fails, wants, leaves, breaks, on_any, on_int, on_truth, on_many, on_thing, on_caps, on_label, operated, between, before, unless_denied, barrier, tested, within, gets_field, puts_field, gets_element, puts_element, may_read, may_write, new_object, new_array, on_known, called, is_held, monitor_of, frames_limit, on_constant, stores, goes_to, Around, effect}
+use Rattle.thread_steps.specs.Ops.{Did, gives, sets, jumps, calls, returns, fails, wants, leaves, breaks, on_any, on_int, on_truth, on_many, on_thing, on_caps, on_label, operated, between, before, unless_denied, barrier, within, gets_field, puts_field, gets_element, puts_element, may_read, may_write, new_object, new_array, on_known, called, is_held, monitor_of, frames_limit, on_constant, goes_to, Around, effect}
 use Rattle.thread_steps.specs.Next as next
 use Rattle.thread_steps.specs.Next.{Next, next_of, next_by, next_in, next_op, past, entry, returned, ending, leaving, raised, around}
-use Rattle.lam_worlds.specs.Worlds.{World, thread_at}
-use Rattle.lam_worlds.specs.Valid.{AreBelow, IsKnown, AreKnown, Lives, AllLive, FrameLives, ContextLives, IsValid}
+use Rattle.lam_worlds.specs.Worlds.{World}
+use Rattle.lam_worlds.specs.Valid.{IsKnown, AreKnown, Lives, AllLive, FrameLives, ContextLives, IsValid}
 use Rattle.lam_living.specs.Living.{InsideLives, AskLives, NextLives, NamesWhatLives}
 use Rattle.lam_living.proofs.TagLemmas.{below_empty, public_known, below_insert, below_list}
 

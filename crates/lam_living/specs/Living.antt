@@ -1,8 +1,8 @@
 -- What stands in the inside of a context, in an ask and in what comes next lives.
-use Rattle.std.specs.Prelude.{◌≡◌, ℕ, ◌<◌, List, ◌∷◌, Option, Some}
+use Rattle.std.specs.Prelude.{◌≡◌, ℕ, List, ◌∷◌, Some}
 use Rattle.std.specs.List.{AllByRecursion}
 use Rattle.lam_value.specs.declared.values.Value.{Value}
-use Rattle.lam_value.specs.declared.values.Value.TheVariants.{File, Dir, Pipe, Thread, Lab, CapV}
+use Rattle.lam_value.specs.declared.values.Value.TheVariants.{File, Dir, Pipe, Thread}
 use Rattle.lam_value.specs.Shapes.{slots_of}
 use Rattle.lam_asks.specs.declared.ask.Ask.{Ask}
 use Rattle.lam_asks.specs.declared.ask.Ask.TheVariants.{Read, Write, New, CopyTo, Enter, MonEnter, MonLeave, MakeFile, MakeDir, OpenFile, OpenDir, Remove, FileRead, FileLength, Append, Cut, MakePipe, Send, SendCaps, Receive, ReceiveCaps, Spawn, Join, End}

@@ -6,11 +6,10 @@ use Rattle.flow_labels.specs.declared.Denied.{Denied}
 use Rattle.capabilities.specs.declared.Caps.{Caps}
 use Rattle.lam_value.specs.declared.names.Name.{Name}
 use Rattle.lam_value.specs.declared.values.Value.{Value}
-use Rattle.lam_value.specs.declared.values.Value.TheVariants.{Int, Bool as Truth, Bytes, Nothing, Obj, Arr, File, Dir, Pipe, Thread, Tag, Lab, CapV}
+use Rattle.lam_value.specs.declared.values.Value.TheVariants.{Int, Bool as Truth, Bytes, Nothing, Obj, Arr, File, Dir, Pipe, Thread, Lab, CapV}
 use Rattle.lam_value.specs.declared.shapes.Kind.{Kind}
 use Rattle.lam_builtins.specs.declared.Builtin.{Builtin}
 use Rattle.lam_builtins.specs.declared.Builtin.TheVariants as call
-use Rattle.lam_asks.specs.declared.fault.Fault.{Fault}
 use Rattle.lam_asks.specs.declared.fault.Fault.TheVariants as fault
 use Rattle.lam_asks.specs.declared.ask.Ask.{Ask}
 use Rattle.lam_asks.specs.declared.ask.Ask.TheVariants as ask
@@ -24,7 +23,7 @@ use Rattle.thread_steps.specs.Operators as operators
 use Rattle.thread_steps.specs.Operators.{Pure, fine, is_small, some_null, label_from}
 use Rattle.thread_steps.specs.Builtins as builtins
 use Rattle.thread_steps.specs.Builtins.{Calls, now, asks, acts, number_now, bytes_now, byte_now, byte_at, slice_at, number_in, own_label, copied, read_from, cut_to, send_into, builtin}
-use Rattle.thread_steps.specs.Ops.{Did, gives, sets, jumps, calls, returns, fails, wants, leaves, breaks, on_any, on_int, on_truth, on_many, on_thing, on_caps, on_label, operated, between, before, unless_denied, barrier, tested, may_read, may_write, within, gets_field, puts_field, gets_element, puts_element, new_object, new_array, on_known, called, is_held, monitor_of, frames_limit, on_constant, stores, goes_to, Around, effect}
+use Rattle.thread_steps.specs.Ops.{Did, calls, fails, wants, on_any, on_int, on_truth, on_many, on_thing, on_caps, on_label, operated, between, before, unless_denied, barrier, may_read, may_write, within, gets_field, puts_field, gets_element, puts_element, new_object, new_array, on_known, called, is_held, monitor_of, frames_limit, on_constant, goes_to, Around, effect}
 use Rattle.lam_worlds.specs.Turns.{lists}
 use Rattle.lam_next_laws.specs.Laws.{IsTop, IsBarred, LeadsTo, IsRead, IsWritten}
 

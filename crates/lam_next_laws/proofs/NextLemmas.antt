@@ -1,9 +1,9 @@
 -- What a context asks next.
-use Rattle.std.proofs.Common.{◌≡◌, ℕ, Bool, true, false, List, [], ◌∷◌, Option, Some, None, refl, sym, ap, ◌∙◌, subst}
+use Rattle.std.proofs.Common.{◌≡◌, ℕ, true, false, List, [], ◌∷◌, Option, Some, None, refl, sym, ap, ◌∙◌, subst}
 use Rattle.std.specs.Prelude.{not, drop}
 use Rattle.flow_labels.specs.declared.Label.{Label}
 use Rattle.flow_labels.specs.declared.Denied.{Denied}
-use Rattle.flow_labels.specs.Failing.{Test, first_failing, read_test, write_test}
+use Rattle.flow_labels.specs.Failing.{first_failing, read_test, write_test}
 use Rattle.lam_value.specs.declared.names.Name.{Name}
 use Rattle.lam_value.specs.declared.values.Value.{Value}
 use Rattle.lam_value.specs.declared.values.Value.TheVariants.{Obj, Arr}
@@ -17,10 +17,9 @@ use Rattle.lam_bytecode.specs.declared.op.Op.TheVariants.{ReadBarrier, WriteBarr
 use Rattle.thread_steps.specs.Threads.{Frame, Inside, Phase, Bottom, Body, Catch, Context}
 use Rattle.thread_steps.specs.Ops as ops
 use Rattle.thread_steps.specs.Ops.{Did, gives, sets, jumps, calls, returns, fails, wants, leaves, breaks, barrier, may_read, may_write, effect}
-use Rattle.thread_steps.specs.Next.{Next, goes, asks, stuck, past, returned, leaving, next_by, raised, around, next_op, next_in, next_of}
-use Rattle.lam_worlds.specs.Worlds.{World}
+use Rattle.thread_steps.specs.Next.{Next, goes, asks, past, returned, leaving, next_by, raised, around, next_op, next_in, next_of}
 use Rattle.lam_worlds.specs.Deeds.{Deed, sets_slot, answers, does, unless_denied, under, on_thing}
-use Rattle.lam_worlds.specs.Serving.{slot_at, serve}
+use Rattle.lam_worlds.specs.Serving.{slot_at}
 use Rattle.lam_worlds.specs.Turns.{is_bottom, lists, may_ask}
 use Rattle.lam_next_laws.specs.Laws.{IsTop, IsBarred, IsPassed, op_at, StandsAt, LeadsTo, IsRead, IsWritten, GivesSlot, SetsSlot, AsksWhatItMay, BarriersTest, AccessesPass}
 use Rattle.lam_next_laws.proofs.EffectLemmas.{IsThing, AskOf, Proper, effect_is}

@@ -1,5 +1,5 @@
 -- What a context asks next.
-use Rattle.std.specs.Prelude.{◌≡◌, ℕ, true, List, [], ◌∷◌, drop, Option, Some, None, slice_get}
+use Rattle.std.specs.Prelude.{◌≡◌, ℕ, true, List, ◌∷◌, drop, Option, Some, None, slice_get}
 use Rattle.flow_labels.specs.declared.Label.{Label}
 use Rattle.flow_labels.specs.declared.Denied.{Denied}
 use Rattle.flow_labels.specs.Failing.{first_failing, read_test, write_test}
@@ -55,14 +55,14 @@ pub record StandsAt (code : CodeTree) (c : Context) (op : Op) : Type 0 where
 pub record BarriersTest (code : CodeTree) : Type 0 where
   -- a context is barred at a barrier alone, by the first rule that fails
   pub named :
-    (c : Context) (d : Denied) (after : Inside) → next_of code c ≡ asks (ask.Barred d) after →
-    (op : Op) × (op_at code c ≡ Some op) × IsBarred c.label c.inside.frame.stack d op
+      (c : Context) (d : Denied) (after : Inside) → next_of code c ≡ asks (ask.Barred d) after →
+      (op : Op) × (op_at code c ≡ Some op) × IsBarred c.label c.inside.frame.stack d op
   -- it is barred wherever a rule fails, and goes past the barrier wherever none does
   pub barred :
-    (c : Context) (op : Op) (d : Denied) → StandsAt code c op → IsBarred c.label c.inside.frame.stack d op →
-    next_of code c ≡ asks (ask.Barred d) (past c.inside c.inside.frame.stack)
+      (c : Context) (op : Op) (d : Denied) → StandsAt code c op → IsBarred c.label c.inside.frame.stack d op →
+      next_of code c ≡ asks (ask.Barred d) (past c.inside c.inside.frame.stack)
   pub passed :
-    (c : Context) (op : Op) → StandsAt code c op → IsPassed c.label c.inside.frame.stack op → next_of code c ≡ goes (past c.inside c.inside.frame.stack)
+      (c : Context) (op : Op) → StandsAt code c op → IsPassed c.label c.inside.frame.stack op → next_of code c ≡ goes (past c.inside c.inside.frame.stack)
 
 -- ---- accesses
 

@@ -1,30 +1,29 @@
 -- What its own turns make of a thread: one turn, and then many by the first.
-use Rattle.std.proofs.Common.{◌≡◌, ◌⊎◌, inl, inr, ℕ, zero, suc, ◌<◌, ◌≤◌, Bool, true, false, cond, List, [], ◌∷◌, ◌++◌, Option, Some, None, length, refl, sym, ap, subst, ◌∙◌, arith}
+use Rattle.std.proofs.Common.{◌≡◌, ℕ, zero, suc, Bool, true, false, cond, List, [], ◌∷◌, ◌++◌, Option, Some, None, length, refl, sym, ap, subst, ◌∙◌, arith}
 use Rattle.std.specs.Prelude.{nat_eq, map, filter, slice_get, slice_set}
 use Rattle.std.proofs.lemmas.Bool.Decides.{nat_tests}
 use Rattle.flow_labels.specs.Failing.{Test}
-use Rattle.capabilities.specs.declared.Caps.{Caps}
 use Rattle.lam_value.specs.declared.names.Name.{Name}
 use Rattle.lam_value.specs.declared.values.Value.{Value}
 use Rattle.lam_value.specs.declared.values.Value.TheVariants as value
 use Rattle.lam_asks.specs.declared.fault.Fault.{Fault}
 use Rattle.lam_asks.specs.declared.answer.Answer.{Answer}
-use Rattle.lam_asks.specs.declared.answer.Answer.TheVariants.{Done, Val, Refused, Failed}
+use Rattle.lam_asks.specs.declared.answer.Answer.TheVariants.{Val}
 use Rattle.lam_asks.specs.declared.answer.What.{What}
-use Rattle.lam_asks.specs.declared.answer.What.TheVariants.{Private, Asked}
+use Rattle.lam_asks.specs.declared.answer.What.TheVariants.{Asked}
 use Rattle.lam_asks.specs.declared.ask.Ask.{Ask}
 use Rattle.lam_asks.specs.declared.ask.Ask.TheVariants as ask
 use Rattle.lam_bytecode.specs.Codes.{CodeTree}
 use Rattle.thread_steps.specs.Threads.{Inside, Context, Thread}
 use Rattle.thread_steps.specs.Next.{Next, goes, asks, stuck, next_of, with_inside, takes, started}
 use Rattle.lam_worlds.specs.Worlds.{World, thread_at, with_thread}
-use Rattle.lam_worlds.specs.Deeds.{Effect, nothing, takes_tag, sets_slot, adds_thing, adds_copy, takes_monitor, gives_back, drops, adds_file, adds_dir, removes, appends, cuts, adds_pipe, sends, receives, adds_thread, effect_of, Deed, answers, under, unless, on_thing}
-use Rattle.lam_worlds.specs.Serving.{opened, joined, serve}
+use Rattle.lam_worlds.specs.Deeds.{Effect, adds_thread, effect_of, Deed, under, unless, on_thing}
+use Rattle.lam_worlds.specs.Serving.{serve}
 use Rattle.lam_worlds.specs.Turns.{is_ready, Moment, goes_on, served, turn_by, step, and_then, moments, left_by, replay}
 use Rattle.lam_isolation.proofs.ThreadLemmas.{some_inj, length-set}
 use Rattle.lam_isolation.proofs.RowLemmas.{under_by, unless_by, on_thing_by}
 use Rattle.lam_isolation.proofs.TurnLemmas.{acts, only, turn_thread}
-use Rattle.lam_own_turns.specs.Own.{TurnsTo, OwnTurn, IsSpawned, Touches, TurnsTouchTheirThread, done_by, OwnTurns, ComesFrom, ThreadsFollowTheirTurns}
+use Rattle.lam_own_turns.specs.Own.{OwnTurn, IsSpawned, Touches, TurnsTouchTheirThread, done_by, OwnTurns, ComesFrom, ThreadsFollowTheirTurns}
 
 -- ---- lists of threads
 

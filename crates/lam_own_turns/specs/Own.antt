@@ -1,5 +1,5 @@
 -- What its own turns make of a thread.
-use Rattle.std.specs.Prelude.{◌≡◌, ◌⊎◌, ℕ, ◌<◌, nat_eq, List, [], ◌∷◌, ◌++◌, length, map, filter, Some, None}
+use Rattle.std.specs.Prelude.{◌≡◌, ℕ, nat_eq, List, [], ◌∷◌, ◌++◌, map, filter, Some, None}
 use Rattle.capabilities.specs.declared.Caps.{Caps}
 use Rattle.lam_value.specs.declared.values.Value.{Value}
 use Rattle.lam_value.specs.declared.values.Value.TheVariants as value
@@ -72,9 +72,9 @@ pub record ComesFrom (code : CodeTree) (u : ℕ) (ms : List Moment) (after : Thr
 pub record ThreadsFollowTheirTurns (code : CodeTree) : Type 0 where
   -- one that was there
   pub old :
-    (w : World) (turns : List ℕ) (u : ℕ) (th : Thread) → thread_at w u ≡ Some th →
-    (after : Thread) × (thread_at (replay code turns w) u ≡ Some after) × OwnTurns code th (done_by u (moments code turns w)) after
+      (w : World) (turns : List ℕ) (u : ℕ) (th : Thread) → thread_at w u ≡ Some th →
+      (after : Thread) × (thread_at (replay code turns w) u ≡ Some after) × OwnTurns code th (done_by u (moments code turns w)) after
   -- one that was not
   pub new :
-    (w : World) (turns : List ℕ) (u : ℕ) (after : Thread) → thread_at w u ≡ None → thread_at (replay code turns w) u ≡ Some after →
-    ComesFrom code u (moments code turns w) after
+      (w : World) (turns : List ℕ) (u : ℕ) (after : Thread) → thread_at w u ≡ None → thread_at (replay code turns w) u ≡ Some after →
+      ComesFrom code u (moments code turns w) after

@@ -1,5 +1,5 @@
 -- Runs turn by turn, by the first turn.
-use Rattle.std.proofs.Common.{◌≡◌, ◌⊎◌, inl, inr, ℕ, zero, suc, Bool, true, false, List, [], ◌∷◌, ◌++◌, length, take, Option, Some, None, refl, sym, ap, subst, ◌∙◌, arith}
+use Rattle.std.proofs.Common.{◌≡◌, ◌⊎◌, inl, inr, ℕ, suc, false, List, [], ◌∷◌, ◌++◌, length, take, Option, Some, None, refl, sym, ap, subst, ◌∙◌, arith}
 use Rattle.std.specs.Prelude.{is_some, slice_get}
 use Rattle.lam_bytecode.specs.Codes.{CodeTree}
 use Rattle.lam_worlds.specs.Worlds.{World}
@@ -42,10 +42,11 @@ module _ (code : CodeTree) where
 
   one_more : (w : World) (turns : List ℕ) (t : ℕ) (m : Moment) → IsRun code turns w → step code (replay code turns w) t ≡ Some m → IsRun code (turns ++ t ∷ []) w × (moments code (turns ++ t ∷ []) w ≡ moments code turns w ++ m ∷ []) × (replay code (turns ++ t ∷ []) w ≡ m.world)
   one_more w turns t m h e =
-      let v = replay code turns w in
-      (in_a_row w turns (t ∷ []) h (subst (λ o. ReadyThen o (IsRun code [])) (sym e) tt),
-      row_moments w turns (t ∷ []) h ∙ ap (λ o. moments code turns w ++ and_then o (moments code [])) e,
-      row_replay w turns (t ∷ []) h ∙ ap (λ o. left_by v (and_then o (moments code []))) e)
+      let v = replay code turns w in (
+        in_a_row w turns (t ∷ []) h (subst (λ o. ReadyThen o (IsRun code [])) (sym e) tt),
+        row_moments w turns (t ∷ []) h ∙ ap (λ o. moments code turns w ++ and_then o (moments code [])) e,
+        row_replay w turns (t ∷ []) h ∙ ap (λ o. left_by v (and_then o (moments code []))) e,
+      )
 
   -- ---- where turns stop
 

@@ -1,17 +1,16 @@
 -- Which worlds a run may start from, and that a monitor is listed in one thread alone.
-use Rattle.std.proofs.Common.{◌≡◌, ℕ, zero, suc, ◌<◌, ◌≤◌, Bool, true, false, cond, List, [], ◌∷◌, Option, Some, None, length, refl, sym, ap, subst, ◌∙◌, arith}
+use Rattle.std.proofs.Common.{◌≡◌, ℕ, zero, suc, ◌<◌, ◌≤◌, Bool, true, false, cond, List, [], ◌∷◌, Some, length, refl, sym, ap, subst, ◌∙◌, arith}
 use Rattle.std.specs.Prelude.{is_some, slice_get}
 use Rattle.std.specs.List.{AllByRecursion}
 use Rattle.std.specs.Ordering.{eq_by_cmp}
 use Rattle.std.specs.Cmp.{Equal-is}
-use Rattle.std.specs.FinMap.{FinMap, get, insert, empty, get-empty, get-insert}
+use Rattle.std.specs.FinMap.{get, insert, empty, get-empty, get-insert}
 use Rattle.lam_value.specs.declared.names.Name.{Name}
 use Rattle.lam_value.specs.Names.{name_cmp}
-use Rattle.lam_value.specs.Homes.{Home, Counts, home_cmp, name_of}
+use Rattle.lam_value.specs.Homes.{Home, home_cmp, name_of}
 use Rattle.lam_value.proofs.Keys.{home_total, home_exact}
 use Rattle.labelled_heap.proofs.ThingLemmas as thing
 use Rattle.monitor_core.specs.declared.Holder.{Holder}
-use Rattle.monitor_core.specs.Held as monitors
 use Rattle.labelled_files.specs.Entries.{Entries}
 use Rattle.labelled_files.specs.Trees.{public_home}
 use Rattle.labelled_files.proofs.SoundLemmas.{sound_root}
