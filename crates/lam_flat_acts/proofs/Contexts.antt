@@ -51,11 +51,11 @@ module _ (code : CodeTree) (C : ℕ) where
   pop_runs kp s0 n w pc w1 s held outer a made res o t (x ∷ rest) e none pops le = tt
 
   -- a fault that is handled
-  fault_turn : (kp : Kept) (x : Spot) (f : Fault) (st : Along) → turns code 1 (faulty kp x f st) ≡ done code (thread_of kp x.res (fault_context kp x f st.own)) (fault_context kp x f st.own) kp.below st.answers st.asks (x.work + 1) (raised_next kp.phase (fault_context kp x f st.own).inside f)
+  pub fault_turn : (kp : Kept) (x : Spot) (f : Fault) (st : Along) → turns code 1 (faulty kp x f st) ≡ done code (thread_of kp x.res (fault_context kp x f st.own)) (fault_context kp x f st.own) kp.below st.answers st.asks x.work (x.work + 1) (raised_next kp.phase (fault_context kp x f st.own).inside f)
   unfolding next_of
   fault_turn kp x f st = refl
 
-  leave_turn : (kp : Kept) (pc w : ℕ) (s : List Value) (held : List Name) (st : Along) (res : Option Outcome) → op_at code C kp.unit pc ≡ Some LeaveRegion → turns code 1 (at kp pc s held st res w) ≡ done code (thread_of kp res (context kp pc s held st.own)) (context kp pc s held st.own) kp.below st.answers st.asks (w + 1) (machine.leaving kp.phase (context kp pc s held st.own).inside)
+  leave_turn : (kp : Kept) (pc w : ℕ) (s : List Value) (held : List Name) (st : Along) (res : Option Outcome) → op_at code C kp.unit pc ≡ Some LeaveRegion → turns code 1 (at kp pc s held st res w) ≡ done code (thread_of kp res (context kp pc s held st.own)) (context kp pc s held st.own) kp.below st.answers st.asks w (w + 1) (machine.leaving kp.phase (context kp pc s held st.own).inside)
   unfolding effect
   leave_turn kp pc w s held st res e = step code C kp pc w s held st res LeaveRegion e
 

@@ -17,10 +17,11 @@ use Rattle.resolved_tree.specs.Regions.{AreNumbered}
 use Rattle.lam_scheme.specs.Pieces as laid
 use Rattle.lam_scheme.specs.Pieces.{Pieces, joined, one, op, size, an_op, a_constant, flat, place_of, numbered}
 use Rattle.lam_scheme.specs.Scheme as scheme_of
-use Rattle.lam_scheme.specs.Scheme.{Draft, block, function_draft, region_draft, regions_of, regions_in, regions_in_other, all_regions, drafts, unit_of, scheme, ops_count, regions_count}
+use Rattle.lam_scheme.specs.Scheme.{Draft, block, function_draft, region_draft, regions_of, regions_in, regions_in_other, all_regions, drafts, unit_of, scheme}
 use Rattle.lam_block_meaning.specs.Nested.{Nested, no_code, does, puts, both, when, either, loops, enters, pieces_of, operator_code, signs_code, expression_code, expressions_code, loads_code, gives_back_code, value_code, statement_code, block_code, branches_code}
 use Rattle.lam_block_meaning.proofs.Pieces.{block_pieces}
 use Rattle.lam_block_meaning.proofs.Placed.{constants_of, Placed, IsPlaced, BlockPlaced, OtherPlaced, function_drafted, function_unit, functions_placed}
+use Rattle.lam_flat_acts.specs.Lone.{bound}
 use Rattle.lam_flat_acts.proofs.Stands.{width, cost, op_here, IsAddress, PutsAt, Stands, FunctionStands, AllStand}
 use Rattle.lam_flat_acts.proofs.Constants.{AllIn, place_there, draft_constants}
 use Rattle.lam_flat_acts.proofs.Laid.{size_joined, flat_length, width_size, numbered_length, FlatAt, AllFlat, unit_at, flat_front, flat_back, joined_at}
@@ -353,10 +354,6 @@ cost_within (g ∷ fs) zero fn e =
     some_is : (a b : ResolvedFunction) → ◌≡◌ {A = Option ResolvedFunction} (Some a) (Some b) → a ≡ b
     some_is a b e = cc
 cost_within (g ∷ fs) (suc f) fn e = omega (arith, cost_within fs f fn e, total-append (regions_in g.body) (all_regions fs))
-
--- the turns between two units
-abbrev pub bound : ResolvedTree → ℕ
-bound r = ops_count r + 2 * regions_count r + 1
 
 pub all_stand : (r : ResolvedTree) → AreNumbered r → AllStand (scheme r) (bound r) r
 all_stand r numbered f fn e =

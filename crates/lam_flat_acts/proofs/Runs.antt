@@ -44,7 +44,7 @@ module _ (code : CodeTree) (C : ℕ) where
   unfolding effect
   jump_turn kp pc w to s held st res at_op is =
       step code C kp pc w s held st res (Jump to) at_op ∙
-      ap (λ b. done code (thread_of kp res (context kp pc s held st.own)) (context kp pc s held st.own) kp.below st.answers st.asks (w + 1) (next_by code kp.phase (context kp pc s held st.own).inside (if b then ops.jumps to s else ops.breaks))) (is_below to (length (ops_of code kp.unit)) is)
+      ap (λ b. done code (thread_of kp res (context kp pc s held st.own)) (context kp pc s held st.own) kp.below st.answers st.asks w (w + 1) (next_by code kp.phase (context kp pc s held st.own).inside (if b then ops.jumps to s else ops.breaks))) (is_below to (length (ops_of code kp.unit)) is)
 
   true_turn : (kp : Kept) (pc w to : ℕ) (s : List Value) (held : List Name) (st : Along) (res : Option Outcome) → op_at code C kp.unit pc ≡ Some (JumpIfFalse to) → turns code 1 (at kp pc (Truth true ∷ s) held st res w) ≡ at kp (pc + 1) s held st res (w + 1)
   unfolding effect
@@ -54,7 +54,7 @@ module _ (code : CodeTree) (C : ℕ) where
   unfolding effect
   false_turn kp pc w to s held st res at_op is =
       step code C kp pc w (Truth false ∷ s) held st res (JumpIfFalse to) at_op ∙
-      ap (λ b. done code (thread_of kp res (context kp pc (Truth false ∷ s) held st.own)) (context kp pc (Truth false ∷ s) held st.own) kp.below st.answers st.asks (w + 1) (next_by code kp.phase (context kp pc (Truth false ∷ s) held st.own).inside (if b then ops.jumps to s else ops.breaks))) (is_below to (length (ops_of code kp.unit)) is)
+      ap (λ b. done code (thread_of kp res (context kp pc (Truth false ∷ s) held st.own)) (context kp pc (Truth false ∷ s) held st.own) kp.below st.answers st.asks w (w + 1) (next_by code kp.phase (context kp pc (Truth false ∷ s) held st.own).inside (if b then ops.jumps to s else ops.breaks))) (is_below to (length (ops_of code kp.unit)) is)
 
   no_turn : (kp : Kept) (n w pc : ℕ) (s : List Value) (held : List Name) (st : Along) (res : Option Outcome) → Ends code C kp (at kp pc s held st res w) n w pc 0 (gone s n held st)
   no_turn kp n w pc s held st res = record { res = res; work = w; reach = record { count = 0; same = refl; few = omega arith; work = omega arith; less = omega arith } }
@@ -113,9 +113,9 @@ module _ (code : CodeTree) (C : ℕ) where
   return_turn kp pc pc1 w f s ls stk held st res v o at_op e =
       let q = callee kp pc s ls f in
       step code C q pc1 w stk held st res o at_op ∙
-      ap (λ d. done code (thread_of q res (context q pc1 stk held st.own)) (context q pc1 stk held st.own) q.below st.answers st.asks (w + op_work (Some o)) (next_by code q.phase (context q pc1 stk held st.own).inside d)) e
+      ap (λ d. done code (thread_of q res (context q pc1 stk held st.own)) (context q pc1 stk held st.own) q.below st.answers st.asks w (w + op_work (Some o)) (next_by code q.phase (context q pc1 stk held st.own).inside d)) e
 
-  return_effect : (kp : Kept) (held : List Name) (st : Along) (v : Value) (s : List Value) → effect (around_at code C kp held st) (v ∷ s) Return ≡ ops.returns v
+  pub return_effect : (kp : Kept) (held : List Name) (st : Along) (v : Value) (s : List Value) → effect (around_at code C kp held st) (v ∷ s) Return ≡ ops.returns v
   unfolding effect
   return_effect kp held st v s = refl
 
@@ -200,7 +200,7 @@ module _ (code : CodeTree) (C : ℕ) where
     region_runs kp n w pc c number s held st res caller enter at_op lc h =
         let s0 = at kp pc s held st res w in
         region_did
-        (λ d. turns code 1 s0 ≡ done code (thread_of kp res (context kp pc s held st.own)) (context kp pc s held st.own) kp.below st.answers st.asks (w + 1) (next_by code kp.phase (context kp pc s held st.own).inside d) → Ends code C kp s0 n w (pc + 1) c (did caller enter d (place_of kp) n held st))
+        (λ d. turns code 1 s0 ≡ done code (thread_of kp res (context kp pc s held st.own)) (context kp pc s held st.own) kp.below st.answers st.asks w (w + 1) (next_by code kp.phase (context kp pc s held st.own).inside d) → Ends code C kp s0 n w (pc + 1) c (did caller enter d (place_of kp) n held st))
         number (λ e. tt) (λ e. one_raises code C kp s0 n w (pc + 1) pc (w + 1) c Null s held st res e (omega arith) lc)
         (λ l k vs s' e. enter_runs code C kp s0 n w pc (w + 1) c s s' held st.own st.answers st.asks res enter l k number vs e (omega arith) lc (λ rest e. h l k vs s' rest e))
         (region_takes (region_in number code.units)) s (step code C kp pc w s held st res (EnterRegion number) at_op)

@@ -56,10 +56,10 @@ module _ (code : CodeTree) (C : ℕ) where
 
   -- a turn that calls
   abbrev pub CallTurn : Kept → ℕ → List Value → List Name → Along → Option Outcome → ℕ → ℕ → ℕ → List Value → List Value → Type 0
-  CallTurn kp pc s held st res w w1 u vs s' = turns code 1 (at kp pc s held st res w) ≡ done code (thread_of kp res (context kp pc s held st.own)) (context kp pc s held st.own) kp.below st.answers st.asks w1 (machine.goes (called code (context kp pc s held st.own).inside u vs s'))
+  CallTurn kp pc s held st res w w1 u vs s' = turns code 1 (at kp pc s held st res w) ≡ done code (thread_of kp res (context kp pc s held st.own)) (context kp pc s held st.own) kp.below st.answers st.asks w w1 (machine.goes (called code (context kp pc s held st.own).inside u vs s'))
 
   -- what one operation does
-  did_runs : (caller : Caller) (kp : Kept) (n w pc w1 : ℕ) (s : List Value) (held : List Name) (st : Along) (res : Option Outcome) (o : Op) (d : Did) → op_at code C kp.unit pc ≡ Some o → effect (around_at code C kp held st) s o ≡ d → turns code 1 (at kp pc s held st res w) ≡ done code (thread_of kp res (context kp pc s held st.own)) (context kp pc s held st.own) kp.below st.answers st.asks w1 (next_by code kp.phase (context kp pc s held st.own).inside d) → w ≤ w1 → ((u : ℕ) (vs s' : List Value) → d ≡ ops.calls u vs s' → CallTurn kp pc s held st res w w1 u vs s' → Ends code C kp (at kp pc s held st res w) n w (pc + 1) 1 (and_on (caller u vs (place_of kp) n held st) (λ v n held st. gone (v ∷ s') n held st))) → Ends code C kp (at kp pc s held st res w) n w (pc + 1) 1 (did caller never_enters d (place_of kp) n held st)
+  did_runs : (caller : Caller) (kp : Kept) (n w pc w1 : ℕ) (s : List Value) (held : List Name) (st : Along) (res : Option Outcome) (o : Op) (d : Did) → op_at code C kp.unit pc ≡ Some o → effect (around_at code C kp held st) s o ≡ d → turns code 1 (at kp pc s held st res w) ≡ done code (thread_of kp res (context kp pc s held st.own)) (context kp pc s held st.own) kp.below st.answers st.asks w w1 (next_by code kp.phase (context kp pc s held st.own).inside d) → w ≤ w1 → ((u : ℕ) (vs s' : List Value) → d ≡ ops.calls u vs s' → CallTurn kp pc s held st res w w1 u vs s' → Ends code C kp (at kp pc s held st res w) n w (pc + 1) 1 (and_on (caller u vs (place_of kp) n held st) (λ v n held st. gone (v ∷ s') n held st))) → Ends code C kp (at kp pc s held st res w) n w (pc + 1) 1 (did caller never_enters d (place_of kp) n held st)
   did_runs caller kp n w pc w1 s held st res o (ops.gives s') at_op does e le h = one_goes code C kp _ n w (pc + 1) w1 1 s' held st res e le (omega arith)
   did_runs caller kp n w pc w1 s held st res o (ops.sets ls s') at_op does e le h = one_goes code C kp _ n w (pc + 1) w1 1 s' held (with_locals st ls) res e le (omega arith)
   did_runs caller kp n w pc w1 s held st res o (ops.jumps to s') at_op does e le h = tt
@@ -110,7 +110,7 @@ module _ (code : CodeTree) (C : ℕ) where
   unfolding effect
   const_turn kp pc w k v s held st res at_op there =
       step code C kp pc w s held st res (Const k) at_op ∙
-      ap (λ m. done code (thread_of kp res (context kp pc s held st.own)) (context kp pc s held st.own) kp.below st.answers st.asks (w + 1) (next_by code kp.phase (context kp pc s held st.own).inside (on_constant s m))) there
+      ap (λ m. done code (thread_of kp res (context kp pc s held st.own)) (context kp pc s held st.own) kp.below st.answers st.asks w (w + 1) (next_by code kp.phase (context kp pc s held st.own).inside (on_constant s m))) there
 
   pub put_runs : (kp : Kept) (n w pc k : ℕ) (v : Value) (s : List Value) (held : List Name) (st : Along) (res : Option Outcome) → op_at code C kp.unit pc ≡ Some (Const k) → slice_get code.constants k ≡ Some v → Ends code C kp (at kp pc s held st res w) n w (pc + 1) 1 (gone (v ∷ s) n held st)
   put_runs kp n w pc k v s held st res at_op there = one_goes code C kp _ n w (pc + 1) (w + 1) 1 (v ∷ s) held st res (const_turn kp pc w k v s held st res at_op there) (omega arith) (omega arith)

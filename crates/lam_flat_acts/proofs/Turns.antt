@@ -189,10 +189,10 @@ module _ (code : CodeTree) (C : ℕ) where
   -- ---- one turn
 
   -- at an operation
-  pub step : (kp : Kept) (pc w : ℕ) (s : List Value) (held : List Name) (st : Along) (res : Option Outcome) (o : Op) → op_at kp.unit pc ≡ Some o → turns code 1 (at kp pc s held st res w) ≡ done code (thread_of kp res (context kp pc s held st.own)) (context kp pc s held st.own) kp.below st.answers st.asks (w + op_work (Some o)) (next_by code kp.phase (context kp pc s held st.own).inside (effect (around_at kp held st) s o))
+  pub step : (kp : Kept) (pc w : ℕ) (s : List Value) (held : List Name) (st : Along) (res : Option Outcome) (o : Op) → op_at kp.unit pc ≡ Some o → turns code 1 (at kp pc s held st res w) ≡ done code (thread_of kp res (context kp pc s held st.own)) (context kp pc s held st.own) kp.below st.answers st.asks w (w + op_work (Some o)) (next_by code kp.phase (context kp pc s held st.own).inside (effect (around_at kp held st) s o))
   unfolding next_of
   step kp pc w s held st res o e =
-      ap (λ m. done code (thread_of kp res (context kp pc s held st.own)) (context kp pc s held st.own) kp.below st.answers st.asks (w + op_work m) (next_op code (context kp pc s held st.own) m)) e
+      ap (λ m. done code (thread_of kp res (context kp pc s held st.own)) (context kp pc s held st.own) kp.below st.answers st.asks w (w + op_work m) (next_op code (context kp pc s held st.own) m)) e
 
   pub one_goes : (kp : Kept) (s : Lone) (n w pc w1 c : ℕ) (stack : List Value) (held : List Name) (st : Along) (res : Option Outcome) → turns code 1 s ≡ at kp pc stack held st res w1 → w ≤ w1 → 1 ≤ c → Ends kp s n w pc c (gone stack n held st)
   one_goes kp s n w pc w1 c stack held st res e le lc = record { res = res; work = w1; reach = record { count = 1; same = e; few = omega (arith, lc); work = omega (arith, le); less = omega arith } }

@@ -1,5 +1,5 @@
 -- A thread that runs alone: each of its asks takes the next answer.
-use Rattle.std.specs.Prelude.{◌≢◌, ℕ, zero, suc, ◌+◌, Bool, true, false, if◌then◌else◌, List, [], ◌∷◌, ◌++◌, Option, Some, None, slice_get}
+use Rattle.std.specs.Prelude.{◌≢◌, ℕ, zero, suc, ◌+◌, Bool, true, false, if◌then◌else◌, ◌*◌, List, [], ◌∷◌, ◌++◌, Option, Some, None, slice_get}
 use Rattle.capabilities.specs.declared.Caps.{Caps}
 use Rattle.lam_value.specs.declared.values.Value.{Value}
 use Rattle.lam_asks.specs.declared.fault.Fault.{Fault}
@@ -8,6 +8,8 @@ use Rattle.lam_asks.specs.declared.ask.Ask.{Ask}
 use Rattle.lam_bytecode.specs.Codes.{CodeTree}
 use Rattle.lam_bytecode.specs.declared.op.Op.{Op}
 use Rattle.lam_bytecode.specs.declared.op.Op.TheVariants.{ReadBarrier, WriteBarrier}
+use Rattle.resolved_tree.specs.Tree.{ResolvedTree}
+use Rattle.lam_scheme.specs.Scheme.{ops_count, regions_count}
 use Rattle.thread_steps.specs.Threads.{Inside, Context, Thread}
 use Rattle.thread_steps.specs.Next.{Next, goes, asks, stuck, next_of, ops_of, with_inside, takes, started, standing, is_stuck}
 
@@ -38,16 +40,17 @@ abbrev pub asked : CodeTree → Thread → Context → List Context → Inside �
 asked code th c rest after a [] made w = waits (made ++ a ∷ []) w
 asked code th c rest after a (x ∷ xs) made w = runs (takes code th c rest after a x) xs (made ++ a ∷ []) w
 
-abbrev pub done : CodeTree → Thread → Context → List Context → List Answer → List Ask → ℕ → Next → Lone
-done code th c rest xs made w (goes i) = runs (record { contexts = with_inside c i ∷ rest; result = th.result }) xs made w
-done code th c rest xs made w (asks a after) = asked code th c rest after a xs made w
-done code th c rest xs made w stuck = runs th xs made w
+-- with the work before the turn, and after it
+abbrev pub done : CodeTree → Thread → Context → List Context → List Answer → List Ask → ℕ → ℕ → Next → Lone
+done code th c rest xs made old w (goes i) = runs (record { contexts = with_inside c i ∷ rest; result = th.result }) xs made w
+done code th c rest xs made old w (asks a after) = asked code th c rest after a xs made w
+done code th c rest xs made old w stuck = runs th xs made old
 
 abbrev pub turn_of : CodeTree → Thread → List Context → List Answer → List Ask → ℕ → Lone
 turn_of code th [] xs made w = runs th xs made w
-turn_of code th (c ∷ rest) xs made w = done code th c rest xs made (w + work_of code c) (next_of code c)
+turn_of code th (c ∷ rest) xs made w = done code th c rest xs made w (w + work_of code c) (next_of code c)
 
--- one turn. A thread that has ended, or waits, stays as it is
+-- one turn. A thread that has ended, waits or is stuck stays as it is
 abbrev pub turn : CodeTree → Lone → Lone
 turn code (runs th xs made w) = turn_of code th th.contexts xs made w
 turn code (waits made w) = waits made w
@@ -71,3 +74,7 @@ NotStuck code (waits made w) = Unit {0}
 -- a function with its arguments, from its entry on
 abbrev pub alone : CodeTree → ℕ → List Value → Caps → List Answer → Lone
 alone code f vs k xs = runs (started code f vs k) xs [] 0
+
+-- so many turns stand between two turns of loops or calls at most
+abbrev pub bound : ResolvedTree → ℕ
+bound r = ops_count r + 2 * regions_count r + 1
