@@ -41,135 +41,214 @@ fn denied() -> Denied {
     }
 }
 
-fn copies_slots(alloc: Global) -> Result<bool, NoMemory> {
+fn copies_read(alloc: Global) -> Result<bool, NoMemory> {
     let r = object(alloc)?;
-    let read = copies(&Ask::Read { r, at: 2 });
+    Ok(copies(&Ask::Read { r, at: 2 }))
+}
+
+fn copies_write(alloc: Global) -> Result<bool, NoMemory> {
     let r = object(alloc)?;
     let v = Value::Bool(true);
-    Ok(read & copies(&Ask::Write { r, at: 2, v }))
+    Ok(copies(&Ask::Write { r, at: 2, v }))
 }
 
-fn copies_new(alloc: Global) -> Result<bool, NoMemory> {
-    let shape = Shape::Array {
-        kind: Kind::Int,
-        len: 4,
-    };
-    let made = copies(&Ask::New { shape });
+fn copies_copy(alloc: Global) -> Result<bool, NoMemory> {
     let r = object(alloc)?;
     let own = Label::public(alloc);
-    Ok(made & copies(&Ask::CopyTo { r, own }))
+    Ok(copies(&Ask::CopyTo { r, own }))
 }
 
-fn copies_monitors(alloc: Global) -> Result<bool, NoMemory> {
+fn copies_taking(alloc: Global) -> Result<bool, NoMemory> {
     let r = object(alloc)?;
-    let enter = copies(&Ask::MonEnter { r });
-    let r = object(alloc)?;
-    Ok(enter & copies(&Ask::MonLeave { r }))
+    Ok(copies(&Ask::MonEnter { r }))
 }
 
-fn copies_regions(alloc: Global) -> Result<bool, NoMemory> {
-    let enter = copies(&Ask::Enter {
-        label: Label::public(alloc),
-        caps: Caps::none(alloc),
+fn copies_giving(alloc: Global) -> Result<bool, NoMemory> {
+    let r = object(alloc)?;
+    Ok(copies(&Ask::MonLeave { r }))
+}
+
+fn copies_enter(alloc: Global) -> Result<bool, NoMemory> {
+    let args = values(alloc)?;
+    let caps = Caps::none(alloc);
+    let label = Label::public(alloc);
+    Ok(copies(&Ask::Enter {
+        label,
+        caps,
         region: 0,
-        args: values(alloc)?,
-    });
-    Ok(enter & copies(&Ask::Leave))
+        args,
+    }))
 }
 
 #[test]
 fn asks_of_things_are_copied(rt: HostRuntime) {
-    assert!(rt; copies_slots(rt.alloc()) == Ok(true));
-    assert!(rt; copies_new(rt.alloc()) == Ok(true));
-    assert!(rt; copies_monitors(rt.alloc()) == Ok(true));
-    assert!(rt; copies_regions(rt.alloc()) == Ok(true));
+    assert!(rt; copies_read(rt.alloc()) == Ok(true));
+    assert!(rt; copies_write(rt.alloc()) == Ok(true));
+    assert!(rt; copies_copy(rt.alloc()) == Ok(true));
+    assert!(rt; copies_taking(rt.alloc()) == Ok(true));
+    assert!(rt; copies_giving(rt.alloc()) == Ok(true));
+}
+
+/// A new array of four numbers.
+fn new_array() -> Ask {
+    let shape = Shape::Array {
+        kind: Kind::Int,
+        len: 4,
+    };
+    Ask::New { shape }
 }
 
 #[test]
 fn asks_of_a_thread_alone_are_copied(rt: HostRuntime) {
+    assert!(rt; copies(&new_array()));
     assert!(rt; copies(&Ask::Mint));
+    assert!(rt; copies(&Ask::Join { thread: 1 }));
+}
+
+#[test]
+fn asks_of_faults_are_copied(rt: HostRuntime) {
     assert!(rt; copies(&Ask::Barred(denied())));
     assert!(rt; copies(&Ask::Caught(Fault::Index)));
     assert!(rt; copies(&Ask::Suppressed(Fault::Thrown(7))));
-    assert!(rt; copies(&Ask::Join { thread: 1 }));
+}
+
+#[test]
+fn ends_are_copied(rt: HostRuntime) {
     assert!(rt; copies(&Ask::End(Outcome::Failed(Fault::Deep))));
     assert!(rt; copies(&Ask::End(Outcome::Value(Value::Int(0)))));
 }
 
-fn copies_makers(alloc: Global) -> Result<bool, NoMemory> {
-    let file = copies(&Ask::MakeFile {
-        dir: name(alloc)?,
-        entry: bytes(alloc)?,
-        own: Label::public(alloc),
-    });
-    let dir = copies(&Ask::MakeDir {
-        dir: name(alloc)?,
-        entry: bytes(alloc)?,
-        own: Label::public(alloc),
-    });
+#[test]
+fn regions_are_copied(rt: HostRuntime) {
+    assert!(rt; copies_enter(rt.alloc()) == Ok(true));
+    assert!(rt; copies(&Ask::Leave));
+}
+
+fn copies_make_file(alloc: Global) -> Result<bool, NoMemory> {
+    let dir = name(alloc)?;
+    let entry = bytes(alloc)?;
     let own = Label::public(alloc);
-    Ok(file & dir & copies(&Ask::MakePipe { own }))
+    Ok(copies(&Ask::MakeFile { dir, entry, own }))
 }
 
-fn copies_entries(alloc: Global) -> Result<bool, NoMemory> {
+fn copies_make_dir(alloc: Global) -> Result<bool, NoMemory> {
     let dir = name(alloc)?;
     let entry = bytes(alloc)?;
-    let file = copies(&Ask::OpenFile { dir, entry });
-    let dir = name(alloc)?;
-    let entry = bytes(alloc)?;
-    let opened = copies(&Ask::OpenDir { dir, entry });
-    let dir = name(alloc)?;
-    let entry = bytes(alloc)?;
-    Ok(file & opened & copies(&Ask::Remove { dir, entry }))
+    let own = Label::public(alloc);
+    Ok(copies(&Ask::MakeDir { dir, entry, own }))
 }
 
-fn copies_contents(alloc: Global) -> Result<bool, NoMemory> {
+fn copies_open_file(alloc: Global) -> Result<bool, NoMemory> {
+    let dir = name(alloc)?;
+    let entry = bytes(alloc)?;
+    Ok(copies(&Ask::OpenFile { dir, entry }))
+}
+
+fn copies_open_dir(alloc: Global) -> Result<bool, NoMemory> {
+    let dir = name(alloc)?;
+    let entry = bytes(alloc)?;
+    Ok(copies(&Ask::OpenDir { dir, entry }))
+}
+
+fn copies_remove(alloc: Global) -> Result<bool, NoMemory> {
+    let dir = name(alloc)?;
+    let entry = bytes(alloc)?;
+    Ok(copies(&Ask::Remove { dir, entry }))
+}
+
+#[test]
+fn asks_of_directories_are_copied(rt: HostRuntime) {
+    assert!(rt; copies_make_file(rt.alloc()) == Ok(true));
+    assert!(rt; copies_make_dir(rt.alloc()) == Ok(true));
+    assert!(rt; copies_open_file(rt.alloc()) == Ok(true));
+    assert!(rt; copies_open_dir(rt.alloc()) == Ok(true));
+    assert!(rt; copies_remove(rt.alloc()) == Ok(true));
+}
+
+fn copies_file_read(alloc: Global) -> Result<bool, NoMemory> {
     let file = name(alloc)?;
-    let read = copies(&Ask::FileRead { file, at: 1, n: 2 });
+    Ok(copies(&Ask::FileRead { file, at: 1, n: 2 }))
+}
+
+fn copies_file_length(alloc: Global) -> Result<bool, NoMemory> {
     let file = name(alloc)?;
-    let length = copies(&Ask::FileLength { file });
+    Ok(copies(&Ask::FileLength { file }))
+}
+
+fn copies_append(alloc: Global) -> Result<bool, NoMemory> {
     let file = name(alloc)?;
     let bytes = bytes(alloc)?;
-    let append = copies(&Ask::Append { file, bytes });
+    Ok(copies(&Ask::Append { file, bytes }))
+}
+
+fn copies_cut(alloc: Global) -> Result<bool, NoMemory> {
     let file = name(alloc)?;
-    Ok(read & length & append & copies(&Ask::Cut { file, len: 3 }))
+    Ok(copies(&Ask::Cut { file, len: 3 }))
 }
 
 #[test]
 fn asks_of_files_are_copied(rt: HostRuntime) {
-    assert!(rt; copies_makers(rt.alloc()) == Ok(true));
-    assert!(rt; copies_entries(rt.alloc()) == Ok(true));
-    assert!(rt; copies_contents(rt.alloc()) == Ok(true));
+    assert!(rt; copies_file_read(rt.alloc()) == Ok(true));
+    assert!(rt; copies_file_length(rt.alloc()) == Ok(true));
+    assert!(rt; copies_append(rt.alloc()) == Ok(true));
+    assert!(rt; copies_cut(rt.alloc()) == Ok(true));
 }
 
-fn copies_messages(alloc: Global) -> Result<bool, NoMemory> {
+fn copies_make_pipe(alloc: Global) -> Result<bool, NoMemory> {
+    let own = Label::public(alloc);
+    Ok(copies(&Ask::MakePipe { own }))
+}
+
+fn copies_send(alloc: Global) -> Result<bool, NoMemory> {
     let pipe = name(alloc)?;
     let bytes = bytes(alloc)?;
-    let send = copies(&Ask::Send { pipe, bytes });
+    Ok(copies(&Ask::Send { pipe, bytes }))
+}
+
+fn copies_send_caps(alloc: Global) -> Result<bool, NoMemory> {
     let pipe = name(alloc)?;
     let caps = Caps::none(alloc);
-    let send_caps = copies(&Ask::SendCaps { pipe, caps });
-    let pipe = name(alloc)?;
-    let receive = copies(&Ask::Receive { pipe });
-    let pipe = name(alloc)?;
-    Ok(send & send_caps & receive & copies(&Ask::ReceiveCaps { pipe }))
+    Ok(copies(&Ask::SendCaps { pipe, caps }))
 }
 
-fn copies_speech(alloc: Global) -> Result<bool, NoMemory> {
-    let bytes = bytes(alloc)?;
-    let say = copies(&Ask::Say { bytes });
-    let spawn = copies(&Ask::Spawn {
-        unit: 2,
-        args: values(alloc)?,
-        caps: Caps::none(alloc),
-    });
-    Ok(say & spawn)
+fn copies_receive(alloc: Global) -> Result<bool, NoMemory> {
+    let pipe = name(alloc)?;
+    Ok(copies(&Ask::Receive { pipe }))
+}
+
+fn copies_receive_caps(alloc: Global) -> Result<bool, NoMemory> {
+    let pipe = name(alloc)?;
+    Ok(copies(&Ask::ReceiveCaps { pipe }))
 }
 
 #[test]
-fn asks_of_pipes_and_threads_are_copied(rt: HostRuntime) {
-    assert!(rt; copies_messages(rt.alloc()) == Ok(true));
-    assert!(rt; copies_speech(rt.alloc()) == Ok(true));
+fn asks_of_pipes_are_copied(rt: HostRuntime) {
+    assert!(rt; copies_make_pipe(rt.alloc()) == Ok(true));
+    assert!(rt; copies_send(rt.alloc()) == Ok(true));
+    assert!(rt; copies_send_caps(rt.alloc()) == Ok(true));
+    assert!(rt; copies_receive(rt.alloc()) == Ok(true));
+    assert!(rt; copies_receive_caps(rt.alloc()) == Ok(true));
+}
+
+fn copies_say(alloc: Global) -> Result<bool, NoMemory> {
+    let bytes = bytes(alloc)?;
+    Ok(copies(&Ask::Say { bytes }))
+}
+
+fn copies_spawn(alloc: Global) -> Result<bool, NoMemory> {
+    let args = values(alloc)?;
+    let caps = Caps::none(alloc);
+    Ok(copies(&Ask::Spawn {
+        unit: 2,
+        args,
+        caps,
+    }))
+}
+
+#[test]
+fn speech_and_threads_are_copied(rt: HostRuntime) {
+    assert!(rt; copies_say(rt.alloc()) == Ok(true));
+    assert!(rt; copies_spawn(rt.alloc()) == Ok(true));
 }
 
 fn copies_answer(answer: &Answer) -> bool {
