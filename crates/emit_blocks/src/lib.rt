@@ -91,13 +91,7 @@ fn emit_put_element(out: &mut Buffer, of: &Expr, index: &Expr, value: &Expr)
 }
 
 /// What enters a region: its label, its capabilities, its captures.
-fn emit_entry(
-    out: &mut Buffer,
-    number: usize,
-    label: &Expr,
-    caps: &Expr,
-    captures: &Vec<usize>,
-)
+fn emit_entry(out: &mut Buffer, number: usize, label: &Expr, caps: &Expr, captures: &Vec<usize>)
     ensures { Emits out.old out.new (joined (expression (expr_tree label.now)) (joined (expression (expr_tree caps.now)) (joined (loads captures.now.items) (op (EnterRegion number))))) }
 {
     emit_expr(out, label);
@@ -167,8 +161,18 @@ fn emit_stmt(out: &mut Buffer, s: &Stmt, held: &mut Vec<usize>)
             ..
         } => emit_entry(out, *number, label, caps, captures),
         Stmt::Do(e) => emit_then(out, e, Op::Pop),
-        Stmt::SetField { of, field, value, .. } => emit_put_field(out, of, *field, value),
-        Stmt::SetElement { of, index, value, .. } => emit_put_element(out, of, index, value),
+        Stmt::SetField {
+            of,
+            field,
+            value,
+            ..
+        } => emit_put_field(out, of, *field, value),
+        Stmt::SetElement {
+            of,
+            index,
+            value,
+            ..
+        } => emit_put_element(out, of, index, value),
     }
 }
 

@@ -82,10 +82,7 @@ fn emit_label(out: &mut Buffer, s: &Vec<Expr>, i: &Vec<Expr>)
 {
     let secrecy = out.count(s.len());
     let integrity = out.count(i.len());
-    out.push(Op::MakeLabel {
-        secrecy,
-        integrity,
-    })
+    out.push(Op::MakeLabel { secrecy, integrity })
 }
 
 /// Puts the code of an expression, which leaves its value on the operand stack.
