@@ -1,5 +1,5 @@
 -- The scheme's code acts as its program.
-use Rattle.std.proofs.Common.{◌≡◌, ◌≢◌, ℕ, zero, suc, ◌+◌, ◌-◌, ◌*◌, ◌<◌, ◌≤◌, List, [], ◌∷◌, ◌++◌, length, Option, None, Some, refl, sym, ap, ◌∙◌, subst, ⊎_elim, arith}
+use Rattle.std.proofs.Common.{◌≡◌, ◌≢◌, ℕ, suc, ◌+◌, ◌-◌, ◌*◌, ◌<◌, ◌≤◌, List, [], ◌∷◌, ◌++◌, length, Option, None, Some, refl, sym, ap, ◌∙◌, subst, ⊎_elim, arith}
 use Rattle.std.proofs.lemmas.Bool.{cases_lt}
 use Rattle.std.specs.Prelude.{replicate, slice_get}
 use Rattle.flow_labels.specs.Flow.{public_label}
@@ -24,13 +24,12 @@ use Rattle.resolved_tree.specs.Tree.{ResolvedFunction, ResolvedTree}
 use Rattle.resolved_tree.specs.Regions.{AreNumbered}
 use Rattle.lam_meaning.specs.Trees.{Own}
 use Rattle.lam_meaning.specs.Means.{At, means, first_locals}
-use Rattle.lam_meaning.specs.Plays.{How, has_ended, waits, is_spent, is_broken, asks_of, how_of, asks_made}
-use Rattle.lam_typed.specs.Kinds.{AreOf}
+use Rattle.lam_meaning.specs.Plays.{How, has_ended, waits, is_spent, is_broken, how_of, asks_made}
 use Rattle.lam_typed.proofs.Locals.{length_are}
 use Rattle.lam_typed.proofs.Threads.{typed_never_broken}
 use Rattle.lam_scheme.specs.Scheme.{scheme}
 use Rattle.lam_block_meaning.specs.Nested.{block_code}
-use Rattle.lam_block_meaning.specs.Gathers.{Along, with_locals, Out, gone, raised, returned, stops, ends_by, acts_to, body_does, closing, Final, final_of, first_along, thread_acts}
+use Rattle.lam_block_meaning.specs.Gathers.{Along, with_locals, Out, gone, raised, returned, stops, ends_by, acts_to, body_does, closing, final_of, first_along, thread_acts}
 use Rattle.lam_nested_means.proofs.Threads.{nested_means}
 use Rattle.lam_flat_acts.specs.Lone as lone_thread
 use Rattle.lam_flat_acts.specs.Lone.{Lone, runs, op_work, asked, done, turn, turns, asks_in, work_done, NotStuck, alone, bound}

@@ -1,6 +1,6 @@
 -- Code with its structure, in which a region has its body and its catch block inside: what stands between a program and
 -- its pieces.
-use Rattle.std.specs.Prelude.{ℕ, Bool, true, false, List, [], ◌∷◌, length, Option, Some, None}
+use Rattle.std.specs.Prelude.{ℕ, true, false, List, [], ◌∷◌, length, Option, Some, None}
 use Rattle.lam_value.specs.declared.values.Value.{Value}
 use Rattle.lam_value.specs.declared.values.Value.TheVariants.{Int, Bool as Truth, Bytes, Nothing}
 use Rattle.lam_syntax.specs.declared.BinaryOp.{BinaryOp}

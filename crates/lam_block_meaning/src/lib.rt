@@ -6,5 +6,6 @@
 //! Each operation does what the machine's table of effects says.
 //!
 //! `specs/Nested` has nested code, the code of each construct, and the pieces of the scheme that it stands for;
-//! `specs/Gathers` has what it does. `proofs/Pieces` says that the pieces are those of the scheme.
+//! `specs/Gathers` has what it does. `proofs/Pieces` says that the pieces are those of the scheme, and `proofs/Placed`
+//! where the units of functions and regions stand in its code.
 #![tactic(auto)]

@@ -1,5 +1,5 @@
 -- Regions, as the flat machine goes through them.
-use Rattle.std.proofs.Common.{◌≡◌, ℕ, zero, suc, ◌+◌, ◌*◌, ◌<◌, ◌≤◌, List, [], ◌∷◌, ◌++◌, length, Option, Some, None, refl, sym, ap, ◌∙◌, subst, arith}
+use Rattle.std.proofs.Common.{◌≡◌, ℕ, ◌+◌, ◌≤◌, List, [], ◌∷◌, ◌++◌, length, Option, Some, None, refl, ap, ◌∙◌, arith}
 use Rattle.std.specs.Prelude.{◌-◌, replicate, slice_get}
 use Rattle.flow_labels.specs.declared.Label.{Label}
 use Rattle.capabilities.specs.declared.Caps.{Caps}
@@ -17,7 +17,7 @@ use Rattle.lam_asks.specs.declared.ask.Ask.TheVariants as ask
 use Rattle.lam_bytecode.specs.Codes.{CodeTree}
 use Rattle.lam_bytecode.specs.declared.unit.CodeUnit.{CodeUnit}
 use Rattle.lam_bytecode.specs.declared.unit.UnitKind.{UnitKind}
-use Rattle.lam_bytecode.specs.declared.unit.UnitKind.TheVariants.{Function, Region}
+use Rattle.lam_bytecode.specs.declared.unit.UnitKind.TheVariants.{Region}
 use Rattle.lam_bytecode.specs.declared.op.Op.TheVariants.{LeaveRegion}
 use Rattle.thread_steps.specs.Threads.{Frame, Phase, Body, Catch, Context}
 use Rattle.thread_steps.specs.Ops.{UnitAt, effect, region_in}
@@ -25,11 +25,11 @@ use Rattle.thread_steps.specs.Next.{raised as raised_next, region_context, catch
 use Rattle.thread_steps.specs.Next as machine
 use Rattle.lam_meaning.specs.Trees.{Own}
 use Rattle.lam_meaning.specs.Means.{inside as means_inside}
-use Rattle.lam_meaning.specs.Plays.{How, has_ended, waits, is_spent, is_broken}
-use Rattle.lam_block_meaning.specs.Gathers.{Along, with_own, with_locals, answered, Out, gone, raised, returned, stops, and_on, ends_by, after_catch, caught, after_body, Enters, Does, replied, awaits, region_by}
+use Rattle.lam_meaning.specs.Plays.{has_ended, waits, is_spent, is_broken}
+use Rattle.lam_block_meaning.specs.Gathers.{Along, Out, gone, raised, returned, stops, and_on, ends_by, after_catch, caught, after_body, Enters, Does, awaits, region_by}
 use Rattle.lam_flat_acts.specs.Lone as lone
 use Rattle.lam_flat_acts.specs.Lone.{Lone, runs, asked, done, turn, turns}
-use Rattle.lam_flat_acts.proofs.Turns.{Kept, context, frame_of, thread_of, at, Spot, fault_context, faulty, base_unit, base_locals, op_at, Reaches, Halts, Works, FailsAs, Goes, Ends, halts_on, works_on, shift, step, one_goes, one_raises, one_waits}
+use Rattle.lam_flat_acts.proofs.Turns.{Kept, context, frame_of, thread_of, at, Spot, fault_context, faulty, base_unit, base_locals, op_at, Ends, halts_on, works_on, shift, step, one_goes, one_raises, one_waits}
 
 -- the context of a region, in a phase, above the one around
 abbrev pub inside : Kept → ℕ → List Value → List Name → Own → ℕ → Label → Phase → Kept

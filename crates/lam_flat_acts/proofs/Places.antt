@@ -1,5 +1,5 @@
 -- The scheme's code stands in its units.
-use Rattle.std.proofs.Common.{◌≡◌, ℕ, zero, suc, ◌+◌, ◌*◌, ◌<◌, ◌≤◌, List, [], ◌∷◌, ◌++◌, length, map, Option, Some, None, refl, sym, ap, ◌∙◌, subst, arith, length-append}
+use Rattle.std.proofs.Common.{◌≡◌, ℕ, zero, suc, ◌+◌, ◌<◌, ◌≤◌, List, [], ◌∷◌, ◌++◌, length, map, Option, Some, None, refl, sym, ap, ◌∙◌, subst, arith, length-append}
 use Rattle.std.specs.Prelude.{slice_get}
 use Rattle.lam_value.specs.declared.values.Value.{Value}
 use Rattle.lam_value.specs.declared.values.Value.TheVariants.{Nothing}
@@ -7,9 +7,9 @@ use Rattle.lam_syntax.specs.declared.BinaryOp.{BinaryOp}
 use Rattle.lam_syntax.specs.declared.BinaryOp.TheVariants as binary
 use Rattle.lam_bytecode.specs.Codes.{CodeTree, IsConstant}
 use Rattle.lam_bytecode.specs.declared.op.Op.{Op}
-use Rattle.lam_bytecode.specs.declared.op.Op.TheVariants.{Const, Jump, JumpIfFalse, Store, Return, EnterRegion, LeaveRegion}
+use Rattle.lam_bytecode.specs.declared.op.Op.TheVariants.{Jump, JumpIfFalse, Store, Return, LeaveRegion}
 use Rattle.lam_bytecode.specs.declared.unit.CodeUnit.{CodeUnit}
-use Rattle.lam_bytecode.specs.declared.unit.UnitKind.TheVariants.{Function, Region}
+use Rattle.lam_bytecode.specs.declared.unit.UnitKind.TheVariants.{Region}
 use Rattle.thread_steps.specs.Ops.{region_in}
 use Rattle.thread_steps.specs.Next.{ops_of, ops_in}
 use Rattle.resolved_tree.specs.Tree.{CapSlot, Expression, number_value, text_value, bool_value, null_value, local_value, unary_of, binary_of, field_of, element_of, call_of, builtin_of, new_object, new_array, label_of, caps_of, spawn_of, Expressions, args_end, args_more, Statement, let_slot, if_block, while_block, return_value, throw_value, sync_block, region_block, do_value, set_local, set_field, set_element, Block, block_end, block_more, OtherBlock, no_other, other_block, ResolvedFunction, ResolvedTree}
@@ -22,8 +22,8 @@ use Rattle.lam_block_meaning.specs.Nested.{Nested, no_code, does, puts, both, wh
 use Rattle.lam_block_meaning.proofs.Pieces.{block_pieces}
 use Rattle.lam_block_meaning.proofs.Placed.{constants_of, Placed, IsPlaced, BlockPlaced, OtherPlaced, function_drafted, function_unit, functions_placed}
 use Rattle.lam_flat_acts.specs.Lone.{bound}
-use Rattle.lam_flat_acts.proofs.Stands.{width, cost, op_here, IsAddress, PutsAt, Stands, FunctionStands, AllStand}
-use Rattle.lam_flat_acts.proofs.Constants.{AllIn, place_there, draft_constants}
+use Rattle.lam_flat_acts.proofs.Stands.{width, cost, op_here, PutsAt, Stands, AllStand}
+use Rattle.lam_flat_acts.proofs.Constants.{place_there, draft_constants}
 use Rattle.lam_flat_acts.proofs.Laid.{size_joined, flat_length, width_size, numbered_length, FlatAt, AllFlat, unit_at, flat_front, flat_back, joined_at}
 
 -- the pieces of a region's unit

@@ -1,5 +1,5 @@
 -- The flat machine follows nested code.
-use Rattle.std.proofs.Common.{◌≡◌, ℕ, zero, suc, ◌+◌, ◌*◌, ◌<◌, ◌≤◌, Bool, true, false, List, [], ◌∷◌, ◌++◌, length, Option, Some, None, refl, sym, ap, ◌∙◌, subst, arith}
+use Rattle.std.proofs.Common.{◌≡◌, ℕ, zero, suc, ◌+◌, ◌<◌, ◌≤◌, Bool, true, false, List, [], ◌∷◌, ◌++◌, length, Option, Some, None, refl, sym, ap, ◌∙◌, subst, arith}
 use Rattle.std.proofs.lemmas.Bool.Decides.{nat_tests}
 use Rattle.std.specs.Prelude.{if◌then◌else◌, ◌-◌, nat_lt, nat_le, take, drop, reverse, replicate, slice_get}
 use Rattle.capabilities.specs.declared.Caps.{Caps}
@@ -10,13 +10,12 @@ use Rattle.lam_value.specs.declared.values.Value.TheVariants.{Bool as Truth, Not
 use Rattle.lam_asks.specs.declared.fault.Fault.TheVariants.{Null}
 use Rattle.lam_asks.specs.declared.answer.Outcome.{Outcome}
 use Rattle.lam_asks.specs.declared.answer.Answer.{Answer}
-use Rattle.lam_asks.specs.declared.ask.Ask.{Ask}
 use Rattle.lam_asks.specs.declared.ask.Ask.TheVariants as ask
 use Rattle.lam_bytecode.specs.Codes.{CodeTree}
 use Rattle.lam_bytecode.specs.declared.op.Op.{Op}
-use Rattle.lam_bytecode.specs.declared.op.Op.TheVariants.{Const, Jump, JumpIfFalse, Return, EnterRegion}
+use Rattle.lam_bytecode.specs.declared.op.Op.TheVariants.{Jump, JumpIfFalse, Return, EnterRegion}
 use Rattle.lam_bytecode.specs.declared.unit.CodeUnit.{CodeUnit}
-use Rattle.thread_steps.specs.Threads.{Phase, Body, Catch, Context}
+use Rattle.thread_steps.specs.Threads.{Body, Catch}
 use Rattle.thread_steps.specs.Ops as ops
 use Rattle.thread_steps.specs.Ops.{Did, effect, on_known, on_many, on_caps, on_label, region_takes, region_in}
 use Rattle.thread_steps.specs.Next as machine
@@ -28,10 +27,10 @@ use Rattle.lam_scheme.specs.Scheme.{scheme}
 use Rattle.lam_block_meaning.specs.Nested.{Nested, no_code, does, puts, both, when, either, loops, enters, block_code}
 use Rattle.lam_block_meaning.specs.Gathers as nested
 use Rattle.lam_block_meaning.specs.Gathers.{Along, with_locals, Out, gone, raised, returned, stops, and_on, Caller, Enters, did, region_by, picks, use_unit, acts, call_result, body_does, called, acts_to}
-use Rattle.lam_flat_acts.specs.Lone.{Lone, runs, op_work, asked, done, turn, turns, asks_in, work_done}
-use Rattle.lam_flat_acts.proofs.Turns.{Kept, context, frame_of, thread_of, at, faulty, place_of, op_at, around_at, Reaches, Halts, Works, FailsAs, ReturnsAt, Goes, Ends, halts_on, works_on, shift, dearer, then_ends, ends_at, step, one_goes, one_raises}
-use Rattle.lam_flat_acts.proofs.Steps.{CallTurn, CallsRun, op_runs, const_turn, put_runs}
-use Rattle.lam_flat_acts.proofs.Stands.{width, cost, IsAddress, PutsAt, Stands, FunctionStands, AllStand}
+use Rattle.lam_flat_acts.specs.Lone.{Lone, runs, op_work, done, turns, asks_in, work_done}
+use Rattle.lam_flat_acts.proofs.Turns.{Kept, context, frame_of, thread_of, at, place_of, op_at, around_at, Ends, halts_on, works_on, shift, dearer, then_ends, ends_at, step, one_goes, one_raises}
+use Rattle.lam_flat_acts.proofs.Steps.{CallsRun, op_runs, const_turn, put_runs}
+use Rattle.lam_flat_acts.proofs.Stands.{width, cost, IsAddress, PutsAt, Stands, AllStand}
 use Rattle.lam_flat_acts.proofs.Contexts.{inside, enter_runs, entered_runs}
 
 is_below : (x n : ℕ) → x < n → nat_lt x n ≡ true

@@ -1,13 +1,12 @@
 -- Single operations, as the flat machine does them.
-use Rattle.std.proofs.Common.{◌≡◌, ℕ, zero, suc, ◌+◌, ◌*◌, ◌<◌, ◌≤◌, Bool, true, false, List, [], ◌∷◌, ◌++◌, length, Option, Some, None, refl, sym, ap, ◌∙◌, subst, arith}
-use Rattle.std.specs.Prelude.{if◌then◌else◌, nat_lt, nat_le, take, drop, reverse, slice_get}
+use Rattle.std.proofs.Common.{◌≡◌, ℕ, ◌+◌, ◌<◌, ◌≤◌, Bool, true, false, List, [], ◌∷◌, ◌++◌, Option, Some, None, refl, ap, ◌∙◌, arith}
+use Rattle.std.specs.Prelude.{if◌then◌else◌, nat_lt, drop, slice_get}
 use Rattle.flow_labels.specs.declared.Label.{Label}
 use Rattle.flow_labels.specs.declared.Denied.{Denied as Denial}
-use Rattle.capabilities.specs.declared.Caps.{Caps}
 use Rattle.lam_value.specs.declared.names.Name.{Name}
 use Rattle.lam_value.specs.declared.values.Value.{Value}
-use Rattle.lam_value.specs.declared.values.Value.TheVariants.{Bool as Truth, Nothing, Obj, Arr, Tag, Lab, CapV}
-use Rattle.lam_asks.specs.declared.fault.Fault.TheVariants.{Denied, Null}
+use Rattle.lam_value.specs.declared.values.Value.TheVariants.{Bool as Truth, Nothing, Obj, Arr, Tag, CapV}
+use Rattle.lam_asks.specs.declared.fault.Fault.TheVariants.{Denied}
 use Rattle.lam_asks.specs.declared.answer.Outcome.{Outcome}
 use Rattle.lam_asks.specs.declared.answer.Answer.{Answer}
 use Rattle.lam_asks.specs.declared.answer.Answer.TheVariants.{Done, Entered, Val, Refused, Failed}
@@ -15,17 +14,16 @@ use Rattle.lam_asks.specs.declared.ask.Ask.{Ask}
 use Rattle.lam_asks.specs.declared.ask.Ask.TheVariants as ask
 use Rattle.lam_bytecode.specs.Codes.{CodeTree}
 use Rattle.lam_bytecode.specs.declared.op.Op.{Op}
-use Rattle.lam_bytecode.specs.declared.op.Op.TheVariants.{Const, Jump, JumpIfFalse, ReadBarrier, WriteBarrier, EnterRegion}
+use Rattle.lam_bytecode.specs.declared.op.Op.TheVariants.{Const, Jump, JumpIfFalse, ReadBarrier, WriteBarrier}
 use Rattle.thread_steps.specs.Threads.{Context}
 use Rattle.thread_steps.specs.Ops as ops
 use Rattle.thread_steps.specs.Ops.{Did, Around, effect, barrier, on_thing, on_caps, on_label, on_many, on_known, on_constant, goes_to, region_takes, region_in}
 use Rattle.thread_steps.specs.Next as machine
 use Rattle.thread_steps.specs.Next.{next_by, past, called, gains, ops_of}
 use Rattle.lam_meaning.specs.Trees.{Own, gained}
-use Rattle.lam_meaning.specs.Plays.{waits}
-use Rattle.lam_block_meaning.specs.Gathers.{Along, with_own, with_locals, answered, Out, gone, raised, returned, stops, and_on, Caller, Enters, never_enters, replied, awaits, did, around, op_does}
-use Rattle.lam_flat_acts.specs.Lone.{Lone, runs, op_work, asked, done, turn, turns}
-use Rattle.lam_flat_acts.proofs.Turns.{Kept, context, thread_of, at, faulty, place_of, op_at, around_at, Ends, step, one_goes, one_raises, one_waits}
+use Rattle.lam_block_meaning.specs.Gathers.{Along, with_locals, gone, and_on, Caller, never_enters, awaits, did, around, op_does}
+use Rattle.lam_flat_acts.specs.Lone.{Lone, runs, asked, done, turns}
+use Rattle.lam_flat_acts.proofs.Turns.{Kept, context, thread_of, at, place_of, op_at, around_at, Ends, step, one_goes, one_raises, one_waits}
 
 gains_same : (kp : Kept) (pc : ℕ) (s : List Value) (held : List Name) (a : Ask) (v : Value) (o : Own) → gains a v (context kp pc s held o) ≡ context kp pc s held (gained a v o)
 gains_same kp pc s held ask.Mint (Tag t) o = refl

@@ -1,21 +1,20 @@
 -- Where a thread stands that runs alone, and how many turns lead from one place to another.
-use Rattle.std.proofs.Common.{◌≡◌, ℕ, zero, suc, ◌+◌, ◌*◌, ◌<◌, ◌≤◌, List, [], ◌∷◌, ◌++◌, length, Option, Some, None, refl, sym, ap, ◌∙◌, subst, arith}
+use Rattle.std.proofs.Common.{◌≡◌, ℕ, zero, suc, ◌+◌, ◌*◌, ◌<◌, ◌≤◌, List, [], ◌∷◌, length, Option, Some, None, refl, ap, ◌∙◌, subst, arith}
 use Rattle.std.specs.Prelude.{slice_get}
 use Rattle.flow_labels.specs.declared.Label.{Label}
 use Rattle.lam_value.specs.declared.names.Name.{Name}
 use Rattle.lam_value.specs.declared.values.Value.{Value}
 use Rattle.lam_asks.specs.declared.fault.Fault.{Fault}
 use Rattle.lam_asks.specs.declared.answer.Outcome.{Outcome}
-use Rattle.lam_asks.specs.declared.answer.Answer.{Answer}
 use Rattle.lam_asks.specs.declared.ask.Ask.{Ask}
 use Rattle.lam_bytecode.specs.Codes.{CodeTree}
 use Rattle.lam_bytecode.specs.declared.op.Op.{Op}
 use Rattle.thread_steps.specs.Threads.{Frame, Phase, Context, Thread}
-use Rattle.thread_steps.specs.Ops.{Did, returns, Around, effect}
-use Rattle.thread_steps.specs.Next.{Next, ops_of, next_by, next_op, next_of}
+use Rattle.thread_steps.specs.Ops.{returns, Around, effect}
+use Rattle.thread_steps.specs.Next.{ops_of, next_by, next_op, next_of}
 use Rattle.lam_meaning.specs.Trees.{Own}
 use Rattle.lam_meaning.specs.Means.{At}
-use Rattle.lam_meaning.specs.Plays.{How, has_ended, waits, is_spent, is_broken}
+use Rattle.lam_meaning.specs.Plays.{has_ended, waits, is_spent, is_broken}
 use Rattle.lam_block_meaning.specs.Gathers.{Along, Out, gone, raised, returned, stops, and_on}
 use Rattle.lam_flat_acts.specs.Lone.{Lone, runs, op_work, work_of, done, turn, turns, asks_in, work_done, NotStuck}
 use Rattle.lam_flat_acts.specs.Lone as lone

@@ -119,7 +119,7 @@ module _ {A B C D : Type 0} (kp kp2 : Keep) (H H2 : Held) (h : A → B) (k : C �
   ends_where P (asks q j) [] made r F G all stop f m = record { by = λ ok. stop waits (made ++ q.ask ∷ []) ∙ ap G (m.by tt); keeps = tt }
   ends_where P (asks q j) (x ∷ xs) made r F G all stop f m =
       let s = split (fits q.want x) kp.size kp2.size h k (played kp H (j x) xs (made ++ q.ask ∷ [])) (played kp2 H2 (on_end (j x) F) xs (made ++ q.ask ∷ [])) made r (G r) m.by m.keeps
-        (λ by keeps. let i = ends_where P (j x) xs (made ++ q.ask ∷ []) r F G (all x) stop f (record { by = by; keeps = keeps }) in (i.by, i.keeps)) in
+      (λ by keeps. let i = ends_where P (j x) xs (made ++ q.ask ∷ []) r F G (all x) stop f (record { by = by; keeps = keeps }) in (i.by, i.keeps)) in
       record { by = s.0; keeps = s.1 }
 
   pub end_on : (t : Tree A) (xs : List Answer) (made : List Ask) (r : Out B) (F : End A → Tree C) (G : Out B → Out D) → ((how : How) (made : List Ask) → stops how made ≡ G (stops how made)) → ((e : End A) → EndSized kp.size e → (xs : List Answer) (made : List Ask) → Matches kp2 H2 k (F e) xs made (G (told h (stands kp H e xs made)))) → Matches kp H h t xs made r → Matches kp2 H2 k (on_end t F) xs made (G r)
