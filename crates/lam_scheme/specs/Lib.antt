@@ -1,3 +1,4 @@
 pub mod Pieces
 pub mod Scheme
+pub mod Long
 pub mod Examples

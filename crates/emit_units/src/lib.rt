@@ -1,0 +1,17 @@
+//! The units of a program: its functions in source order, then its regions by number.
+//!
+//! `pool` numbers the constants, each once, in order of first use. `units` gathers the units: it numbers a unit's
+//! constants when the unit is complete, so a unit's code by value lives no longer than it takes. `drafts` fills them,
+//! first one unit for each function and then, in a second walk, one for each region, since all functions stand before
+//! all regions.
+//!
+//! As with a unit's buffer, what gave up keeps its first reason and takes nothing more. `specs/Adds.antt` says what
+//! a call adds.
+#![tactic(auto)]
+
+mod drafts;
+mod pool;
+mod units;
+
+pub use drafts::{add_function_units, add_region_units};
+pub use units::{Halt, Parts, Units};
