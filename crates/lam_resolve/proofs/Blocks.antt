@@ -9,9 +9,9 @@ use Rattle.resolved_tree.specs.Tree.{Block, block_end, block_more, stmt_tree as 
 use Rattle.lam_resolved.specs.Resolved.{then_some, Tables, Locals, State, Step, step_as, Closed, closed_as, resolve_stmt, resolve_stmts}
 use Rattle.lam_resolve_exprs.specs.declared.values.Local.{Local}
 use Rattle.lam_resolve_tables.proofs.Options.{first_some, goes, one_more}
-use Rattle.lam_resolve.specs.Meets.{Extends}
+use Rattle.lam_resolve_units.specs.Meets.{Extends}
 use Rattle.lam_resolve.proofs.Sizes.{stmt_size, stmts_size, item_smaller}
-use Rattle.lam_resolve.proofs.UnitSteps.{seen}
+use Rattle.lam_resolve_units.proofs.UnitSteps.{seen}
 
 abbrev pub glued : Block → Block → Block
 glued block_end r = r

@@ -5,8 +5,8 @@ use Rattle.lam_builtins.specs.Types.{given_type, int}
 use Rattle.resolved_tree.specs.Tree.{ResolvedType, Expression, Statement, Block, OtherBlock, if_block, while_block, return_value, throw_value, sync_block, region_block, do_value, other_block}
 use Rattle.lam_resolved.specs.Resolved.{then_some, Tables, Locals, State, state_as, next_slot, Value, Step, step_as, Closed, closed_as, with_local, locals_from, taken_over, types_of, slots_of, resolve, resolve_value, resolve_captures, resolve_stmt_form, resolve_else, resolve_stmts, assignment}
 use Rattle.lam_resolve_tables.proofs.Options.{first_some, next_some, goes}
-use Rattle.lam_resolve.specs.Seen.{Inside, entered_by}
-use Rattle.lam_resolve.specs.Parts.{assigned_tree}
+use Rattle.lam_resolve_units.specs.Seen.{Inside, entered_by}
+use Rattle.lam_resolve_units.specs.Parts.{assigned_tree}
 use Rattle.lam_resolve.proofs.Sizes.{form_size, else_size, stmts_size}
 
 two_steps : {A B C D : Type 0} (o : Option A) (p : Option B) (f : A → B → Option C) (g : C → Option D) → then_some (then_some o (λ a. then_some p (f a))) g ≡ then_some o (λ a. then_some p (λ b. then_some (f a b) g))

@@ -9,7 +9,7 @@ use Rattle.lam_resolve_tables.specs.Kinds.{kind_type}
 use Rattle.lam_resolve_tables.specs.Tables.{tables}
 use Rattle.lam_resolve_exprs.specs.Values.{locals, value}
 use Rattle.lam_resolve_tables.proofs.Options.{if_ok, some_not_none}
-use Rattle.lam_resolve.specs.Seen.{state, entered, entered_by}
+use Rattle.lam_resolve_units.specs.Seen.{state, entered, entered_by}
 use Rattle.lam_resolve.proofs.StmtArms
 use Rattle.lam_resolve.proofs.Blocks.{block_first, block_needs, block_next, block_last, extends_first, extends_more}
 use Rattle.lam_resolve.proofs.stmts.+stmt.Goals as goal
