@@ -1,8 +1,8 @@
 -- Parts of statements, as the code meets them.
-use Rattle.std.proofs.Common.{◌≡◌, ℕ, ◌+◌, List, length, Option, Some, None, IsSome, is_some, refl, sym, ap, ◌∙◌}
-use Rattle.lam_syntax.specs.Tree.{Word, ExprTree, VarTree, IdTree, let_stmt}
-use Rattle.resolved_tree.specs.Tree.{ResolvedType, Expression, Statement, let_slot}
-use Rattle.lam_resolved.specs.Resolved.{then_some, Tables, Locals, State, Value, Step, step_as, with_local, next_slot, resolve, resolve_type, resolve_value, resolve_stmt_form, assignment, state_as, slots_of, taken_over, locals_from, types_of}
+use Rattle.std.proofs.Common.{◌≡◌, ℕ, ◌+◌, List, length, Option, Some, IsSome, is_some, sym, ap, ◌∙◌}
+use Rattle.lam_syntax.specs.Tree.{Word, ExprTree, VarTree, let_stmt}
+use Rattle.resolved_tree.specs.Tree.{ResolvedType, Statement, let_slot}
+use Rattle.lam_resolved.specs.Resolved.{then_some, Tables, Locals, State, Value, step_as, with_local, next_slot, resolve, resolve_type, resolve_value, resolve_stmt_form, assignment, state_as, slots_of, taken_over, locals_from, types_of}
 use Rattle.lam_resolve_tables.proofs.Options.{first_some, next_some, goes}
 use Rattle.lam_resolve_units.specs.Seen.{Inside, entered_by}
 use Rattle.lam_resolve_units.specs.Parts.{assigned_tree}

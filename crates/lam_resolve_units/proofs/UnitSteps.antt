@@ -1,16 +1,16 @@
 -- Units, step by step.
-use Rattle.std.proofs.Common.{◌≡◌, ℕ, suc, ◌+◌, ◌<◌, List, [], ◌∷◌, ◌++◌, length, map, drop, get_or, Option, Some, None, IsSome, is_some, refl, sym, ap, ◌∙◌, Bor, append_assoc, take, min, arith}
+use Rattle.std.proofs.Common.{◌≡◌, ℕ, suc, ◌+◌, ◌<◌, List, [], ◌∷◌, ◌++◌, length, map, drop, get_or, Some, refl, sym, ap, ◌∙◌, Bor, append_assoc}
 use Rattle.lam_syntax.specs.declared.Id.{Id}
 use Rattle.lam_syntax.specs.Tree.{Word, id_tree, ids_tree}
 use Rattle.resolved_tree.specs.declared.ValueType.{ValueType}
-use Rattle.resolved_tree.specs.Tree.{type_tree, types_tree, ResolvedType}
-use Rattle.lam_resolved.specs.Resolved.{then_some, Local as ResolvedLocal, Locals, locals_from, local_named, resolve_captures, with_local}
+use Rattle.resolved_tree.specs.Tree.{types_tree}
+use Rattle.lam_resolved.specs.Resolved.{then_some, Locals, locals_from, local_named, resolve_captures}
 use Rattle.lam_resolve_tables.specs.declared.kinds.Kind.{Kind}
 use Rattle.lam_resolve_exprs.specs.declared.values.Local.{Local}
 use Rattle.lam_resolve_tables.specs.Kinds.{kind_type}
 use Rattle.lam_resolve_tables.specs.Tables.{vars}
 use Rattle.lam_resolve_exprs.specs.Values.{local}
-use Rattle.lam_resolve_tables.proofs.Options.{first_some, one_more, item_more, map_push}
+use Rattle.lam_resolve_tables.proofs.Options.{one_more, item_more, map_push}
 
 abbrev pub seen : List (Word × Local) → Locals
 seen es = map (λ e. (e.0, local e.1)) es

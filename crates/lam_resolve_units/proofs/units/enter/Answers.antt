@@ -1,4 +1,4 @@
-use Rattle.std.proofs.Common.{◌≡◌, ap, ◌∙◌}
+use Rattle.std.proofs.Common.{ap, ◌∙◌}
 use Rattle.lam_syntax.specs.Tree.{ids_tree}
 use Rattle.lam_resolved.specs.Resolved.{resolve_captures, slots_of, taken_over, locals_from, state_as, types_of}
 use Rattle.lam_resolve_tables.specs.Tables.{vars}

@@ -1,4 +1,4 @@
-use Rattle.std.proofs.Common.{◌≡◌, ap, sym, ◌∙◌, ◌++◌, ◌∷◌, []}
+use Rattle.std.proofs.Common.{ap, sym, ◌∙◌, ◌++◌, ◌∷◌, []}
 use Rattle.resolved_tree.specs.Tree.{types_tree}
 use Rattle.lam_resolved.specs.Resolved.{state_as}
 use Rattle.lam_resolve_tables.proofs.TableSteps.{types_push}
