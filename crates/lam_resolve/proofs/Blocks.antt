@@ -1,12 +1,12 @@
 -- The statements of a block, one after the other.
-use Rattle.std.proofs.Common.{◌≡◌, ℕ, ◌+◌, ◌<◌, ◌≤◌, arith, List, [], ◌∷◌, ◌++◌, length, drop, take, get_or, map, Option, Some, None, IsSome, is_some, refl, sym, ap, ◌∙◌, take-take}
+use Rattle.std.proofs.Common.{◌≡◌, ℕ, ◌+◌, ◌<◌, ◌≤◌, arith, List, [], ◌∷◌, ◌++◌, length, drop, take, get_or, Option, Some, None, IsSome, is_some, refl, sym, ap, ◌∙◌, take-take}
 use Rattle.std.proofs.Math.Seq.{take-length}
 use Rattle.std.proofs.lemmas.List.{length-map, length-take}
 use Rattle.lam_syntax.specs.declared.Stmt.{Stmt}
 use Rattle.lam_syntax.specs.Tree.{Word, stmt_tree, stmts_tree}
 use Rattle.resolved_tree.specs.declared.Stmt.{Stmt as Resolved}
 use Rattle.resolved_tree.specs.Tree.{Block, block_end, block_more, stmt_tree as resolved_stmt, stmts_tree as resolved_stmts}
-use Rattle.lam_resolved.specs.Resolved.{then_some, Tables, Locals, State, Step, step_as, Closed, closed_as, resolve_stmt, resolve_stmts}
+use Rattle.lam_resolved.specs.Resolved.{then_some, Tables, Locals, State, step_as, Closed, closed_as, resolve_stmt, resolve_stmts}
 use Rattle.lam_resolve_exprs.specs.declared.values.Local.{Local}
 use Rattle.lam_resolve_tables.proofs.Options.{first_some, goes, one_more}
 use Rattle.lam_resolve_units.specs.Meets.{Extends}

@@ -1,7 +1,7 @@
-use Rattle.std.proofs.Common.{rules, ◌≡◌, Some, refl, get_or, ap, sym, ◌∙◌, is_some}
+use Rattle.std.proofs.Common.{rules, Some, refl, ap, sym, ◌∙◌, is_some}
 use Rattle.std.specs.Option.{option_map}
 use Rattle.std.proofs.lemmas.List.{drop_all}
-use Rattle.lam_syntax.specs.Tree.{expr_tree, option_expr_tree, stmt_form, stmt_tree, stmts_tree, else_tree, ids_tree, id_tree}
+use Rattle.lam_syntax.specs.Tree.{expr_tree, option_expr_tree, stmt_form, stmts_tree, else_tree, ids_tree, id_tree}
 use Rattle.lam_syntax.proofs.Rows.{if_row, while_row, sync_row, region_row}
 use Rattle.resolved_tree.specs.Tree.{stmt_tree as resolved_stmt, stmts_tree as resolved_stmts, else_tree as resolved_other, option_expr_tree as resolved_option}
 use Rattle.lam_resolved.specs.Resolved.{then_some, closed_as, resolve_captures, resolve_stmt_form, resolve_stmts}
