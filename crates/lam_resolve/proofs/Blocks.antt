@@ -48,9 +48,11 @@ module _ (t : Tables) (ls : Locals) (st : State) (xs : List Stmt) (i : ℕ) (x :
   block_step = ap (λ l. resolve_stmts t ls st (stmts_tree l)) (one_more xs i x lt is)
 
   pub block_needs : (w : Option (Closed Block)) (done : List Resolved) → BlockSoFar w (resolve_stmts t ls st (stmts_tree (drop i xs))) done → IsSome w → (stmt_size (stmt_tree x) < stmts_size (stmts_tree xs)) × IsSome (resolve_stmt t ls st (stmt_tree x))
-  block_needs w done s h =
-      (item_smaller xs i x lt is, first_some (resolve_stmt t ls st (stmt_tree x)) (λ a. then_some (resolve_stmts t a.locals a.state (stmts_tree (drop (i + 1) xs))) (λ b. Some (closed_as (block_more a.it b.it) b.state)))
-      (sym (ap is_some block_step) ∙ first_some (resolve_stmts t ls st (stmts_tree (drop i xs))) (λ b. Some (closed_as (glued (resolved_stmts done) b.it) b.state)) (sym (ap is_some s.joins) ∙ h)))
+  block_needs w done s h = (
+    item_smaller xs i x lt is,
+    first_some (resolve_stmt t ls st (stmt_tree x)) (λ a. then_some (resolve_stmts t a.locals a.state (stmts_tree (drop (i + 1) xs))) (λ b. Some (closed_as (block_more a.it b.it) b.state)))
+        (sym (ap is_some block_step) ∙ first_some (resolve_stmts t ls st (stmts_tree (drop i xs))) (λ b. Some (closed_as (glued (resolved_stmts done) b.it) b.state)) (sym (ap is_some s.joins) ∙ h)),
+  )
 
   pub block_next : (w : Option (Closed Block)) (done next : List Resolved) (r : Resolved) (new : Locals) (last : State) → BlockSoFar w (resolve_stmts t ls st (stmts_tree (drop i xs))) done → Some (step_as (resolved_stmt r) new last) ≡ resolve_stmt t ls st (stmt_tree x) → next ≡ done ++ r ∷ [] →
       BlockSoFar w (resolve_stmts t new last (stmts_tree (drop (i + 1) xs))) next
@@ -58,8 +60,8 @@ module _ (t : Tables) (ls : Locals) (st : State) (xs : List Stmt) (i : ℕ) (x :
       let rest = resolve_stmts t new last (stmts_tree (drop (i + 1) xs)) in
       record {
         joins = s.joins ∙ ap (λ r. then_some r (λ b. Some (closed_as (glued (resolved_stmts done) b.it) b.state)))
-          (block_step ∙ goes (resolve_stmt t ls st (stmt_tree x)) (step_as (resolved_stmt r) new last) (λ a. then_some (resolve_stmts t a.locals a.state (stmts_tree (drop (i + 1) xs))) (λ b. Some (closed_as (block_more a.it b.it) b.state))) e) ∙
-          block_chunk rest done r ∙ ap (λ d. then_some rest (λ b. Some (closed_as (glued (resolved_stmts d) b.it) b.state))) (sym n);
+            (block_step ∙ goes (resolve_stmt t ls st (stmt_tree x)) (step_as (resolved_stmt r) new last) (λ a. then_some (resolve_stmts t a.locals a.state (stmts_tree (drop (i + 1) xs))) (λ b. Some (closed_as (block_more a.it b.it) b.state))) e) ∙
+            block_chunk rest done r ∙ ap (λ d. then_some rest (λ b. Some (closed_as (glued (resolved_stmts d) b.it) b.state))) (sym n);
       }
 
 pub block_last : (w r : Option (Closed Block)) (done : List Resolved) (last : State) → BlockSoFar w r done → r ≡ Some (closed_as block_end last) → Some (closed_as (resolved_stmts done) last) ≡ w

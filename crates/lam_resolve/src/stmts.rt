@@ -10,15 +10,15 @@ ghost use Rattle.lam_resolve_units.specs.Seen.{state};
 ghost use Rattle.lam_resolve_units.specs.Meets.{Extends};
 ghost use Rattle.lam_resolve.specs.Regions.{region_form};
 
+use lam_resolve_exprs::exprs::resolve_expr;
+use lam_resolve_exprs::values::Local;
+use lam_resolve_tables::kinds::{Base, given_kind, plain};
+use lam_resolve_tables::named::Named;
+use lam_resolve_tables::tables::Tables;
 use lam_resolve_units::parts::{
     Head, if_stmt, region_stmt, resolve_assign, resolve_let, resolve_value, sync_stmt, while_stmt,
 };
 use lam_resolve_units::units::{State, close, declare, enter, new_slot};
-use lam_resolve_exprs::exprs::resolve_expr;
-use lam_resolve_tables::kinds::{Base, given_kind, plain};
-use lam_resolve_tables::named::Named;
-use lam_resolve_tables::tables::Tables;
-use lam_resolve_exprs::values::Local;
 use lam_syntax::{Expr, Id, Stmt, StmtKind};
 use resolved_tree::Stmt as ResolvedStmt;
 use std::alloc::Global;

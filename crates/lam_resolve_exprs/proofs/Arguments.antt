@@ -68,8 +68,8 @@ module _ (t : Tables) (ls : Locals) (xs : List Expr) (i : ℕ) (x : Expr) (lt : 
       (args_step ∙ goes (resolve t ls (expr_tree x)) (record { it = resolved_tree v; gives = g }) (λ v. then_some rest (λ r. Some (args_as (args_more v.it r.it) v.gives))) e) ∙ args_chunk rest done v i f g in
       record {
         joins = step ∙ ap (λ d. then_some rest (λ r. Some (args_as (glued (resolved_row d) r.it) (first_of (suc i) (first_of i f g) r.first)))) (sym a) ∙
-          ap (λ m. then_some rest (λ r. Some (args_as (glued (resolved_row next) r.it) (first_of (suc i) m r.first)))) (sym b) ∙
-          ap (λ k. then_some rest (λ r. Some (args_as (glued (resolved_row next) r.it) (first_of k n r.first)))) (sym (add-one i));
+            ap (λ m. then_some rest (λ r. Some (args_as (glued (resolved_row next) r.it) (first_of (suc i) m r.first)))) (sym b) ∙
+            ap (λ k. then_some rest (λ r. Some (args_as (glued (resolved_row next) r.it) (first_of k n r.first)))) (sym (add-one i));
         noted = ap (λ k. first_of k n nothing) (add-one i);
       }
 

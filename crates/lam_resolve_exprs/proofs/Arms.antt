@@ -112,9 +112,11 @@ module _ (t : Tables) (ls : Locals) (k : ExprForm) where
     array_type h = first_some (resolve_type t.names ty) (λ u. then_some (resolve t ls (expr_tree l)) (λ n. Some (value_as (new_array u n.it) (a_value (array u))))) (at_form (new_array_expr ty (expr_tree l)) e h)
 
     pub array_length : (u : ResolvedType) → x ≡ l → Some u ≡ resolve_type t.names ty → IsSome (resolve_form t ls k) → (expr_size (expr_tree x) < 1 + form_size k) × IsSome (resolve t ls (expr_tree x))
-    array_length u q i h =
-        (smaller_at x l q (omega (arith, ap form_size e)), known_at x l q (first_some (resolve t ls (expr_tree l)) (λ n. Some (value_as (new_array u n.it) (a_value (array u))))
-        (next_some (resolve_type t.names ty) u (λ u. then_some (resolve t ls (expr_tree l)) (λ n. Some (value_as (new_array u n.it) (a_value (array u))))) i (at_form (new_array_expr ty (expr_tree l)) e h))))
+    array_length u q i h = (
+      smaller_at x l q (omega (arith, ap form_size e)),
+      known_at x l q (first_some (resolve t ls (expr_tree l)) (λ n. Some (value_as (new_array u n.it) (a_value (array u))))
+          (next_some (resolve_type t.names ty) u (λ u. then_some (resolve t ls (expr_tree l)) (λ n. Some (value_as (new_array u n.it) (a_value (array u))))) i (at_form (new_array_expr ty (expr_tree l)) e h))),
+    )
 
     pub array_done : (u : ResolvedType) (a v : Value) → x ≡ l → Some u ≡ resolve_type t.names ty → Some a ≡ resolve t ls (expr_tree x) → v ≡ value_as (new_array u a.it) (a_value (array u)) → Some v ≡ resolve_form t ls k
     array_done u a v q i j n =
@@ -127,9 +129,11 @@ module _ (t : Tables) (ls : Locals) (k : ExprForm) where
     label_first h = (omega (arith, ap form_size e), first_some (resolve_args t ls s) (λ s. then_some (resolve_args t ls i) (λ i. Some (value_as (label_of s.it i.it) (a_value label)))) (at_form (label_expr s i) e h))
 
     pub label_second : (a : Args) → Some a ≡ resolve_args t ls s → IsSome (resolve_form t ls k) → (args_size i < 1 + form_size k) × IsSome (resolve_args t ls i)
-    label_second a p h =
-        (omega (arith, ap form_size e), first_some (resolve_args t ls i) (λ i. Some (value_as (label_of a.it i.it) (a_value label)))
-        (next_some (resolve_args t ls s) a (λ s. then_some (resolve_args t ls i) (λ i. Some (value_as (label_of s.it i.it) (a_value label)))) p (at_form (label_expr s i) e h)))
+    label_second a p h = (
+      omega (arith, ap form_size e),
+      first_some (resolve_args t ls i) (λ i. Some (value_as (label_of a.it i.it) (a_value label)))
+          (next_some (resolve_args t ls s) a (λ s. then_some (resolve_args t ls i) (λ i. Some (value_as (label_of s.it i.it) (a_value label)))) p (at_form (label_expr s i) e h)),
+    )
 
     pub label_done : (a b : Args) (v : Value) → Some a ≡ resolve_args t ls s → Some b ≡ resolve_args t ls i → v ≡ value_as (label_of a.it b.it) (a_value label) → Some v ≡ resolve_form t ls k
     label_done a b v p q n =
@@ -163,9 +167,11 @@ module _ (t : Tables) (ls : Locals) (k : ExprForm) where
     pub spawn_args : (a : Value) (n : ℕ) → w ≡ f.word → Some a ≡ resolve t ls (expr_tree x) → Some n ≡ option_map (λ f. f.number) (found w t.functions) → IsSome (resolve_form t ls k) →
         (args_size args < 1 + form_size k) × IsSome (resolve_args t ls args)
     spawn_args a n s i m h =
-        let p = number_found (found w t.functions) n m in
-        (omega (arith, ap form_size e), first_some (resolve_args t ls args) (λ args. Some (value_as (spawn_of a.it p.0.number args.it) (a_value thread)))
-        (next_some (found f.word t.functions) p.0 (λ h. then_some (resolve_args t ls args) (λ args. Some (value_as (spawn_of a.it h.number args.it) (a_value thread)))) (p.1 ∙ ap (λ w. found w t.functions) s) (spawn_rest a i h)))
+        let p = number_found (found w t.functions) n m in (
+          omega (arith, ap form_size e),
+          first_some (resolve_args t ls args) (λ args. Some (value_as (spawn_of a.it p.0.number args.it) (a_value thread)))
+              (next_some (found f.word t.functions) p.0 (λ h. then_some (resolve_args t ls args) (λ args. Some (value_as (spawn_of a.it h.number args.it) (a_value thread)))) (p.1 ∙ ap (λ w. found w t.functions) s) (spawn_rest a i h)),
+        )
 
     pub spawn_done : (a v : Value) (n : ℕ) (b : Args) → w ≡ f.word → Some a ≡ resolve t ls (expr_tree x) → Some n ≡ option_map (λ f. f.number) (found w t.functions) → Some b ≡ resolve_args t ls args →
         v ≡ value_as (spawn_of a.it n b.it) (a_value thread) → Some v ≡ resolve_form t ls k

@@ -8,13 +8,13 @@ ghost use Rattle.lam_resolve_exprs.specs.Meets.{first_of};
 ghost use Rattle.lam_resolve_tables.specs.Tables.{tables};
 ghost use Rattle.lam_resolve_exprs.specs.Values.{locals, value, args as seen_args};
 
-use lam_resolve_tables::kinds::{Base, Given, resolve_type};
-use lam_resolve_tables::named::Named;
-use lam_resolve_tables::tables::Tables;
 use crate::values::{
     Args, Local, Value, binary, called, caps_of, element_read, field_read, function_number,
     label_of, local_value, new_array, new_object, plain_value, spawn, unary,
 };
+use lam_resolve_tables::kinds::{Base, Given, resolve_type};
+use lam_resolve_tables::named::Named;
+use lam_resolve_tables::tables::Tables;
 use lam_syntax::{Expr, ExprKind};
 use std::alloc::Global;
 use want_of_memory::NoMemory;

@@ -16,13 +16,13 @@ ghost use Rattle.lam_resolve_tables.specs.Tables.{tables, heads};
 ghost use Rattle.resolved_tree.specs.Typing.{given_by as result_given};
 ghost use Rattle.lam_resolve_exprs.specs.Values.{local, locals, value, args as seen_args, field_seen, function_seen, called_seen, cap_at};
 
+use lam_builtins::Builtin;
 use lam_resolve_tables::kinds::{
     Base, Given, Kind, array_of, class_of, element_of, given_kind, option_value_type, plain,
     value_type,
 };
 use lam_resolve_tables::named::Named;
 use lam_resolve_tables::tables::Tables;
-use lam_builtins::Builtin;
 use lam_syntax::{BinaryOp, CapItem as WrittenCap, UnaryOp};
 use resolved_tree::{CapItem, Expr, ValueType};
 use std::alloc::Global;
@@ -357,12 +357,7 @@ pub fn label_of(s: Args, i: Args) -> Value
 /// # Errors
 ///
 /// `NoMemory` where memory is refused.
-pub fn spawn(
-    alloc: Global,
-    caps: Value,
-    function: usize,
-    args: Args,
-) -> Result<Value, NoMemory>
+pub fn spawn(alloc: Global, caps: Value, function: usize, args: Args) -> Result<Value, NoMemory>
     ensures { IfOk result (λ v. value v ≡ value_as (spawn_of (expr_tree caps.it) function (exprs_tree args.it.items)) (a_value thread_type)) }
 {
     let it = Expr::Spawn {
@@ -412,11 +407,7 @@ fn resolve_caps(
 /// # Errors
 ///
 /// `NoMemory` where memory is refused.
-pub fn caps_of(
-    alloc: Global,
-    scope: &Named<Local>,
-    items: &[WrittenCap],
-) -> Result<Value, NoMemory>
+pub fn caps_of(alloc: Global, scope: &Named<Local>, items: &[WrittenCap]) -> Result<Value, NoMemory>
     requires { IsSome (resolved_caps (locals scope.now) (written_caps items.now)) }
     ensures { IfOk result (λ v. Some (value v) ≡ then_some (resolved_caps (locals scope.now) (written_caps items.now)) (λ cs. Some (value_as (caps_of_tree cs) (a_value caps_type)))) }
 {

@@ -197,7 +197,10 @@ pub fn resolve_type(names: &Named<()>, t: &TypeExpr) -> Result<Kind, NoMemory>
 /// # Errors
 ///
 /// `NoMemory` where arrays nest too deep to be counted, which no memory holds.
-pub fn resolve_result(names: &Named<()>, written: &Option<TypeExpr>) -> Result<Option<Kind>, NoMemory>
+pub fn resolve_result(
+    names: &Named<()>,
+    written: &Option<TypeExpr>,
+) -> Result<Option<Kind>, NoMemory>
     requires { IsSome (resolved_result (entries_of names.now) (written_option written.now)) }
     ensures { IfOk result (λ k. Some (option_map kind_type k) ≡ resolved_result (entries_of names.now) (written_option written.now)) }
 {

@@ -70,10 +70,7 @@ pub fn resolve_vars<'a>(
     Ok(vars)
 }
 
-fn named_fields<'a>(
-    alloc: Global,
-    vars: &[(&'a str, Kind)],
-) -> Result<Named<'a, Kind>, NoMemory>
+fn named_fields<'a>(alloc: Global, vars: &[(&'a str, Kind)]) -> Result<Named<'a, Kind>, NoMemory>
     ensures { IfOk result (λ n. seen_fields n ≡ seen_vars vars.now) }
 {
     let mut fields = Named::new(alloc);
@@ -118,11 +115,7 @@ fn class_table<'a>(
     Ok(classes)
 }
 
-fn resolve_head<'a>(
-    alloc: Global,
-    names: &Named<()>,
-    f: &'a Function,
-) -> Result<Head<'a>, NoMemory>
+fn resolve_head<'a>(alloc: Global, names: &Named<()>, f: &'a Function) -> Result<Head<'a>, NoMemory>
     requires { IsSome (resolved_head (entries_of names.now) (function_tree f.now)) }
     ensures { IfOk result (λ h. Some (seen_head h) ≡ resolved_head (entries_of names.now) (function_tree f.now)) }
 {

@@ -12,10 +12,10 @@ ghost use Rattle.lam_resolve_units.specs.Parts.{assigned_tree};
 
 use crate::units::{State, declare};
 use lam_resolve_exprs::exprs::resolve_expr;
+use lam_resolve_exprs::values::Local;
 use lam_resolve_tables::kinds::resolve_type;
 use lam_resolve_tables::named::Named;
 use lam_resolve_tables::tables::Tables;
-use lam_resolve_exprs::values::Local;
 use lam_syntax::{Expr, Var};
 use resolved_tree::{Expr as ResolvedExpr, Stmt as ResolvedStmt, ValueType};
 use std::alloc::Global;
@@ -125,11 +125,7 @@ pub fn while_stmt(test: ResolvedExpr, body: Vec<ResolvedStmt>) -> ResolvedStmt
 }
 
 /// `sync`
-pub fn sync_stmt(
-    slot: usize,
-    thing: ResolvedExpr,
-    body: Vec<ResolvedStmt>,
-) -> ResolvedStmt
+pub fn sync_stmt(slot: usize, thing: ResolvedExpr, body: Vec<ResolvedStmt>) -> ResolvedStmt
     ensures { stmt_tree result ≡ sync_block slot (expr_tree thing) (stmts_tree body.items) }
 {
     ResolvedStmt::Sync { slot, thing, body }

@@ -9,10 +9,10 @@ ghost use Rattle.lam_resolve_tables.specs.Tables.{vars as seen_vars};
 ghost use Rattle.lam_resolve_exprs.specs.Values.{local, locals};
 ghost use Rattle.lam_resolve_units.specs.Seen.{state, captured, entered, entered_by};
 
+use lam_resolve_exprs::values::{Local, local_named};
 use lam_resolve_tables::kinds::{Kind, value_type};
 use lam_resolve_tables::named::Named;
 use lam_resolve_tables::tables::types_of_vars;
-use lam_resolve_exprs::values::{Local, local_named};
 use lam_syntax::Id;
 use resolved_tree::ValueType;
 use std::alloc::Global;
@@ -66,21 +66,12 @@ pub fn close(scope: &mut Named<Local>, n: usize)
     scope.cut(n);
 }
 
-fn first_locals<'a>(
-    alloc: Global,
-    vars: &[(&'a str, Kind)],
-) -> Result<Named<'a, Local>, NoMemory>
+fn first_locals<'a>(alloc: Global, vars: &[(&'a str, Kind)]) -> Result<Named<'a, Local>, NoMemory>
     ensures { IfOk result (λ n. locals n ≡ locals_from 0 (seen_vars vars.now)) }
 {
     let mut scope = Named::new(alloc);
     for (slot, var) in vars.iter().enumerate() {
-        scope.push(
-            var.0,
-            Local {
-                slot,
-                kind: var.1,
-            },
-        )?;
+        scope.push(var.0, Local { slot, kind: var.1 })?;
     }
     Ok(scope)
 }
@@ -130,10 +121,7 @@ fn resolve_captures<'a>(
     Ok(captures)
 }
 
-fn slots_of(
-    alloc: Global,
-    captures: &[(&str, Local)],
-) -> Result<Vec<usize>, NoMemory>
+fn slots_of(alloc: Global, captures: &[(&str, Local)]) -> Result<Vec<usize>, NoMemory>
     ensures { IfOk result (λ v. v.items ≡ slots_of_locals (captured captures.now)) }
 {
     let mut slots = Vec::new(alloc);
