@@ -11,6 +11,7 @@ ghost use Rattle.resolved_tree.specs.Tree.{expr_tree, option_expr_tree, stmt_tre
 ghost use Rattle.lam_scheme.specs.Pieces.{joined, one, op, when, either, loops};
 ghost use Rattle.lam_scheme.specs.Scheme.{expression, loads, gives_back, value_or_null, statement, block};
 ghost use Rattle.emit_parts.specs.Emits.{Emits};
+ghost use Rattle.emit_blocks.specs.Forks.{Completes};
 
 use emit_exprs::emit_expr;
 use emit_parts::{Buffer, Constant};
@@ -26,13 +27,13 @@ fn emit_loads(out: &mut Buffer, slots: &Vec<usize>)
 }
 
 /// Gives the monitors of the open `sync`s back, the inmost first.
-fn emit_returns(out: &mut Buffer, open: &Vec<usize>)
-    ensures { Emits out.old out.new (gives_back (reverse open.now.items)) }
+fn emit_returns(out: &mut Buffer, held: &Vec<usize>)
+    ensures { Emits out.old out.new (gives_back (reverse held.now.items)) }
 {
-    let mut left = open.len();
+    let mut left = held.len();
     while left > 0 {
         left -= 1;
-        out.load(open[left]);
+        out.load(held[left]);
         out.push(Op::LeaveMonitor);
     }
 }
@@ -46,11 +47,11 @@ fn emit_value(out: &mut Buffer, value: &Option<Expr>)
     }
 }
 
-fn emit_return(out: &mut Buffer, open: &Vec<usize>, value: &Option<Expr>)
-    ensures { Emits out.old out.new (joined (value_or_null (option_expr_tree value.now)) (joined (gives_back (reverse open.now.items)) (op Return))) }
+fn emit_return(out: &mut Buffer, held: &Vec<usize>, value: &Option<Expr>)
+    ensures { Emits out.old out.new (joined (value_or_null (option_expr_tree value.now)) (joined (gives_back (reverse held.now.items)) (op Return))) }
 {
     emit_value(out, value);
-    emit_returns(out, open);
+    emit_returns(out, held);
     out.push(Op::Return)
 }
 
@@ -90,13 +91,7 @@ fn emit_put_element(out: &mut Buffer, of: &Expr, index: &Expr, value: &Expr)
 }
 
 /// What enters a region: its label, its capabilities, its captures.
-fn emit_entry(
-    out: &mut Buffer,
-    number: usize,
-    label: &Expr,
-    caps: &Expr,
-    captures: &Vec<usize>,
-)
+fn emit_entry(out: &mut Buffer, number: usize, label: &Expr, caps: &Expr, captures: &Vec<usize>)
     ensures { Emits out.old out.new (joined (expression (expr_tree label.now)) (joined (expression (expr_tree caps.now)) (joined (loads captures.now.items) (op (EnterRegion number))))) }
 {
     emit_expr(out, label);
@@ -123,11 +118,19 @@ fn emit_leave(out: &mut Buffer, slot: usize)
     out.push(Op::LeaveMonitor)
 }
 
+/// The end of an `if` without a part for false. `fork` is where the jump to the end stands.
+fn end_fork(out: &mut Buffer, fork: u32)
+    ensures { Completes out.old out.new fork (λ ps. one (when ps)) }
+{
+    let end = out.len();
+    out.point(fork, Op::JumpIfFalse(end))
+}
+
 /// Puts the code of a statement. The open `sync`s stay.
 #[cycle(stmt)]
-fn emit_stmt(out: &mut Buffer, s: &Stmt, open: &mut Vec<usize>)
-    ensures emits { Emits out.old out.new (statement (reverse open.old.items) (stmt_tree s.now)) }
-    ensures open { open.new.items ≡ open.old.items }
+fn emit_stmt(out: &mut Buffer, s: &Stmt, held: &mut Vec<usize>)
+    ensures emits { Emits out.old out.new (statement (reverse held.old.items) (stmt_tree s.now)) }
+    ensures held { held.new.items ≡ held.old.items }
 {
     match s {
         Stmt::Let { slot, value } | Stmt::SetLocal { slot, value } => {
@@ -135,17 +138,19 @@ fn emit_stmt(out: &mut Buffer, s: &Stmt, open: &mut Vec<usize>)
         }
         Stmt::If { test, yes, no } => {
             emit_expr(out, test);
+            let fork = out.jump(Op::JumpIfFalse(0));
+            emit_block(out, yes, held);
             match no {
-                None => emit_when(out, yes, open),
-                Some(other) => emit_either(out, yes, other, open),
+                None => end_fork(out, fork),
+                Some(other) => emit_other(out, other, fork, held),
             }
         }
-        Stmt::While { test, body } => emit_loop(out, body, test, open),
-        Stmt::Return(value) => emit_return(out, open, value),
+        Stmt::While { test, body } => emit_loop(out, body, test, held),
+        Stmt::Return(value) => emit_return(out, held, value),
         Stmt::Throw(e) => emit_then(out, e, Op::Throw),
         Stmt::Sync { slot, thing, body } => {
             emit_enter(out, *slot, thing);
-            emit_inside(out, body, *slot, open);
+            emit_inside(out, body, *slot, held);
             emit_leave(out, *slot)
         }
         Stmt::Region {
@@ -156,51 +161,44 @@ fn emit_stmt(out: &mut Buffer, s: &Stmt, open: &mut Vec<usize>)
             ..
         } => emit_entry(out, *number, label, caps, captures),
         Stmt::Do(e) => emit_then(out, e, Op::Pop),
-        Stmt::SetField { of, field, value, .. } => emit_put_field(out, of, *field, value),
-        Stmt::SetElement { of, index, value, .. } => emit_put_element(out, of, index, value),
+        Stmt::SetField {
+            of,
+            field,
+            value,
+            ..
+        } => emit_put_field(out, of, *field, value),
+        Stmt::SetElement {
+            of,
+            index,
+            value,
+            ..
+        } => emit_put_element(out, of, index, value),
     }
 }
 
+/// The part of an `if` for false. `fork` is where the jump to it stands.
 #[cycle(stmt)]
-fn emit_when(out: &mut Buffer, body: &Vec<Stmt>, open: &mut Vec<usize>)
-    ensures emits { Emits out.old out.new (one (when (block (reverse open.old.items) (stmts_tree body.now.items)))) }
-    ensures open { open.new.items ≡ open.old.items }
+fn emit_other(out: &mut Buffer, other: &Vec<Stmt>, fork: u32, held: &mut Vec<usize>)
+    ensures emits { Completes out.old out.new fork (λ ps. one (either ps (block (reverse held.old.items) (stmts_tree other.now.items)))) }
+    ensures held { held.new.items ≡ held.old.items }
 {
-    let test = out.jump(Op::JumpIfFalse(0));
-    emit_block(out, body, open);
-    let end = out.len();
-    out.point(test, Op::JumpIfFalse(end))
-}
-
-#[cycle(stmt)]
-fn emit_either(
-    out: &mut Buffer,
-    body: &Vec<Stmt>,
-    other: &Vec<Stmt>,
-    open: &mut Vec<usize>,
-)
-    ensures emits { Emits out.old out.new (one (either (block (reverse open.old.items) (stmts_tree body.now.items)) (block (reverse open.old.items) (stmts_tree other.now.items)))) }
-    ensures open { open.new.items ≡ open.old.items }
-{
-    let test = out.jump(Op::JumpIfFalse(0));
-    emit_block(out, body, open);
     let skip = out.jump(Op::Jump(0));
     let second = out.len();
-    emit_block(out, other, open);
+    emit_block(out, other, held);
     let end = out.len();
-    out.point(test, Op::JumpIfFalse(second));
+    out.point(fork, Op::JumpIfFalse(second));
     out.point(skip, Op::Jump(end))
 }
 
 #[cycle(stmt)]
-fn emit_loop(out: &mut Buffer, body: &Vec<Stmt>, test: &Expr, open: &mut Vec<usize>)
-    ensures emits { Emits out.old out.new (one (loops (expression (expr_tree test.now)) (block (reverse open.old.items) (stmts_tree body.now.items)))) }
-    ensures open { open.new.items ≡ open.old.items }
+fn emit_loop(out: &mut Buffer, body: &Vec<Stmt>, test: &Expr, held: &mut Vec<usize>)
+    ensures emits { Emits out.old out.new (one (loops (expression (expr_tree test.now)) (block (reverse held.old.items) (stmts_tree body.now.items)))) }
+    ensures held { held.new.items ≡ held.old.items }
 {
     let start = out.len();
     emit_expr(out, test);
     let leave = out.jump(Op::JumpIfFalse(0));
-    emit_block(out, body, open);
+    emit_block(out, body, held);
     out.push(Op::Jump(start));
     let end = out.len();
     out.point(leave, Op::JumpIfFalse(end))
@@ -208,14 +206,14 @@ fn emit_loop(out: &mut Buffer, body: &Vec<Stmt>, test: &Expr, open: &mut Vec<usi
 
 /// A block inside one more open `sync`.
 #[cycle(stmt)]
-fn emit_inside(out: &mut Buffer, body: &Vec<Stmt>, slot: usize, open: &mut Vec<usize>)
-    ensures emits { Emits out.old out.new (block (slot ∷ reverse open.old.items) (stmts_tree body.now.items)) }
-    ensures open { open.new.items ≡ open.old.items }
+fn emit_inside(out: &mut Buffer, body: &Vec<Stmt>, slot: usize, held: &mut Vec<usize>)
+    ensures emits { Emits out.old out.new (block (slot ∷ reverse held.old.items) (stmts_tree body.now.items)) }
+    ensures held { held.new.items ≡ held.old.items }
 {
-    match open.push(slot) {
+    match held.push(slot) {
         Ok(()) => {
-            emit_block(out, body, open);
-            let _ = open.pop();
+            emit_block(out, body, held);
+            let _ = held.pop();
         }
         Err(_) => out.give_up(),
     }
@@ -223,11 +221,11 @@ fn emit_inside(out: &mut Buffer, body: &Vec<Stmt>, slot: usize, open: &mut Vec<u
 
 /// Puts the code of a block. The open `sync`s stay.
 #[cycle(stmt)]
-pub fn emit_block(out: &mut Buffer, body: &Vec<Stmt>, open: &mut Vec<usize>)
-    ensures emits { Emits out.old out.new (block (reverse open.old.items) (stmts_tree body.now.items)) }
-    ensures open { open.new.items ≡ open.old.items }
+pub fn emit_block(out: &mut Buffer, body: &Vec<Stmt>, held: &mut Vec<usize>)
+    ensures emits { Emits out.old out.new (block (reverse held.old.items) (stmts_tree body.now.items)) }
+    ensures held { held.new.items ≡ held.old.items }
 {
     for s in body {
-        emit_stmt(out, s, open);
+        emit_stmt(out, s, held);
     }
 }

@@ -86,6 +86,8 @@ module _ (s i : List Expr) (n m : ℕ) where
       let ms : m ≡ count (exprs_tree i) = k2.by (omega (arith, ly, lz, at_most (exprs_tree i), counted i)) ∙ counted i in
       subst (λ j. EmitsBy (Ok x) d (label_pieces S I (MakeLabel (count (exprs_tree s)) j))) ms (subst (λ j. EmitsBy (Ok x) d (label_pieces S I (MakeLabel j m))) ns e)
 
-pub label_emits : {a b c d : State} (s i : List Expr) → Emits a b (expressions (exprs_tree s)) → Emits b c (expressions (exprs_tree i)) → MakesLabel c d (length s) (length i) → Emits a d (expression (label_of (exprs_tree s) (exprs_tree i)))
-label_emits {a = a} {b = b} {c = c} {d = d} s i e1 e2 k =
-    record { by = label_by s i k.secrecy k.integrity a b c d e1.by e2.by k.s k.i (joins e1 (joins e2 k.emits)).by k.emits.by }
+pub label_emits : {a b c d : State} {n m : ℕ} (s i : List Expr) → n ≡ length s → m ≡ length i → Emits a b (expressions (exprs_tree s)) → Emits b c (expressions (exprs_tree i)) → MakesLabel c d n m → Emits a d (expression (label_of (exprs_tree s) (exprs_tree i)))
+label_emits {a = a} {b = b} {c = c} {d = d} s i es ei e1 e2 k =
+    record {
+      by = label_by s i k.secrecy k.integrity a b c d e1.by e2.by (subst (λ n. IsCount c k.secrecy n) es k.s) (subst (λ n. IsCount c k.integrity n) ei k.i) (joins e1 (joins e2 k.emits)).by k.emits.by;
+    }

@@ -5,7 +5,7 @@
 //! pieces of the scheme that it adds.
 #![tactic(auto)]
 
-ghost use Rattle.std.specs.Prelude.{◌≡◌, length, true, false};
+ghost use Rattle.std.specs.Prelude.{◌≡◌, vec_len, true, false};
 ghost use Rattle.lam_value.specs.declared.values.Value.TheVariants.{Bool as a_bool};
 ghost use Rattle.lam_bytecode.specs.declared.op.Op.TheVariants.{Load};
 ghost use Rattle.resolved_tree.specs.Tree.{type_tree, expr_tree, exprs_tree, caps_tree, text_value};
@@ -78,14 +78,11 @@ fn emit_bytes(out: &mut Buffer, bytes: &Vec<u8>)
 
 /// The label of tags that are on the operand stack.
 fn emit_label(out: &mut Buffer, s: &Vec<Expr>, i: &Vec<Expr>)
-    ensures { MakesLabel out.old out.new (length s.now.items) (length i.now.items) }
+    ensures { MakesLabel out.old out.new (vec_len s.now) (vec_len i.now) }
 {
     let secrecy = out.count(s.len());
     let integrity = out.count(i.len());
-    out.push(Op::MakeLabel {
-        secrecy,
-        integrity,
-    })
+    out.push(Op::MakeLabel { secrecy, integrity })
 }
 
 /// Puts the code of an expression, which leaves its value on the operand stack.

@@ -119,11 +119,11 @@ loop_laid x y start out end test body e s o n =
     let u = an_op (JumpIfFalse 0) in
     let i = an_op (JumpIfFalse end) in
     let lined : y ≡ x ++ (ft ++ u ∷ (fb ++ an_op (Jump start) ∷ [])) =
-      e ∙ ap (λ l. x ++ l) (flat-joined at test (pieces (does (JumpIfFalse 0)) (joined body (op (Jump start)))) ∙ ap (λ l. ft ++ u ∷ l) (flat-joined (at + size test + 1) body (op (Jump start)))) in
+    e ∙ ap (λ l. x ++ l) (flat-joined at test (pieces (does (JumpIfFalse 0)) (joined body (op (Jump start)))) ∙ ap (λ l. ft ++ u ∷ l) (flat-joined (at + size test + 1) body (op (Jump start)))) in
     let grouped : x ++ (ft ++ u ∷ (fb ++ an_op (Jump start) ∷ [])) ≡ (x ++ ft) ++ u ∷ (fb ++ an_op (Jump start) ∷ []) = sym (append_assoc x ft (u ∷ (fb ++ an_op (Jump start) ∷ []))) in
     let place : out ≡ length (x ++ ft) = omega (arith, o, length-append x ft, length-flat at test) in
     let target : end ≡ at + size test + 1 + size body + 1 =
-      omega (arith, n, ap length lined, length-append x (ft ++ u ∷ (fb ++ an_op (Jump start) ∷ [])), length-append ft (u ∷ (fb ++ an_op (Jump start) ∷ [])), length-append fb (an_op (Jump start) ∷ []), length-flat at test, length-flat (at + size test + 1) body) in
+    omega (arith, n, ap length lined, length-append x (ft ++ u ∷ (fb ++ an_op (Jump start) ∷ [])), length-append ft (u ∷ (fb ++ an_op (Jump start) ∷ [])), length-append fb (an_op (Jump start) ∷ []), length-flat at test, length-flat (at + size test + 1) body) in
     ap (λ l. slice_set l out i) (lined ∙ grouped)
     ∙ ap (λ n. slice_set ((x ++ ft) ++ u ∷ (fb ++ an_op (Jump start) ∷ [])) n i) place
     ∙ set-append_seam (x ++ ft) u (fb ++ an_op (Jump start) ∷ []) i

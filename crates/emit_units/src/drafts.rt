@@ -135,7 +135,16 @@ fn add_regions_of(units: &mut Units, s: &Stmt, alloc: Global)
             catch_body,
             ..
         } => {
-            add_region(units, alloc, *number, captures, slots, body, *catch_slot, catch_body);
+            add_region(
+                units,
+                alloc,
+                *number,
+                captures,
+                slots,
+                body,
+                *catch_slot,
+                catch_body,
+            );
             add_regions_in(units, body, alloc);
             add_regions_in(units, catch_body, alloc)
         }

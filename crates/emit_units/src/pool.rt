@@ -1,10 +1,11 @@
 //! The constants of a program.
 
-ghost use Rattle.std.specs.Prelude.{◌≡◌, ℕ, ◌+◌, ◌<◌, ◌≤◌, ◌^◌, [], length, map, IfOk, OnOk};
+ghost use Rattle.std.specs.Prelude.{◌≡◌, ◌+◌, ◌<◌, ◌≤◌, ◌^◌, [], ◌∷◌, length, map, true, IfOk, OnOk};
 ghost use Rattle.std.specs.List.{AllByRecursion};
 ghost use Rattle.lam_bytecode.specs.Codes.{IsConstant};
-ghost use Rattle.lam_scheme.specs.Pieces.{with_constant, place_of, constants_in, numbered};
+ghost use Rattle.lam_scheme.specs.Pieces.{is_in, with_constant, place_of, constants_in, numbered};
 ghost use Rattle.emit_parts.specs.Views.{constant_value, flat_view};
+ghost use Rattle.emit_units.specs.Adds.{AreIn};
 
 use emit_parts::{Constant, Instruction};
 use indexmap::IndexSet;
@@ -49,7 +50,9 @@ impl Pool {
     fn number(&mut self, constant: &Constant) -> Result<usize, NoMemory>
         ensures pool { OnOk result (self.new ≡ with_constant self.old (constant_value constant.now)) }
         ensures place { IfOk result (λ n. n ≡ place_of self.new (constant_value constant.now)) }
+        ensures found { OnOk result (is_in (constant_value constant.now) self.new ≡ true) }
         ensures within { IfOk result (λ n. n < length self.new) }
+        ensures room { OnOk result (length self.new ≤ length self.old + 1) }
     {
         place_in(&mut self.constants, constant)
     }
@@ -61,7 +64,7 @@ impl Pool {
     /// `NoMemory` where memory is refused.
     pub fn values(&self) -> Result<Values, NoMemory>
         ensures values { IfOk result (λ vs. vs ≡ self.now) }
-        ensures constants { AllByRecursion IsConstant self.now }
+        ensures constants { IfOk result (λ vs. AllByRecursion IsConstant vs) }
     {
         values_of(&self.constants)
     }
@@ -70,7 +73,9 @@ impl Pool {
 fn place_in(constants: &mut IndexSet<Constant>, constant: &Constant) -> Result<usize, NoMemory>
     ensures pool { OnOk result (map constant_value constants.new.keys ≡ with_constant (map constant_value constants.old.keys) (constant_value constant.now)) }
     ensures place { IfOk result (λ n. n ≡ place_of (map constant_value constants.new.keys) (constant_value constant.now)) }
-    ensures within { IfOk result (λ n. n < length constants.new.keys) }
+    ensures found { OnOk result (is_in (constant_value constant.now) (map constant_value constants.new.keys) ≡ true) }
+    ensures within { IfOk result (λ n. n < length (map constant_value constants.new.keys)) }
+    ensures room { OnOk result (length (map constant_value constants.new.keys) ≤ length (map constant_value constants.old.keys) + 1) }
 {
     let (at, _) = constants.insert_full(copied(constant, *constants.allocator())?)?;
     Ok(at)
@@ -100,14 +105,11 @@ fn value_of(constant: &Constant, alloc: Global) -> Result<Value, NoMemory>
 
 fn values_of(constants: &IndexSet<Constant>) -> Result<Values, NoMemory>
     ensures values { IfOk result (λ vs. vs ≡ map constant_value constants.now.keys) }
-    ensures constants { AllByRecursion IsConstant (map constant_value constants.now.keys) }
+    ensures constants { IfOk result (λ vs. AllByRecursion IsConstant vs) }
 {
     let alloc = *constants.allocator();
     let mut values = Values::new(alloc);
-    for at in 0..constants.len() {
-        let Some(constant) = constants.get_index(at) else {
-            unreachable!()
-        };
+    for constant in constants.as_slice() {
         values.push(value_of(constant, alloc)?)?;
     }
     Ok(values)
@@ -118,6 +120,7 @@ fn number_one(pool: &mut Pool, one: &Instruction) -> Result<Op, NoMemory>
     requires { length pool.old + 1 < 2 ^ 32 }
     ensures pool { OnOk result (pool.new ≡ constants_in pool.old (flat_view one.now ∷ [])) }
     ensures op { IfOk result (λ o. o ∷ [] ≡ numbered pool.new (flat_view one.now ∷ [])) }
+    ensures all_in { OnOk result (AreIn pool.new (flat_view one.now ∷ [])) }
     ensures room { OnOk result (length pool.new ≤ length pool.old + 1) }
 {
     match one {
@@ -138,6 +141,7 @@ pub fn number_code(
     requires { length pool.old + length code.now < 2 ^ 32 }
     ensures pool { OnOk result (pool.new ≡ constants_in pool.old (map flat_view code.now)) }
     ensures ops { IfOk result (λ ops. ops.items ≡ numbered pool.new (map flat_view code.now)) }
+    ensures all_in { OnOk result (AreIn pool.new (map flat_view code.now)) }
     ensures room { OnOk result (length pool.new ≤ length pool.old + length code.now) }
 {
     let mut ops = Vec::new(alloc);

@@ -211,3 +211,14 @@ is_refused = refl
 
 is_failed : answer_text [] (Failed NoEntry) ≡ codes "failed NoEntry"
 is_failed = refl
+
+-- the lines of two events whose thread and label are printed already, and of a private turn
+barred_line : line_after a_name (codes "t0 {}/{}") (Asked (Barred (record { rule = ReadS; tag = 0 })) Done) ≡ codes "t0 {}/{} barred ReadS a = done\n"
+unfolding a_name
+barred_line = refl
+
+end_line : line_after [] (codes "t0 {}/{}") (Asked (End (outcome.Failed denied)) Done) ≡ codes "t0 {}/{} end Denied = done\n"
+end_line = refl
+
+private_line : line_after [] (codes "t0 {}/{}") Private ≡ []
+private_line = refl

@@ -3,7 +3,7 @@ use Rattle.resolved_tree.specs.Tree.{expr_tree}
 use Rattle.resolved_tree.proofs.Rows.{call_row, builtin_row, label_row, spawn_row}
 use Rattle.emit_parts.proofs.Joins.{joins, starts}
 use Rattle.emit_parts.proofs.Jumps.{either_emits}
-use Rattle.emit_exprs.proofs.Arms.{of_form, child, expr_added, exprs_done}
+use Rattle.emit_exprs.proofs.Arms.{of_form, child, right_child, at_item, expr_added, exprs_done}
 use Rattle.emit_exprs.proofs.Labels.{label_emits}
 use Rattle.emit_exprs.proofs.+expr.Goals as goal
 
@@ -19,7 +19,8 @@ emit_or-returns t c =
     either_emits c.jump-test.ensures.at c.jump-test.ensures.emits c.constant.ensures c.jump-skip.ensures.at c.jump-skip.ensures.emits c.len-other.ensures c.emit_expr.ensures c.len-end.ensures c.point.ensures c.point-2.ensures
 
 pub emit_expr-returns-in-Binary : goal.emit_expr-returns-in-Binary
-emit_expr-returns-in-Binary t c = ?
+emit_expr-returns-in-Binary t c =
+    of_form (ap expr_tree c.in-Binary.is) (joins (child c.deref-in-Binary.ensures c.emit_expr.ensures) (right_child c.in-Binary.op c.deref-in-Binary-2.ensures c.emit_right.ensures))
 
 pub emit_expr-returns-in-Field : goal.emit_expr-returns-in-Field
 emit_expr-returns-in-Field t c =
@@ -39,7 +40,7 @@ emit_expr-returns-in-BuiltinCall t c =
 
 pub emit_expr-returns-in-LabelOf : goal.emit_expr-returns-in-LabelOf
 emit_expr-returns-in-LabelOf t c =
-    of_form (ap expr_tree c.in-LabelOf.is ∙ label_row c.in-LabelOf.s c.in-LabelOf.i) (label_emits c.in-LabelOf.s.items c.in-LabelOf.i.items c.emit_exprs-in-LabelOf.ensures c.emit_exprs-in-LabelOf-2.ensures c.emit_label.ensures)
+    of_form (ap expr_tree c.in-LabelOf.is ∙ label_row c.in-LabelOf.s c.in-LabelOf.i) (label_emits c.in-LabelOf.s.items c.in-LabelOf.i.items c.in-LabelOf.s.ok.0 c.in-LabelOf.i.ok.0 c.emit_exprs-in-LabelOf.ensures c.emit_exprs-in-LabelOf-2.ensures c.emit_label.ensures)
 
 pub emit_expr-returns-in-Spawn : goal.emit_expr-returns-in-Spawn
 emit_expr-returns-in-Spawn t c =
@@ -50,7 +51,8 @@ pub emit_exprs-loop-e-init : goal.emit_exprs-loop-e-init
 emit_exprs-loop-e-init t c = starts _ _
 
 pub emit_exprs-loop-e-preserved : goal.emit_exprs-loop-e-preserved
-emit_exprs-loop-e-preserved t c = ?
+emit_exprs-loop-e-preserved t c =
+    expr_added _ c.args.es.now.items c.loop-e.e-index c.e-item.result (grind (arith, c.deref-e-items.ensures.value)) (at_item _ _ c.loop-e.e-index c.e-item.result c.deref-e-items.ensures.value c.e-item.is) c.loop-e.invariant c.emit_expr.ensures
 
 pub emit_exprs-returns : goal.emit_exprs-returns
-emit_exprs-returns t c = exprs_done _ c.args.es.now.items c.loop-e.e-index (omega arith) c.loop-e.invariant
+emit_exprs-returns t c = exprs_done _ c.args.es.now.items c.loop-e.e-index (grind (arith, c.deref-e-items.ensures.value)) c.loop-e.invariant

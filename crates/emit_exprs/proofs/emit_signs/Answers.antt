@@ -7,7 +7,7 @@ pub loop-item-init : goal.loop-item-init
 loop-item-init c = starts _ _
 
 pub loop-item-preserved : goal.loop-item-preserved
-loop-item-preserved c = ?
+loop-item-preserved c = sign_added _ c.args.items.now c.loop-item.item-index _ c.loop-item-test.true c.loop-item.invariant c.emit_sign.ensures
 
 pub returns : goal.returns
 returns c = signs_done _ c.args.items.now c.loop-item.item-index (omega arith) c.loop-item.invariant
