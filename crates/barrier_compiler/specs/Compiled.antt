@@ -1,0 +1,13 @@
+-- What a checked program is compiled to.
+use Rattle.std.specs.Prelude.{◌≡◌, ℕ, Some, Result}
+use Rattle.lam_syntax.specs.Tree.{ProgramTree}
+use Rattle.resolved_tree.specs.Tree.{ResolvedTree}
+use Rattle.lam_bytecode.specs.Codes.{CodeTree}
+use Rattle.lam_scheme.specs.Long.{compiled}
+use Rattle.lam_resolved.specs.Resolved.{resolved}
+
+-- with its names resolved, the scheme makes this of it: its code, or the number of the first unit that is too long
+pub record IsCompiledTo (p : ProgramTree) (made : Result CodeTree ℕ) : Type 0 where
+  pub tree : ResolvedTree
+  pub resolves : resolved p ≡ Some tree
+  pub makes : compiled tree ≡ made
