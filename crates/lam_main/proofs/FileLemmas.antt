@@ -9,8 +9,8 @@ use Rattle.lam_front.specs.Programs.{IsMisspelt, IsFine, IsBroken}
 use Rattle.lam_syntax.specs.Tree.{ProgramTree}
 use Rattle.lam_bytecode.specs.Codes.{CodeTree}
 use Rattle.barrier_compiler.specs.Compiled.{IsCompiledTo}
-use Rattle.barrier_compiler.specs.declared.CompileFault.{CompileFault}
-use Rattle.barrier_compiler.specs.declared.CompileFault.TheVariants.{CodeTooLong as too_long_code, NoMemory as no_memory_for_code}
+use Rattle.barrier_emit.specs.declared.CompileFault.{CompileFault}
+use Rattle.barrier_emit.specs.declared.CompileFault.TheVariants.{CodeTooLong as too_long_code, NoMemory as no_memory_for_code}
 use Rattle.lam_words.specs.Words.{Text, Request}
 use Rattle.lam_plan.specs.Plan.{Plan, WithFile, unread, of_file, Formats, misspelt, Compiles, IsCompiled, fine, broken, IsPlanOf, no_word}
 use Rattle.lam_main.specs.declared.halt.Halt.{Halt}
