@@ -1,5 +1,35 @@
 //! The compiler: from a checked program to its code.
 //!
-//! A program's names are resolved (`lam_resolve`), and the code of the resolved program is put by the scheme
-//! (`emit_units`). `specs/Compiled` says what a program is compiled to.
+//! Names are resolved first, then each function and each region gets its operations by the scheme of `lam_scheme`.
 #![tactic(auto)]
+
+ghost use Rattle.std.specs.Prelude.{◌≡◌, ◌⊎◌, ℕ, Ok, Err, IfOk, IfErr};
+ghost use Rattle.region_check.specs.Seen.{checked_tree};
+ghost use Rattle.barrier_emit.specs.declared.CompileFault.TheVariants.{CodeTooLong, NoMemory as no_memory};
+ghost use Rattle.barrier_compiler.specs.Compiled.{IsCompiledTo, ActsAsProgram};
+
+pub use barrier_emit::CompileFault;
+use barrier_emit::emit;
+use lam_acting::compiled_code_acts_as_its_source;
+use lam_bytecode::Code;
+use lam_resolve::resolve;
+use lam_resolved::resolves;
+use region_check::Checked;
+use std::alloc::Global;
+
+/// The code of a checked program, which is the one that the scheme gives it. A thread of that code makes the asks that
+/// the program means, in order, and is not stuck.
+///
+/// # Errors
+///
+/// `CodeTooLong` with the number of the first unit that has more than 65,535 operations by the scheme; `NoMemory`.
+pub fn compile(alloc: Global, c: &Checked) -> Result<Code, CompileFault>
+    ensures ok { IfOk result (λ code. IsCompiledTo (checked_tree c.now) (Ok code)) }
+    ensures acts { ActsAsProgram (checked_tree c.now) }
+    ensures long { IfErr result (λ f. (f ≡ no_memory) ⊎ ((unit : ℕ) × (f ≡ CodeTooLong unit) × IsCompiledTo (checked_tree c.now) (Err unit))) }
+{
+    resolves(c);
+    compiled_code_acts_as_its_source();
+    let program = resolve(c)?;
+    emit(alloc, &program)
+}

@@ -1,13 +1,11 @@
 -- What is added for a statement, and the slots of the open `sync`s.
-use Rattle.std.proofs.Common.{◌≡◌, ℕ, suc, ◌+◌, ◌-◌, ◌<◌, ◌≤◌, List, [], ◌∷◌, ◌++◌, length, drop, take, reverse, get_or, refl, subst, sym, ap, ◌∙◌, add-one, drop-cons, drop_of_length-le, take_all, arith}
+use Rattle.std.proofs.Common.{◌≡◌, ℕ, suc, ◌+◌, ◌-◌, ◌<◌, ◌≤◌, List, [], ◌∷◌, ◌++◌, length, drop, take, reverse, get_or, subst, sym, ap, ◌∙◌, add-one, drop-cons, drop_of_length-le, take_all, arith}
 use Rattle.std.proofs.lemmas.List.{reverse-append}
 use Rattle.std.proofs.Math.Seq.{take-suc}
-use Rattle.resolved_tree.specs.declared.Expr.{Expr}
 use Rattle.resolved_tree.specs.declared.Stmt.{Stmt}
-use Rattle.resolved_tree.specs.Tree.{Expression, expr_tree, Statement, Block, OtherBlock, stmt_tree, stmts_tree, if_block, no_other, other_block, while_block, sync_block}
-use Rattle.lam_bytecode.specs.declared.op.Op.{Op}
+use Rattle.resolved_tree.specs.Tree.{Expression, Statement, Block, stmt_tree, stmts_tree, sync_block}
 use Rattle.lam_bytecode.specs.declared.op.Op.TheVariants.{Load, Store, EnterMonitor, LeaveMonitor}
-use Rattle.lam_scheme.specs.Pieces.{Pieces, no_pieces, joined, op, one, when, either}
+use Rattle.lam_scheme.specs.Pieces.{Pieces, joined, op, one, either}
 use Rattle.lam_scheme.specs.Scheme.{expression, loads, gives_back, statement, block}
 use Rattle.emit_parts.specs.Emits.{State, Emits, Goes}
 use Rattle.emit_parts.proofs.Joins.{joins, starts, joined-assoc, as_pieces, goes_on, all_done}

@@ -1,8 +1,8 @@
 -- What is added for an expression, reached as a node or as a child of one.
-use Rattle.std.proofs.Common.{◌≡◌, ℕ, suc, ◌+◌, ◌<◌, ◌≤◌, List, [], ◌∷◌, length, drop, get_or, subst, sym, ap, ◌∙◌, add-one, drop-cons, drop_of_length-le}
+use Rattle.std.proofs.Common.{◌≡◌, ℕ, suc, ◌+◌, ◌<◌, ◌≤◌, List, ◌∷◌, length, drop, get_or, subst, sym, ap, ◌∙◌, add-one, drop-cons, drop_of_length-le}
 use Rattle.resolved_tree.specs.declared.Expr.{Expr}
 use Rattle.resolved_tree.specs.declared.CapItem.{CapItem}
-use Rattle.resolved_tree.specs.Tree.{Expression, expr_tree, exprs_tree, caps_tree, cap_tree}
+use Rattle.resolved_tree.specs.Tree.{Expression, expr_tree, exprs_tree, caps_tree}
 use Rattle.lam_bytecode.specs.declared.op.Op.TheVariants.{Load}
 use Rattle.lam_scheme.specs.Pieces.{Pieces, joined, op}
 use Rattle.lam_syntax.specs.declared.BinaryOp.{BinaryOp}

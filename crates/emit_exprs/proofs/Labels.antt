@@ -1,12 +1,11 @@
 -- A label's tags are not more than the operations that put them.
-use Rattle.std.proofs.Common.{◌≡◌, ℕ, ◌+◌, ◌<◌, ◌≤◌, Bool, true, ◌&&◌, List, [], ◌∷◌, ◌++◌, length, Ok, Err, refl, sym, ap, ◌∙◌, subst, arith, length-append}
+use Rattle.std.proofs.Common.{◌≡◌, ℕ, ◌+◌, ◌<◌, ◌≤◌, ◌&&◌, List, [], ◌∷◌, length, Ok, Err, refl, sym, ap, ◌∙◌, subst, arith, length-append}
 use Rattle.resolved_tree.specs.declared.Expr.{Expr}
 use Rattle.resolved_tree.specs.Tree.{Expression, number_value, text_value, bool_value, null_value, local_value, unary_of, binary_of, field_of, element_of, call_of, builtin_of, new_object, new_array, label_of, caps_of, spawn_of, Expressions, args_end, args_more, exprs_tree}
 use Rattle.lam_bytecode.specs.declared.op.Op.{Op}
 use Rattle.lam_bytecode.specs.declared.op.Op.TheVariants.{MakeLabel}
 use Rattle.lam_scheme.specs.Pieces.{Pieces, joined, op, size, Flat, flat}
-use Rattle.lam_scheme.specs.Scheme.{expression, expressions, between, prefix_op, signs, count}
-use Rattle.lam_meaning.specs.Means.{kind_of}
+use Rattle.lam_scheme.specs.Scheme.{expression, expressions, count}
 use Rattle.emit_parts.specs.declared.buffer.Stop.{Stop}
 use Rattle.emit_parts.specs.declared.buffer.Stop.TheVariants.{TooLong, Wide, NoMemory}
 use Rattle.emit_parts.specs.Emits.{State, are_narrow, EmitsBy, Emits, IsCount}

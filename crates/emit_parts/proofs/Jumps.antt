@@ -1,12 +1,10 @@
 -- Jumps whose targets are set when they are known.
-use Rattle.std.proofs.Common.{◌≡◌, ℕ, ◌+◌, ◌<◌, Bool, true, false, ◌&&◌, List, [], ◌∷◌, ◌++◌, length, Ok, Err, refl, sym, ap, ◌∙◌, subst, arith, append_assoc, append-nil, length-append}
+use Rattle.std.proofs.Common.{◌≡◌, ℕ, ◌+◌, ◌&&◌, List, [], ◌∷◌, ◌++◌, length, Ok, Err, sym, ap, ◌∙◌, subst, arith, append_assoc, append-nil, length-append}
 use Rattle.std.specs.Prelude.{slice_set}
 use Rattle.std.proofs.Math.Bool.{and-true}
 use Rattle.std.proofs.Math.Seq.{set-append_seam}
-use Rattle.lam_bytecode.specs.declared.op.Op.{Op}
 use Rattle.lam_bytecode.specs.declared.op.Op.TheVariants.{Jump, JumpIfFalse}
-use Rattle.lam_scheme.specs.Pieces.{Pieces, no_pieces, pieces, joined, one, op, does, when, either, loops, size, Flat, an_op, flat}
-use Rattle.emit_parts.specs.declared.buffer.Stop.{Stop}
+use Rattle.lam_scheme.specs.Pieces.{Pieces, pieces, joined, one, op, does, when, either, loops, size, Flat, an_op, flat}
 use Rattle.emit_parts.specs.declared.buffer.Stop.TheVariants.{TooLong, Wide, NoMemory}
 use Rattle.emit_parts.specs.Emits.{State, are_narrow, EmitsBy, Emits, IsAt, pointed}
 use Rattle.emit_parts.proofs.Flat.{length-flat, size-joined, flat-joined, narrow-joined}

@@ -1,5 +1,5 @@
 -- What is seen of instructions: the flat code that they are.
-use Rattle.std.specs.Prelude.{◌≡◌, ◌≤◌, List, length, map, Option, Some, None, Result, Ok, Err}
+use Rattle.std.specs.Prelude.{◌≤◌, List, length, map, Option, Some, None, Ok, Err}
 use Rattle.lam_value.specs.declared.values.Value.{Value}
 use Rattle.lam_value.specs.declared.values.Value.TheVariants.{Int as an_int, Bool as a_bool, Bytes as some_bytes, Nothing as null}
 use Rattle.lam_scheme.specs.Pieces.{Piece, does, puts, one, Flat, an_op, a_constant}

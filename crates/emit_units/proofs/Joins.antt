@@ -1,10 +1,9 @@
 -- Units behind units.
-use Rattle.std.proofs.Common.{◌≡◌, ℕ, ◌+◌, ◌<◌, ◌≤◌, Bool, true, false, ◌&&◌, nat_lt, List, [], ◌∷◌, ◌++◌, length, map, if◌then◌else◌, Option, Some, None, Ok, Err, inl, inr, ⊎_elim, ◌⊎◌, refl, sym, ap, ◌∙◌, subst, append_assoc, append-nil, arith, length-append}
+use Rattle.std.proofs.Common.{◌≡◌, ℕ, ◌+◌, Bool, true, false, ◌&&◌, List, [], ◌∷◌, ◌++◌, length, map, if◌then◌else◌, Some, None, Ok, Err, inl, inr, refl, sym, ap, ◌∙◌, subst, append_assoc, append-nil, arith, length-append}
 use Rattle.std.proofs.Math.Bool.{and-false}
 use Rattle.std.proofs.lemmas.List.{map-append, length-map}
 use Rattle.lam_value.specs.declared.values.Value.{Value}
-use Rattle.lam_bytecode.specs.declared.unit.CodeUnit.{CodeUnit}
-use Rattle.lam_scheme.specs.Pieces.{constants_in, numbered}
+use Rattle.lam_scheme.specs.Pieces.{constants_in}
 use Rattle.lam_scheme.specs.Scheme.{Draft, all_constants, unit_of}
 use Rattle.lam_scheme.specs.Long.{is_long, long_from}
 use Rattle.emit_units.specs.declared.units.Halt.{Halt}

@@ -1,11 +1,14 @@
 -- The pool's set holds each constant once, as the scheme has it.
-use Rattle.std.proofs.Common.{◌≡◌, ℕ, suc, ◌+◌, ◌<◌, ◌≤◌, drop, get_or, add-one, drop-cons, drop_of_length-le, append_assoc, Bool, true, false, not, cond, ◌||◌, List, [], ◌∷◌, ◌++◌, length, map, if◌then◌else◌, refl, sym, ap, ◌∙◌, subst, one-add, append-nil}
+use Rattle.std.proofs.Common.{eqb, ◌≡◌, ℕ, suc, ◌+◌, ◌<◌, ◌≤◌, drop, get_or, add-one, drop-cons, drop_of_length-le, append_assoc, Bool, true, false, not, cond, ◌||◌, List, [], ◌∷◌, ◌++◌, length, map, if◌then◌else◌, refl, sym, ap, ◌∙◌, subst, one-add, append-nil}
 use Rattle.std.specs.List.{list_any, position_or_len, AllByRecursion}
 use Rattle.lam_bytecode.specs.Codes.{IsConstant}
 use Rattle.emit_parts.specs.contracts.instruction.ConstantPartialEq.TheImpl as derived
 use Rattle.std.proofs.lemmas.List.{map-append}
 use Rattle.std.proofs.lemmas.Cmp.{int_eq_equiv}
-use Rattle.std.proofs.lemmas.Slice.Eq.{bytes_eq-Decides}
+use Rattle.std.specs.Str.{bytes_eq}
+use Rattle.std.specs.Cmp.Lexicographic.{pointwise}
+use Rattle.std.proofs.lemmas.Bool.Decides.{same_from_decides, Decides-eqb}
+use Rattle.std.proofs.lemmas.Slice.Eq.{bytes_eq-Decides, slice_eq-Decides}
 use Rattle.indexmap.specs.IndexSet.{insert_key}
 use Rattle.lam_value.specs.declared.values.Value.{Value}
 use Rattle.thread_steps.specs.Equal.{same_values}
@@ -39,7 +42,8 @@ same (Truth a) (Bytes v) = refl
 same (Truth a) Nothing = refl
 same (Bytes v) (Int n) = refl
 same (Bytes v) (Truth b) = refl
-same (Bytes v) (Bytes w) = ?
+same (Bytes v) (Bytes w) =
+    same_from_decides (bytes_eq v.items w.items) (pointwise eqb v.items w.items) (bytes_eq-Decides v.items w.items) (slice_eq-Decides Decides-eqb v.items w.items (pointwise eqb v.items w.items) refl)
 same (Bytes v) Nothing = refl
 same Nothing (Int n) = refl
 same Nothing (Truth b) = refl

@@ -1,7 +1,7 @@
 -- Constants and their numbers, as more constants come.
 use Rattle.std.proofs.Common.{◌≡◌, ℕ, suc, ◌+◌, ◌<◌, ◌≤◌, map, take, get_or, take_all, add-one, Bool, true, false, List, [], ◌∷◌, ◌++◌, length, if◌then◌else◌, refl, sym, ap, ◌∙◌, subst, append_assoc, append-nil, true≢false, arith, length-append}
 use Rattle.std.proofs.Math.Seq.{take-suc}
-use Rattle.std.proofs.lemmas.List.{map-append, length-map}
+use Rattle.std.proofs.lemmas.List.{map-append}
 use Rattle.emit_parts.specs.declared.instruction.Instruction.{Instruction}
 use Rattle.emit_parts.specs.Views.{flat_view}
 use Rattle.lam_value.specs.declared.values.Value.{Value}

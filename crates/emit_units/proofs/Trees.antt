@@ -1,5 +1,5 @@
 -- The regions and functions of a program, item by item.
-use Rattle.std.proofs.Common.{◌≡◌, ℕ, suc, ◌+◌, ◌<◌, ◌≤◌, List, [], ◌∷◌, ◌++◌, length, map, drop, get_or, Option, Some, None, Vec, Global, refl, subst, sym, ap, ◌∙◌, add-one, drop-cons, drop_of_length-le, append-nil, append_assoc}
+use Rattle.std.proofs.Common.{◌≡◌, ℕ, suc, ◌+◌, ◌<◌, ◌≤◌, List, [], ◌∷◌, length, map, drop, get_or, subst, sym, ap, ◌∙◌, add-one, drop-cons, drop_of_length-le}
 use Rattle.resolved_tree.specs.declared.Stmt.{Stmt}
 use Rattle.resolved_tree.specs.declared.Function.{Function}
 use Rattle.resolved_tree.specs.Tree.{Statement, stmt_tree, stmts_tree, function_tree, functions_tree}

@@ -1,27 +1,27 @@
 -- The code of a unit is its draft's.
-use Rattle.std.proofs.Common.{◌≡◌, ℕ, ◌+◌, ◌^◌, ◌<◌, ◌≤◌, Bool, true, false, ◌&&◌, nat_lt, List, [], ◌∷◌, ◌++◌, length, reverse, Ok, Err, refl, sym, ap, ◌∙◌, subst, arith, length-append}
+use Rattle.std.proofs.Common.{◌≡◌, ℕ, ◌+◌, ◌^◌, ◌≤◌, Bool, true, false, ◌&&◌, nat_lt, List, [], ◌∷◌, ◌++◌, length, reverse, Ok, Err, refl, sym, ap, ◌∙◌, subst, arith, length-append}
 use Rattle.std.proofs.Math.Bool.{and-false, and-true}
 use Rattle.resolved_tree.specs.declared.ValueType.{ValueType}
 use Rattle.resolved_tree.specs.Tree.{ResolvedType, Block, ResolvedFunction, types_tree}
 use Rattle.lam_value.specs.declared.values.Value.TheVariants.{Nothing}
 use Rattle.lam_bytecode.specs.declared.op.Op.TheVariants.{Return, LeaveRegion, Store, Jump, JumpIfFalse}
 use Rattle.lam_bytecode.specs.declared.unit.UnitKind.{UnitKind}
-use Rattle.lam_bytecode.specs.declared.unit.UnitKind.TheVariants.{Function, Region}
+use Rattle.lam_bytecode.specs.declared.unit.UnitKind.TheVariants.{Region}
 use Rattle.lam_scheme.specs.Pieces.{Piece, does, puts, when, either, loops, Pieces, no_pieces, pieces, joined, one, op, size, size_of, Flat, an_op, flat, flat_of}
 use Rattle.lam_scheme.specs.Scheme.{Draft, block, function_draft, region_draft}
 use Rattle.emit_parts.specs.declared.buffer.Stop.{Stop}
 use Rattle.emit_parts.specs.declared.buffer.Stop.TheVariants.{TooLong, Wide, NoMemory}
 use Rattle.emit_parts.specs.Emits.{State, named_by, is_narrow, are_narrow, EmitsBy, Emits, IsAt, IsOperandBy, IsOperand}
 use Rattle.emit_parts.proofs.Flat.{length-flat, size-joined}
-use Rattle.emit_parts.proofs.Joins.{stays, joins, joined-assoc, as_pieces}
+use Rattle.emit_parts.proofs.Joins.{joins, joined-assoc}
 use Rattle.emit_units.specs.Adds.{flat_narrow, code_narrow, kind_narrow, draft_narrow, IsDraftBy, IsDraft}
 
 pub length-types : (ts : List ValueType) → length (types_tree ts) ≡ length ts
 length-types [] = refl
 length-types (t ∷ ts) = omega (arith, length-types ts)
 
-pub at_start : {a b : State} (xs : List ℕ) {body : Block} → xs ≡ [] → Emits a b (block (reverse xs) body) → Emits a b (block [] body)
-at_start {a = a} {b = b} xs {body = body} e h = subst (λ (l : List ℕ). Emits a b (block (reverse l) body)) e h
+pub at_start : {a b : State} (xs : List ℕ) (body : Block) → xs ≡ [] → Emits a b (block (reverse xs) body) → Emits a b (block [] body)
+at_start {a = a} {b = b} xs body e h = subst (λ (l : List ℕ). Emits a b (block (reverse l) body)) e h
 
 -- ---- numbers of flat code are those of its pieces
 

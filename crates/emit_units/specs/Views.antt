@@ -1,5 +1,5 @@
 -- What is seen of units in the making.
-use Rattle.std.specs.Prelude.{◌≡◌, ℕ, ◌*◌, ◌<◌, ◌≤◌, List, [], ◌∷◌, length, Option, Some, None, Ok, Err}
+use Rattle.std.specs.Prelude.{ℕ, ◌*◌, ◌≤◌, List, [], ◌∷◌, length, Option, Some, None, Ok, Err}
 use Rattle.lam_value.specs.declared.values.Value.{Value}
 use Rattle.lam_bytecode.specs.declared.unit.CodeUnit.{CodeUnit}
 use Rattle.lam_bytecode.specs.declared.unit.UnitKind.{UnitKind}

@@ -98,6 +98,7 @@ impl Units {
         ensures parts { IfOk result (λ p. self ≡ Ok (made_of p.units.items p.constants)) }
         ensures constants { IfOk result (λ p. AllByRecursion IsConstant p.constants) }
         ensures room { IfOk result (λ p. length p.constants ≤ 65535 * length p.units.items) }
+        ensures count { IfOk result (λ p. length p.units.items ≤ 65536) }
         ensures err { IfErr result (λ h. (h ≡ no_memory) ⊎ (self ≡ Err h)) }
     {
         match self.fault {

@@ -30,11 +30,15 @@ pub record ActsWith (n : ℕ) (r : ResolvedTree) (f : ℕ) (vs : List Value) (k 
   -- after so many turns it has made all asks of the source; one that has ended, or waits, makes no more
   pub asks_all : (m : ℕ) → (n + 1) * bound r ≤ m → AreFirst (asks_made r n f vs k xs) (asks_in (lone r f vs k xs m))
 
--- where the answers suit the asks that the source makes with n units
+-- with any function of it, arguments of its parameters' kinds, any capabilities, and answers that suit the asks that
+-- the source makes with n units
+abbrev pub ActsAsSource : ResolvedTree → Type 0
+ActsAsSource r =
+    (n f : ℕ) (fn : ResolvedFunction) (vs : List Value) (k : Caps) (xs : List Answer) → slice_get r.functions f ≡ Some fn → AreOf fn.params vs → AllFit (asks_of (means r n f vs k) xs) xs
+    → ActsWith n r f vs k xs
+
 abbrev pub CodeActs : ResolvedTree → Type 0
-CodeActs r =
-    IsTypedTree r → AreNumbered r → (n f : ℕ) (fn : ResolvedFunction) (vs : List Value) (k : Caps) (xs : List Answer) → slice_get r.functions f ≡ Some fn → AreOf fn.params vs →
-    AllFit (asks_of (means r n f vs k) xs) xs → ActsWith n r f vs k xs
+CodeActs r = IsTypedTree r → AreNumbered r → ActsAsSource r
 
 -- where they suit them with any number of units
 abbrev pub NeverStuck : ResolvedTree → Type 0

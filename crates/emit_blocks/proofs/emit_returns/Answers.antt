@@ -1,5 +1,4 @@
-use Rattle.std.proofs.Common.{arith, refl, ap, ◌∙◌, sym, get_or, take, reverse, length, ◌≤◌, ◌≡◌, ◌+◌, ◌-◌, ◌<◌}
-use Rattle.emit_parts.proofs.Joins.{starts}
+use Rattle.std.proofs.Common.{arith, ◌∙◌, ◌-◌}
 use Rattle.emit_blocks.proofs.Arms.{given_back, none_left, all_left, one_less}
 use Rattle.emit_blocks.proofs.emit_returns.Goals as goal
 

@@ -1,5 +1,4 @@
 use Rattle.std.proofs.lemmas.List.{map-set}
-use Rattle.emit_parts.specs.Views.{flat_view}
 use Rattle.emit_parts.proofs.buffer.point_at.Goals as goal
 
 pub returns-then-at-len-clause-items : goal.returns-then-at-len-clause-items

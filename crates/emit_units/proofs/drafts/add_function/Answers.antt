@@ -1,5 +1,5 @@
 use Rattle.std.proofs.Common.{◌∙◌, sym}
-use Rattle.resolved_tree.specs.Tree.{function_tree}
+use Rattle.resolved_tree.specs.Tree.{function_tree, stmts_tree}
 use Rattle.lam_scheme.specs.Scheme.{function_draft}
 use Rattle.emit_units.proofs.UnitSteps.{function_unit, length-types, at_start}
 use Rattle.emit_units.proofs.drafts.add_function.Goals as goal
@@ -7,4 +7,4 @@ use Rattle.emit_units.proofs.drafts.add_function.Goals as goal
 pub returns-in-Ok : goal.returns-in-Ok
 returns-in-Ok c =
     c.add.ensures (function_draft (function_tree c.args.f.now))
-    (function_unit (function_tree c.args.f.now) c.in-Ok.kind c.new-out.ensures c.operand-locals.ensures (c.len.ensures ∙ c.args.f.now.slots.ok.0 ∙ sym (length-types c.args.f.now.slots.items)) (at_start _ c.new-open.ensures.items c.emit_block.ensures.emits) c.constant.ensures c.push.ensures c.in-Ok.ensures)
+    (function_unit (function_tree c.args.f.now) c.in-Ok.kind c.new-out.ensures c.operand-locals.ensures (c.len.ensures ∙ c.args.f.now.slots.ok.0 ∙ sym (length-types c.args.f.now.slots.items)) (at_start _ (stmts_tree c.args.f.now.body.items) c.new-open.ensures.items c.emit_block.ensures.emits) c.constant.ensures c.push.ensures c.in-Ok.ensures)

@@ -1,5 +1,4 @@
 use Rattle.std.proofs.Common.{arith}
-use Rattle.emit_units.proofs.Joins.{starts}
 use Rattle.emit_units.proofs.Trees.{at_item, function_added, functions_done}
 use Rattle.emit_units.proofs.drafts.add_function_units.Goals as goal
 

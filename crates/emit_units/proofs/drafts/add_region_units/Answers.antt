@@ -1,5 +1,4 @@
 use Rattle.std.proofs.Common.{arith}
-use Rattle.emit_units.proofs.Joins.{starts}
 use Rattle.emit_units.proofs.Trees.{at_item, regions_added, regions_done}
 use Rattle.emit_units.proofs.drafts.add_region_units.Goals as goal
 

@@ -1,5 +1,3 @@
-use Rattle.std.proofs.Common.{subst, List}
-use Rattle.lam_bytecode.specs.declared.op.Op.{Op}
 use Rattle.emit_units.proofs.Numbers.{with_ops, next_op}
 use Rattle.emit_units.proofs.pool.number_code.Goals as goal
 
