@@ -1,3 +1,4 @@
 pub mod Given
 pub mod Numbered
 pub mod Whole
+pub mod Classes

@@ -63,5 +63,5 @@ counted n (suc k) = (refl, counted (suc n) k)
 pub are_counted : (r : ResolvedTree) (vs : List Value) → AreNumbered r → AreCounted 0 (region_numbers (map (unit_of vs) (drafts r)))
 are_counted r vs h =
     let e : region_numbers (map (unit_of vs) (drafts r)) ≡ tree.region_numbers r =
-      unit_numbers vs (drafts r) ∙ numbers-append (map function_draft r.functions) (all_regions r.functions) ∙ ap (λ l. l ++ numbers (all_regions r.functions)) (function_numbers r.functions) ∙ all_numbers r.functions in
+    unit_numbers vs (drafts r) ∙ numbers-append (map function_draft r.functions) (all_regions r.functions) ∙ ap (λ l. l ++ numbers (all_regions r.functions)) (function_numbers r.functions) ∙ all_numbers r.functions in
     subst (λ (l : List ℕ). AreCounted 0 l) (sym (e ∙ h)) (counted 0 (length (tree.region_numbers r)))

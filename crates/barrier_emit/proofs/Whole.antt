@@ -1,5 +1,5 @@
 -- The units of all drafts make a program's code.
-use Rattle.std.proofs.Common.{◌≡◌, ℕ, ◌+◌, ◌*◌, ◌^◌, ◌<◌, ◌≤◌, Bool, true, false, nat_lt, if◌then◌else◌, List, [], ◌∷◌, ◌++◌, length, map, Option, Some, None, Result, Ok, Err, refl, sym, ap, ◌∙◌, subst, arith}
+use Rattle.std.proofs.Common.{◌≡◌, ℕ, ◌+◌, ◌*◌, ◌^◌, ◌<◌, ◌≤◌, Bool, true, false, nat_lt, if◌then◌else◌, List, [], ◌∷◌, length, map, Some, None, Ok, Err, inl, inr, ◌⊎◌, refl, sym, ap, ◌∙◌, subst, arith}
 use Rattle.std.specs.List.{AllByRecursion}
 use Rattle.lam_value.specs.declared.values.Value.{Value}
 use Rattle.lam_value.specs.declared.shapes.Kind.{Kind}
@@ -10,10 +10,10 @@ use Rattle.lam_meaning.specs.Means.{kind_of}
 use Rattle.lam_bytecode.specs.declared.unit.CodeUnit.{CodeUnit}
 use Rattle.lam_bytecode.specs.Codes.{CodeTree, code_of, IsConstant, IsUnit, IsCode, AreCounted, region_numbers}
 use Rattle.lam_scheme.specs.Pieces.{Flat, an_op, a_constant, numbered}
-use Rattle.lam_scheme.specs.Scheme.{Draft, function_draft, all_regions, drafts, unit_of, all_constants, scheme}
-use Rattle.lam_scheme.specs.Long.{is_long, long_from, first_long_unit, unless_long, compiled}
+use Rattle.lam_scheme.specs.Scheme.{Draft, function_draft, all_regions, drafts, unit_of, scheme}
+use Rattle.lam_scheme.specs.Long.{long_from, first_long_unit, unless_long, compiled}
 use Rattle.emit_units.specs.declared.units.Halt.{Halt}
-use Rattle.emit_units.specs.declared.units.Halt.TheVariants.{TooLong}
+use Rattle.emit_units.specs.declared.units.Halt.TheVariants.{TooLong, NoMemory}
 use Rattle.emit_units.specs.Adds.{Made, made_of, Stage, Adds_units, AddsBy, Adds}
 use Rattle.emit_units.proofs.Joins.{joins}
 use Rattle.barrier_emit.proofs.Given.{AllGiven, all_given}
@@ -82,3 +82,7 @@ module _ (r : ResolvedTree) where
       let g = subst (λ (x : Stage). Adds x s (drafts r)) z h in
       let k : AddsBy (Ok (made_of [] [])) (Err (TooLong unit)) (drafts r) = subst (λ (s : Stage). AddsBy (Ok (made_of [] [])) s (drafts r)) e g.by in
       ap (λ o. unless_long o (scheme r)) k
+
+  pub long_answer : {a s : Stage} (h : Halt) (unit : ℕ) → h ≡ TooLong unit → (h ≡ NoMemory) ⊎ (s ≡ Err h) → a ≡ Ok (made_of [] []) → Adds a s (drafts r) → compiled r ≡ Err unit
+  long_answer h unit e (inl n) z g = let no : ⊥ = cc in absurd no
+  long_answer h unit e (inr n) z g = is_long_at unit z (n ∙ ap (λ (x : Halt). Err x) e) g
