@@ -6,24 +6,30 @@
 ghost use Rattle.std.specs.Prelude.{◌≡◌, ◌⊎◌, ℕ, Ok, Err, IfOk, IfErr};
 ghost use Rattle.region_check.specs.Seen.{checked_tree};
 ghost use Rattle.barrier_emit.specs.declared.CompileFault.TheVariants.{CodeTooLong, NoMemory as no_memory};
-ghost use Rattle.barrier_compiler.specs.Compiled.{IsCompiledTo};
+ghost use Rattle.barrier_compiler.specs.Compiled.{IsCompiledTo, ActsAsProgram};
 
 pub use barrier_emit::CompileFault;
 use barrier_emit::emit;
+use lam_acting::compiled_code_acts_as_its_source;
 use lam_bytecode::Code;
 use lam_resolve::resolve;
+use lam_resolved::resolves;
 use region_check::Checked;
 use std::alloc::Global;
 
-/// The code of a checked program, which is the one that the scheme gives it.
+/// The code of a checked program, which is the one that the scheme gives it. A thread of that code makes the asks that
+/// the program means, in order, and is not stuck.
 ///
 /// # Errors
 ///
 /// `CodeTooLong` with the number of the first unit that has more than 65,535 operations by the scheme; `NoMemory`.
 pub fn compile(alloc: Global, c: &Checked) -> Result<Code, CompileFault>
     ensures ok { IfOk result (λ code. IsCompiledTo (checked_tree c.now) (Ok code)) }
+    ensures acts { ActsAsProgram (checked_tree c.now) }
     ensures long { IfErr result (λ f. (f ≡ no_memory) ⊎ ((unit : ℕ) × (f ≡ CodeTooLong unit) × IsCompiledTo (checked_tree c.now) (Err unit))) }
 {
+    resolves(c);
+    compiled_code_acts_as_its_source();
     let program = resolve(c)?;
     emit(alloc, &program)
 }

@@ -100,3 +100,41 @@ fn copied_files_are_equal(rt: HostRuntime) -> Result<(), NoMemory> {
     assert!(rt; makes_a_directory(rt.alloc(), &mut files, &copy) == Some(true));
     Ok(())
 }
+
+/// Puts an empty file under a name that is free, with the entry `f`.
+fn place(files: &mut Files, root: &Name, name: Name) -> bool {
+    !files.lives(&name, EntryKind::File)
+        && !files.lives(&name, EntryKind::Dir)
+        && name.n() < files.next(name.maker(), name.own())
+        && files.place(root, b"f", EntryKind::File, name) == Ok(())
+}
+
+/// Whether the entry `f` is the first and only one, and leads to the file with number 3.
+fn is_alone(files: &Files, root: &Name) -> bool {
+    let first = match files.entry_at(root, 0) {
+        None => false,
+        Some((entry, kind, name)) => {
+            (entry == b"f".as_slice()) & (kind == EntryKind::File) & (name.n() == 3)
+        }
+    };
+    first & files.entry_at(root, 1).is_none()
+}
+
+/// Whether a file is put back under its number, after its home's counter.
+fn puts_back(files: &mut Files, public: &Label) -> Option<bool> {
+    let root = files.root().copy().ok()?;
+    let name = Name::of(public, public, 3).ok()?;
+    let raised = files.raise_counter(public, public, 5).is_ok();
+    let lower = files.raise_counter(public, public, 2).is_ok();
+    let placed = place(files, &root, name);
+    let counted = files.next(public, public) == 5;
+    Some(raised & lower & placed & counted & is_alone(files, &root))
+}
+
+#[test]
+fn a_file_is_put_back(rt: HostRuntime) -> Result<(), NoMemory> {
+    let mut files = Files::new(rt.alloc())?;
+    let public = Label::public(rt.alloc());
+    assert!(rt; puts_back(&mut files, &public) == Some(true));
+    Ok(())
+}

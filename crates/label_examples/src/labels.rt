@@ -6,6 +6,7 @@ use flow_labels::{
     sets_text, tag_text, write_rule,
 };
 use std::test::Fail;
+use tag_name_lists::same_names;
 use tag_sets::TagId;
 
 fn three_names(rt: &HostRuntime) -> Result<TagNames, NameFault> {
@@ -22,6 +23,16 @@ fn names_are_kept(rt: HostRuntime) -> Result<(), Fail> {
     assert_eq!(rt; names.find("t"), Some(TagId(2)));
     assert_eq!(rt; names.find_bytes(b"b"), Some(TagId(1)));
     assert_eq!(rt; names.name(TagId(1)).unwrap_or("?"), "b");
+    Ok(())
+}
+
+#[test]
+fn copied_names_are_the_same(rt: HostRuntime) -> Result<(), Fail> {
+    let mut names = three_names(&rt)?;
+    let copy = names.copy()?;
+    assert!(rt; same_names(&names, &copy));
+    names.add("c")?;
+    assert!(rt; !same_names(&names, &copy));
     Ok(())
 }
 

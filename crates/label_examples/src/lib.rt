@@ -1,21 +1,12 @@
-//! Worked examples of what stands below the commands: sets, labels and capabilities, scripts and their runs, the text
-//! of a schedule, numbers in decimal, and the files and outputs of the outside.
+//! Worked examples of sets of tags, of labels and their rules, and of capabilities.
 //!
 //! A contract leaves want of memory free; these tests run each call once with ample memory. The expected values come
 //! from the descriptions of the formats, never from the code. Each is short, since it is proved before it runs.
 #![tactic(auto)]
 
 #[cfg(test)]
-mod books;
-#[cfg(test)]
 mod caps;
 #[cfg(test)]
-mod io;
-#[cfg(test)]
 mod labels;
-#[cfg(test)]
-mod numbers;
-#[cfg(test)]
-mod scripts;
 #[cfg(test)]
 mod sets;

@@ -1,14 +1,14 @@
 -- The entries of a directory against the map in which they are kept.
-use Rattle.std.proofs.Common.{◌≡◌, ◌≤◌, ◌<◌, ◌+◌, cond, ℕ, suc, zero, List, [], ◌∷◌, ◌++◌, length, take, slice_get, Option, Some, None, is_some, refl, sym, ap, ◌∙◌, add-one, subst, Bool, true, false}
+use Rattle.std.proofs.Common.{◌≡◌, ◌+◌, cond, ℕ, suc, zero, List, [], ◌∷◌, ◌++◌, length, take, slice_get, Option, Some, None, refl, sym, ap, ◌∙◌, add-one, subst, true, false}
 use Rattle.std.specs.Option.{option_map, unwrap_or}
 use Rattle.std.specs.Map.{lookup, remove_entry, keys_of}
 use Rattle.std.specs.List.{IsDistinct, AllByRecursion}
-use Rattle.std.specs.Prelude.{Vec, map}
+use Rattle.std.specs.Prelude.{Vec}
 use Rattle.std.specs.Cmp.Lexicographic.{nat_list_eq_equiv}
 use Rattle.indexmap.specs.IndexMap.{IndexMap, insert_entry}
 use Rattle.indexmap.proofs.CallerLemmas.{insert_entry-new}
 use Rattle.labelled_files.specs.declared.directory.Target.{Target}
-use Rattle.labelled_files.specs.Entries.{Entries, text_eq, without, vec_eq, entries_of}
+use Rattle.labelled_files.specs.Entries.{text_eq, without, vec_eq, entries_of}
 
 module _ {A : Type 0} where
   -- an entry is found by its name
@@ -84,6 +84,11 @@ module _ {A : Type 0} where
   entry_at [] i k v at = cc
   entry_at (e ∷ es) zero k v at = let same : e ≡ (k, v) = cc in ap (λ (p : Vec ℕ A × Target). Some (p.0.items, p.1)) same
   entry_at (e ∷ es) (suc i) k v at = entry_at es i k v at
+
+  pub entry_seen : (es : List (Vec ℕ A × Target)) (i : ℕ) → option_map (λ (e : Vec ℕ A × Target). (e.0.items, e.1)) (slice_get es i) ≡ slice_get (entries_of es) i
+  entry_seen [] i = refl
+  entry_seen (e ∷ es) zero = refl
+  entry_seen (e ∷ es) (suc i) = entry_seen es i
 
   pub alike_there : (es fs : List (Vec ℕ A × Target)) (i : ℕ) (k l : Vec ℕ A) (v w : Target) → slice_get es i ≡ Some (k, v) → slice_get fs i ≡ Some (l, w) → entries_of es ≡ entries_of fs → (k.items ≡ l.items) × (v ≡ w)
   alike_there es fs i k l v w at there same =

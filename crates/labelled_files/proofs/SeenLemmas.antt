@@ -1,21 +1,35 @@
 -- Files as a whole against what is seen of them.
-use Rattle.std.proofs.Common.{◌≡◌, Bool, true, ℕ, List, [], Option, Some, None, is_some, sym, ap, ◌∙◌}
+use Rattle.std.proofs.Common.{◌≡◌, ◌+◌, ◌<◌, Bool, true, false, cond, ℕ, List, [], Some, None, is_some, sym, ap, subst, ◌∙◌, arith}
 use Rattle.std.specs.Map.{lookup}
 use Rattle.std.specs.FinMap.{get, insert}
 use Rattle.lam_value.specs.declared.names.Name.{Name}
-use Rattle.lam_value.specs.Homes.{Home, Counts, home_of, name_of, count_in, counted}
-use Rattle.std.specs.Prelude.{IsTrue}
+use Rattle.lam_value.specs.Homes.{Home, Counts, home_of, name_of, count_in, counted, raised}
+use Rattle.std.specs.Prelude.{IsTrue, nat_lt}
+use Rattle.std.proofs.lemmas.Bool.Decides.{nat_tests}
 use Rattle.lam_value.specs.Names.{name_cmp}
-use Rattle.lam_value.specs.Alike.{AreAlikeWhere}
 use Rattle.lam_value.proofs.Keys.{name_eq, name_total, name_exact, name_ties}
 use Rattle.lam_value.proofs.SameLemmas.{seen_where, where_seen, seen_same_map, same_map_alike}
 use Rattle.labelled_files.specs.declared.directory.Directory.{Directory}
 use Rattle.labelled_files.specs.declared.directory.EntryKind.TheVariants.{File, Dir}
 use Rattle.labelled_files.specs.declared.contents.Contents.{Contents}
 use Rattle.labelled_files.specs.Entries.{Entries}
-use Rattle.labelled_files.specs.Trees.{Tree, entries_at, bytes_at, changed_at, joined, next_name, with_file, with_dir}
+use Rattle.labelled_files.specs.Trees.{Tree, entries_at, bytes_at, changed_at, joined, with_file, with_dir, placed, with_count}
 use Rattle.labelled_files.specs.Seen.{shown, held, dirs_of, files_of, at, tree_of, SameDirs, SameFiles}
 use Rattle.labelled_files.proofs.TreeLemmas.{lives_seen, none_there, some_there}
+
+-- one more than a home has made, counted
+raised_next : (m : Counts) (h : Home) → raised m h (count_in m h + 1) ≡ counted m h
+raised_next m h = ap (λ b. cond b (insert m h (count_in m h + 1)) m) (more (count_in m h))
+  where
+    more : (k : ℕ) → nat_lt k (k + 1) ≡ true
+    more k = grind (arith, nat_tests)
+
+-- what its home has made is counted already
+raised_below : (m : Counts) (h : Home) (n : ℕ) → n < count_in m h → raised m h (n + 1) ≡ m
+raised_below m h n below = ap (λ b. cond b (insert m h (n + 1)) m) (less (count_in m h) below)
+  where
+    less : (k : ℕ) → n < k → nat_lt k (n + 1) ≡ false
+    less k lt = grind (arith, nat_tests)
 
 module _ (ds : List (Name × Directory)) (fs : List (Name × Contents)) (counts : Counts) (root : Name) (t : Tree) (seen : tree_of ds fs counts root ≡ t) where
   pub dir_lives : (n : Name) → is_some (lookup (name_eq n) ds) ≡ is_some (get t.dirs n)
@@ -60,27 +74,41 @@ module _ (ds : List (Name × Directory)) (fs : List (Name × Contents)) (counts 
   pub file_made : (ds_now : List (Name × Directory)) (fs_now : List (Name × Contents)) (now : Counts) (dir n : Name) (text : List ℕ) (home : Home) → n ≡ name_of home (count_in counts home)
       → dirs_of ds_now ≡ changed_at (dirs_of ds) dir (joined text File n)
       → files_of fs_now ≡ insert (files_of fs) n []
-      → now ≡ counted counts (home_of n.maker n.own) → tree_of ds_now fs_now now root ≡ with_file t dir text home
+      → now ≡ raised counts (home_of n.maker n.own) (n.n + 1) → tree_of ds_now fs_now now root ≡ with_file t dir text home
   file_made ds_now fs_now now dir n text home is d f c =
       (λ i. record {
         dirs = (d ∙ ap (λ k. changed_at (dirs_of ds) dir (joined text File k)) is) i;
         files = (f ∙ ap (λ k. insert (files_of fs) k []) is) i;
-        counts = (c ∙ ap (λ (k : Name). counted counts (home_of k.maker k.own)) is) i;
+        counts = (c ∙ ap (λ (k : Name). raised counts (home_of k.maker k.own) (k.n + 1)) is ∙ raised_next counts home) i;
         root = root;
       })
       ∙ ap (λ (m : Tree). with_file m dir text home) seen
 
   pub dir_made : (ds_now : List (Name × Directory)) (now : Counts) (dir n : Name) (text : List ℕ) (home : Home) → n ≡ name_of home (count_in counts home)
       → dirs_of ds_now ≡ insert (changed_at (dirs_of ds) dir (joined text Dir n)) n []
-      → now ≡ counted counts (home_of n.maker n.own) → tree_of ds_now fs now root ≡ with_dir t dir text home
+      → now ≡ raised counts (home_of n.maker n.own) (n.n + 1) → tree_of ds_now fs now root ≡ with_dir t dir text home
   dir_made ds_now now dir n text home is d c =
       (λ i. record {
         dirs = (d ∙ ap (λ k. insert (changed_at (dirs_of ds) dir (joined text Dir k)) k []) is) i;
         files = files_of fs;
-        counts = (c ∙ ap (λ (k : Name). counted counts (home_of k.maker k.own)) is) i;
+        counts = (c ∙ ap (λ (k : Name). raised counts (home_of k.maker k.own) (k.n + 1)) is ∙ raised_next counts home) i;
         root = root;
       })
       ∙ ap (λ (m : Tree). with_dir m dir text home) seen
+
+  pub recounted : (now : Counts) (home : Home) (n : ℕ) → now ≡ raised counts home n → tree_of ds fs now root ≡ with_count t home n
+  recounted now home n c = (λ i. record { dirs = dirs_of ds; files = files_of fs; counts = c i; root = root }) ∙ ap (λ (m : Tree). with_count m home n) seen
+
+  -- what was put under a name that its home has made
+  module _ (ds_now : List (Name × Directory)) (now : Counts) (dir n : Name) (text : List ℕ) (below : n.n < count_in t.counts (home_of n.maker n.own)) (c : now ≡ raised counts (home_of n.maker n.own) (n.n + 1)) where
+    counts_stay : now ≡ counts
+    counts_stay = c ∙ raised_below counts (home_of n.maker n.own) n.n (subst (λ (m : Counts). n.n < count_in m (home_of n.maker n.own)) (sym counts_seen) below)
+
+    pub file_placed : (fs_now : List (Name × Contents)) → dirs_of ds_now ≡ changed_at (dirs_of ds) dir (joined text File n) → files_of fs_now ≡ insert (files_of fs) n [] → tree_of ds_now fs_now now root ≡ placed t dir text File n
+    file_placed fs_now d f = (λ i. record { dirs = d i; files = f i; counts = counts_stay i; root = root }) ∙ ap (λ (m : Tree). placed m dir text File n) seen
+
+    pub dir_placed : dirs_of ds_now ≡ insert (changed_at (dirs_of ds) dir (joined text Dir n)) n [] → tree_of ds_now fs now root ≡ placed t dir text Dir n
+    dir_placed d = (λ i. record { dirs = d i; files = files_of fs; counts = counts_stay i; root = root }) ∙ ap (λ (m : Tree). placed m dir text Dir n) seen
 
 -- ---- two compared
 module _ (ds es : List (Name × Directory)) (fs gs : List (Name × Contents)) (counts now : Counts) (root other : Name) (t u : Tree) (one : tree_of ds fs counts root ≡ t) (two : tree_of es gs now other ≡ u) where

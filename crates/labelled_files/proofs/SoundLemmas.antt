@@ -1,9 +1,9 @@
 -- What holds of all files and directories holds after each call.
-use Rattle.std.proofs.Common.{◌≡◌, ◌≤◌, ◌<◌, ◌+◌, cond, ℕ, suc, List, [], ◌∷◌, ◌++◌, length, take, Option, Some, None, is_some, refl, sym, ap, ◌∙◌, arith, subst, Bool, true, false}
-use Rattle.std.specs.Prelude.{IsTrue, ◌||◌, nat_eq}
+use Rattle.std.proofs.Common.{◌≡◌, ◌≤◌, ◌<◌, cond, ℕ, suc, List, [], ◌∷◌, ◌++◌, length, Option, Some, None, is_some, refl, sym, ap, ◌∙◌, arith, subst, Bool, true, false}
+use Rattle.std.specs.Prelude.{IsTrue}
 use Rattle.std.specs.Option.{option_or, unwrap_or}
 use Rattle.std.specs.Map.{lookup, keys_of}
-use Rattle.std.specs.List.{IsDistinct, AllByRecursion, list_any}
+use Rattle.std.specs.List.{IsDistinct, AllByRecursion}
 use Rattle.std.specs.FinMap.{FinMap, get, insert, empty, contains_key, get-empty, get-insert}
 use Rattle.std.specs.Ordering.{eq_by_cmp}
 use Rattle.std.specs.Cmp.{Equal-is, eq_by_cmp_equiv}
@@ -12,15 +12,15 @@ use Rattle.std.proofs.lemmas.Map.Keys.{IsDistinct-push}
 use Rattle.std.proofs.lemmas.Map.Made.{is_some-lookup}
 use Rattle.lam_value.specs.declared.names.Name.{Name}
 use Rattle.lam_value.specs.Names.{name_cmp}
-use Rattle.lam_value.specs.Homes.{Home, Counts, home_of, name_of, count_in, counted, AreCounted, AreWithin}
+use Rattle.lam_value.specs.Homes.{Home, Counts, home_of, count_in, counted, AreCounted, AreWithin}
 use Rattle.lam_value.proofs.Keys.{name_total, name_exact, home_total}
 use Rattle.lam_value.proofs.Rows.{lookup-append}
-use Rattle.lam_value.proofs.CountLemmas.{counted_none, counted_put, counted_more, counted_change, next_is_new, within_more, within_insert, within_none, count_next, count_insert}
+use Rattle.lam_value.proofs.CountLemmas.{counted_none, counted_put, counted_more, counted_change, next_is_new, within_more, within_insert, within_none, within_raised, counted_raised, count_next, count_insert}
 use Rattle.labelled_files.specs.declared.directory.Target.{Target}
 use Rattle.labelled_files.specs.declared.directory.EntryKind.{EntryKind}
 use Rattle.labelled_files.specs.declared.directory.EntryKind.TheVariants.{File, Dir}
 use Rattle.labelled_files.specs.Entries.{Entries, text_eq, is_entry_name, without}
-use Rattle.labelled_files.specs.Trees.{Tree, public_home, root_alone, lives_as, entries_at, target_at, changed, changed_at, joined, next_name, with_file, with_dir, without_entry, IsSound, AreListed}
+use Rattle.labelled_files.specs.Trees.{Tree, public_home, root_alone, lives_as, entries_at, target_at, changed, changed_at, joined, next_name, with_file, with_dir, placed, with_count, without_entry, IsSound, AreListed}
 
 -- ---- a change of what lives under a name
 module _ {X : Type 0} (m : FinMap name_cmp X) (n : Name) (f : X → X) where
@@ -244,8 +244,29 @@ module _ (t : Tree) (sound : IsSound t) (dir : Name) (text : List ℕ) (home : H
       sound_put_dir t sound (counted t.counts home) dir (next_name t home) text (counted_more t.files t.counts home sound.counted.0) (counted_more t.dirs t.counts home sound.counted.1) (within_more 65536 t.counts home sound.within free)
       next_below fine new room (next_is_new t.files t.counts home sound.counted.0)
 
+-- ---- what is put back
+module _ (t : Tree) (sound : IsSound t) (dir n : Name) (text : List ℕ) (below : n.n < count_in t.counts (home_of n.maker n.own)) (fine : IsTrue (is_entry_name text)) (new : target_at t dir text ≡ None) (room : length (entries_at t dir) < 4096) where
+  pub sound_placed_file : lives_as Dir t n ≡ false → IsSound (placed t dir text File n)
+  sound_placed_file no_dir = sound_put_file t sound t.counts dir n text sound.counted.0 sound.counted.1 sound.within below fine new room no_dir
+
+  pub sound_placed_dir : lives_as File t n ≡ false → IsSound (placed t dir text Dir n)
+  sound_placed_dir no_file = sound_put_dir t sound t.counts dir n text sound.counted.0 sound.counted.1 sound.within below fine new room no_file
+
 -- ---- changes
 module _ (t : Tree) (sound : IsSound t) where
+  pub sound_count : (home : Home) (n : ℕ) → n ≤ 65536 → IsSound (with_count t home n)
+  sound_count home n le = record {
+    counted = (counted_raised t.files t.counts home n sound.counted.0, counted_raised t.dirs t.counts home n sound.counted.1);
+    within = within_raised 65536 t.counts home n sound.within le;
+    rooted = sound.rooted;
+    apart = sound.apart;
+    listed = λ dir. good_in t (entries_at t dir) (with_count t home n) same (sound.listed dir);
+  }
+    where
+      same : (kind : EntryKind) (q : Name) → IsTrue (lives_as kind t q) → IsTrue (lives_as kind (with_count t home n) q)
+      same File q lives = lives
+      same Dir q lives = lives
+
   pub sound_bytes : (f : Name) (change : List ℕ → List ℕ) → IsSound (record t { files = changed_at t.files f change })
   sound_bytes f change = record {
     counted = (counted_changed t.files f change t.counts sound.counted.0, sound.counted.1);

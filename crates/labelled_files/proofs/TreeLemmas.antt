@@ -1,16 +1,14 @@
 -- The maps in which files are kept against what is seen of them.
-use Rattle.std.proofs.Common.{◌≡◌, ◌≤◌, ◌<◌, ◌+◌, cond, ℕ, List, [], Option, Some, None, is_some, refl, sym, ap, ◌∙◌, arith, subst, Bool, true, false}
+use Rattle.std.proofs.Common.{◌≡◌, cond, List, Option, Some, None, is_some, refl, sym, ap, ◌∙◌}
 use Rattle.std.specs.Prelude.{option_and_then}
 use Rattle.std.specs.Option.{option_map, unwrap_or}
 use Rattle.std.specs.Map.{lookup}
-use Rattle.std.specs.FinMap.{FinMap, get, insert, empty, get-empty, get-insert, same_map}
-use Rattle.std.specs.Ordering.{eq_by_cmp}
+use Rattle.std.specs.FinMap.{FinMap, get, insert, same_map}
 use Rattle.lam_value.specs.declared.names.Name.{Name}
 use Rattle.lam_value.specs.Names.{name_cmp}
-use Rattle.lam_value.specs.Homes.{Home, Counts, home_cmp, count_in, counted}
 use Rattle.lam_value.specs.Maps.{seen_at}
-use Rattle.lam_value.proofs.Keys.{name_eq, name_total, name_exact, name_ties, home_total}
-use Rattle.lam_value.proofs.Maps.{get_seen, seen_same, seen_insert, insert_same}
+use Rattle.lam_value.proofs.Keys.{name_eq, name_total, name_exact, name_ties}
+use Rattle.lam_value.proofs.Maps.{get_seen, seen_insert, insert_same}
 use Rattle.labelled_files.specs.Trees.{changed, changed_at}
 
 is_some_map : {X Y : Type 0} (f : X → Y) (o : Option X) → is_some o ≡ is_some (option_map f o)

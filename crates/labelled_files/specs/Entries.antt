@@ -1,5 +1,5 @@
 -- The entries of a directory, and the names that an entry may have.
-use Rattle.std.specs.Prelude.{◌≡◌, ℕ, Bool, true, false, cond, not, ◌&&◌, nat_eq, nat_le, List, [], ◌∷◌, ◌++◌, length, map, codes, Vec, Option, Some, None, refl}
+use Rattle.std.specs.Prelude.{◌≡◌, ℕ, Bool, true, false, cond, not, ◌&&◌, nat_eq, nat_le, List, [], ◌∷◌, length, map, codes, Vec, Option, Some, None, refl}
 use Rattle.std.specs.List.{list_any}
 use Rattle.std.specs.Cmp.Lexicographic.{pointwise}
 use Rattle.lam_value.specs.declared.names.Name.{Name}
@@ -18,6 +18,10 @@ is_entry_name bs =
 -- The entries of a directory, in the order of their making: each with its name, and with what it leads to.
 abbrev pub Entries : Type 0
 Entries = List (List ℕ × Target)
+
+-- an entry of that name, which leads to a thing of that kind and name
+abbrev pub entry_of : List ℕ → EntryKind → Name → List ℕ × Target
+entry_of text kind name = (text, record { kind = kind; name = name })
 
 -- the entries without the one of that name
 abbrev pub without : List ℕ → Entries → Entries

@@ -1,5 +1,5 @@
 -- What files are seen as, and what their calls make of them.
-use Rattle.std.specs.Prelude.{◌≡◌, ◌≤◌, IsTrue, false, ℕ, ◌+◌, ◌-◌, ◌++◌, ◌∷◌, Bool, cond, not, nat_eq, if◌then◌else◌, List, [], length, take, Option, Some, None, is_some, unwrap_or, refl}
+use Rattle.std.specs.Prelude.{◌≡◌, ◌≤◌, IsTrue, false, ℕ, ◌-◌, ◌++◌, ◌∷◌, Bool, not, nat_eq, if◌then◌else◌, List, [], length, take, Option, Some, None, is_some, unwrap_or, refl}
 use Rattle.std.specs.Coded.{Coded, code_by, coded×, coded_list, coded_ℕ}
 use Rattle.std.specs.FinMap as map
 use Rattle.std.specs.FinMap.{FinMap, get, insert}
@@ -9,14 +9,14 @@ use Rattle.flow_labels.specs.declared.Label.{Label}
 use Rattle.flow_labels.specs.Flow.{flows, public_label}
 use Rattle.lam_value.specs.declared.names.Name.{Name}
 use Rattle.lam_value.specs.Names.{name_cmp, coded_name}
-use Rattle.lam_value.specs.Homes.{Home, Counts, coded_counts, home_of, name_of, count_in, counted as counted_more, AreCounted, AreWithin}
+use Rattle.lam_value.specs.Homes.{Home, Counts, coded_counts, home_of, name_of, count_in, counted as counted_more, raised, AreCounted, AreWithin}
 use Rattle.labelled_files.specs.declared.directory.Target.{Target}
 use Rattle.labelled_files.specs.declared.directory.EntryKind.{EntryKind}
 use Rattle.labelled_files.specs.declared.directory.EntryKind.TheVariants.{File, Dir}
 use Rattle.labelled_files.specs.contracts.directory.Target as target
 use Rattle.labelled_files.specs.declared.files.FileFault.{FileFault}
-use Rattle.labelled_files.specs.declared.files.FileFault.TheVariants.{BadName, Exists, DirFull, HomeFull, NoMemory}
-use Rattle.labelled_files.specs.Entries.{Entries, text_eq, is_entry_name, without}
+use Rattle.labelled_files.specs.declared.files.FileFault.TheVariants.{BadName, Exists, DirFull, HomeFull}
+use Rattle.labelled_files.specs.Entries.{Entries, text_eq, is_entry_name, entry_of, without}
 
 -- The entries of each directory, the bytes of each file, how many files and directories each home has made, and
 -- the name of the root. A directory lives where it has entries here, if only none, and a file where it has bytes.
@@ -88,7 +88,7 @@ next_name t home = name_of home (count_in t.counts home)
 
 -- one more entry, the last
 abbrev pub joined : List ℕ → EntryKind → Name → Entries → Entries
-joined text kind name es = es ++ (text, record { kind = kind; name = name }) ∷ []
+joined text kind name es = es ++ entry_of text kind name ∷ []
 
 -- one more file, which is empty, and its entry; all else stays
 abbrev pub with_file : Tree → Name → List ℕ → Home → Tree
@@ -107,6 +107,19 @@ with_dir t dir text home = record {
   counts = counted_more t.counts home;
   root = t.root;
 }
+
+-- why nothing can be put under a name that is given: no home can be full there
+abbrev pub place_fault : Tree → Name → List ℕ → Option FileFault
+place_fault t dir text = fault_at t dir text 0
+
+-- a file or a directory of that name, which is empty, and its entry; all else stays
+abbrev pub placed : Tree → Name → List ℕ → EntryKind → Name → Tree
+placed t dir text File n = record t { dirs = changed_at t.dirs dir (joined text File n); files = insert t.files n [] }
+placed t dir text Dir n = record t { dirs = insert (changed_at t.dirs dir (joined text Dir n)) n [] }
+
+-- a home has made so many at least; all else stays
+abbrev pub with_count : Tree → Home → ℕ → Tree
+with_count t home n = record t { counts = raised t.counts home n }
 
 -- an entry is gone; all else stays, and what it led to lives on
 abbrev pub without_entry : Tree → Name → List ℕ → Tree

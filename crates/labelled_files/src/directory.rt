@@ -1,12 +1,12 @@
 //! The entries of one directory.
 
-ghost use Rattle.std.specs.Prelude.{◌≡◌, ◌<◌, ◌≤◌, ◌++◌, ◌∷◌, [], None, length, is_some, IsTrue, ◌↔◌, IfOk};
-ghost use Rattle.std.specs.Option.{option_copied};
+ghost use Rattle.std.specs.Prelude.{◌≡◌, ◌<◌, ◌≤◌, ◌++◌, ◌∷◌, [], None, length, is_some, IsTrue, ◌↔◌, IfOk, slice_get};
+ghost use Rattle.std.specs.Option.{option_copied, option_map};
 ghost use Rattle.std.specs.Map.{lookup};
 ghost use Rattle.std.proofs.Props.{props};
 ghost use Rattle.indexmap.specs.IndexMap.{IsUnique, spare};
 ghost use Rattle.labelled_files.specs.Entries as entries;
-ghost use Rattle.labelled_files.specs.Entries.{text_eq, without, vec_eq, entries_of};
+ghost use Rattle.labelled_files.specs.Entries.{text_eq, without, vec_eq, entries_of, entry_of};
 
 use indexmap::IndexMap;
 use lam_value::Name;
@@ -89,6 +89,16 @@ impl Directory {
         ensures { option_copied result ≡ lookup (text_eq entry.now) (entries_of self.now.entries.entries) }
     {
         self.entries.get(entry)
+    }
+
+    /// The entry at a place, with what it leads to.
+    pub(crate) fn entry_at(&self, at: usize) -> Option<(&[u8], EntryKind, &Name)>
+        ensures { option_map (λ e. entry_of e.0.now e.1 e.2.now) result ≡ slice_get (entries_of self.now.entries.entries) at }
+    {
+        match self.entries.get_index(at) {
+            None => None,
+            Some((text, target)) => Some((text.as_slice(), target.kind, &target.name)),
+        }
     }
 
     /// Makes room for one more entry.

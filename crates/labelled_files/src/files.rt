@@ -1,18 +1,18 @@
 //! Directories and files by name.
 
-ghost use Rattle.std.specs.Prelude.{◌≡◌, ◌≤◌, ◌<◌, ◌↔◌, IsTrue, [], IfOk, OnOk, OnErr, Some, None, length, take, drop, is_some, unwrap_or};
+ghost use Rattle.std.specs.Prelude.{◌≡◌, ◌≤◌, ◌<◌, ◌+◌, ◌↔◌, IsTrue, [], IfOk, OnOk, OnErr, Some, None, length, take, drop, is_some, unwrap_or, slice_get, false};
 ghost use Rattle.std.specs.Result.{MatchResult};
-ghost use Rattle.std.specs.Option.{option_copied};
+ghost use Rattle.std.specs.Option.{option_copied, option_map};
 ghost use Rattle.std.specs.Map.{lookup};
 ghost use Rattle.std.specs.FinMap.{insert};
 ghost use Rattle.indexmap.specs.IndexMap.{spare};
 ghost use Rattle.lam_value.specs.Homes as homes;
-ghost use Rattle.lam_value.specs.Homes.{home_of, name_of, count_in, counted};
-ghost use Rattle.labelled_files.specs.Entries.{text_eq, name_of_kind};
+ghost use Rattle.lam_value.specs.Homes.{home_of, count_in, raised};
+ghost use Rattle.labelled_files.specs.Entries.{text_eq, name_of_kind, entry_of};
 ghost use Rattle.labelled_files.specs.Seen.{dirs_of, files_of, at, shown, held, SameDirs, SameFiles};
 ghost use Rattle.lam_value.specs.Alike.{is_shown};
 ghost use Rattle.labelled_files.specs.Trees as tree;
-ghost use Rattle.labelled_files.specs.Trees.{root_alone, lives_as, target_at, bytes_at, next_name, with_file, with_dir, without_entry, with_more, with_first, changed_at, joined, IsSound, AreSeenAlike};
+ghost use Rattle.labelled_files.specs.Trees.{root_alone, lives_as, target_at, bytes_at, next_name, with_file, with_dir, placed, with_count, without_entry, with_more, with_first, changed_at, joined, IsSound, AreSeenAlike};
 ghost use Rattle.labelled_files.specs.declared.files.FileFault.TheVariants.{NoMemory as no_memory};
 
 use crate::contents::{Contents, first_bytes, last_bytes};
@@ -204,6 +204,64 @@ impl Files {
         Ok(name)
     }
 
+    /// Puts an empty file or directory under a name that is given, and lists it last in a directory.
+    ///
+    /// The name is of a thing that its home has made, and that does not live here: so files and directories
+    /// are put back, one by one, after their counters.
+    ///
+    /// # Errors
+    ///
+    /// The first of these that holds, in this order: `BadName`, `Exists`, `DirFull`. Where none holds,
+    /// `NoMemory` where memory is refused.
+    pub fn place(
+        &mut self,
+        dir: &Name,
+        entry: &[u8],
+        kind: EntryKind,
+        name: Name,
+    ) -> Result<(), FileFault>
+        requires no_file { lives_as EntryKind.File self.old name ≡ false }
+        requires no_dir { lives_as EntryKind.Dir self.old name ≡ false }
+        requires below { name.n < count_in self.old.counts (home_of name.maker name.own) }
+        ensures fault { MatchResult result (λ _. tree.place_fault self.old dir.now entry.now ≡ None) (λ e. e ≡ unwrap_or (tree.place_fault self.old dir.now entry.now) no_memory) }
+        ensures ok { OnOk result (self.new ≡ placed self.old dir.now entry.now kind name) }
+        ensures err { OnErr result (self.new ≡ self.old) }
+    {
+        if let Some(fault) = self.fault_at(dir, entry, 0) {
+            return Err(fault);
+        }
+        match kind {
+            EntryKind::File => {
+                add_file(
+                    &mut self.dirs,
+                    &mut self.files,
+                    &mut self.counters,
+                    dir,
+                    entry,
+                    &name,
+                )?;
+                return Ok(());
+            }
+            EntryKind::Dir => {
+                add_dir(&mut self.dirs, &mut self.counters, dir, entry, &name)?;
+                return Ok(());
+            }
+        }
+    }
+
+    /// Lets a home have made so many files and directories at least.
+    ///
+    /// # Errors
+    ///
+    /// `NoMemory` where memory is refused; everything is then as it was.
+    pub fn raise_counter(&mut self, maker: &Label, own: &Label, n: u64) -> Result<(), NoMemory>
+        requires { n ≤ 65536 }
+        ensures ok { OnOk result (self.new ≡ with_count self.old (home_of maker.now own.now) n) }
+        ensures err { OnErr result (self.new ≡ self.old) }
+    {
+        self.counters.raise(maker, own, n)
+    }
+
     /// Why nothing can be made of a home in a directory, want of memory aside.
     pub fn first_fault(
         &self,
@@ -261,6 +319,17 @@ impl Files {
         match self.target(dir, entry) {
             None => None,
             Some(target) => name_as(target, kind),
+        }
+    }
+
+    /// The entry at a place of a directory, by the order of their making, with what it leads to, or `None`
+    /// exactly where the directory has no entry there.
+    pub fn entry_at(&self, dir: &Name, i: u64) -> Option<(&[u8], EntryKind, &Name)>
+        ensures { option_map (λ e. entry_of e.0.now e.1 e.2.now) result ≡ slice_get (tree.entries_at self.now dir.now) i }
+    {
+        match self.dirs.get(dir) {
+            None => None,
+            Some(directory) => directory.entry_at(i as usize),
         }
     }
 
@@ -394,7 +463,7 @@ fn name_as(target: &Target, kind: EntryKind) -> Option<&Name>
     }
 }
 
-/// Makes a file. The last step that can fail is the listing, and what comes after it has its room.
+/// Adds an empty file. The last step that can fail is the listing, and what comes after it has its room.
 fn add_file(
     dirs: &mut Dirs,
     files: &mut FileMap,
@@ -403,13 +472,12 @@ fn add_file(
     entry: &[u8],
     name: &Name,
 ) -> Result<(), NoMemory>
-    requires next { name.now.n ≡ count_in counters.old (home_of name.now.maker name.now.own) }
     requires room { name.now.n < 65536 }
     requires few { length (at dirs.old.entries dir.now) < 4096 }
     requires fresh { lookup (text_eq entry.now) (at dirs.old.entries dir.now) ≡ None }
     ensures dirs { OnOk result (dirs_of dirs.new.entries ≡ changed_at (dirs_of dirs.old.entries) dir.now (joined entry.now EntryKind.File name.now)) }
     ensures files { OnOk result (files_of files.new.entries ≡ insert (files_of files.old.entries) name.now []) }
-    ensures counters { OnOk result (counters.new ≡ counted counters.old (home_of name.now.maker name.now.own)) }
+    ensures counters { OnOk result (counters.new ≡ raised counters.old (home_of name.now.maker name.now.own) (name.now.n + 1)) }
     ensures same_dirs { OnErr result (dirs_of dirs.new.entries ≡ dirs_of dirs.old.entries) }
     ensures same_files { OnErr result (files_of files.new.entries ≡ files_of files.old.entries) }
     ensures same_counters { OnErr result (counters.new ≡ counters.old) }
@@ -427,7 +495,7 @@ fn add_file(
     Ok(())
 }
 
-/// Makes a directory. The last step that can fail is the listing, and what comes after it has its room.
+/// Adds an empty directory. The last step that can fail is the listing, and what comes after it has its room.
 fn add_dir(
     dirs: &mut Dirs,
     counters: &mut Counters,
@@ -435,12 +503,11 @@ fn add_dir(
     entry: &[u8],
     name: &Name,
 ) -> Result<(), NoMemory>
-    requires next { name.now.n ≡ count_in counters.old (home_of name.now.maker name.now.own) }
     requires room { name.now.n < 65536 }
     requires few { length (at dirs.old.entries dir.now) < 4096 }
     requires fresh { lookup (text_eq entry.now) (at dirs.old.entries dir.now) ≡ None }
     ensures dirs { OnOk result (dirs_of dirs.new.entries ≡ insert (changed_at (dirs_of dirs.old.entries) dir.now (joined entry.now EntryKind.Dir name.now)) name.now []) }
-    ensures counters { OnOk result (counters.new ≡ counted counters.old (home_of name.now.maker name.now.own)) }
+    ensures counters { OnOk result (counters.new ≡ raised counters.old (home_of name.now.maker name.now.own) (name.now.n + 1)) }
     ensures same_dirs { OnErr result (dirs_of dirs.new.entries ≡ dirs_of dirs.old.entries) }
     ensures same_counters { OnErr result (counters.new ≡ counters.old) }
 {
@@ -457,7 +524,7 @@ fn add_dir(
     Ok(())
 }
 
-/// Lists a target last in a directory, and draws the target's number. The map keeps its room.
+/// Lists a target last in a directory, and counts it. The map keeps its room.
 fn list(
     dirs: &mut Dirs,
     counters: &mut Counters,
@@ -465,40 +532,37 @@ fn list(
     entry: &[u8],
     target: Target,
 ) -> Result<(), NoMemory>
-    requires next { target.name.n ≡ count_in counters.old (home_of target.name.maker target.name.own) }
     requires room { target.name.n < 65536 }
     requires few { length (at dirs.old.entries dir.now) < 4096 }
     requires fresh { lookup (text_eq entry.now) (at dirs.old.entries dir.now) ≡ None }
     ensures dirs { OnOk result (dirs_of dirs.new.entries ≡ changed_at (dirs_of dirs.old.entries) dir.now (joined entry.now target.kind target.name)) }
-    ensures counters { OnOk result (counters.new ≡ counted counters.old (home_of target.name.maker target.name.own)) }
+    ensures counters { OnOk result (counters.new ≡ raised counters.old (home_of target.name.maker target.name.own) (target.name.n + 1)) }
     ensures same_dirs { OnErr result (dirs_of dirs.new.entries ≡ dirs_of dirs.old.entries) }
     ensures same_counters { OnErr result (counters.new ≡ counters.old) }
     ensures room { spare dirs.old ≤ spare dirs.new }
 {
     match dirs.get_mut(dir) {
-        None => return draw_alone(counters, target),
+        None => return count_alone(counters, target),
         Some(directory) => return list_in(directory, counters, entry, target),
     }
 }
 
-/// Draws the number of a name, which is the next of its home.
-fn draw_number(counters: &mut Counters, name: &Name) -> Result<(), NoMemory>
-    requires next { name.now.n ≡ count_in counters.old (home_of name.now.maker name.now.own) }
+/// Lets a name's home have made what has that name.
+fn count_name(counters: &mut Counters, name: &Name) -> Result<(), NoMemory>
     requires room { name.now.n < 65536 }
-    ensures ok { OnOk result (counters.new ≡ counted counters.old (home_of name.now.maker name.now.own)) }
+    ensures ok { OnOk result (counters.new ≡ raised counters.old (home_of name.now.maker name.now.own) (name.now.n + 1)) }
     ensures err { OnErr result (counters.new ≡ counters.old) }
 {
-    counters.draw(name.maker(), name.own(), name.n())
+    counters.raise(name.maker(), name.own(), name.n() + 1)
 }
 
-/// Draws a target's number, and lets the target go, for which there is no directory.
-fn draw_alone(counters: &mut Counters, target: Target) -> Result<(), NoMemory>
-    requires next { target.name.n ≡ count_in counters.old (home_of target.name.maker target.name.own) }
+/// Counts a target, and lets it go: there is no directory for it.
+fn count_alone(counters: &mut Counters, target: Target) -> Result<(), NoMemory>
     requires room { target.name.n < 65536 }
-    ensures ok { OnOk result (counters.new ≡ counted counters.old (home_of target.name.maker target.name.own)) }
+    ensures ok { OnOk result (counters.new ≡ raised counters.old (home_of target.name.maker target.name.own) (target.name.n + 1)) }
     ensures err { OnErr result (counters.new ≡ counters.old) }
 {
-    draw_number(counters, &target.name)
+    count_name(counters, &target.name)
 }
 
 fn list_in(
@@ -507,18 +571,17 @@ fn list_in(
     entry: &[u8],
     target: Target,
 ) -> Result<(), NoMemory>
-    requires next { target.name.n ≡ count_in counters.old (home_of target.name.maker target.name.own) }
     requires room { target.name.n < 65536 }
     requires few { length (shown directory.old) < 4096 }
     requires fresh { lookup (text_eq entry.now) (shown directory.old) ≡ None }
     ensures entries { OnOk result (shown directory.new ≡ joined entry.now target.kind target.name (shown directory.old)) }
-    ensures counters { OnOk result (counters.new ≡ counted counters.old (home_of target.name.maker target.name.own)) }
+    ensures counters { OnOk result (counters.new ≡ raised counters.old (home_of target.name.maker target.name.own) (target.name.n + 1)) }
     ensures same_entries { OnErr result (shown directory.new ≡ shown directory.old) }
     ensures same_counters { OnErr result (counters.new ≡ counters.old) }
 {
     let entry = Vec::from_slice(target.name.allocator(), entry)?;
     directory.reserve()?;
-    draw_number(counters, &target.name)?;
+    count_name(counters, &target.name)?;
     directory.join(entry, target);
     Ok(())
 }

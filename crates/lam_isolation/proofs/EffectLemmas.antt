@@ -264,7 +264,7 @@ grown_both o xs ys c th e false s l a =
 abbrev pub shown : Option Made → World → World
 shown None w = w
 shown (Some (a_region l k d r xs)) w = w
-shown (Some (a_thing n slots)) w = record w { heap = record w.heap { slots = insert w.heap.slots n slots } }
+shown (Some (a_thing n thing slots)) w = record w { heap = record w.heap { slots = insert w.heap.slots n slots } }
 shown (Some (a_file n)) w = w
 shown (Some (a_dir n)) w = w
 shown (Some (a_pipe n)) w = w
@@ -273,7 +273,7 @@ shown (Some (a_thread t)) w = w
 abbrev pub IsNoThing : Option Made → Type 0
 IsNoThing None = Unit {0}
 IsNoThing (Some (a_region l k d r xs)) = Unit {0}
-IsNoThing (Some (a_thing n slots)) = ⊥
+IsNoThing (Some (a_thing n thing slots)) = ⊥
 IsNoThing (Some (a_file n)) = Unit {0}
 IsNoThing (Some (a_dir n)) = Unit {0}
 IsNoThing (Some (a_pipe n)) = Unit {0}
@@ -287,8 +287,8 @@ abbrev pub IsHidden : Label → Things → Effect → Option Made → Type 0
 IsHidden o h nothing m = IsNoThing m
 IsHidden o h takes_tag m = (flows public_label o ≡ false) × IsNoThing m
 IsHidden o h (sets_slot n at v) m = (flows n.own o ≡ false) × IsNoThing m
-IsHidden o h (adds_thing home sort xs) m = (flows home.maker o ≡ false) × (m ≡ Some (a_thing (next_thing h home) xs))
-IsHidden o h (adds_copy n home) m = (flows home.maker o ≡ false) × (m ≡ Some (a_thing (next_thing h home) (slots_at h n)))
+IsHidden o h (adds_thing home sort xs) m = (flows home.maker o ≡ false) × ((thing : Value) × (m ≡ Some (a_thing (next_thing h home) thing xs)))
+IsHidden o h (adds_copy n home) m = (flows home.maker o ≡ false) × ((thing : Value) × (m ≡ Some (a_thing (next_thing h home) thing (slots_at h n))))
 IsHidden o h (takes_monitor n) m = (flows n.own o ≡ false) × IsNoThing m
 IsHidden o h (gives_back n) m = (flows n.own o ≡ false) × IsNoThing m
 IsHidden o h (drops ns) m = AllByRecursion (λ (n : Name). flows n.own o ≡ false) ns × IsNoThing m
@@ -305,7 +305,7 @@ IsHidden o h (adds_thread unit args caps) m = (flows public_label o ≡ false) �
 shown_none : (m : Option Made) (w : World) → IsNoThing m → w ≡ shown m w
 shown_none None w h = refl
 shown_none (Some (a_region l k d r xs)) w h = refl
-shown_none (Some (a_thing n slots)) w h = absurd h
+shown_none (Some (a_thing n thing slots)) w h = absurd h
 shown_none (Some (a_file n)) w h = refl
 shown_none (Some (a_dir n)) w h = refl
 shown_none (Some (a_pipe n)) w h = refl
@@ -320,10 +320,10 @@ hidden_shown o code t nothing w m h = unshown o w w m h (alike_refl o w)
 hidden_shown o code t takes_tag w m h = unshown o w _ m h.1 (with_tags o w w _ _ (alike_refl o w) (λ s. not_both (flows public_label o) h.0 s))
 hidden_shown o code t (sets_slot n at v) w m h = unshown o w _ m h.1 (with_heaps o w w _ _ (alike_refl o w) (heap_slot_kept o w.heap n at v h.0))
 hidden_shown o code t (adds_thing home sort xs) w m h =
-    subst (λ m. Alike o (effect_of code t (adds_thing home sort xs) w) (shown m w)) (sym h.1)
+    subst (λ m. Alike o (effect_of code t (adds_thing home sort xs) w) (shown m w)) (sym h.1.1)
     (with_heaps o w w _ _ (alike_refl o w) (record { slots = λ n s. refl; counts = same_sym home_total home_exact (maker_seen o) w.heap.counts _ (counted_kept o w.heap.counts home h.0) }))
 hidden_shown o code t (adds_copy n home) w m h =
-    subst (λ m. Alike o (effect_of code t (adds_copy n home) w) (shown m w)) (sym h.1)
+    subst (λ m. Alike o (effect_of code t (adds_copy n home) w) (shown m w)) (sym h.1.1)
     (with_heaps o w w _ _ (alike_refl o w) (record { slots = λ n s. refl; counts = same_sym home_total home_exact (maker_seen o) w.heap.counts _ (counted_kept o w.heap.counts home h.0) }))
 hidden_shown o code t (takes_monitor n) w m h = unshown o w _ m h.1 (with_monitors o w w _ _ (alike_refl o w) (name_kept o w.monitors _ n _ h.0 (entered_point w.monitors n t)))
 hidden_shown o code t (gives_back n) w m h = unshown o w _ m h.1 (with_monitors o w w _ _ (alike_refl o w) (left_kept o w.monitors n t h.0))
@@ -352,7 +352,7 @@ hidden_shown o code t (adds_thread unit args caps) w m h =
 pub shown_same : (o : Label) (m : Option Made) (w u : World) → Alike o w u → Alike o (shown m w) (shown m u)
 shown_same o None w u a = a
 shown_same o (Some (a_region l k d r xs)) w u a = a
-shown_same o (Some (a_thing n slots)) w u a = with_heaps o w u _ _ a (record { slots = insert_same o w.heap.slots u.heap.slots n slots a.heap.slots; counts = a.heap.counts })
+shown_same o (Some (a_thing n thing slots)) w u a = with_heaps o w u _ _ a (record { slots = insert_same o w.heap.slots u.heap.slots n slots a.heap.slots; counts = a.heap.counts })
 shown_same o (Some (a_file n)) w u a = a
 shown_same o (Some (a_dir n)) w u a = a
 shown_same o (Some (a_pipe n)) w u a = a
@@ -362,7 +362,7 @@ shown_same o (Some (a_thread t)) w u a = a
 pub shown_kept : (o : Label) (m : Option Made) (w : World) → shows o m ≡ false → Alike o (shown m w) w
 shown_kept o None w h = alike_refl o w
 shown_kept o (Some (a_region l k d r xs)) w h = alike_refl o w
-shown_kept o (Some (a_thing n slots)) w h = alike_sym o w _ (with_heaps o w w w.heap _ (alike_refl o w) (record { slots = insert_kept o w.heap.slots n slots h; counts = λ q s. refl }))
+shown_kept o (Some (a_thing n thing slots)) w h = alike_sym o w _ (with_heaps o w w w.heap _ (alike_refl o w) (record { slots = insert_kept o w.heap.slots n slots h; counts = λ q s. refl }))
 shown_kept o (Some (a_file n)) w h = alike_refl o w
 shown_kept o (Some (a_dir n)) w h = alike_refl o w
 shown_kept o (Some (a_pipe n)) w h = alike_refl o w

@@ -140,7 +140,7 @@ done_proper w c a e own open_e hid = record { fits = tt; own = own; above = λ x
 gives_proper : (w : World) (c : Context) (a : Ask) (v : Value) (e : Effect) → ((o : Label) → IsOpen o e) → (IsSafe c → may_ask c a ≡ true → (o : Label) → flows c.label o ≡ false → IsHidden o w.heap e None) → IsProper w c a (gives v e)
 gives_proper w c a v e open_e hid = record { fits = tt; own = tt; above = λ x. refl; openly = λ o s. open_e o; hidden = hid }
 
-creates_proper : (w : World) (c : Context) (a : Ask) (home : Home) (slots : List Value) (refer : Name → Value) (e : Effect) → (may_release a ≡ false → flows c.label home.own ≡ true) → ((o : Label) → flows c.label o ≡ true → IsOpen o e) → ((o : Label) → flows c.label o ≡ false → IsHidden o w.heap e (Some (a_thing (name_of home (count_in w.heap.counts home)) slots))) → IsProper w c a (creates w home slots refer e)
+creates_proper : (w : World) (c : Context) (a : Ask) (home : Home) (slots : List Value) (refer : Name → Value) (e : Effect) → (may_release a ≡ false → flows c.label home.own ≡ true) → ((o : Label) → flows c.label o ≡ true → IsOpen o e) → ((o : Label) → flows c.label o ≡ false → IsHidden o w.heap e (Some (a_thing (name_of home (count_in w.heap.counts home)) (refer (name_of home (count_in w.heap.counts home))) slots))) → IsProper w c a (creates w home slots refer e)
 creates_proper w c a home slots refer e above openly hid =
     faulted w c a _ _ (record { fits = tt; own = tt; above = λ x. up c.label home.own (above x); openly = openly; hidden = λ s may. hid })
 
@@ -164,11 +164,11 @@ served_proper w c (Write r at v) =
     referred w c (Write r at v) r _ (λ n e. ruled w c (Write r at v) _ _ (λ t.
     done_proper w c (Write r at v) (sets_slot n at v) tt (λ o. tt) (λ s may o hid. (hidden_up c.label n.own o (write_passes c.label n.own t) hid, tt))))
 served_proper w c (New shape) =
-    creates_proper w c (New shape) (home_of c.label c.label) (slots_of shape) (reference shape) (adds_thing (home_of c.label c.label) (sort_of shape) (slots_of shape)) (λ x. flows_refl c.label) (λ o s. s) (λ o hid. (hid, refl))
+    creates_proper w c (New shape) (home_of c.label c.label) (slots_of shape) (reference shape) (adds_thing (home_of c.label c.label) (sort_of shape) (slots_of shape)) (λ x. flows_refl c.label) (λ o s. s) (λ o hid. (hid, (_, refl)))
 served_proper w c (CopyTo r l) =
     referred w c (CopyTo r l) r _ (λ n e. ruled w c (CopyTo r l) _ _ (λ t.
     creates_proper w c (CopyTo r l) (home_of c.label l) (slots_at w.heap n) (renamed r) (adds_copy n (home_of c.label l)) (λ x. true_is x)
-    (λ o s. (s, flows_trans n.own c.label o (read_passes c.label n.own (each_passes (read_test c.label n.own) (change_test c.caps n.own l ++ change_test c.caps c.label l) t).0) s)) (λ o hid. (hid, refl))))
+    (λ o s. (s, flows_trans n.own c.label o (read_passes c.label n.own (each_passes (read_test c.label n.own) (change_test c.caps n.own l ++ change_test c.caps c.label l) t).0) s)) (λ o hid. (hid, (_, refl)))))
 served_proper w c Mint =
     ruled w c Mint _ _ (λ t. faulted w c Mint _ _ (gives_proper w c Mint _ takes_tag (λ o. tt) (λ s may o hid. (public_hidden c.label o (mint_passes c.label t) hid, tt))))
 served_proper w c (Enter l k region args) =

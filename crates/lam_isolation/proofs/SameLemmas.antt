@@ -57,7 +57,7 @@ same_seen o p x s e = ap (λ l. flows l o) (same_passes p x e) ∙ s
 
 -- deeds by the numbers that they hang on
 abbrev created : Home → (Name → Value) → Effect → ℕ → List Value → Deed
-created home refer e k slots = unless (full k 1048576 HomeFull) (makes (refer (name_of home k)) e (a_thing (name_of home k) slots))
+created home refer e k slots = unless (full k 1048576 HomeFull) (makes (refer (name_of home k)) e (a_thing (name_of home k) (refer (name_of home k)) slots))
 
 abbrev fault_by : Option Entries → ℕ → List ℕ → Option FileFault
 fault_by x k text =

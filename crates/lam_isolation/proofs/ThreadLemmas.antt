@@ -182,7 +182,7 @@ KeepsOwn l a (Failed f) = Unit {0}
 abbrev pub NoRegion : Option Made → Type 0
 NoRegion None = Unit {0}
 NoRegion (Some (a_region l k d r xs)) = ⊥
-NoRegion (Some (a_thing n slots)) = Unit {0}
+NoRegion (Some (a_thing n thing slots)) = Unit {0}
 NoRegion (Some (a_file n)) = Unit {0}
 NoRegion (Some (a_dir n)) = Unit {0}
 NoRegion (Some (a_pipe n)) = Unit {0}
@@ -224,7 +224,7 @@ region_of code l k d r vs =
 abbrev pub new_contexts : CodeTree → Option Made → List Context
 new_contexts code None = []
 new_contexts code (Some (a_region l k d r xs)) = region_of code l k d r xs ∷ []
-new_contexts code (Some (a_thing n slots)) = []
+new_contexts code (Some (a_thing n thing slots)) = []
 new_contexts code (Some (a_file n)) = []
 new_contexts code (Some (a_dir n)) = []
 new_contexts code (Some (a_pipe n)) = []
@@ -233,7 +233,7 @@ new_contexts code (Some (a_thread t)) = []
 no_contexts : (code : CodeTree) (m : Option Made) → NoRegion m → [] ≡ new_contexts code m
 no_contexts code None h = refl
 no_contexts code (Some (a_region l k d r xs)) h = absurd h
-no_contexts code (Some (a_thing n slots)) h = refl
+no_contexts code (Some (a_thing n thing slots)) h = refl
 no_contexts code (Some (a_file n)) h = refl
 no_contexts code (Some (a_dir n)) h = refl
 no_contexts code (Some (a_pipe n)) h = refl

@@ -198,7 +198,7 @@ unnoted false b e = (refl, e)
 new_unseen : (o : Label) (code : CodeTree) (m : Option Made) → shows o m ≡ false → filter (is_seen o) (new_contexts code m) ≡ []
 new_unseen o code None h = refl
 new_unseen o code (Some (a_region l k d r xs)) h = ap (λ b. cond b (new_contexts code (Some (a_region l k d r xs))) []) h
-new_unseen o code (Some (a_thing n slots)) h = refl
+new_unseen o code (Some (a_thing n thing slots)) h = refl
 new_unseen o code (Some (a_file n)) h = refl
 new_unseen o code (Some (a_dir n)) h = refl
 new_unseen o code (Some (a_pipe n)) h = refl

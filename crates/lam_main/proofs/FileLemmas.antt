@@ -1,17 +1,22 @@
 -- What a command answers after it read its file, or did not.
-use Rattle.std.proofs.Common.{◌≡◌, ◌⊎◌, inl, inr, ℕ, Option, None, Result, Ok, Err, IsOk, IfErr, String, refl, sym, subst}
+use Rattle.std.proofs.Common.{◌≡◌, ◌⊎◌, inl, inr, ℕ, Option, None, Result, Ok, Err, IsOk, IfErr, String, refl, sym, ap, subst, ◌∙◌}
 use Rattle.std.specs.declared.alloc.Global.{Global}
 use Rattle.std.specs.Prelude.{Vec}
 use Rattle.lam_io.specs.Outside.{Files, AllStay}
 use Rattle.lam_front.specs.declared.fault.ProgramFault.{ProgramFault}
 use Rattle.lam_front.specs.declared.fault.ProgramFault.TheVariants.{NotUtf8, At, NoMemory as no_memory_of_it}
-use Rattle.lam_front.specs.Programs.{IsMisspelt, IsBroken}
+use Rattle.lam_front.specs.Programs.{IsMisspelt, IsFine, IsBroken}
+use Rattle.lam_syntax.specs.Tree.{ProgramTree}
+use Rattle.lam_bytecode.specs.Codes.{CodeTree}
+use Rattle.barrier_compiler.specs.Compiled.{IsCompiledTo}
+use Rattle.barrier_emit.specs.declared.CompileFault.{CompileFault}
+use Rattle.barrier_emit.specs.declared.CompileFault.TheVariants.{CodeTooLong as too_long_code, NoMemory as no_memory_for_code}
 use Rattle.lam_words.specs.Words.{Text, Request}
-use Rattle.lam_plan.specs.Plan.{Plan, WithFile, unread, of_file, Formats, misspelt, Checks, broken, IsPlanOf, no_word}
+use Rattle.lam_plan.specs.Plan.{Plan, WithFile, unread, of_file, Formats, misspelt, Compiles, IsCompiled, fine, broken, IsPlanOf, no_word}
 use Rattle.lam_main.specs.declared.halt.Halt.{Halt}
 use Rattle.lam_main.specs.declared.halt.Halt.TheVariants.{Refused, NoMemory, ShelfFailed}
 use Rattle.lam_main.specs.declared.halt.Refusal.TheVariants.{Word}
-use Rattle.lam_main.specs.Halts.{halt_of, Says, Gives, IsRead}
+use Rattle.lam_main.specs.Halts.{halt_of, halt_of_code, Says, Gives, IsRead}
 
 module _ (found : Option Text) (name : Text) (limit : ℕ) (IsOf : Text → Plan → Type 0) (old new : Files) where
   pub from_file : (bytes : Vec ℕ Global) (answer : Result (String Global) Halt) → IsRead (Ok bytes) found name limit → AllStay old new → Says answer (IsOf bytes.items) → Gives answer (WithFile found name limit IsOf) old new
@@ -38,16 +43,23 @@ misspelt_says bytes NotUtf8 m = misspelt NotUtf8 m refl
 misspelt_says bytes (At flaw at) m = misspelt (At flaw at) m refl
 misspelt_says bytes no_memory_of_it m = tt
 
-broken_says : (bytes : Text) (f : ProgramFault) → IsBroken bytes f → Says (Err (halt_of f)) (Checks bytes)
-broken_says bytes NotUtf8 m = broken NotUtf8 m refl
-broken_says bytes (At flaw at) m = broken (At flaw at) m refl
-broken_says bytes no_memory_of_it m = tt
+broken_says : (shown : CodeTree → Text) (bytes : Text) (f : ProgramFault) → IsBroken bytes f → Says (Err (halt_of f)) (Compiles shown bytes)
+broken_says shown bytes NotUtf8 m = broken NotUtf8 m refl
+broken_says shown bytes (At flaw at) m = broken (At flaw at) m refl
+broken_says shown bytes no_memory_of_it m = tt
 
 pub not_formatted : (bytes : Text) (f : ProgramFault) (halt : Halt) → (f ≡ no_memory_of_it) ⊎ IsMisspelt bytes f → halt ≡ halt_of f → Says (Err halt) (Formats bytes)
 not_formatted bytes f halt h is = says_of (Formats bytes) f halt is (elim h [ inl e ↦ without_memory (Formats bytes) f e | inr m ↦ misspelt_says bytes f m ])
 
-pub not_checked : (bytes : Text) (f : ProgramFault) (halt : Halt) → (f ≡ no_memory_of_it) ⊎ IsBroken bytes f → halt ≡ halt_of f → Says (Err halt) (Checks bytes)
-not_checked bytes f halt h is = says_of (Checks bytes) f halt is (elim h [ inl e ↦ without_memory (Checks bytes) f e | inr m ↦ broken_says bytes f m ])
+pub not_checked : (shown : CodeTree → Text) (bytes : Text) (f : ProgramFault) (halt : Halt) → (f ≡ no_memory_of_it) ⊎ IsBroken bytes f → halt ≡ halt_of f → Says (Err halt) (Compiles shown bytes)
+not_checked shown bytes f halt h is = says_of (Compiles shown bytes) f halt is (elim h [ inl e ↦ without_memory (Compiles shown bytes) f e | inr m ↦ broken_says shown bytes f m ])
+
+pub not_compiled : (shown : CodeTree → Text) (bytes : Text) (p : ProgramTree) (f : CompileFault) (halt : Halt) → IsFine bytes p → (f ≡ no_memory_for_code) ⊎ ((unit : ℕ) × (f ≡ too_long_code unit) × IsCompiledTo p (Err unit)) → halt ≡ halt_of_code f → Says (Err halt) (Compiles shown bytes)
+not_compiled shown bytes p f halt is_fine h is =
+    elim h [
+      | inl e ↦ subst (λ (x : Halt). Says (Err x) (Compiles shown bytes)) (sym (is ∙ ap halt_of_code e)) tt
+      | inr m ↦ subst (λ (x : Halt). Says (Err x) (Compiles shown bytes)) (sym (is ∙ ap halt_of_code m.1)) (fine (Err m.0) (record { program = p; fine = is_fine; makes = m.2 }) refl)
+    ]
 
 -- ---- words that are in no form
 

@@ -4,13 +4,15 @@ use Rattle.std.specs.declared.alloc.Global.{Global}
 use Rattle.lam_io.specs.Outside.{Files, AllStay, Took}
 use Rattle.lam_front.specs.declared.fault.ProgramFault.{ProgramFault}
 use Rattle.lam_front.specs.declared.fault.ProgramFault.TheVariants.{NotUtf8 as no_utf8, At, NoMemory as no_memory_of_it}
+use Rattle.barrier_emit.specs.declared.CompileFault.{CompileFault}
+use Rattle.barrier_emit.specs.declared.CompileFault.TheVariants.{CodeTooLong as too_long_code, NoMemory as no_memory_for_code}
 use Rattle.lam_words.specs.Words.{Text}
 use Rattle.lam_plan.specs.declared.Status.{Status}
 use Rattle.lam_plan.specs.declared.Status.TheVariants.{Done, NoMemory as ended_without_memory, ShelfFault}
-use Rattle.lam_plan.specs.Plan.{Plan, prints, no_word, no_script, no_program, absent, too_long, IsUnread}
+use Rattle.lam_plan.specs.Plan.{Plan, prints, no_word, no_script, no_program, no_code, absent, too_long, IsUnread}
 use Rattle.lam_plan.specs.Answer.{IsPrinted, IsWritten}
 use Rattle.lam_main.specs.declared.halt.Refusal.{Refusal}
-use Rattle.lam_main.specs.declared.halt.Refusal.TheVariants.{Word, Script, NotUtf8, Flawed, Absent, TooLong}
+use Rattle.lam_main.specs.declared.halt.Refusal.TheVariants.{Word, Script, NotUtf8, Flawed, CodeTooLong, Absent, TooLong}
 use Rattle.lam_main.specs.declared.halt.Halt.{Halt}
 use Rattle.lam_main.specs.declared.halt.Halt.TheVariants.{Refused, NoMemory, ShelfFailed}
 
@@ -20,6 +22,7 @@ refuses (Word index) = no_word index
 refuses (Script number) = no_script number
 refuses NotUtf8 = no_program no_utf8
 refuses (Flawed flaw at) = no_program (At flaw at)
+refuses (CodeTooLong unit) = no_code unit
 refuses (Absent name) = absent (string_bytes name)
 refuses (TooLong name) = too_long (string_bytes name)
 
@@ -28,6 +31,11 @@ abbrev pub halt_of : ProgramFault → Halt
 halt_of no_utf8 = Refused NotUtf8
 halt_of (At flaw at) = Refused (Flawed flaw at)
 halt_of no_memory_of_it = NoMemory
+
+-- and of the compiler's
+abbrev pub halt_of_code : CompileFault → Halt
+halt_of_code (too_long_code unit) = Refused (CodeTooLong unit)
+halt_of_code no_memory_for_code = NoMemory
 
 -- a text or a refusal that is planned, where no file is looked at; want of memory and a fault of the shelf are never
 -- planned

@@ -1,9 +1,10 @@
 //! Why a call does not print the text of its command.
 
 ghost use Rattle.std.specs.Prelude.{◌≡◌};
-ghost use Rattle.lam_main.specs.Halts.{halt_of};
+ghost use Rattle.lam_main.specs.Halts.{halt_of, halt_of_code};
 ghost use Rattle.lam_main.specs.declared.halt.Halt.TheVariants.{NoMemory as no_memory};
 
+use barrier_compiler::CompileFault;
 use lam_front::{Flaw, ProgramFault};
 use std::alloc::AllocError;
 use tag_sets::NoMemory;
@@ -19,6 +20,8 @@ pub(crate) enum Refusal {
     NotUtf8,
     /// The program's first fault, and its position.
     Flawed { flaw: Flaw, at: u64 },
+    /// The program's unit of this number is the first that is too long.
+    CodeTooLong(u32),
     /// There is no file of this name.
     Absent(String),
     /// The file of this name is longer than its limit.
@@ -60,6 +63,17 @@ impl From<ProgramFault> for Halt {
             ProgramFault::NotUtf8 => Halt::Refused(Refusal::NotUtf8),
             ProgramFault::At { flaw, at } => Halt::Refused(Refusal::Flawed { flaw, at }),
             ProgramFault::NoMemory => Halt::NoMemory,
+        }
+    }
+}
+
+impl From<CompileFault> for Halt {
+    ghost from_gives = { λ f e. e ≡ halt_of_code f };
+
+    fn from(fault: CompileFault) -> Halt {
+        match fault {
+            CompileFault::CodeTooLong { unit } => Halt::Refused(Refusal::CodeTooLong(unit)),
+            CompileFault::NoMemory => Halt::NoMemory,
         }
     }
 }

@@ -26,12 +26,12 @@ ghost use Rattle.lam_main.specs.Lines.{ended};
 use crate::halt::{Halt, Refusal};
 use crate::play::play;
 use crate::print::{print_refusal, print_text};
-use crate::program::{check, format};
+use crate::program::{check, code, format};
 use lam_io::{Gate, Shelf, Sink, SinkFault};
 pub use lam_plan::Status;
 use lam_round_trip::laws::{canonical_text_is_read_as_the_tree, canonical_text_is_steady};
 use lam_spelt::laws::canonical_text_is_lexed;
-pub use lam_words::{Command, WordFault, read_words};
+pub use lam_words::{Command, WordFault, help_text, read_words};
 use play_run::scripts_are_isolated;
 use std::alloc::Global;
 use std::sync::Wait;
@@ -88,6 +88,8 @@ fn answer_of<H: Shelf>(alloc: Global, words: &[String], shelf: &mut H) -> Result
         Ok(Command::Play { file, obs }) => play(alloc, shelf, file, obs.as_str()),
         Ok(Command::Check { program }) => check(alloc, shelf, program),
         Ok(Command::Format { program }) => format(alloc, shelf, program),
+        Ok(Command::Code { program }) => code(alloc, shelf, program),
+        Ok(Command::Help) => Ok(help_text(alloc)?),
         Err(WordFault::Word { at }) => Err(Halt::Refused(Refusal::Word(at))),
         Err(WordFault::NoMemory) => Err(Halt::NoMemory),
     }

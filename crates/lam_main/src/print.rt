@@ -44,6 +44,10 @@ pub(crate) fn print_refusal<O: Sink>(out: &mut O, refusal: &Refusal) -> Result<S
                 &[flaw.name().as_bytes(), b" at ".as_slice(), at],
             )
         }
+        Refusal::CodeTooLong(unit) => {
+            let unit = digits.format(*unit).as_bytes();
+            print_line(out, Status::Program, &[b"CodeTooLong ".as_slice(), unit])
+        }
         Refusal::Absent(name) => {
             print_line(
                 out,

@@ -1,10 +1,16 @@
 -- Words and files have at most one plan.
-use Rattle.std.proofs.Common.{◌≡◌, ◌<◌, ◌≤◌, ℕ, length, Option, Some, None, Result, Ok, Err, sym, ap, subst, ◌∙◌, arith}
+use Rattle.std.proofs.Common.{◌≡◌, ◌<◌, ◌≤◌, ℕ, length, Option, Some, None, Result, Ok, Err, codes, sym, ap, subst, ◌∙◌, arith}
 use Rattle.lam_io.specs.Outside.{Files}
 use Rattle.lam_print.specs.Canon.{canon}
 use Rattle.lam_front.proofs.Once.{one_spelt, spelt_or_misspelt, one_misspelt, fine_or_broken, one_broken}
-use Rattle.lam_words.specs.Words.{Text, Request, play, check, format, request_of}
-use Rattle.lam_plan.specs.Plan.{Plan, prints, no_program, IsUnread, IsOfFile, WithFile, unread, of_file, Plays, Formats, canonical, misspelt, Checks, fine, broken, IsPlanOf, PlansAreOne, script_limit, program_limit}
+use Rattle.lam_syntax.specs.Tree.{ProgramTree}
+use Rattle.barrier_compiler.specs.Compiled.{IsCompiledTo}
+use Rattle.barrier_compiler.proofs.Once.{one_compiled}
+use Rattle.lam_bytecode.specs.Codes.{CodeTree}
+use Rattle.lam_bytecode.specs.Listing.{listing_text}
+use Rattle.lam_front.specs.Programs.{IsFine}
+use Rattle.lam_words.specs.Words.{Text, Request, play, check, format, code, help, request_of}
+use Rattle.lam_plan.specs.Plan.{Plan, prints, no_program, IsUnread, IsOfFile, WithFile, unread, of_file, Plays, Formats, canonical, misspelt, Compiles, fine, broken, IsCompiled, by_code, Checks, Lists, IsPlanOf, PlansAreOne, script_limit, program_limit}
 
 one_unread : (found : Option Text) (name : Text) (limit : ℕ) (p q : Plan) → IsUnread found name limit p → IsUnread found name limit q → p ≡ q
 one_unread None name limit p q h k = h ∙ sym k
@@ -41,17 +47,25 @@ one_formats bytes p q (canonical t s e) (misspelt f m d) = absurd (spelt_or_miss
 one_formats bytes p q (misspelt f m e) (canonical t s d) = absurd (spelt_or_misspelt bytes t f s m)
 one_formats bytes p q (misspelt f m e) (misspelt g n d) = e ∙ ap no_program (one_misspelt bytes f g m n) ∙ sym d
 
-one_checks : (bytes : Text) (p q : Plan) → Checks bytes p → Checks bytes q → p ≡ q
-one_checks bytes p q (fine t s e) (fine u r d) = e ∙ sym d
-one_checks bytes p q (fine t s e) (broken f m d) = absurd (fine_or_broken bytes t f s m)
-one_checks bytes p q (broken f m e) (fine t s d) = absurd (fine_or_broken bytes t f s m)
-one_checks bytes p q (broken f m e) (broken g n d) = e ∙ ap no_program (one_broken bytes f g m n) ∙ sym d
+one_fine : (bytes : Text) (p q : ProgramTree) → IsFine bytes p → IsFine bytes q → p ≡ q
+one_fine bytes p q h k = one_spelt bytes p q h.spelt k.spelt
+
+one_made : (bytes : Text) (m n : Result CodeTree ℕ) → IsCompiled bytes m → IsCompiled bytes n → m ≡ n
+one_made bytes m n h k = one_compiled k.program m n (subst (λ p. IsCompiledTo p m) (one_fine bytes h.program k.program h.fine k.fine) h.makes) k.makes
+
+one_compiles : (shown : CodeTree → Text) (bytes : Text) (p q : Plan) → Compiles shown bytes p → Compiles shown bytes q → p ≡ q
+one_compiles shown bytes p q (fine m c e) (fine n d i) = e ∙ ap (λ x. by_code x shown) (one_made bytes m n c d) ∙ sym i
+one_compiles shown bytes p q (fine m c e) (broken f b i) = absurd (fine_or_broken bytes c.program f c.fine b)
+one_compiles shown bytes p q (broken f b e) (fine m c i) = absurd (fine_or_broken bytes c.program f c.fine b)
+one_compiles shown bytes p q (broken f b e) (broken g d i) = e ∙ ap no_program (one_broken bytes f g b d) ∙ sym i
 
 one_plan_of : (r : Result Request ℕ) (files : Files) (p q : Plan) → IsPlanOf r files p → IsPlanOf r files q → p ≡ q
 one_plan_of (Err index) files p q h k = h ∙ sym k
 one_plan_of (Ok (play file observer)) files p q h k = one_with_file (files file) file script_limit (Plays observer) (one_plays observer) p q h k
-one_plan_of (Ok (check file)) files p q h k = one_with_file (files file) file program_limit Checks one_checks p q h k
+one_plan_of (Ok (check file)) files p q h k = one_with_file (files file) file program_limit Checks (one_compiles (λ tree. codes "ok\n")) p q h k
 one_plan_of (Ok (format file)) files p q h k = one_with_file (files file) file program_limit Formats one_formats p q h k
+one_plan_of (Ok (code file)) files p q h k = one_with_file (files file) file program_limit Lists (one_compiles listing_text) p q h k
+one_plan_of (Ok help) files p q h k = h ∙ sym k
 
 pub plans_are_one : PlansAreOne
 plans_are_one ws files p q none h k = one_plan_of (request_of ws) files p q h k

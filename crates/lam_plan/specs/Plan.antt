@@ -18,10 +18,13 @@ use Rattle.lam_front.specs.declared.fault.ProgramFault.{ProgramFault}
 use Rattle.lam_front.specs.declared.fault.ProgramFault.TheVariants.{NotUtf8, At, NoMemory as no_memory}
 use Rattle.lam_front.specs.Faults.{flaw_name}
 use Rattle.lam_front.specs.Programs.{IsSpelt, IsMisspelt, IsFine, IsBroken}
+use Rattle.lam_bytecode.specs.Codes.{CodeTree}
+use Rattle.lam_bytecode.specs.Listing.{listing_text}
+use Rattle.barrier_compiler.specs.Compiled.{IsCompiledTo}
 use Rattle.lam_plan.specs.declared.Status.{Status}
 use Rattle.lam_plan.specs.declared.Status.TheVariants.{Done, NoMemory, Words, Program, Missing}
 use Rattle.lam_plan.specs.Codes.{code_of}
-use Rattle.lam_words.specs.Words.{Text, Request, play, check, format, request_of}
+use Rattle.lam_words.specs.Words.{Text, Request, play, check, format, code, help, request_of, forms, help_lines}
 
 -- how a call ends, what it prints, and the file that it writes, if any, by its name and its bytes
 pub record Plan : Type 0 where
@@ -97,17 +100,43 @@ played (Err line) observer = no_script line
 abbrev pub Plays : Text → Text → Plan → Type 0
 Plays observer bytes plan = plan ≡ played (read_script bytes) observer
 
--- ---- `format` and `check`
+-- ---- `format`
 
 -- the canonical text of the program that the bytes spell, or their first fault
 pub data Formats (bytes : Text) (plan : Plan) : Type 0 where
   canonical : (p : ProgramTree) → IsSpelt bytes p → plan ≡ prints (canon p) → Formats bytes plan
   misspelt : (f : ProgramFault) → IsMisspelt bytes f → plan ≡ no_program f → Formats bytes plan
 
--- `ok` where the bytes spell a program that keeps the type rules and the region rules, or their first fault
-pub data Checks (bytes : Text) (plan : Plan) : Type 0 where
-  fine : (p : ProgramTree) → IsFine bytes p → plan ≡ prints (codes "ok\n") → Checks bytes plan
-  broken : (f : ProgramFault) → IsBroken bytes f → plan ≡ no_program f → Checks bytes plan
+-- ---- `check` and `code`
+
+-- the bytes spell a program that keeps the type rules and the region rules, and this is what it is compiled to: its
+-- code, or the number of its first unit that is too long
+pub record IsCompiled (bytes : Text) (made : Result CodeTree ℕ) : Type 0 where
+  pub program : ProgramTree
+  pub fine : IsFine bytes program
+  pub makes : IsCompiledTo program made
+
+-- a unit that is too long
+abbrev pub no_code : ℕ → Plan
+no_code unit = refused Program (codes "CodeTooLong " ∷ decimal unit ∷ [])
+
+-- the plan of what a program is compiled to
+abbrev pub by_code : Result CodeTree ℕ → (CodeTree → Text) → Plan
+by_code (Ok tree) shown = prints (shown tree)
+by_code (Err unit) shown = no_code unit
+
+-- a text of the code of the program that the bytes spell, its first unit that is too long, or the bytes' first fault
+pub data Compiles (shown : CodeTree → Text) (bytes : Text) (plan : Plan) : Type 0 where
+  fine : (made : Result CodeTree ℕ) → IsCompiled bytes made → plan ≡ by_code made shown → Compiles shown bytes plan
+  broken : (f : ProgramFault) → IsBroken bytes f → plan ≡ no_program f → Compiles shown bytes plan
+
+-- `ok`, where there is code
+abbrev pub Checks : Text → Plan → Type 0
+Checks bytes plan = Compiles (λ tree. codes "ok\n") bytes plan
+
+-- the listing of the code
+abbrev pub Lists : Text → Plan → Type 0
+Lists bytes plan = Compiles listing_text bytes plan
 
 -- ---- every command
 
@@ -116,6 +145,8 @@ IsPlanOf (Err index) files plan = plan ≡ no_word index
 IsPlanOf (Ok (play file observer)) files plan = WithFile (files file) file script_limit (Plays observer) plan
 IsPlanOf (Ok (check file)) files plan = WithFile (files file) file program_limit Checks plan
 IsPlanOf (Ok (format file)) files plan = WithFile (files file) file program_limit Formats plan
+IsPlanOf (Ok (code file)) files plan = WithFile (files file) file program_limit Lists plan
+IsPlanOf (Ok help) files plan = plan ≡ prints (help_lines forms)
 
 -- the plan of words and files, in the order of reading: words, file, and then what the file is read for
 abbrev pub IsPlan : List Text → Files → Plan → Type 0

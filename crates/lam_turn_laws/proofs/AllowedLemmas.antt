@@ -20,7 +20,7 @@ use Rattle.thread_steps.specs.Threads.{Context, Thread}
 use Rattle.thread_steps.specs.Next.{Next, goes, asks, stuck, next_of}
 use Rattle.lam_worlds.specs.Worlds.{World, contexts_in}
 use Rattle.lam_worlds.specs.Deeds.{Made, a_region, a_thing, made_label, Deed}
-use Rattle.lam_worlds.specs.Serving.{serve}
+use Rattle.lam_worlds.specs.Serving.{renamed, serve}
 use Rattle.lam_worlds.specs.Turns.{is_ready, Moment, served, turn_by}
 use Rattle.lam_worlds.specs.Views.{goes_down, is_release, used_by}
 use Rattle.lam_isolation.proofs.FlowLemmas.{each_passes}
@@ -83,7 +83,7 @@ copy_fair w c r l =
     let a = each_passes (read_test c.label n.own) (change_test c.caps n.own l ++ change_test c.caps c.label l) t in
     let b = each_passes (change_test c.caps n.own l) (change_test c.caps c.label l) a.1 in
     let home = home_of c.label l in
-    unless_by (Fair c) _ _ (λ m q. fair c (a_thing (name_of home (count_in w.heap.counts home)) (slots_at w.heap n)) m b.1 q) (λ f m q. none_made m q))
+    unless_by (Fair c) _ _ (λ m q. fair c (a_thing (name_of home (count_in w.heap.counts home)) (renamed r (name_of home (count_in w.heap.counts home))) (slots_at w.heap n)) m b.1 q) (λ f m q. none_made m q))
     (λ x m q. none_made m q))
     (λ f m q. none_made m q)
 

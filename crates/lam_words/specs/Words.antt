@@ -1,15 +1,15 @@
 -- The forms of the words, as a table, and what each asks.
 -- Examples stand at the end.
-use Rattle.std.specs.Prelude.{◌≡◌, ℕ, ◌+◌, Bool, ◌&&◌, if◌then◌else◌, nat_eq, nat_lt, List, [], ◌∷◌, length, Option, Some, None, Result, Ok, Err, IsOk, codes, is_none, find, fold, max, slice_get, unwrap_or, string_bytes, refl}
+use Rattle.std.specs.Prelude.{◌≡◌, ℕ, ◌+◌, Bool, ◌&&◌, if◌then◌else◌, nat_eq, nat_lt, List, [], ◌∷◌, ◌++◌, length, Option, Some, None, Result, Ok, Err, IsOk, codes, is_none, find, fold, max, slice_get, unwrap_or, string_bytes, refl}
 use Rattle.std.specs.Str.{bytes_eq}
 use Rattle.flow_labels.specs.Reading.{bad_place}
 use Rattle.flow_labels.specs.declared.two_lists.Form.TheVariants.{Label}
 use Rattle.lam_words.specs.declared.Kind.{Kind}
 use Rattle.lam_words.specs.declared.Kind.TheVariants.{Name, File, Observer}
 use Rattle.lam_words.specs.declared.Form.{Form}
-use Rattle.lam_words.specs.declared.Form.TheVariants.{Play as play_form, Check as check_form, Format as format_form}
+use Rattle.lam_words.specs.declared.Form.TheVariants.{Play as play_form, Check as check_form, Format as format_form, Code as code_form, Help as help_form}
 use Rattle.lam_words.specs.declared.Command.{Command}
-use Rattle.lam_words.specs.declared.Command.TheVariants.{Play, Check, Format}
+use Rattle.lam_words.specs.declared.Command.TheVariants.{Play, Check, Format, Code, Help}
 use Rattle.lam_words.specs.declared.WordFault.{WordFault}
 use Rattle.lam_words.specs.declared.WordFault.TheVariants.{Word, NoMemory}
 
@@ -21,6 +21,21 @@ abbrev pub name : Form → Text
 name play_form = codes "play"
 name check_form = codes "check"
 name format_form = codes "format"
+name code_form = codes "code"
+name help_form = codes "help"
+
+-- a form as a reader of the help text sees it
+abbrev pub shown : Form → Text
+shown play_form = codes "play FILE OBS"
+shown check_form = codes "check P"
+shown format_form = codes "format P"
+shown code_form = codes "code P"
+shown help_form = codes "help"
+
+-- a line for each form
+abbrev pub help_lines : List Form → Text
+help_lines [] = []
+help_lines (form ∷ forms) = codes "lam " ++ shown form ++ codes "\n" ++ help_lines forms
 
 -- a word of a form: its command's name, a file's name, which is any word that is not empty, or a label's text
 abbrev pub fits : Kind → Text → Bool
@@ -33,9 +48,11 @@ abbrev pub kinds : Form → List Kind
 kinds play_form = Name play_form ∷ File ∷ Observer ∷ []
 kinds check_form = Name check_form ∷ File ∷ []
 kinds format_form = Name format_form ∷ File ∷ []
+kinds code_form = Name code_form ∷ File ∷ []
+kinds help_form = Name help_form ∷ []
 
 abbrev pub forms : List Form
-forms = play_form ∷ check_form ∷ format_form ∷ []
+forms = play_form ∷ check_form ∷ format_form ∷ code_form ∷ help_form ∷ []
 
 -- with how many first words the words of a form agree
 abbrev pub agreed : List Kind → List Text → ℕ
@@ -56,6 +73,8 @@ pub data Request : Type 0 where
   play : (file observer : Text) → Request
   check : (program : Text) → Request
   format : (program : Text) → Request
+  code : (program : Text) → Request
+  help : Request
 
 abbrev pub word : List Text → ℕ → Text
 word ws index = unwrap_or (slice_get ws index) []
@@ -64,6 +83,8 @@ abbrev pub requested : List Text → Form → Request
 requested ws play_form = play (word ws 1) (word ws 2)
 requested ws check_form = check (word ws 1)
 requested ws format_form = format (word ws 1)
+requested ws code_form = code (word ws 1)
+requested ws help_form = help
 
 abbrev pub request_in : List Text → Option Form → Result Request ℕ
 request_in ws None = Err (longest ws)
@@ -78,6 +99,8 @@ abbrev pub asked : Command → Request
 asked (Play file observer) = play (string_bytes file) (string_bytes observer)
 asked (Check program) = check (string_bytes program)
 asked (Format program) = format (string_bytes program)
+asked (Code program) = code (string_bytes program)
+asked Help = help
 
 -- What reading words answers: a command that asks what they ask, or the index at which they are in no form.
 -- Memory can run out only where they are in a form.
@@ -104,6 +127,13 @@ words_of_check = refl
 
 word_too_many_of_format : request_of (codes "format" ∷ codes "p" ∷ codes "x" ∷ []) ≡ Err 2
 word_too_many_of_format = refl
+
+word_too_many_of_help : request_of (codes "help" ∷ codes "me" ∷ []) ≡ Err 1
+word_too_many_of_help = refl
+
+-- the help text
+text_of_help : help_lines forms ≡ codes "lam play FILE OBS\nlam check P\nlam format P\nlam code P\nlam help\n"
+text_of_help = refl
 
 -- an empty word fits nothing
 empty_word : request_of (codes "play" ∷ [] ∷ codes "{}/{}" ∷ []) ≡ Err 1

@@ -1,11 +1,11 @@
 //! The words of the command line: the forms that they may have, and the commands that they ask.
 //!
-//! The forms are a table, `Form::kinds`: a command adds a line to it, its name, and a case to [`read_words`]. Words that
+//! The forms are a table, `Form::kinds`: a command adds a line to it, its name, a line of [`help_text`], and a case to [`read_words`]. Words that
 //! are in no form are refused at the least index at which no form agrees with them.
 #![tactic(auto)]
 
-ghost use Rattle.std.specs.Prelude.{◌≡◌, ◌≤◌, length, map, find, string_bytes};
-ghost use Rattle.lam_words.specs.Words.{name, fits, kinds, forms, agreed, is_in, longest, word, request_of, Reads};
+ghost use Rattle.std.specs.Prelude.{◌≡◌, ◌≤◌, IfOk, length, map, find, string_bytes};
+ghost use Rattle.lam_words.specs.Words.{name, help_lines, fits, kinds, forms, agreed, is_in, longest, word, request_of, Reads};
 ghost use Rattle.lam_words.specs.declared.WordFault.TheVariants.{NoMemory as no_memory};
 
 use flow_labels::{Form as TwoLists, bad_place};
@@ -21,6 +21,10 @@ enum Form {
     Check,
     /// `format P`
     Format,
+    /// `code P`
+    Code,
+    /// `help`
+    Help,
 }
 
 impl Form {
@@ -32,6 +36,8 @@ impl Form {
             Form::Play => "play",
             Form::Check => "check",
             Form::Format => "format",
+            Form::Code => "code",
+            Form::Help => "help",
         }
     }
 
@@ -42,6 +48,8 @@ impl Form {
             Form::Play => &[Kind::Name(Form::Play), Kind::File, Kind::Observer],
             Form::Check => &[Kind::Name(Form::Check), Kind::File],
             Form::Format => &[Kind::Name(Form::Format), Kind::File],
+            Form::Code => &[Kind::Name(Form::Code), Kind::File],
+            Form::Help => &[Kind::Name(Form::Help)],
         }
     }
 }
@@ -72,7 +80,13 @@ impl Kind {
 fn forms() -> &'static [Form]
     ensures { result.now ≡ forms }
 {
-    &[Form::Play, Form::Check, Form::Format]
+    &[
+        Form::Play,
+        Form::Check,
+        Form::Format,
+        Form::Code,
+        Form::Help,
+    ]
 }
 
 /// What the words ask, with its parts as texts of its own.
@@ -80,10 +94,14 @@ fn forms() -> &'static [Form]
 pub enum Command {
     /// `play FILE OBS`: the steps of a script as an observer sees them.
     Play { file: String, obs: String },
-    /// `check P`: whether a program keeps the type rules and the region rules.
+    /// `check P`: whether a program keeps the type rules and the region rules, and has code.
     Check { program: String },
     /// `format P`: a program in canonical text.
     Format { program: String },
+    /// `code P`: the listing of a program's code.
+    Code { program: String },
+    /// `help`: the forms of the words.
+    Help,
 }
 
 /// Why words are no command.
@@ -142,7 +160,25 @@ pub fn read_words(alloc: Global, words: &[String]) -> Result<Command, WordFault>
         Form::Format => Ok(Command::Format {
             program: String::from_str(alloc, word_at(words, 1))?,
         }),
+        Form::Code => Ok(Command::Code {
+            program: String::from_str(alloc, word_at(words, 1))?,
+        }),
+        Form::Help => Ok(Command::Help),
     }
+}
+
+/// The forms of the words, a line for each.
+///
+/// # Errors
+///
+/// `NoMemory` where memory runs out.
+pub fn help_text(alloc: Global) -> Result<String, NoMemory>
+    ensures { IfOk result (λ text. string_bytes text ≡ help_lines forms) }
+{
+    Ok(String::from_str(
+        alloc,
+        "lam play FILE OBS\nlam check P\nlam format P\nlam code P\nlam help\n",
+    )?)
 }
 
 fn form_of(words: &[String]) -> Option<Form>

@@ -64,10 +64,11 @@ effect_of code t (sends pipe m) w = record w { pipes = with_sent w.pipes pipe m 
 effect_of code t (receives pipe kind) w = record w { pipes = with_received w.pipes pipe kind }
 effect_of code t (adds_thread unit args caps) w = record w { threads = w.threads ++ started code unit args caps ∷ [] }
 
--- what is made, by its content
+-- what is made, by its content. The value that leads to a thing tells an object from an array: whoever is shown what was
+-- made is shown that too
 pub data Made : Type 0 where
   a_region : (label : Label) (caps : Caps) (depth region : ℕ) (args : List Value) → Made
-  a_thing : (name : Name) (slots : List Value) → Made
+  a_thing : (name : Name) (thing : Value) (slots : List Value) → Made
   a_file : (name : Name) → Made
   a_dir : (name : Name) → Made
   a_pipe : (name : Name) → Made
@@ -75,7 +76,7 @@ pub data Made : Type 0 where
 
 abbrev pub made_label : Made → Label
 made_label (a_region l k depth region args) = l
-made_label (a_thing n slots) = n.own
+made_label (a_thing n thing slots) = n.own
 made_label (a_file n) = n.own
 made_label (a_dir n) = n.own
 made_label (a_pipe n) = n.own

@@ -53,7 +53,8 @@ renamed v m = Obj m
 abbrev pub creates : World → Home → List Value → (Name → Value) → Effect → Deed
 creates w home slots refer e =
     unless (full (count_in w.heap.counts home) 1048576 HomeFull)
-    (makes (refer (name_of home (count_in w.heap.counts home))) e (a_thing (name_of home (count_in w.heap.counts home)) slots))
+    (makes (refer (name_of home (count_in w.heap.counts home))) e
+    (a_thing (name_of home (count_in w.heap.counts home)) (refer (name_of home (count_in w.heap.counts home))) slots))
 
 abbrev pub fault_of : FileFault → Fault
 fault_of file_fault.BadName = BadName

@@ -1,5 +1,4 @@
-//! Worked examples of the language: tokens, expressions, programs, their canonical text, copies and sameness, and one
-//! program with every form of the language.
+//! Worked examples of the language: tokens, expressions, programs, their canonical text, copies and sameness.
 //!
 //! Each runs one call of the crates below. What is expected comes from the language's document, never from the tool.
 #![tactic(auto)]
@@ -16,5 +15,3 @@ mod programs;
 mod tokens;
 #[cfg(test)]
 mod trees;
-#[cfg(test)]
-mod whole;

@@ -1,9 +1,8 @@
-//! Values, their texts, shapes, and the counters of homes.
+//! Values, their texts and shapes, and lists of them.
 
 use flow_labels::{Label, TagNames};
 use lam_value::{
-    Counters, Kind, Name, Shape, Value, Values, bytes_text, same_value, same_values, value_text,
-    values_text,
+    Kind, Name, Shape, Value, Values, bytes_text, same_value, same_values, value_text, values_text,
 };
 use std::alloc::Global;
 use tag_sets::{NoMemory, TagId, TagSet};
@@ -124,39 +123,4 @@ fn list_is_copied(alloc: Global) -> Result<bool, NoMemory> {
 #[test]
 fn a_copied_list_is_equal(rt: HostRuntime) {
     assert!(rt; list_is_copied(rt.alloc()) == Ok(true));
-}
-
-/// Takes the next number of a home, which is this one.
-fn draw(counters: &mut Counters, maker: &Label, own: &Label, number: u64) -> bool {
-    number < 100 && counters.next(maker, own) == number && counters.draw(maker, own, number).is_ok()
-}
-
-/// Whether two homes of one maker count apart.
-fn count_apart(counters: &mut Counters, maker: &Label, own: &Label) -> bool {
-    let first = draw(counters, maker, own, 0);
-    let second = draw(counters, maker, own, 1);
-    first & second & draw(counters, maker, maker, 0)
-}
-
-/// Whether two have equal counters, and equal ones where the public observer sees.
-fn are_same(a: &Counters, b: &Counters, public: &Label) -> bool {
-    a.facts();
-    a.same(b) & a.same_seen(b, public)
-}
-
-/// Whether homes count apart, and counters are equal to their copy until one of the two is raised.
-fn counts(alloc: Global) -> Result<bool, NoMemory> {
-    let public = Label::public(alloc);
-    let mut counters = Counters::new(alloc);
-    let apart = count_apart(&mut counters, &public, &secret(alloc)?);
-    let copy = counters.copy()?;
-    let before = are_same(&counters, &copy, &public);
-    counters.raise(&public, &public, 9)?;
-    let raised = counters.next(&public, &public) == 9;
-    Ok(apart & before & raised & !are_same(&counters, &copy, &public))
-}
-
-#[test]
-fn each_home_counts_for_itself(rt: HostRuntime) {
-    assert!(rt; counts(rt.alloc()) == Ok(true));
 }

@@ -1,4 +1,4 @@
-use Rattle.std.proofs.Common.{◌≡◌, ◌≤◌, ◌<◌, ◌∙◌, true, false, refl, sym, ap, arith, length}
+use Rattle.std.proofs.Common.{◌∙◌, refl, sym, ap}
 use Rattle.lam_value.proofs.Rows.{taken_all}
 use Rattle.labelled_files.specs.Entries.{entries_of}
 use Rattle.labelled_files.proofs.EntryLemmas.{alike_more, alike_there}

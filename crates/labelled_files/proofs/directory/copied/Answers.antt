@@ -1,4 +1,4 @@
-use Rattle.std.proofs.Common.{◌≡◌, ◌<◌, ◌∙◌, ap, sym, arith}
+use Rattle.std.proofs.Common.{◌∙◌, ap, sym, arith}
 use Rattle.lam_value.proofs.Maps.{not_none}
 use Rattle.lam_value.proofs.Rows.{taken_all}
 use Rattle.labelled_files.specs.Entries.{entries_of}

@@ -1,17 +1,14 @@
-use Rattle.std.proofs.Common.{◌≡◌, ◌<◌, ◌∙◌, sym, ap, subst, cond, Some, None, [], length}
+use Rattle.std.proofs.Common.{◌<◌, ◌+◌, ◌∙◌, sym, ap, subst, [], length}
 use Rattle.std.specs.Map.{lookup}
 use Rattle.std.specs.FinMap.{insert}
 use Rattle.lam_value.specs.declared.names.Name.{Name}
-use Rattle.lam_value.specs.Homes.{home_of, count_in, counted}
+use Rattle.lam_value.specs.Homes.{home_of, raised}
 use Rattle.labelled_files.specs.Entries.{text_eq}
 use Rattle.labelled_files.specs.Trees.{changed_at, joined}
 use Rattle.labelled_files.specs.declared.directory.EntryKind.TheVariants.{Dir}
 use Rattle.labelled_files.specs.Seen.{shown, dirs_of, at}
 use Rattle.labelled_files.proofs.TreeLemmas.{added}
 use Rattle.labelled_files.proofs.files.add_dir.Goals as goal
-
-pub list-requires-clause-next : goal.list-requires-clause-next
-list-requires-clause-next c = ap (λ (m : Name). m.n) c.in_ok-copy.ensures ∙ c.requires.next ∙ sym (ap (λ (m : Name). count_in c.args.counters.now (home_of m.maker m.own)) c.in_ok-copy.ensures)
 
 pub list-requires-clause-room : goal.list-requires-clause-room
 list-requires-clause-room c = subst (λ (m : Name). m.n < 65536) (sym c.in_ok-copy.ensures) c.requires.room
@@ -29,4 +26,4 @@ returns-clause-dirs c =
     (c.in_ok-list.ensures.dirs ∙ (λ i. changed_at (dirs_of (c.in_ok-reserve.ensures.entries i)) c.args.dir.now (joined c.args.entry.now Dir (c.in_ok-copy.ensures i))))
 
 pub returns-clause-counters : goal.returns-clause-counters
-returns-clause-counters c = c.in_ok-list.ensures.counters ∙ ap (λ (m : Name). counted c.args.counters.now (home_of m.maker m.own)) c.in_ok-copy.ensures
+returns-clause-counters c = c.in_ok-list.ensures.counters ∙ ap (λ (m : Name). raised c.args.counters.now (home_of m.maker m.own) (m.n + 1)) c.in_ok-copy.ensures

@@ -1,16 +1,13 @@
-use Rattle.std.proofs.Common.{◌≡◌, ◌<◌, ◌∙◌, sym, ap, subst, cond, Some, None, [], length}
+use Rattle.std.proofs.Common.{◌<◌, ◌+◌, ◌∙◌, sym, ap, subst, cond, Some, []}
 use Rattle.std.specs.Map.{lookup}
 use Rattle.lam_value.specs.declared.names.Name.{Name}
-use Rattle.lam_value.specs.Homes.{home_of, count_in, counted}
+use Rattle.lam_value.specs.Homes.{home_of, raised}
 use Rattle.lam_value.proofs.Keys.{name_eq}
 use Rattle.labelled_files.specs.Trees.{changed_at, joined}
 use Rattle.labelled_files.specs.declared.directory.EntryKind.TheVariants.{File}
 use Rattle.labelled_files.specs.Seen.{held, dirs_of}
 use Rattle.labelled_files.proofs.TreeLemmas.{added}
 use Rattle.labelled_files.proofs.files.add_file.Goals as goal
-
-pub list-requires-clause-next : goal.list-requires-clause-next
-list-requires-clause-next c = ap (λ (m : Name). m.n) c.in_ok-copy.ensures ∙ c.requires.next ∙ sym (ap (λ (m : Name). count_in c.args.counters.now (home_of m.maker m.own)) c.in_ok-copy.ensures)
 
 pub list-requires-clause-room : goal.list-requires-clause-room
 list-requires-clause-room c = subst (λ (m : Name). m.n < 65536) (sym c.in_ok-copy.ensures) c.requires.room
@@ -24,4 +21,4 @@ returns-clause-files c =
     (λ q. c.in-Ok.ensures.updates.0 q ∙ (λ i. cond (name_eq c.in_ok-key.key q) (Some c.new.result) (lookup (name_eq q) (c.in_ok-reserve.ensures.entries i))))
 
 pub returns-clause-counters : goal.returns-clause-counters
-returns-clause-counters c = c.in_ok-list.ensures.counters ∙ ap (λ (m : Name). counted c.args.counters.now (home_of m.maker m.own)) c.in_ok-copy.ensures
+returns-clause-counters c = c.in_ok-list.ensures.counters ∙ ap (λ (m : Name). raised c.args.counters.now (home_of m.maker m.own) (m.n + 1)) c.in_ok-copy.ensures

@@ -1,4 +1,4 @@
-use Rattle.std.proofs.Common.{◌≡◌, ◌<◌, ◌∙◌, ap, sym, cond, Some, arith}
+use Rattle.std.proofs.Common.{◌∙◌, ap, sym, cond, Some, arith}
 use Rattle.std.specs.Prelude.{option_and_then}
 use Rattle.std.specs.Map.{lookup}
 use Rattle.lam_value.proofs.Keys.{name_eq, name_total, name_exact, name_ties}

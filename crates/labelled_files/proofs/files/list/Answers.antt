@@ -1,7 +1,6 @@
-use Rattle.std.proofs.Common.{◌≤◌, ◌<◌, ◌∙◌, sym, ap, subst, length, None, ◌≡◌, [], arith}
+use Rattle.std.proofs.Common.{◌<◌, ◌∙◌, sym, ap, subst, length, []}
 use Rattle.std.specs.Option.{option_copied_mut}
 use Rattle.std.specs.Map.{lookup}
-use Rattle.indexmap.specs.IndexMap.{spare}
 use Rattle.lam_value.proofs.Maps.{some_is, on_ok_so, on_err_so, on_ok, on_err}
 use Rattle.labelled_files.specs.Entries.{text_eq}
 use Rattle.labelled_files.specs.Trees.{joined}
@@ -17,10 +16,10 @@ list_in-requires-clause-fresh c = ap (lookup (text_eq c.args.entry.now)) (some_t
 
 pub returns-in-None-clause-dirs : goal.returns-in-None-clause-dirs
 returns-in-None-clause-dirs c =
-    on_ok _ c.draw_alone.result (unwritten shown c.args.dirs.now.entries c.get_mut.follows.lender-at-none.entries c.args.dir.now (joined c.args.entry.now c.args.target.kind c.args.target.name) (ap (λ m. m.entries) c.get_mut.follows.holds-at-none) (sym c.get_mut.ensures.value ∙ ap option_copied_mut c.in-None.is))
+    on_ok _ c.count_alone.result (unwritten shown c.args.dirs.now.entries c.get_mut.follows.lender-at-none.entries c.args.dir.now (joined c.args.entry.now c.args.target.kind c.args.target.name) (ap (λ m. m.entries) c.get_mut.follows.holds-at-none) (sym c.get_mut.ensures.value ∙ ap option_copied_mut c.in-None.is))
 
 pub returns-in-None-clause-same_dirs : goal.returns-in-None-clause-same_dirs
-returns-in-None-clause-same_dirs c = on_err _ c.draw_alone.result (ap (λ m. dirs_of m.entries) c.get_mut.follows.holds-at-none)
+returns-in-None-clause-same_dirs c = on_err _ c.count_alone.result (ap (λ m. dirs_of m.entries) c.get_mut.follows.holds-at-none)
 
 pub returns-in-Some-clause-dirs : goal.returns-in-Some-clause-dirs
 returns-in-Some-clause-dirs c =

@@ -1,5 +1,4 @@
 use Rattle.std.proofs.Common.{◌∙◌}
-use Rattle.labelled_files.specs.Seen.{tree_of}
 use Rattle.labelled_files.proofs.files.Files.copy.Goals as goal
 
 pub returns : goal.returns

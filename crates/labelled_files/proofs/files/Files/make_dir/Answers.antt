@@ -1,4 +1,4 @@
-use Rattle.std.proofs.Common.{◌≡◌, ◌<◌, ◌≤◌, ◌∙◌, sym, ap, subst, None, refl, arith}
+use Rattle.std.proofs.Common.{◌≡◌, ◌<◌, ◌∙◌, sym, ap, subst, None, refl}
 use Rattle.lam_value.specs.declared.names.Name.{Name}
 use Rattle.lam_value.specs.Homes.{home_of, name_of, count_in}
 use Rattle.lam_value.proofs.Maps.{on_err}
@@ -8,12 +8,6 @@ use Rattle.labelled_files.proofs.MakeLemmas.{fine, new, room, free, room_kept, n
 use Rattle.labelled_files.proofs.SeenLemmas.{kept, dir_made, next_seen}
 use Rattle.labelled_files.proofs.SoundLemmas.{sound_dir}
 use Rattle.labelled_files.proofs.files.Files.make_dir.Goals as goal
-
-pub add_dir-requires-clause-next : goal.add_dir-requires-clause-next
-add_dir-requires-clause-next c =
-    let home = home_of c.args.maker.now c.args.own.now in
-    let named = next_seen c.self.inside.dirs.entries c.self.inside.files.entries c.self.inside.counters c.self.inside.root c.args.self.now c.self.view_is home c.in_ok-name.name (c.in_ok-name.ensures ∙ ap (name_of home) c.next-number.ensures.value) in
-    ap (λ (k : Name). k.n) named ∙ sym (ap (λ (k : Name). count_in c.self.inside.counters (home_of k.maker k.own)) named)
 
 pub add_dir-requires-clause-room : goal.add_dir-requires-clause-room
 add_dir-requires-clause-room c =

@@ -1,4 +1,4 @@
-use Rattle.std.proofs.Common.{◌≡◌, ◌<◌, ◌≤◌, ◌∙◌, sym, ap, subst, None, refl, arith}
+use Rattle.std.proofs.Common.{◌≡◌, ◌<◌, ◌∙◌, sym, ap, subst, None}
 use Rattle.lam_value.specs.declared.names.Name.{Name}
 use Rattle.lam_value.specs.Homes.{home_of, name_of, count_in}
 use Rattle.lam_value.proofs.Maps.{on_err}
@@ -8,12 +8,6 @@ use Rattle.labelled_files.proofs.MakeLemmas.{fine, new, room, free, room_kept, n
 use Rattle.labelled_files.proofs.SeenLemmas.{kept, file_made, next_seen}
 use Rattle.labelled_files.proofs.SoundLemmas.{sound_file}
 use Rattle.labelled_files.proofs.files.Files.make_file.Goals as goal
-
-pub add_file-requires-clause-next : goal.add_file-requires-clause-next
-add_file-requires-clause-next c =
-    let home = home_of c.args.maker.now c.args.own.now in
-    let named = next_seen c.self.inside.dirs.entries c.self.inside.files.entries c.self.inside.counters c.self.inside.root c.args.self.now c.self.view_is home c.in_ok-name.name (c.in_ok-name.ensures ∙ ap (name_of home) c.next-number.ensures.value) in
-    ap (λ (k : Name). k.n) named ∙ sym (ap (λ (k : Name). count_in c.self.inside.counters (home_of k.maker k.own)) named)
 
 pub add_file-requires-clause-room : goal.add_file-requires-clause-room
 add_file-requires-clause-room c =

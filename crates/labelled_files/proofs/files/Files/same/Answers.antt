@@ -1,4 +1,4 @@
-use Rattle.std.proofs.Common.{◌≡◌, ◌∙◌, sym, true, false}
+use Rattle.std.proofs.Common.{◌∙◌, sym}
 use Rattle.labelled_files.proofs.SeenLemmas.{same_trees, dirs_same, files_same, counts_same, root_same}
 use Rattle.labelled_files.proofs.files.Files.same.Goals as goal
 

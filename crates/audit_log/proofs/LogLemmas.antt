@@ -1,0 +1,81 @@
+-- What was seen and what was noted, one after another, have the lines of the run's moments.
+use Rattle.std.proofs.Common.{◌≡◌, ℕ, ◌+◌, Bool, true, false, cond, List, [], ◌∷◌, ◌++◌, Option, Some, None, refl, sym, ap, ◌∙◌, append_assoc, append-nil}
+use Rattle.std.specs.List.{flat_map}
+use Rattle.flow_labels.specs.TwoLists.{Text}
+use Rattle.flow_labels.specs.declared.Denied.{Denied}
+use Rattle.capabilities.specs.declared.Caps.{Caps}
+use Rattle.lam_asks.specs.declared.answer.What.{What}
+use Rattle.lam_asks.specs.declared.answer.What.TheVariants.{Private, Asked}
+use Rattle.lam_asks.specs.declared.answer.Event.{Event}
+use Rattle.lam_worlds.specs.Turns.{Moment}
+use Rattle.lam_worlds.specs.Views.{Entry, event, release, is_release, used_by, trace}
+use Rattle.event_texts.specs.Lines.{head_text, line_after}
+use Rattle.run_notes.specs.Notes.{content_in, released, asked, shown, refusal_of, refused, noted_at, noted_from}
+use Rattle.run_notes.specs.declared.Content.{Content}
+use Rattle.run_notes.specs.declared.Seen.{Seen}
+use Rattle.run_notes.specs.declared.Noted.{Noted}
+use Rattle.audit_log.specs.Log.{seen_line, seen_lines, released_line, entry_line, turn_text, refusal_note, note_line, noted_lines, moment_line, lines_from}
+use Rattle.audit_log.specs.Laws.{ViewsAreRead, AuditsAreRead}
+
+-- ---- what was seen
+
+seen_lines-append : (names : List Text) (xs ys : List Seen) → seen_lines names (xs ++ ys) ≡ seen_lines names xs ++ seen_lines names ys
+seen_lines-append names [] ys = refl
+seen_lines-append names (x ∷ xs) ys =
+    ap (λ t. seen_line names x ++ t) (seen_lines-append names xs ys)
+    ∙ sym (append_assoc (seen_line names x) (seen_lines names xs) (seen_lines names ys))
+
+asked_read : (names : List Text) (e : Event) (what : What) → e.what ≡ what → seen_lines names (asked e what) ≡ line_after names (head_text names e.thread e.label) what
+asked_read names e Private is = refl
+asked_read names e (Asked ask answer) is = append-nil _ ∙ ap (line_after names (head_text names e.thread e.label)) is
+
+released_read : (names : List Text) (t : ℕ) (c : Option Content) (by : Option Caps) → seen_lines names (released t c by) ≡ released_line names t c by
+released_read names t None None = refl
+released_read names t None (Some by) = refl
+released_read names t (Some c) None = refl
+released_read names t (Some c) (Some by) = append-nil _
+
+shown_read : (names : List Text) (x : Entry) → seen_lines names (shown x) ≡ entry_line names x
+shown_read names (event e) = asked_read names e e.what refl
+shown_read names (release r) = released_read names r.thread (content_in r.content) r.by
+
+entries_read : (names : List Text) (xs : List Entry) → seen_lines names (flat_map shown xs) ≡ flat_map (entry_line names) xs
+entries_read names [] = refl
+entries_read names (x ∷ xs) =
+    seen_lines-append names (shown x) (flat_map shown xs)
+    ∙ ap (λ t. seen_lines names (shown x) ++ t) (entries_read names xs)
+    ∙ ap (λ t. t ++ flat_map (entry_line names) xs) (shown_read names x)
+
+pub views_read : ViewsAreRead
+views_read names o ms = entries_read names (trace o ms)
+
+-- ---- what was noted
+
+noted_lines-append : (names : List Text) (xs ys : List Noted) → noted_lines names (xs ++ ys) ≡ noted_lines names xs ++ noted_lines names ys
+noted_lines-append names [] ys = refl
+noted_lines-append names (x ∷ xs) ys =
+    ap (λ t. note_line names x.turn x.event x.by ++ t) (noted_lines-append names xs ys)
+    ∙ sym (append_assoc (note_line names x.turn x.event x.by) (noted_lines names xs) (noted_lines names ys))
+
+refused_read : (names : List Text) (k : ℕ) (e : Event) (x : Option Denied) → refusal_of e.what ≡ x → noted_lines names (refused k e x) ≡ refusal_note names (turn_text names k e) x
+refused_read names k e None is = refl
+refused_read names k e (Some d) is = append-nil _ ∙ ap (refusal_note names (turn_text names k e)) is
+
+-- a release, or a refusal
+either_read : (names : List Text) (k : ℕ) (e : Event) (by : Option Caps) (b : Bool) →
+    noted_lines names (cond b (record { turn = k; event = e; by = by } ∷ []) (refused k e (refusal_of e.what))) ≡ note_line names k e (cond b by None)
+either_read names k e by true = append-nil _
+either_read names k e by false = refused_read names k e (refusal_of e.what) refl
+
+moment_read : (names : List Text) (k : ℕ) (m : Moment) → noted_lines names (noted_at k m) ≡ moment_line names k m
+moment_read names k m = either_read names k m.event (used_by m.event.label m.made) (is_release m)
+
+moments_read : (names : List Text) (k : ℕ) (ms : List Moment) → noted_lines names (noted_from k ms) ≡ lines_from names k ms
+moments_read names k [] = refl
+moments_read names k (m ∷ ms) =
+    noted_lines-append names (noted_at k m) (noted_from (k + 1) ms)
+    ∙ ap (λ t. noted_lines names (noted_at k m) ++ t) (moments_read names (k + 1) ms)
+    ∙ ap (λ t. t ++ lines_from names (k + 1) ms) (moment_read names k m)
+
+pub audits_read : AuditsAreRead
+audits_read names ms = moments_read names 0 ms

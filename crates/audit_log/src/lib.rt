@@ -1,0 +1,32 @@
+//! The two texts that are read of a run: what an observer saw of it, and what an auditor has to look at.
+//!
+//! ```text
+//! t0 {}/{} enter {a}/{} caps +{}-{a} region 0 (7) = entered
+//! release t0 enter {}/{} caps +{}-{} depth 2 region 1 (7) by +{}-{a}
+//! ```
+//!
+//! are two lines of an observer's text ([`view_text`]): an event that it sees, and a release past it. The release's line
+//! in the audit ([`audit_text`]) is `12 t0 {a}/{} enter {}/{} by +{}-{a}`, with the turn and the acting label; a refusal's
+//! is `8 t0 {}/{} refused AddS a`.
+//!
+//! Both are written line by line into one text. `specs/Log.antt` says what the lines are, of the kept lists and of the
+//! moments of a run themselves, and [`views_are_read`] and [`audits_are_read`] that these are the same.
+#![tactic(auto)]
+
+mod audit;
+mod view;
+
+ghost use Rattle.audit_log.specs.Laws.{ViewsAreRead, AuditsAreRead};
+
+pub use audit::{audit_text, push_noted};
+pub use view::{push_release, push_seen, view_text};
+
+/// A law: the list of what an observer saw of a run's moments has the lines of what it sees of them.
+pub fn views_are_read()
+    ensures { ViewsAreRead }
+{}
+
+/// A law: the list of what is noted of a run's moments has the audit lines of them.
+pub fn audits_are_read()
+    ensures { AuditsAreRead }
+{}

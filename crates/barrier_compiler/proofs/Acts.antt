@@ -1,0 +1,13 @@
+-- The code of a program acts as the program.
+use Rattle.std.proofs.Common.{◌≡◌, Option, Some, IsSomeAnd, subst}
+use Rattle.lam_syntax.specs.Tree.{ProgramTree}
+use Rattle.resolved_tree.specs.Tree.{ResolvedTree}
+use Rattle.resolved_tree.specs.Typing.{IsTypedTree}
+use Rattle.resolved_tree.specs.Regions.{AreNumbered}
+use Rattle.lam_resolved.specs.Resolved.{resolved}
+use Rattle.lam_acting.specs.Acts.{CodeActs}
+use Rattle.barrier_compiler.specs.Compiled.{ActsAsProgram}
+
+pub acts_of : (p : ProgramTree) → IsSomeAnd (resolved p) IsTypedTree → IsSomeAnd (resolved p) AreNumbered → ((r : ResolvedTree) → CodeActs r) → ActsAsProgram p
+acts_of p typed numbered law r is =
+    law r (subst (λ (o : Option ResolvedTree). IsSomeAnd o IsTypedTree) is typed) (subst (λ (o : Option ResolvedTree). IsSomeAnd o AreNumbered) is numbered)

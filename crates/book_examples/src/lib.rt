@@ -1,0 +1,10 @@
+//! Worked examples of the text of a schedule, and of numbers in decimal.
+//!
+//! A contract leaves want of memory free; these tests run each call once with ample memory. The expected values come
+//! from the descriptions of the formats, never from the code. Each is short, since it is proved before it runs.
+#![tactic(auto)]
+
+#[cfg(test)]
+mod books;
+#[cfg(test)]
+mod numbers;

@@ -1,0 +1,50 @@
+//! How many things each home has made.
+
+use flow_labels::Label;
+use lam_value::Counters;
+use std::alloc::Global;
+use tag_sets::{NoMemory, TagId, TagSet};
+
+/// The label `{#0}/{}`.
+fn secret(alloc: Global) -> Result<Label, NoMemory> {
+    let s = TagSet::from_slice(alloc, &[TagId(0)])?;
+    Ok(Label {
+        s,
+        i: TagSet::empty(alloc),
+    })
+}
+
+/// Takes the next number of a home, which is this one.
+fn draw(counters: &mut Counters, maker: &Label, own: &Label, number: u64) -> bool {
+    number < 100 && counters.next(maker, own) == number && counters.draw(maker, own, number).is_ok()
+}
+
+/// Whether two homes of one maker count apart.
+fn count_apart(counters: &mut Counters, maker: &Label, own: &Label) -> bool {
+    let first = draw(counters, maker, own, 0);
+    let second = draw(counters, maker, own, 1);
+    first & second & draw(counters, maker, maker, 0)
+}
+
+/// Whether two have equal counters, and equal ones where the public observer sees.
+fn are_same(a: &Counters, b: &Counters, public: &Label) -> bool {
+    a.facts();
+    a.same(b) & a.same_seen(b, public)
+}
+
+/// Whether homes count apart, and counters are equal to their copy until one of the two is raised.
+fn counts(alloc: Global) -> Result<bool, NoMemory> {
+    let public = Label::public(alloc);
+    let mut counters = Counters::new(alloc);
+    let apart = count_apart(&mut counters, &public, &secret(alloc)?);
+    let copy = counters.copy()?;
+    let before = are_same(&counters, &copy, &public);
+    counters.raise(&public, &public, 9)?;
+    let raised = counters.next(&public, &public) == 9;
+    Ok(apart & before & raised & !are_same(&counters, &copy, &public))
+}
+
+#[test]
+fn each_home_counts_for_itself(rt: HostRuntime) {
+    assert!(rt; counts(rt.alloc()) == Ok(true));
+}

@@ -1,0 +1,4 @@
+pub mod AnswerLemmas
+pub mod EventLemmas
+pub mod ReadyLemmas
+pub mod SuitLemmas

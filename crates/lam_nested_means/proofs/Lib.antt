@@ -1,0 +1,10 @@
+pub mod Plays
+pub mod Lists
+pub mod Operations
+pub mod Units
+pub mod Effects
+pub mod Expressions
+pub mod Regions
+pub mod Scopes
+pub mod Statements
+pub mod Threads

@@ -1,0 +1,31 @@
+use Rattle.lam_syntax.specs.Tree.{stmt_tree, stmts_tree, else_tree}
+use Rattle.lam_resolve.proofs.Sizes.{stmt_size, stmts_size, else_size}
+use Rattle.std.proofs.Common.{◌+◌, drop}
+use Rattle.lam_resolved.specs.Resolved.{resolve_stmts}
+use Rattle.lam_resolve_tables.specs.Tables.{tables}
+use Rattle.lam_resolve_exprs.specs.Values.{locals}
+use Rattle.lam_resolve.specs.Seen.{state}
+use Rattle.lam_resolve.specs.Meets.{Extends}
+use Rattle.lam_resolve.proofs.Blocks.{BlockSoFar}
+use Rattle.lam_resolve.proofs.stmts.+stmt.Given as goal
+
+abbrev pub decreases-resolve_stmt : goal.decreases-resolve_stmt
+decreases-resolve_stmt l = stmt_size (stmt_tree l.s.now)
+
+abbrev pub decreases-resolve_region : goal.decreases-resolve_region
+decreases-resolve_region l = 2 + stmts_size (stmts_tree l.written.body.now.items) + stmts_size (stmts_tree l.written.catch_body.now.items)
+
+abbrev pub decreases-resolve_else : goal.decreases-resolve_else
+decreases-resolve_else l = else_size (else_tree l.no.now)
+
+abbrev pub decreases-resolve_block : goal.decreases-resolve_block
+decreases-resolve_block l = 1 + stmts_size (stmts_tree l.body.now.items)
+
+abbrev pub decreases-resolve_stmts : goal.decreases-resolve_stmts
+decreases-resolve_stmts l = stmts_size (stmts_tree l.body.now)
+
+abbrev pub invariant-resolve_stmts-loop-s : goal.invariant-resolve_stmts-loop-s
+invariant-resolve_stmts-loop-s l = record {
+  sofar : BlockSoFar (resolve_stmts (tables l.t) (locals l.initial.scope) (state l.initial.st) (stmts_tree l.body)) (resolve_stmts (tables l.t) (locals l.scope) (state l.st) (stmts_tree (drop l.s-index l.body))) l.out.items;
+  extends : Extends (locals l.initial.scope) (locals l.scope);
+}

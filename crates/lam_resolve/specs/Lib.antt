@@ -1,0 +1,4 @@
+pub mod Seen
+pub mod Meets
+pub mod Parts
+pub mod Regions

@@ -1,0 +1,18 @@
+-- How the code keeps what is in scope.
+use Rattle.std.specs.Prelude.{◌≡◌, ℕ, List, ◌∷◌, ◌++◌, map, take, length, Some}
+use Rattle.lam_syntax.specs.Tree.{Word, ItemTree, ProgramTree}
+use Rattle.resolved_tree.specs.Tree.{ResolvedType, ResolvedFunction}
+use Rattle.lam_resolved.specs.Resolved.{then_some, Tables, types_of, resolve_functions}
+
+-- more stands at the end, and the others as before
+abbrev pub Extends : {A : Type 0} → List A → List A → Type 0
+Extends old new = take (length old) new ≡ old
+
+-- for each class its fields' types
+abbrev pub types_of_all : List (List (Word × ResolvedType)) → List (List ResolvedType)
+types_of_all cs = map types_of cs
+
+-- one more item of a program: what stands after it comes after so many regions, and its function at the end
+abbrev pub IsAdded : Tables → ℕ → ItemTree → ℕ → List ResolvedFunction → List ResolvedFunction → Type 0
+IsAdded t m item n old new =
+    (p : ProgramTree) → then_some (resolve_functions t m (item ∷ p)) (λ fs. Some (old ++ fs)) ≡ then_some (resolve_functions t n p) (λ fs. Some (new ++ fs))

@@ -1,0 +1,199 @@
+//! The statements of a unit.
+
+ghost use Rattle.std.specs.Prelude.{◌≡◌, IfOk, IsSome, OnOk, Some};
+ghost use Rattle.lam_syntax.specs.Tree.{stmt_tree, stmts_tree, else_tree};
+ghost use Rattle.resolved_tree.specs.Tree.{stmt_tree as resolved_stmt, stmts_tree as resolved_stmts, else_tree as resolved_other};
+ghost use Rattle.lam_resolved.specs.Resolved.{step_as, closed_as, resolve_stmt as stmt_resolved, resolve_stmts as stmts_resolved, resolve_stmt_form, resolve_else as else_resolved};
+ghost use Rattle.lam_resolve_tables.specs.Tables.{tables};
+ghost use Rattle.lam_resolve_exprs.specs.Values.{locals};
+ghost use Rattle.lam_resolve.specs.Seen.{state};
+ghost use Rattle.lam_resolve.specs.Meets.{Extends};
+ghost use Rattle.lam_resolve.specs.Regions.{region_form};
+
+use crate::parts::{
+    Head, if_stmt, region_stmt, resolve_assign, resolve_let, resolve_value, sync_stmt, while_stmt,
+};
+use crate::units::{State, close, declare, enter, new_slot};
+use lam_resolve_exprs::exprs::resolve_expr;
+use lam_resolve_tables::kinds::{Base, given_kind, plain};
+use lam_resolve_tables::named::Named;
+use lam_resolve_tables::tables::Tables;
+use lam_resolve_exprs::values::Local;
+use lam_syntax::{Expr, Id, Stmt, StmtKind};
+use resolved_tree::Stmt as ResolvedStmt;
+use std::alloc::Global;
+use want_of_memory::NoMemory;
+
+// A region, as it is written.
+#[derive(Clone, Copy)]
+struct Written<'a> {
+    label: &'a Expr,
+    caps: &'a Expr,
+    captures: &'a Vec<Id>,
+    body: &'a Vec<Stmt>,
+    catch_name: &'a Id,
+    catch_body: &'a Vec<Stmt>,
+}
+
+#[cycle(stmt)]
+fn resolve_stmt<'a>(
+    alloc: Global,
+    t: &Tables,
+    scope: &mut Named<'a, Local>,
+    st: &mut State,
+    s: &'a Stmt,
+) -> Result<ResolvedStmt, NoMemory>
+    requires { IsSome (stmt_resolved (tables t.now) (locals scope.old) (state st.old) (stmt_tree s.now)) }
+    ensures meets { IfOk result (λ r. Some (step_as (resolved_stmt r) (locals scope.new) (state st.new)) ≡ stmt_resolved (tables t.now) (locals scope.old) (state st.old) (stmt_tree s.now)) }
+    ensures keeps { OnOk result (Extends (locals scope.old) (locals scope.new)) }
+{
+    match &s.kind {
+        StmtKind::Let { var, value } => resolve_let(alloc, t, scope, st, var, value),
+        StmtKind::If { test, yes, no } => {
+            let v = resolve_expr(alloc, t, scope, test)?;
+            let first = resolve_block(alloc, t, scope, st, yes)?;
+            let other = resolve_else(alloc, t, scope, st, no)?;
+            Ok(if_stmt(v.it, first, other))
+        }
+        StmtKind::While { test, body } => {
+            let v = resolve_expr(alloc, t, scope, test)?;
+            let block = resolve_block(alloc, t, scope, st, body)?;
+            Ok(while_stmt(v.it, block))
+        }
+        StmtKind::Return(value) => {
+            let v = resolve_value(alloc, t, scope, value)?;
+            Ok(ResolvedStmt::Return(v))
+        }
+        StmtKind::Throw(value) => {
+            let v = resolve_expr(alloc, t, scope, value)?;
+            Ok(ResolvedStmt::Throw(v.it))
+        }
+        StmtKind::Sync { thing, body } => {
+            let v = resolve_expr(alloc, t, scope, thing)?;
+            let Some(kind) = given_kind(v.gives) else {
+                unreachable!()
+            };
+            let slot = new_slot(alloc, st, kind)?;
+            let block = resolve_block(alloc, t, scope, st, body)?;
+            Ok(sync_stmt(slot, v.it, block))
+        }
+        StmtKind::Region {
+            label,
+            caps,
+            captures,
+            body,
+            catch_name,
+            catch_body,
+        } => {
+            let written = Written {
+                label,
+                caps,
+                captures,
+                body,
+                catch_name,
+                catch_body,
+            };
+            resolve_region(alloc, t, scope, st, written)
+        }
+        StmtKind::Do(value) => {
+            let v = resolve_expr(alloc, t, scope, value)?;
+            Ok(ResolvedStmt::Do(v.it))
+        }
+        StmtKind::Assign { place, value } => resolve_assign(alloc, t, scope, place, value),
+    }
+}
+
+#[cycle(stmt)]
+fn resolve_region<'a>(
+    alloc: Global,
+    t: &Tables,
+    scope: &Named<Local>,
+    st: &mut State,
+    written: Written<'a>,
+) -> Result<ResolvedStmt, NoMemory>
+    requires { IsSome (resolve_stmt_form (tables t.now) (locals scope.now) (state st.old) (region_form written)) }
+    ensures { IfOk result (λ r. Some (step_as (resolved_stmt r) (locals scope.now) (state st.new)) ≡ resolve_stmt_form (tables t.now) (locals scope.now) (state st.old) (region_form written.entry)) }
+{
+    let number = st.regions;
+    let label = resolve_expr(alloc, t, scope, written.label)?;
+    let caps = resolve_expr(alloc, t, scope, written.caps)?;
+    let entered = enter(alloc, scope, number, written.captures.as_slice())?;
+    let mut names = entered.unit.scope;
+    let mut inner = entered.unit.state;
+    let body = resolve_block(alloc, t, &mut names, &mut inner, written.body)?;
+    let name = written.catch_name.name.as_str();
+    let slot = declare(alloc, &mut names, &mut inner, name, plain(Base::Int))?;
+    let handler = resolve_block(alloc, t, &mut names, &mut inner, written.catch_body)?;
+    st.regions = inner.regions;
+    let head = Head {
+        number,
+        label: label.it,
+        caps: caps.it,
+        captures: entered.captures,
+    };
+    Ok(region_stmt(head, inner.slots, body, slot, handler))
+}
+
+#[cycle(stmt)]
+fn resolve_else<'a>(
+    alloc: Global,
+    t: &Tables,
+    scope: &mut Named<'a, Local>,
+    st: &mut State,
+    no: &'a Option<Vec<Stmt>>,
+) -> Result<Option<Vec<ResolvedStmt>>, NoMemory>
+    requires { IsSome (else_resolved (tables t.now) (locals scope.old) (state st.old) (else_tree no.now)) }
+    ensures meets { IfOk result (λ o. Some (closed_as (resolved_other o) (state st.new)) ≡ else_resolved (tables t.now) (locals scope.old) (state st.old) (else_tree no.now)) }
+    ensures keeps { OnOk result (locals scope.new ≡ locals scope.old) }
+{
+    match no {
+        None => Ok(None),
+        Some(body) => {
+            let block = resolve_block(alloc, t, scope, st, body)?;
+            Ok(Some(block))
+        }
+    }
+}
+
+/// A block, at whose end its names go out of scope.
+///
+/// # Errors
+///
+/// `NoMemory` where memory is refused.
+#[cycle(stmt)]
+pub(crate) fn resolve_block<'a>(
+    alloc: Global,
+    t: &Tables,
+    scope: &mut Named<'a, Local>,
+    st: &mut State,
+    body: &'a Vec<Stmt>,
+) -> Result<Vec<ResolvedStmt>, NoMemory>
+    requires { IsSome (stmts_resolved (tables t.now) (locals scope.old) (state st.old) (stmts_tree body.now.items)) }
+    ensures meets { IfOk result (λ v. Some (closed_as (resolved_stmts v.items) (state st.new)) ≡ stmts_resolved (tables t.now) (locals scope.old) (state st.old) (stmts_tree body.now.items)) }
+    ensures keeps { OnOk result (locals scope.new ≡ locals scope.old) }
+{
+    let n = scope.len();
+    let block = resolve_stmts(alloc, t, scope, st, body.as_slice())?;
+    close(scope, n);
+    Ok(block)
+}
+
+#[cycle(stmt)]
+fn resolve_stmts<'a>(
+    alloc: Global,
+    t: &Tables,
+    scope: &mut Named<'a, Local>,
+    st: &mut State,
+    body: &'a [Stmt],
+) -> Result<Vec<ResolvedStmt>, NoMemory>
+    requires { IsSome (stmts_resolved (tables t.now) (locals scope.old) (state st.old) (stmts_tree body.now)) }
+    ensures meets { IfOk result (λ v. Some (closed_as (resolved_stmts v.items) (state st.new)) ≡ stmts_resolved (tables t.now) (locals scope.old) (state st.old) (stmts_tree body.now)) }
+    ensures keeps { OnOk result (Extends (locals scope.old) (locals scope.new)) }
+{
+    let mut out = Vec::new(alloc);
+    for s in body {
+        let r = resolve_stmt(alloc, t, scope, st, s)?;
+        out.push(r)?;
+    }
+    Ok(out)
+}

@@ -1,0 +1,4 @@
+pub mod Sizes
+pub mod ValueSteps
+pub mod Arms
+pub mod Arguments

@@ -1,0 +1,5 @@
+pub mod Options
+pub mod Sizes
+pub mod Types
+pub mod TableSteps
+pub mod NamedLemmas

@@ -1,0 +1,8 @@
+use Rattle.std.proofs.Common.{◌≡◌, ◌++◌, drop}
+use Rattle.resolved_tree.specs.Tree.{types_tree}
+use Rattle.lam_resolved.specs.Resolved.{types_of}
+use Rattle.lam_resolve_tables.specs.Tables.{vars}
+use Rattle.lam_resolve_tables.proofs.tables.types_of_vars.Given as goal
+
+abbrev pub invariant-loop-var : goal.invariant-loop-var
+invariant-loop-var l = types_tree l.types.items ++ types_of (vars (drop l.var-index l.vars)) ≡ types_of (vars l.vars)

@@ -1,0 +1,5 @@
+pub mod Named
+pub mod Entries
+pub mod Kinds
+pub mod Tables
+pub mod Meets

@@ -1,0 +1,32 @@
+-- What the definitions see of the tables.
+use Rattle.std.specs.Prelude.{List, map, option_map}
+use Rattle.std.specs.Borrow.{Bor}
+use Rattle.lam_syntax.specs.Tree.{Word}
+use Rattle.resolved_tree.specs.Tree.{ResolvedType}
+use Rattle.resolved_tree.specs.Typing.{Head as ResolvedHead}
+use Rattle.lam_resolved.specs.Resolved.{Tables as ResolvedTables, types_of}
+use Rattle.lam_resolve_tables.specs.declared.kinds.Kind.{Kind}
+use Rattle.lam_resolve_tables.specs.declared.named.Named.{Named}
+use Rattle.lam_resolve_tables.specs.declared.tables.Head.{Head}
+use Rattle.lam_resolve_tables.specs.declared.tables.Tables.{Tables}
+use Rattle.lam_resolve_tables.specs.Entries.{entries_of}
+use Rattle.lam_resolve_tables.specs.Kinds.{kind_type}
+
+-- fields or parameters
+abbrev pub vars : List (Bor Word × Kind) → List (Word × ResolvedType)
+vars vs = map (λ v. (v.0.now, kind_type v.1)) vs
+
+abbrev pub fields : Named Kind → List (Word × ResolvedType)
+fields n = map (λ e. (e.0, kind_type e.1)) (entries_of n)
+
+abbrev pub all_fields : List (Named Kind) → List (List (Word × ResolvedType))
+all_fields cs = map fields cs
+
+abbrev pub head : Head → ResolvedHead
+head h = record { params = types_of (vars h.params.items); result = option_map kind_type h.result }
+
+abbrev pub heads : Named Head → List (Word × ResolvedHead)
+heads n = map (λ e. (e.0, head e.1)) (entries_of n)
+
+abbrev pub tables : Tables → ResolvedTables
+tables t = record { names = entries_of t.names; classes = all_fields t.classes.items; functions = heads t.functions }

@@ -1,0 +1,11 @@
+use Rattle.lam_serving.proofs.RowLemmas.{does_as, refused_as, passes_as, fails_as, holds_as}
+use Rattle.lam_serving.proofs.files.remove.Goals as goal
+
+pub returns-in-Some : goal.returns-in-Some
+returns-in-Some c = λ w k. refused_as _ _ _ _ c.refused.ensures (rw c.own.ensures at c.in-Some.ensures)
+
+pub returns-in-Some-absent : goal.returns-in-Some-absent
+returns-in-Some-absent c = λ w k. passes_as _ _ _ (rw c.own.ensures at c.in_default.ensures) (fails_as _ _ _ _ c.failed.ensures c.in-Some-absent.ensures)
+
+pub returns : goal.returns
+returns c = λ w k. passes_as _ _ _ (rw c.own.ensures at c.in_default.ensures) (holds_as _ _ _ c.in_default-absent.ensures (does_as _ _ _ c.does.ensures c.in_ok-effect.ensures))

@@ -1,0 +1,4 @@
+pub mod Acting
+pub mod Rows
+pub mod Serves
+pub mod Waits

@@ -1,0 +1,22 @@
+//! Threads of the machine, in code.
+//!
+//! A [`LamThread`] is a stack of [`Context`]s, and the outcome with which it ended, if it did. A context has a label and
+//! capabilities, the monitors that it took, and the calls that are open in it: the acting one in the context itself,
+//! and each that waits as a [`Frame`]. [`Operands`] is the stack of operands of a call.
+//!
+//! Contracts see the plain records of `thread_steps`, where the top of each stack stands first; in code it is the
+//! last of a vector. The fields are public, since the steps of a thread, in the crate above, change them in place:
+//! no invariant ties them.
+#![tactic(auto)]
+
+mod context;
+mod frame;
+mod operands;
+mod phase;
+mod thread;
+
+pub use context::Context;
+pub use frame::Frame;
+pub use operands::{Operands, filled, listed};
+pub use phase::Phase;
+pub use thread::{LamThread, locals_of};

@@ -1,0 +1,2 @@
+pub mod HeapLemmas
+pub mod ServedLemmas

@@ -1,0 +1,12 @@
+//! Worlds of the machine: the stores, and the threads.
+//!
+//! A [`World`] is seen as the plain record of `lam_worlds`. [`deed_of`] is the serving of an ask in a world by the
+//! context that makes it: it reads how many threads there are and how another one ended, and leaves the rest to
+//! `lam_serving`. It takes the parts of a world, so that a turn can go on to change them.
+#![tactic(auto)]
+
+mod reading;
+mod world;
+
+pub use reading::{acting, deed_of, is_ready, lives, result_of};
+pub use world::{THREAD_LIMIT, World};

@@ -1,0 +1,8 @@
+//! Worked examples of the outside: files and outputs in memory, the current folder, and standard output.
+//!
+//! A contract leaves want of memory free; these tests run each call once with ample memory. The expected values come
+//! from the descriptions of the formats, never from the code. Each is short, since it is proved before it runs.
+#![tactic(auto)]
+
+#[cfg(test)]
+mod io;

@@ -1,0 +1,89 @@
+-- What comes next, case by case.
+use Rattle.std.proofs.Common.{◌≡◌, ℕ, List, [], ◌∷◌, Option, Some, None, sym, ap, ◌∙◌, refl}
+use Rattle.std.specs.Prelude.{slice_set}
+use Rattle.lam_value.specs.declared.values.Value.{Value}
+use Rattle.lam_asks.specs.declared.fault.Fault.{Fault}
+use Rattle.lam_asks.specs.declared.ask.Ask.{Ask}
+use Rattle.lam_bytecode.specs.Codes.{CodeTree}
+use Rattle.thread_steps.specs.Threads.{Frame, Inside, Phase, Bottom, Body, Catch, Context}
+use Rattle.thread_steps.specs.Ops.{Did, sets, returns, leaves, on_any}
+use Rattle.thread_steps.specs.Next.{Next, goes, asks, stuck, stands, is_shared, is_private, is_stuck, raised, returned, ending, leaving, next_by}
+use Rattle.thread_core.specs.declared.turn.Turn.TheVariants as turn
+use Rattle.thread_core.specs.Turning.{turned, moved, asked, awaited, nobody}
+use Rattle.thread_core.specs.Moves.{raised_ask}
+
+-- ---- a fault that was raised
+
+pub raised_stands : (ph : Phase) (i : Inside) (f : Fault) → stands (raised ph i f) ≡ is_shared
+raised_stands Bottom i f = refl
+raised_stands (Body at) i f = refl
+raised_stands Catch i f = refl
+
+pub raised_asked : (ph : Phase) (i : Inside) (f : Fault) → asked (raised ph i f) ≡ Some (raised_ask ph f)
+raised_asked Bottom i f = refl
+raised_asked (Body at) i f = refl
+raised_asked Catch i f = refl
+
+pub raised_turned : (ph : Phase) (i : Inside) (f : Fault) → turned (raised ph i f) ≡ turn.Asks (raised_ask ph f)
+raised_turned Bottom i f = refl
+raised_turned (Body at) i f = refl
+raised_turned Catch i f = refl
+
+pub raised_moved : (c : Context) (ph : Phase) (i : Inside) (f : Fault) → moved c (raised ph i f) ≡ c
+raised_moved c Bottom i f = refl
+raised_moved c (Body at) i f = refl
+raised_moved c Catch i f = refl
+
+pub raised_waits : (ph : Phase) (i : Inside) (f : Fault) → awaited (asked (raised ph i f)) ≡ nobody
+raised_waits Bottom i f = refl
+raised_waits (Body at) i f = refl
+raised_waits Catch i f = refl
+
+pub raised_left : (ph : Phase) (i j : Inside) (f : Fault) (a : Ask) → raised ph i f ≡ asks a j → j ≡ i
+raised_left Bottom i j f a e = cc
+raised_left (Body at) i j f a e = cc
+raised_left Catch i j f a e = cc
+
+-- ---- a result
+
+returned_frames : (ph : Phase) (i j : Inside) (v : Value) (fs : List Frame) (a : Ask) → returned ph i v fs ≡ asks a j → j ≡ i
+returned_frames Bottom i j v [] a e = cc
+returned_frames (Body at) i j v [] a e = cc
+returned_frames Catch i j v [] a e = cc
+returned_frames ph i j v (f ∷ fs) a e = cc
+
+returned_frames_wait : (ph : Phase) (i : Inside) (v : Value) (fs : List Frame) → awaited (asked (returned ph i v fs)) ≡ nobody
+returned_frames_wait Bottom i v [] = refl
+returned_frames_wait (Body at) i v [] = refl
+returned_frames_wait Catch i v [] = refl
+returned_frames_wait ph i v (f ∷ fs) = refl
+
+pub returned_left : (code : CodeTree) (ph : Phase) (i j : Inside) (s : List Value) (a : Ask) → next_by code ph i (on_any s (λ v s. returns v)) ≡ asks a j → j ≡ i
+returned_left code ph i j [] a e = cc
+returned_left code ph i j (v ∷ s) a e = returned_frames ph i j v i.callers a e
+
+pub returned_waits : (code : CodeTree) (ph : Phase) (i : Inside) (s : List Value) → awaited (asked (next_by code ph i (on_any s (λ v s. returns v)))) ≡ nobody
+returned_waits code ph i [] = refl
+returned_waits code ph i (v ∷ s) = returned_frames_wait ph i v i.callers
+
+-- ---- a region that is left
+
+pub leaving_left : (ph : Phase) (i j : Inside) (a : Ask) → leaving ph i ≡ asks a j → j ≡ i
+leaving_left Bottom i j a e = cc
+leaving_left (Body at) i j a e = cc
+leaving_left Catch i j a e = cc
+
+pub leaving_waits : (ph : Phase) (i : Inside) → awaited (asked (leaving ph i)) ≡ nobody
+leaving_waits Bottom i = refl
+leaving_waits (Body at) i = refl
+leaving_waits Catch i = refl
+
+-- ---- a local
+
+pub set_left : (code : CodeTree) (ph : Phase) (i j : Inside) (s ls : List Value) (n : ℕ) (a : Ask) → next_by code ph i (on_any s (λ v s. sets (slice_set ls n v) s)) ≡ asks a j → j ≡ i
+set_left code ph i j [] ls n a e = cc
+set_left code ph i j (v ∷ s) ls n a e = cc
+
+pub set_waits : (code : CodeTree) (ph : Phase) (i : Inside) (s ls : List Value) (n : ℕ) → awaited (asked (next_by code ph i (on_any s (λ v s. sets (slice_set ls n v) s)))) ≡ nobody
+set_waits code ph i [] ls n = refl
+set_waits code ph i (v ∷ s) ls n = refl

@@ -1,0 +1,4 @@
+pub mod Fitting
+pub mod Acting
+pub mod Reading
+pub mod Units

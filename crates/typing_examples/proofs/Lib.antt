@@ -1,0 +1,3 @@
+pub mod Trees
+pub mod Types
+pub mod Regions
