@@ -1,17 +1,17 @@
 -- The statements of a block, one after the other.
-use Rattle.std.proofs.Common.{◌≡◌, ℕ, ◌+◌, ◌<◌, ◌≤◌, arith, List, [], ◌∷◌, ◌++◌, length, drop, take, get_or, map, Option, Some, None, IsSome, is_some, refl, sym, ap, ◌∙◌, take-take}
+use Rattle.std.proofs.Common.{◌≡◌, ℕ, ◌+◌, ◌<◌, ◌≤◌, arith, List, [], ◌∷◌, ◌++◌, length, drop, take, get_or, Option, Some, None, IsSome, is_some, refl, sym, ap, ◌∙◌, take-take}
 use Rattle.std.proofs.Math.Seq.{take-length}
 use Rattle.std.proofs.lemmas.List.{length-map, length-take}
 use Rattle.lam_syntax.specs.declared.Stmt.{Stmt}
 use Rattle.lam_syntax.specs.Tree.{Word, stmt_tree, stmts_tree}
 use Rattle.resolved_tree.specs.declared.Stmt.{Stmt as Resolved}
 use Rattle.resolved_tree.specs.Tree.{Block, block_end, block_more, stmt_tree as resolved_stmt, stmts_tree as resolved_stmts}
-use Rattle.lam_resolved.specs.Resolved.{then_some, Tables, Locals, State, Step, step_as, Closed, closed_as, resolve_stmt, resolve_stmts}
+use Rattle.lam_resolved.specs.Resolved.{then_some, Tables, Locals, State, step_as, Closed, closed_as, resolve_stmt, resolve_stmts}
 use Rattle.lam_resolve_exprs.specs.declared.values.Local.{Local}
 use Rattle.lam_resolve_tables.proofs.Options.{first_some, goes, one_more}
-use Rattle.lam_resolve.specs.Meets.{Extends}
+use Rattle.lam_resolve_units.specs.Meets.{Extends}
 use Rattle.lam_resolve.proofs.Sizes.{stmt_size, stmts_size, item_smaller}
-use Rattle.lam_resolve.proofs.UnitSteps.{seen}
+use Rattle.lam_resolve_units.proofs.UnitSteps.{seen}
 
 abbrev pub glued : Block → Block → Block
 glued block_end r = r
@@ -48,9 +48,11 @@ module _ (t : Tables) (ls : Locals) (st : State) (xs : List Stmt) (i : ℕ) (x :
   block_step = ap (λ l. resolve_stmts t ls st (stmts_tree l)) (one_more xs i x lt is)
 
   pub block_needs : (w : Option (Closed Block)) (done : List Resolved) → BlockSoFar w (resolve_stmts t ls st (stmts_tree (drop i xs))) done → IsSome w → (stmt_size (stmt_tree x) < stmts_size (stmts_tree xs)) × IsSome (resolve_stmt t ls st (stmt_tree x))
-  block_needs w done s h =
-      (item_smaller xs i x lt is, first_some (resolve_stmt t ls st (stmt_tree x)) (λ a. then_some (resolve_stmts t a.locals a.state (stmts_tree (drop (i + 1) xs))) (λ b. Some (closed_as (block_more a.it b.it) b.state)))
-      (sym (ap is_some block_step) ∙ first_some (resolve_stmts t ls st (stmts_tree (drop i xs))) (λ b. Some (closed_as (glued (resolved_stmts done) b.it) b.state)) (sym (ap is_some s.joins) ∙ h)))
+  block_needs w done s h = (
+    item_smaller xs i x lt is,
+    first_some (resolve_stmt t ls st (stmt_tree x)) (λ a. then_some (resolve_stmts t a.locals a.state (stmts_tree (drop (i + 1) xs))) (λ b. Some (closed_as (block_more a.it b.it) b.state)))
+        (sym (ap is_some block_step) ∙ first_some (resolve_stmts t ls st (stmts_tree (drop i xs))) (λ b. Some (closed_as (glued (resolved_stmts done) b.it) b.state)) (sym (ap is_some s.joins) ∙ h)),
+  )
 
   pub block_next : (w : Option (Closed Block)) (done next : List Resolved) (r : Resolved) (new : Locals) (last : State) → BlockSoFar w (resolve_stmts t ls st (stmts_tree (drop i xs))) done → Some (step_as (resolved_stmt r) new last) ≡ resolve_stmt t ls st (stmt_tree x) → next ≡ done ++ r ∷ [] →
       BlockSoFar w (resolve_stmts t new last (stmts_tree (drop (i + 1) xs))) next
@@ -58,8 +60,8 @@ module _ (t : Tables) (ls : Locals) (st : State) (xs : List Stmt) (i : ℕ) (x :
       let rest = resolve_stmts t new last (stmts_tree (drop (i + 1) xs)) in
       record {
         joins = s.joins ∙ ap (λ r. then_some r (λ b. Some (closed_as (glued (resolved_stmts done) b.it) b.state)))
-          (block_step ∙ goes (resolve_stmt t ls st (stmt_tree x)) (step_as (resolved_stmt r) new last) (λ a. then_some (resolve_stmts t a.locals a.state (stmts_tree (drop (i + 1) xs))) (λ b. Some (closed_as (block_more a.it b.it) b.state))) e) ∙
-          block_chunk rest done r ∙ ap (λ d. then_some rest (λ b. Some (closed_as (glued (resolved_stmts d) b.it) b.state))) (sym n);
+            (block_step ∙ goes (resolve_stmt t ls st (stmt_tree x)) (step_as (resolved_stmt r) new last) (λ a. then_some (resolve_stmts t a.locals a.state (stmts_tree (drop (i + 1) xs))) (λ b. Some (closed_as (block_more a.it b.it) b.state))) e) ∙
+            block_chunk rest done r ∙ ap (λ d. then_some rest (λ b. Some (closed_as (glued (resolved_stmts d) b.it) b.state))) (sym n);
       }
 
 pub block_last : (w r : Option (Closed Block)) (done : List Resolved) (last : State) → BlockSoFar w r done → r ≡ Some (closed_as block_end last) → Some (closed_as (resolved_stmts done) last) ≡ w

@@ -1,5 +1,3 @@
-pub mod UnitSteps
-pub mod PartSteps
 pub mod Sizes
 pub mod StmtArms
 pub mod Blocks

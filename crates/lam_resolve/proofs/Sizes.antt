@@ -1,7 +1,7 @@
 -- How large statements are, so that each call of a recursion goes down.
 use Rattle.std.proofs.Common.{◌≡◌, ℕ, zero, suc, ◌+◌, ◌<◌, List, [], ◌∷◌, length, get_or, arith, subst}
 use Rattle.lam_syntax.specs.declared.Stmt.{Stmt}
-use Rattle.lam_syntax.specs.Tree.{StmtTree, stmt_node, StmtForm, let_stmt, if_stmt, while_stmt, return_stmt, throw_stmt, sync_stmt, region_stmt, do_stmt, assign_stmt, StmtList, no_stmts, stmts, ElseTree, no_else, else_block, stmt_tree, stmts_tree}
+use Rattle.lam_syntax.specs.Tree.{StmtTree, stmt_node, StmtForm, if_stmt, while_stmt, sync_stmt, region_stmt, StmtList, no_stmts, stmts, ElseTree, no_else, else_block, stmt_tree, stmts_tree}
 
 abbrev mutual
   pub stmt_size : StmtTree → ℕ

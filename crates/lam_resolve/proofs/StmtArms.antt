@@ -5,8 +5,8 @@ use Rattle.lam_builtins.specs.Types.{given_type, int}
 use Rattle.resolved_tree.specs.Tree.{ResolvedType, Expression, Statement, Block, OtherBlock, if_block, while_block, return_value, throw_value, sync_block, region_block, do_value, other_block}
 use Rattle.lam_resolved.specs.Resolved.{then_some, Tables, Locals, State, state_as, next_slot, Value, Step, step_as, Closed, closed_as, with_local, locals_from, taken_over, types_of, slots_of, resolve, resolve_value, resolve_captures, resolve_stmt_form, resolve_else, resolve_stmts, assignment}
 use Rattle.lam_resolve_tables.proofs.Options.{first_some, next_some, goes}
-use Rattle.lam_resolve.specs.Seen.{Inside, entered_by}
-use Rattle.lam_resolve.specs.Parts.{assigned_tree}
+use Rattle.lam_resolve_units.specs.Seen.{Inside, entered_by}
+use Rattle.lam_resolve_units.specs.Parts.{assigned_tree}
 use Rattle.lam_resolve.proofs.Sizes.{form_size, else_size, stmts_size}
 
 two_steps : {A B C D : Type 0} (o : Option A) (p : Option B) (f : A → B → Option C) (g : C → Option D) → then_some (then_some o (λ a. then_some p (f a))) g ≡ then_some o (λ a. then_some p (λ b. then_some (f a b) g))
@@ -31,9 +31,11 @@ module _ (t : Tables) (ls : Locals) (st : State) (k : StmtForm) where
     if_first v i h = (omega (arith, ap form_size q), first_some (resolve_stmts t ls st first) (λ a. then_some (resolve_else t ls a.state other) (λ b. Some (step_as (if_block v.it a.it b.it) ls b.state))) (if_rest v i h))
 
     pub if_other : (v : Value) (a : Closed Block) (new : Locals) → Some v ≡ resolve t ls e → Some a ≡ resolve_stmts t ls st first → new ≡ ls → IsSome (resolve_stmt_form t ls st k) → (else_size other < 1 + form_size k) × IsSome (resolve_else t new a.state other)
-    if_other v a new i j n h =
-        (omega (arith, ap form_size q), ap (λ ls. is_some (resolve_else t ls a.state other)) n ∙ first_some (resolve_else t ls a.state other) (λ b. Some (step_as (if_block v.it a.it b.it) ls b.state))
-        (next_some (resolve_stmts t ls st first) a (λ a. then_some (resolve_else t ls a.state other) (λ b. Some (step_as (if_block v.it a.it b.it) ls b.state))) j (if_rest v i h)))
+    if_other v a new i j n h = (
+      omega (arith, ap form_size q),
+      ap (λ ls. is_some (resolve_else t ls a.state other)) n ∙ first_some (resolve_else t ls a.state other) (λ b. Some (step_as (if_block v.it a.it b.it) ls b.state))
+          (next_some (resolve_stmts t ls st first) a (λ a. then_some (resolve_else t ls a.state other) (λ b. Some (step_as (if_block v.it a.it b.it) ls b.state))) j (if_rest v i h)),
+    )
 
     pub if_done : (v : Value) (a : Closed Block) (b : Closed OtherBlock) (new last : Locals) (s : Statement) → Some v ≡ resolve t ls e → Some a ≡ resolve_stmts t ls st first → new ≡ ls → Some b ≡ resolve_else t new a.state other → last ≡ new → s ≡ if_block v.it a.it b.it →
         Some (step_as s last b.state) ≡ resolve_stmt_form t ls st k
@@ -49,9 +51,11 @@ module _ (t : Tables) (ls : Locals) (st : State) (k : StmtForm) where
     while_test h = first_some (resolve t ls e) _ (at_form (while_stmt e body) q h)
 
     pub while_body : (v : Value) → Some v ≡ resolve t ls e → IsSome (resolve_stmt_form t ls st k) → (1 + stmts_size body < 1 + form_size k) × IsSome (resolve_stmts t ls st body)
-    while_body v i h =
-        (omega (arith, ap form_size q), first_some (resolve_stmts t ls st body) (λ a. Some (step_as (while_block v.it a.it) ls a.state))
-        (next_some (resolve t ls e) v (λ v. then_some (resolve_stmts t ls st body) (λ a. Some (step_as (while_block v.it a.it) ls a.state))) i (at_form (while_stmt e body) q h)))
+    while_body v i h = (
+      omega (arith, ap form_size q),
+      first_some (resolve_stmts t ls st body) (λ a. Some (step_as (while_block v.it a.it) ls a.state))
+          (next_some (resolve t ls e) v (λ v. then_some (resolve_stmts t ls st body) (λ a. Some (step_as (while_block v.it a.it) ls a.state))) i (at_form (while_stmt e body) q h)),
+    )
 
     pub while_done : (v : Value) (a : Closed Block) (last : Locals) (s : Statement) → Some v ≡ resolve t ls e → Some a ≡ resolve_stmts t ls st body → last ≡ ls → s ≡ while_block v.it a.it → Some (step_as s last a.state) ≡ resolve_stmt_form t ls st k
     while_done v a last s i j p r =
@@ -89,9 +93,11 @@ module _ (t : Tables) (ls : Locals) (st : State) (k : StmtForm) where
     sync_type v i h = first_some (given_type v.gives) (λ u. then_some (resolve_stmts t ls (next_slot st u) body) (λ a. Some (step_as (sync_block (length st.slots) v.it a.it) ls a.state))) (sync_rest v i h)
 
     pub sync_body : (v : Value) (u : ResolvedType) (now : State) → Some v ≡ resolve t ls e → Some u ≡ given_type v.gives → now ≡ next_slot st u → IsSome (resolve_stmt_form t ls st k) → (1 + stmts_size body < 1 + form_size k) × IsSome (resolve_stmts t ls now body)
-    sync_body v u now i j n h =
-        (omega (arith, ap form_size q), ap (λ st. is_some (resolve_stmts t ls st body)) n ∙ first_some (resolve_stmts t ls (next_slot st u) body) (λ a. Some (step_as (sync_block (length st.slots) v.it a.it) ls a.state))
-        (next_some (given_type v.gives) u (λ u. then_some (resolve_stmts t ls (next_slot st u) body) (λ a. Some (step_as (sync_block (length st.slots) v.it a.it) ls a.state))) j (sync_rest v i h)))
+    sync_body v u now i j n h = (
+      omega (arith, ap form_size q),
+      ap (λ st. is_some (resolve_stmts t ls st body)) n ∙ first_some (resolve_stmts t ls (next_slot st u) body) (λ a. Some (step_as (sync_block (length st.slots) v.it a.it) ls a.state))
+          (next_some (given_type v.gives) u (λ u. then_some (resolve_stmts t ls (next_slot st u) body) (λ a. Some (step_as (sync_block (length st.slots) v.it a.it) ls a.state))) j (sync_rest v i h)),
+    )
 
     pub sync_done : (v : Value) (u : ResolvedType) (now : State) (a : Closed Block) (n : ℕ) (last : Locals) (s : Statement) → Some v ≡ resolve t ls e → Some u ≡ given_type v.gives → now ≡ next_slot st u → Some a ≡ resolve_stmts t ls now body → n ≡ length st.slots →
         last ≡ ls → s ≡ sync_block n v.it a.it → Some (step_as s last a.state) ≡ resolve_stmt_form t ls st k

@@ -1,4 +1,2 @@
-pub mod Seen
 pub mod Meets
-pub mod Parts
 pub mod Regions

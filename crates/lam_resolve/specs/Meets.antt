@@ -1,12 +1,8 @@
--- How the code keeps what is in scope.
-use Rattle.std.specs.Prelude.{◌≡◌, ℕ, List, ◌∷◌, ◌++◌, map, take, length, Some}
+-- How the building of lists meets the definitions.
+use Rattle.std.specs.Prelude.{◌≡◌, ℕ, List, ◌∷◌, ◌++◌, map, Some}
 use Rattle.lam_syntax.specs.Tree.{Word, ItemTree, ProgramTree}
 use Rattle.resolved_tree.specs.Tree.{ResolvedType, ResolvedFunction}
 use Rattle.lam_resolved.specs.Resolved.{then_some, Tables, types_of, resolve_functions}
-
--- more stands at the end, and the others as before
-abbrev pub Extends : {A : Type 0} → List A → List A → Type 0
-Extends old new = take (length old) new ≡ old
 
 -- for each class its fields' types
 abbrev pub types_of_all : List (List (Word × ResolvedType)) → List (List ResolvedType)

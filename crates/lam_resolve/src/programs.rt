@@ -9,10 +9,10 @@ ghost use Rattle.lam_resolve_tables.specs.Tables.{tables, all_fields};
 ghost use Rattle.lam_resolve.specs.Meets.{IsAdded, types_of_all};
 
 use crate::stmts::resolve_block;
-use crate::units::open_unit;
 use lam_resolve_tables::kinds::{Kind, option_value_type, resolve_result};
 use lam_resolve_tables::named::Named;
 use lam_resolve_tables::tables::{Tables, field_types, resolve_vars, types_of_vars};
+use lam_resolve_units::units::open_unit;
 use lam_syntax::{Function, Item, Program};
 use resolved_tree::{Class, Function as ResolvedFunction, Resolved};
 use std::alloc::Global;

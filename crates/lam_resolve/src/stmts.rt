@@ -6,19 +6,19 @@ ghost use Rattle.resolved_tree.specs.Tree.{stmt_tree as resolved_stmt, stmts_tre
 ghost use Rattle.lam_resolved.specs.Resolved.{step_as, closed_as, resolve_stmt as stmt_resolved, resolve_stmts as stmts_resolved, resolve_stmt_form, resolve_else as else_resolved};
 ghost use Rattle.lam_resolve_tables.specs.Tables.{tables};
 ghost use Rattle.lam_resolve_exprs.specs.Values.{locals};
-ghost use Rattle.lam_resolve.specs.Seen.{state};
-ghost use Rattle.lam_resolve.specs.Meets.{Extends};
+ghost use Rattle.lam_resolve_units.specs.Seen.{state};
+ghost use Rattle.lam_resolve_units.specs.Meets.{Extends};
 ghost use Rattle.lam_resolve.specs.Regions.{region_form};
 
-use crate::parts::{
-    Head, if_stmt, region_stmt, resolve_assign, resolve_let, resolve_value, sync_stmt, while_stmt,
-};
-use crate::units::{State, close, declare, enter, new_slot};
 use lam_resolve_exprs::exprs::resolve_expr;
+use lam_resolve_exprs::values::Local;
 use lam_resolve_tables::kinds::{Base, given_kind, plain};
 use lam_resolve_tables::named::Named;
 use lam_resolve_tables::tables::Tables;
-use lam_resolve_exprs::values::Local;
+use lam_resolve_units::parts::{
+    Head, if_stmt, region_stmt, resolve_assign, resolve_let, resolve_value, sync_stmt, while_stmt,
+};
+use lam_resolve_units::units::{State, close, declare, enter, new_slot};
 use lam_syntax::{Expr, Id, Stmt, StmtKind};
 use resolved_tree::Stmt as ResolvedStmt;
 use std::alloc::Global;

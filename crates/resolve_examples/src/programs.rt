@@ -34,7 +34,8 @@ while (!a) { let y: bool = a; a = y; }
 let x: tag = mint();
 say(text(len(new [int](2))));
 }";
-    let want = "f: bool -> slots bool int bytes bool tag { if #0 { let #1 = 1; } else { let #2 = text; }; \
+    let want =
+        "f: bool -> slots bool int bytes bool tag { if #0 { let #1 = 1; } else { let #2 = text; }; \
 while Not #0 { let #3 = #0; #0 = #3; }; let #4 = Mint ( ): tag; \
 Say ( Text ( Len ( new int [ 2 ] ): int ): bytes ); }
 ";

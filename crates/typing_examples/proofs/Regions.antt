@@ -5,15 +5,15 @@ use Rattle.lam_syntax.specs.Tree.{IdTree, ProgramTree, ExprTree, expr_node, labe
 use Rattle.region_check.specs.Breaks.{outer_read, outer_write, return_in_region, both, closed, first_region_break}
 use Rattle.typing_examples.proofs.Trees.{id, name, number, int_var, then_at, in_f}
 
-no_label : ExprTree
+pub no_label : ExprTree
 no_label = expr_node 38 (label_expr no_exprs no_exprs)
 
-no_caps : ExprTree
+pub no_caps : ExprTree
 no_caps = expr_node 48 (caps_expr [])
 
 -- fn f(): int { let x: int = 1; region (label{;}, caps{}) [..] {..} catch (e) { } return x; }
 -- What stands after the body has the positions of the first text below.
-with_region : List IdTree → StmtList → ProgramTree
+pub with_region : List IdTree → StmtList → ProgramTree
 with_region captures body =
     in_f
     (then_at 14 (let_stmt (int_var 18 (codes "x") 21) (number 27 1))

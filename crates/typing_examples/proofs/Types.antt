@@ -34,7 +34,7 @@ unfolding first_type_break with_function with_var builtin_named placed stands cl
 ends_without_a_return = refl
 
 -- fn f(x:int):int{return (x+1)*2;}
-typed : ProgramTree
+pub typed : ProgramTree
 typed =
     function_item
     (record {

@@ -1,4 +1,4 @@
-use Rattle.std.proofs.Common.{◌≡◌, ap, ◌∙◌}
+use Rattle.std.proofs.Common.{ap, ◌∙◌}
 use Rattle.lam_syntax.specs.Tree.{item_tree, function_tree, class_tree}
 use Rattle.resolved_tree.specs.Tree.{functions_tree, function_tree as resolved_function}
 use Rattle.lam_resolve_tables.specs.Tables.{tables}

@@ -1,4 +1,4 @@
-use Rattle.std.proofs.Common.{◌≡◌, ap, ◌∙◌, is_some}
+use Rattle.std.proofs.Common.{ap, ◌∙◌, is_some}
 use Rattle.std.specs.Option.{option_map}
 use Rattle.std.specs.Prelude.{string_bytes}
 use Rattle.lam_syntax.specs.Tree.{function_tree, vars_tree}
@@ -8,7 +8,7 @@ use Rattle.lam_resolve_tables.specs.Entries.{entries_of}
 use Rattle.lam_resolve_tables.specs.Kinds.{kind_type}
 use Rattle.lam_resolve_tables.specs.Tables.{tables, vars}
 use Rattle.lam_resolve_exprs.specs.Values.{locals}
-use Rattle.lam_resolve.specs.Seen.{state}
+use Rattle.lam_resolve_units.specs.Seen.{state}
 use Rattle.lam_resolve.proofs.ProgramSteps.{function_params, function_result, function_body, function_done}
 use Rattle.lam_resolve.proofs.programs.resolve_function.Goals as goal
 

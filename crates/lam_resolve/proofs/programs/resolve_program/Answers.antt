@@ -1,4 +1,4 @@
-use Rattle.std.proofs.Common.{◌≡◌, ap, sym, ◌∙◌, is_some}
+use Rattle.std.proofs.Common.{ap, ◌∙◌, is_some}
 use Rattle.lam_syntax.specs.Tree.{items_tree, program_tree}
 use Rattle.resolved_tree.specs.Tree.{functions_tree, classes_tree}
 use Rattle.lam_resolved.specs.Resolved.{tables as tables_of, resolve_functions}

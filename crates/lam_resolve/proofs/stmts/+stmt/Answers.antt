@@ -1,7 +1,7 @@
-use Rattle.std.proofs.Common.{rules, ◌≡◌, Some, refl, get_or, ap, sym, ◌∙◌, is_some}
+use Rattle.std.proofs.Common.{rules, Some, refl, ap, sym, ◌∙◌, is_some}
 use Rattle.std.specs.Option.{option_map}
 use Rattle.std.proofs.lemmas.List.{drop_all}
-use Rattle.lam_syntax.specs.Tree.{expr_tree, option_expr_tree, stmt_form, stmt_tree, stmts_tree, else_tree, ids_tree, id_tree}
+use Rattle.lam_syntax.specs.Tree.{expr_tree, option_expr_tree, stmt_form, stmts_tree, else_tree, ids_tree, id_tree}
 use Rattle.lam_syntax.proofs.Rows.{if_row, while_row, sync_row, region_row}
 use Rattle.resolved_tree.specs.Tree.{stmt_tree as resolved_stmt, stmts_tree as resolved_stmts, else_tree as resolved_other, option_expr_tree as resolved_option}
 use Rattle.lam_resolved.specs.Resolved.{then_some, closed_as, resolve_captures, resolve_stmt_form, resolve_stmts}
@@ -9,7 +9,7 @@ use Rattle.lam_resolve_tables.specs.Kinds.{kind_type}
 use Rattle.lam_resolve_tables.specs.Tables.{tables}
 use Rattle.lam_resolve_exprs.specs.Values.{locals, value}
 use Rattle.lam_resolve_tables.proofs.Options.{if_ok, some_not_none}
-use Rattle.lam_resolve.specs.Seen.{state, entered, entered_by}
+use Rattle.lam_resolve_units.specs.Seen.{state, entered, entered_by}
 use Rattle.lam_resolve.proofs.StmtArms
 use Rattle.lam_resolve.proofs.Blocks.{block_first, block_needs, block_next, block_last, extends_first, extends_more}
 use Rattle.lam_resolve.proofs.stmts.+stmt.Goals as goal

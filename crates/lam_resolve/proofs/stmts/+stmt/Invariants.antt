@@ -4,8 +4,8 @@ use Rattle.std.proofs.Common.{◌+◌, drop}
 use Rattle.lam_resolved.specs.Resolved.{resolve_stmts}
 use Rattle.lam_resolve_tables.specs.Tables.{tables}
 use Rattle.lam_resolve_exprs.specs.Values.{locals}
-use Rattle.lam_resolve.specs.Seen.{state}
-use Rattle.lam_resolve.specs.Meets.{Extends}
+use Rattle.lam_resolve_units.specs.Seen.{state}
+use Rattle.lam_resolve_units.specs.Meets.{Extends}
 use Rattle.lam_resolve.proofs.Blocks.{BlockSoFar}
 use Rattle.lam_resolve.proofs.stmts.+stmt.Given as goal
 

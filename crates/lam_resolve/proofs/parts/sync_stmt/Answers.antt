@@ -1,5 +1,0 @@
-use Rattle.resolved_tree.proofs.Rows.{sync_row}
-use Rattle.lam_resolve.proofs.parts.sync_stmt.Goals as goal
-
-pub returns : goal.returns
-returns c = sync_row c.args.slot c.args.thing c.args.body

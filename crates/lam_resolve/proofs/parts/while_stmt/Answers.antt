@@ -1,5 +1,0 @@
-use Rattle.resolved_tree.proofs.Rows.{while_row}
-use Rattle.lam_resolve.proofs.parts.while_stmt.Goals as goal
-
-pub returns : goal.returns
-returns c = while_row c.args.test c.args.body

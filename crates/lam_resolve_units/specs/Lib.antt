@@ -1,0 +1,3 @@
+pub mod Seen
+pub mod Meets
+pub mod Parts
