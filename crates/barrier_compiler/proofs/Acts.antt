@@ -1,5 +1,5 @@
 -- The code of a program acts as the program.
-use Rattle.std.proofs.Common.{◌≡◌, Option, Some, IsSomeAnd, subst}
+use Rattle.std.proofs.Common.{Option, IsSomeAnd, subst}
 use Rattle.lam_syntax.specs.Tree.{ProgramTree}
 use Rattle.resolved_tree.specs.Tree.{ResolvedTree}
 use Rattle.resolved_tree.specs.Typing.{IsTypedTree}

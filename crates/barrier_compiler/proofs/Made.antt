@@ -1,5 +1,5 @@
 -- What `emit` answers, said of the checked program.
-use Rattle.std.proofs.Common.{◌≡◌, ◌⊎◌, ℕ, Some, Result, Ok, Err, IfOk, IfErr, Option, inl, inr, refl, sym}
+use Rattle.std.proofs.Common.{◌≡◌, ◌⊎◌, ℕ, Some, Result, Ok, Err, IfOk, IfErr, inl, inr, refl, sym}
 use Rattle.lam_syntax.specs.Tree.{ProgramTree}
 use Rattle.resolved_tree.specs.Tree.{ResolvedTree}
 use Rattle.lam_bytecode.specs.Codes.{CodeTree}
