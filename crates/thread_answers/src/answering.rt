@@ -10,7 +10,6 @@ ghost use Rattle.thread_steps.specs.Next.{next_of, asks, takes, answered, done, 
 ghost use Rattle.lam_threads.specs.Seen.{phase_of};
 ghost use Rattle.thread_answers.specs.Preparing.{taken_by, given_by, thing_in, caught, catch_place_in, after_of, nulls, added_ones, without_at, caps_or, gone, undone, done_in, undone_in, ending_of};
 
-use thread_core::{Coming, next};
 use crate::plan::{Going, Left, Monitor, Plan};
 use capabilities::Caps;
 use flow_labels::Label;
@@ -19,7 +18,9 @@ use lam_bytecode::{Code, UnitKind};
 use lam_threads::{Context, Frame, LamThread, Operands, Phase, filled, locals_of};
 use lam_value::{Name, Value};
 use std::marker::Model;
-use thread_ops::{Sight, region_in, same_names};
+use thread_core::{Coming, next};
+use thread_ops::region_in;
+use thread_sights::{Sight, same_names};
 use want_of_memory::NoMemory;
 
 fn stays(c: &Context) -> Left

@@ -1,11 +1,11 @@
 //! Asks and values, made of parts that are copied.
 
-ghost use Rattle.std.specs.Prelude.{◌≡◌, ◌++◌, map, IfOk};
+ghost use Rattle.std.specs.Prelude.{◌≡◌, ◌++◌, ◌∷◌, [], map, IfOk, OnOk};
 ghost use Rattle.std.specs.FinSet.{from_list};
 ghost use Rattle.std.specs.Fmt.{signed_decimal};
 ghost use Rattle.lam_value.specs.Shapes.{zero_of};
 ghost use Rattle.thread_steps.specs.Builtins.{root_name};
-ghost use Rattle.thread_ops.specs.Acting.{ask_of, value_of, signed, tag_list};
+ghost use Rattle.thread_sights.specs.Acting.{ask_of, value_of, signed, tag_list};
 
 use crate::acted::{Sketch, Worth};
 use crate::reading::tag_in;
@@ -322,14 +322,27 @@ fn caps_value(caps: &Caps) -> Result<Value, NoMemory>
     Ok(Value::CapV { plus, minus })
 }
 
+#[tactic(auto, using(crate::proofs::Lists::tag_or_none))]
+fn push_tag(tags: &mut Vec<TagId>, value: &Value) -> Result<(), NoMemory>
+    ensures { OnOk result (tags.new.items ≡ tags.old.items ++ tag_list (value.now ∷ [])) }
+{
+    match tag_in(value) {
+        None => Ok(()),
+        Some(tag) => {
+            tags.push(tag)?;
+            Ok(())
+        }
+    }
+}
+
+/// The set of the tags among values.
+#[tactic(auto, using(crate::proofs::Lists::tags_more))]
 fn tags_from(alloc: Global, values: &[Value]) -> Result<TagSet, NoMemory>
     ensures { IfOk result (λ t. t ≡ from_list (tag_list values.now)) }
 {
     let mut tags = Vec::with_capacity(alloc, values.len())?;
     for value in values {
-        if let Some(tag) = tag_in(value) {
-            tags.push(tag)?;
-        }
+        push_tag(&mut tags, value)?;
     }
     TagSet::from_slice(alloc, tags.as_slice())
 }

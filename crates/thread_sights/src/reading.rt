@@ -4,7 +4,7 @@ ghost use Rattle.std.specs.Prelude.{◌≡◌};
 ghost use Rattle.std.specs.Option.{option_copied};
 ghost use Rattle.std.specs.List.{list_any};
 ghost use Rattle.thread_steps.specs.Operators.{is_null, some_null};
-ghost use Rattle.thread_ops.specs.Reading.{number_in, truth_in, thing_in, tag_in};
+ghost use Rattle.thread_sights.specs.Reading.{number_in, truth_in, thing_in, tag_in};
 
 use lam_value::{Name, Value};
 use tag_sets::TagId;

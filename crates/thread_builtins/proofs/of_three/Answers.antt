@@ -1,4 +1,4 @@
-use Rattle.thread_ops.proofs.builtins.of_three.Goals as goal
+use Rattle.thread_builtins.proofs.of_three.Goals as goal
 
 pub returns-in-Slice : goal.returns-in-Slice
 returns-in-Slice c = λ p k. rw c.in-Slice.is (c.slice.ensures p k)

@@ -1,18 +1,17 @@
 //! The built-in calls.
 //!
 //! A built-in call is seen before it is done, without memory: its value, fault or ask stands as [`Called`], with the
-//! parts of its arguments where they are.
+//! parts of its arguments where they are. [`system`] is the sight of a call with the arguments on top of the operands.
+#![tactic(auto)]
 
 ghost use Rattle.std.specs.Prelude.{◌≡◌, ◌≤◌, ◌++◌, ◌∷◌, [], pos, length, List};
 ghost use Rattle.decimal_text.specs.Decimal.{int_of};
 ghost use Rattle.flow_labels.specs.declared.Label.{Label};
 ghost use Rattle.capabilities.specs.declared.Caps.{Caps};
 ghost use Rattle.thread_steps.specs.Builtins.{calls, builtin, number_now, bytes_now, byte_at, slice_at, own_label, copied, read_from, cut_to, send_into, number_in as number_from};
-ghost use Rattle.thread_ops.specs.Acting.{calls_of, did_of, systems};
+ghost use Rattle.thread_sights.specs.Acting.{calls_of, did_of, systems};
 ghost use Rattle.lam_value.specs.declared.values.Value.{Value};
 
-use crate::acted::{Called, Sight, Sketch, Worth};
-use crate::reading::some_null;
 use capabilities::Caps;
 use decimal_text::read_int;
 use flow_labels::Label;
@@ -20,6 +19,7 @@ use lam_asks::Fault;
 use lam_builtins::Builtin;
 use lam_threads::Operands;
 use lam_value::{ByteText, Name, Value};
+use thread_sights::{Called, Sight, Sketch, Worth, some_null};
 
 /// How many bytes a value may have.
 const BYTES_LIMIT: usize = 65_536;
@@ -483,7 +483,8 @@ fn of_some<'a>(label: &'a Label, caps: &'a Caps, b: Builtin, args: &'a [Value]) 
 }
 
 /// What a built-in call does at a label with capabilities. A null argument raises Null before all else.
-pub fn builtin<'a>(label: &'a Label, caps: &'a Caps, b: Builtin, args: &'a [Value]) -> Called<'a>
+#[tactic(auto, unfolding(thread_steps::specs::Builtins::builtin))]
+fn builtin<'a>(label: &'a Label, caps: &'a Caps, b: Builtin, args: &'a [Value]) -> Called<'a>
     requires { length args.now ≤ 3 }
     ensures { calls_of result ≡ builtin label.now caps.now b args.now }
 {

@@ -1,4 +1,4 @@
-use Rattle.thread_ops.proofs.builtins.of_one.Goals as goal
+use Rattle.thread_builtins.proofs.of_one.Goals as goal
 
 pub returns-in-Len : goal.returns-in-Len
 returns-in-Len c = λ p k. rw c.in-Len.is (c.len.ensures p k)

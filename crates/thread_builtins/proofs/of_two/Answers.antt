@@ -1,4 +1,4 @@
-use Rattle.thread_ops.proofs.builtins.of_two.Goals as goal
+use Rattle.thread_builtins.proofs.of_two.Goals as goal
 
 pub returns-in-Byte : goal.returns-in-Byte
 returns-in-Byte c = λ p k. rw c.in-Byte.is (c.byte.ensures p k)

@@ -22,16 +22,16 @@ use Rattle.thread_steps.specs.Builtins as built
 use Rattle.thread_steps.specs.Builtins.{Calls, builtin, root_name}
 use Rattle.thread_steps.specs.Ops.{Did, gives, sets, jumps, calls, returns, fails, wants, leaves, breaks, on_any, on_many, on_known, on_caps, on_label, operated, new_object, region_takes, region_in, function_takes, called, frames_limit}
 use Rattle.lam_asks.specs.declared.fault.Fault.TheVariants as fault
-use Rattle.thread_ops.specs.declared.acted.Computed.{Computed}
-use Rattle.thread_ops.specs.declared.acted.Computed.TheVariants as computed
-use Rattle.thread_ops.specs.declared.acted.Sketch.{Sketch}
-use Rattle.thread_ops.specs.declared.acted.Sketch.TheVariants as sketch
-use Rattle.thread_ops.specs.declared.acted.Worth.{Worth}
-use Rattle.thread_ops.specs.declared.acted.Worth.TheVariants as worth
-use Rattle.thread_ops.specs.declared.acted.Called.{Called}
-use Rattle.thread_ops.specs.declared.acted.Called.TheVariants as calling
-use Rattle.thread_ops.specs.declared.acted.Sight.{Sight}
-use Rattle.thread_ops.specs.declared.acted.Sight.TheVariants as sight
+use Rattle.thread_sights.specs.declared.acted.Computed.{Computed}
+use Rattle.thread_sights.specs.declared.acted.Computed.TheVariants as computed
+use Rattle.thread_sights.specs.declared.acted.Sketch.{Sketch}
+use Rattle.thread_sights.specs.declared.acted.Sketch.TheVariants as sketch
+use Rattle.thread_sights.specs.declared.acted.Worth.{Worth}
+use Rattle.thread_sights.specs.declared.acted.Worth.TheVariants as worth
+use Rattle.thread_sights.specs.declared.acted.Called.{Called}
+use Rattle.thread_sights.specs.declared.acted.Called.TheVariants as calling
+use Rattle.thread_sights.specs.declared.acted.Sight.{Sight}
+use Rattle.thread_sights.specs.declared.acted.Sight.TheVariants as sight
 
 -- ---- asks and values whose parts are borrowed
 
