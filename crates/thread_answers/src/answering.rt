@@ -34,6 +34,7 @@ fn stays(c: &Context) -> Left
 }
 
 /// What will stand of the acting call when its ask was answered.
+#[tactic(auto, using(crate::proofs::Leaving::wanted_left, thread_core::proofs::Cases::raised_left, thread_core::proofs::Cases::returned_left, thread_core::proofs::Cases::leaving_left, thread_core::proofs::Cases::set_left))]
 fn left(c: &Context, code: &Code) -> Left
     ensures { (a : Ask) (i : Inside) → next_of code.now c.now ≡ asks a i → i ≡ after_of result c.now.inside }
 {
@@ -113,6 +114,7 @@ fn gained(caps: &Caps, ask: &Ask, value: &Value) -> Result<Option<Caps>, NoMemor
     }
 }
 
+#[tactic(auto, using(crate::proofs::Going::undone_is, crate::proofs::Going::value_gone))]
 fn plan_value(c: &mut Context, code: &Code, ask: &Ask, value: Value) -> Result<Going, NoMemory>
     ensures before { IfOk result (λ g. undone g c.new ≡ c.old) }
     ensures after { IfOk result (λ g. (i : Inside) → next_of code.now c.old ≡ asks ask.now i → gone g c.new ≡ gains ask.now value (given c.old i value)) }
@@ -132,6 +134,7 @@ fn plan_value(c: &mut Context, code: &Code, ask: &Ask, value: Value) -> Result<G
 }
 
 /// A context goes on without a value.
+#[tactic(auto, using(crate::proofs::Going::undone_is, crate::proofs::Going::rest_gone))]
 fn plan_rest(c: &mut Context, code: &Code) -> Result<Going, NoMemory>
     ensures before { IfOk result (λ g. undone g c.new ≡ c.old) }
     ensures after { IfOk result (λ g. (a : Ask) (i : Inside) → next_of code.now c.old ≡ asks a i → gone g c.new ≡ with_inside c.old i) }

@@ -9,9 +9,9 @@ use Rattle.lam_asks.specs.declared.answer.Outcome.TheVariants as outcome
 use Rattle.lam_bytecode.specs.Codes.{CodeTree}
 use Rattle.thread_steps.specs.Threads.{Frame, Inside, Phase, Bottom, Body, Catch, Context}
 use Rattle.thread_steps.specs.Ops.{Did, sets, returns, leaves, on_any}
-use Rattle.thread_steps.specs.Next.{Next, goes, asks, stuck, stands, is_shared, is_private, is_stuck, raised, returned, ending, leaving, next_by}
+use Rattle.thread_steps.specs.Next.{Next, goes, asks, stuck, stands, is_shared, is_private, is_stuck, raised, returned, ending, leaving, next_by, next_of, standing_in}
 use Rattle.thread_core.specs.declared.turn.Turn.TheVariants as turn
-use Rattle.thread_core.specs.Turning.{turned, moved, asked, awaited, nobody}
+use Rattle.thread_core.specs.Turning.{turned, moved, asked, asked_in, awaited, nobody}
 use Rattle.thread_core.specs.Moves.{raised_ask, is_bottom}
 
 -- ---- a fault that was raised
@@ -135,3 +135,14 @@ pub ending_moved : (c : Context) (ph : Phase) (i : Inside) (v : Value) → moved
 ending_moved c Bottom i v = refl
 ending_moved c (Body at) i v = refl
 ending_moved c Catch i v = refl
+
+-- ---- a thread that stands shared asks
+
+next_asks : (n : Next) → stands n ≡ is_shared → asked n ≡ None → ⊥
+next_asks (goes i) e f = cc
+next_asks (asks a i) e f = cc
+next_asks stuck e f = cc
+
+pub shared_asks : (code : CodeTree) (cs : List Context) → standing_in code cs ≡ is_shared → asked_in code cs ≡ None → ⊥
+shared_asks code [] e f = cc
+shared_asks code (c ∷ cs) e f = next_asks (next_of code c) e f
