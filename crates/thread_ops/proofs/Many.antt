@@ -40,6 +40,12 @@ some_null-append (x ∷ xs) ys = or_more (is_null x) (some_null xs) (some_null y
 pub either_null : (xs ys : List Value) → (some_null xs || some_null ys) ≡ some_null (xs ++ ys)
 either_null xs ys = sym (some_null-append xs ys)
 
+pub null_left : (xs ys : List Value) (b : Bool) → b ≡ some_null xs → b ≡ true → b ≡ some_null (xs ++ ys)
+null_left xs ys b e t = t ∙ (sym (ap (λ x. x || some_null ys) (sym e ∙ t)) ∙ either_null xs ys)
+
+pub null_right : (xs ys : List Value) (a b : Bool) → a ≡ some_null xs → a ≡ false → b ≡ some_null ys → b ≡ some_null (xs ++ ys)
+null_right xs ys a b e f g = g ∙ (sym (ap (λ x. x || some_null ys) (sym e ∙ f)) ∙ either_null xs ys)
+
 pub label_null : (xs ys : List Value) → some_null (xs ++ ys) ≡ true → label_from xs ys ≡ faults Null
 label_null xs ys e = ap (λ b. cond b (faults Null) (label_by (tags_in xs) (tags_in ys))) e
 

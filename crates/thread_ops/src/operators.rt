@@ -168,7 +168,6 @@ fn are_tags(values: &[Value]) -> bool
     all_tags(values)
 }
 
-#[tactic(auto, using(crate::proofs::Many::either_null))]
 fn have_null(secrets: &[Value], vouchers: &[Value]) -> bool
     ensures { result ≡ some_null (secrets.now ++ vouchers.now) }
 {
