@@ -12,7 +12,7 @@ use Rattle.lam_asks.specs.declared.ask.Ask.TheVariants.{End}
 use Rattle.lam_asks.specs.declared.answer.Outcome.{Outcome}
 use Rattle.thread_steps.specs.Threads.{Frame, Inside, Catch, Context, Thread}
 use Rattle.thread_steps.specs.Next.{frame_at, outermost, with_held, held_by, without}
-use Rattle.thread_ops.specs.Acting.{left_over}
+use Rattle.thread_sights.specs.Acting.{left_over}
 use Rattle.thread_core.specs.Moves.{failed}
 use Rattle.thread_answers.specs.declared.plan.Left.{Left}
 use Rattle.thread_answers.specs.declared.plan.Monitor.{Monitor}

@@ -10,7 +10,6 @@ ghost use Rattle.thread_steps.specs.Next.{next_of, asks, takes, answered, done, 
 ghost use Rattle.lam_threads.specs.Seen.{phase_of};
 ghost use Rattle.thread_answers.specs.Preparing.{taken_by, given_by, thing_in, caught, catch_place_in, after_of, nulls, added_ones, without_at, caps_or, gone, undone, done_in, undone_in, ending_of};
 
-use thread_core::{Coming, next};
 use crate::plan::{Going, Left, Monitor, Plan};
 use capabilities::Caps;
 use flow_labels::Label;
@@ -19,7 +18,9 @@ use lam_bytecode::{Code, UnitKind};
 use lam_threads::{Context, Frame, LamThread, Operands, Phase, filled, locals_of};
 use lam_value::{Name, Value};
 use std::marker::Model;
-use thread_ops::{Sight, region_in, same_names};
+use thread_core::{Coming, next};
+use thread_ops::region_in;
+use thread_sights::{Sight, same_names};
 use want_of_memory::NoMemory;
 
 fn stays(c: &Context) -> Left
@@ -33,6 +34,7 @@ fn stays(c: &Context) -> Left
 }
 
 /// What will stand of the acting call when its ask was answered.
+#[tactic(auto, using(crate::proofs::Leaving::wanted_left, thread_core::proofs::Cases::raised_left, thread_core::proofs::Cases::returned_left, thread_core::proofs::Cases::leaving_left, thread_core::proofs::Cases::set_left))]
 fn left(c: &Context, code: &Code) -> Left
     ensures { (a : Ask) (i : Inside) → next_of code.now c.now ≡ asks a i → i ≡ after_of result c.now.inside }
 {
@@ -112,6 +114,7 @@ fn gained(caps: &Caps, ask: &Ask, value: &Value) -> Result<Option<Caps>, NoMemor
     }
 }
 
+#[tactic(auto, using(crate::proofs::Going::undone_is, crate::proofs::Going::value_gone))]
 fn plan_value(c: &mut Context, code: &Code, ask: &Ask, value: Value) -> Result<Going, NoMemory>
     ensures before { IfOk result (λ g. undone g c.new ≡ c.old) }
     ensures after { IfOk result (λ g. (i : Inside) → next_of code.now c.old ≡ asks ask.now i → gone g c.new ≡ gains ask.now value (given c.old i value)) }
@@ -131,6 +134,7 @@ fn plan_value(c: &mut Context, code: &Code, ask: &Ask, value: Value) -> Result<G
 }
 
 /// A context goes on without a value.
+#[tactic(auto, using(crate::proofs::Going::undone_is, crate::proofs::Going::rest_gone))]
 fn plan_rest(c: &mut Context, code: &Code) -> Result<Going, NoMemory>
     ensures before { IfOk result (λ g. undone g c.new ≡ c.old) }
     ensures after { IfOk result (λ g. (a : Ask) (i : Inside) → next_of code.now c.old ≡ asks a i → gone g c.new ≡ with_inside c.old i) }

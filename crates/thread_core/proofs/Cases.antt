@@ -1,16 +1,18 @@
 -- What comes next, case by case.
-use Rattle.std.proofs.Common.{◌≡◌, ℕ, List, [], ◌∷◌, Option, Some, None, sym, ap, ◌∙◌, refl}
+use Rattle.std.proofs.Common.{◌≡◌, ℕ, cond, List, [], ◌∷◌, Some, None, refl}
 use Rattle.std.specs.Prelude.{slice_set}
 use Rattle.lam_value.specs.declared.values.Value.{Value}
 use Rattle.lam_asks.specs.declared.fault.Fault.{Fault}
 use Rattle.lam_asks.specs.declared.ask.Ask.{Ask}
+use Rattle.lam_asks.specs.declared.ask.Ask.TheVariants as ask
+use Rattle.lam_asks.specs.declared.answer.Outcome.TheVariants as outcome
 use Rattle.lam_bytecode.specs.Codes.{CodeTree}
 use Rattle.thread_steps.specs.Threads.{Frame, Inside, Phase, Bottom, Body, Catch, Context}
 use Rattle.thread_steps.specs.Ops.{Did, sets, returns, leaves, on_any}
-use Rattle.thread_steps.specs.Next.{Next, goes, asks, stuck, stands, is_shared, is_private, is_stuck, raised, returned, ending, leaving, next_by}
+use Rattle.thread_steps.specs.Next.{Next, goes, asks, stuck, stands, is_shared, is_private, is_stuck, raised, returned, ending, leaving, next_by, next_of, standing_in}
 use Rattle.thread_core.specs.declared.turn.Turn.TheVariants as turn
-use Rattle.thread_core.specs.Turning.{turned, moved, asked, awaited, nobody}
-use Rattle.thread_core.specs.Moves.{raised_ask}
+use Rattle.thread_core.specs.Turning.{turned, moved, asked, asked_in, awaited, nobody}
+use Rattle.thread_core.specs.Moves.{raised_ask, is_bottom}
 
 -- ---- a fault that was raised
 
@@ -87,3 +89,60 @@ set_left code ph i j (v ∷ s) ls n a e = cc
 pub set_waits : (code : CodeTree) (ph : Phase) (i : Inside) (s ls : List Value) (n : ℕ) → awaited (asked (next_by code ph i (on_any s (λ v s. sets (slice_set ls n v) s)))) ≡ nobody
 set_waits code ph i [] ls n = refl
 set_waits code ph i (v ∷ s) ls n = refl
+
+pub set_stands : (code : CodeTree) (ph : Phase) (i : Inside) (v : Value) (s ls : List Value) (n : ℕ) → stands (next_by code ph i (on_any (v ∷ s) (λ v s. sets (slice_set ls n v) s))) ≡ is_private
+set_stands code ph i v s ls n = refl
+
+pub set_asked : (code : CodeTree) (ph : Phase) (i : Inside) (s ls : List Value) (n : ℕ) → asked (next_by code ph i (on_any s (λ v s. sets (slice_set ls n v) s))) ≡ None
+set_asked code ph i [] ls n = refl
+set_asked code ph i (v ∷ s) ls n = refl
+
+-- ---- a region that is left, by what the context is
+
+pub leaving_stands : (ph : Phase) (i : Inside) → stands (leaving ph i) ≡ cond (is_bottom ph) is_stuck is_shared
+leaving_stands Bottom i = refl
+leaving_stands (Body at) i = refl
+leaving_stands Catch i = refl
+
+pub leaving_asked : (ph : Phase) (i : Inside) → asked (leaving ph i) ≡ cond (is_bottom ph) None (Some ask.Leave)
+leaving_asked Bottom i = refl
+leaving_asked (Body at) i = refl
+leaving_asked Catch i = refl
+
+pub leaving_turned : (ph : Phase) (i : Inside) → turned (leaving ph i) ≡ cond (is_bottom ph) turn.Stuck (turn.Asks ask.Leave)
+leaving_turned Bottom i = refl
+leaving_turned (Body at) i = refl
+leaving_turned Catch i = refl
+
+pub leaving_moved : (c : Context) (ph : Phase) (i : Inside) → moved c (leaving ph i) ≡ c
+leaving_moved c Bottom i = refl
+leaving_moved c (Body at) i = refl
+leaving_moved c Catch i = refl
+
+-- ---- a result, by what the context is
+
+pub ending_stands : (ph : Phase) (i : Inside) (v : Value) → stands (ending ph i v) ≡ cond (is_bottom ph) is_shared is_stuck
+ending_stands Bottom i v = refl
+ending_stands (Body at) i v = refl
+ending_stands Catch i v = refl
+
+pub ending_asked : (ph : Phase) (i : Inside) (v : Value) → asked (ending ph i v) ≡ cond (is_bottom ph) (Some (ask.End (outcome.Value v))) None
+ending_asked Bottom i v = refl
+ending_asked (Body at) i v = refl
+ending_asked Catch i v = refl
+
+pub ending_moved : (c : Context) (ph : Phase) (i : Inside) (v : Value) → moved c (ending ph i v) ≡ c
+ending_moved c Bottom i v = refl
+ending_moved c (Body at) i v = refl
+ending_moved c Catch i v = refl
+
+-- ---- a thread that stands shared asks
+
+next_asks : (n : Next) → stands n ≡ is_shared → asked n ≡ None → ⊥
+next_asks (goes i) e f = cc
+next_asks (asks a i) e f = cc
+next_asks stuck e f = cc
+
+pub shared_asks : (code : CodeTree) (cs : List Context) → standing_in code cs ≡ is_shared → asked_in code cs ≡ None → ⊥
+shared_asks code [] e f = cc
+shared_asks code (c ∷ cs) e f = next_asks (next_of code c) e f

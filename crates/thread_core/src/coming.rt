@@ -7,7 +7,8 @@ ghost use Rattle.thread_core.specs.Coming.{next_from, HasPlace};
 use lam_asks::Fault;
 use lam_bytecode::{Code, Op};
 use lam_threads::Context;
-use thread_ops::{Sight, see};
+use thread_ops::see;
+use thread_sights::Sight;
 
 /// What comes next of a context.
 #[derive(Clone, Copy)]

@@ -1,11 +1,11 @@
 //! Turns of a context.
 
-ghost use Rattle.std.specs.Prelude.{◌≡◌, ◌<◌, ◌+◌, ◌^◌, Some, if◌then◌else◌, IfOk, OnOk, OnErr};
+ghost use Rattle.std.specs.Prelude.{◌≡◌, ◌<◌, ◌+◌, ◌^◌, ◌∷◌, [], Some, if◌then◌else◌, reverse, vec_len, vec_capacity, IfSome, IfOk, OnOk, OnErr, MatchOption};
 ghost use Rattle.lam_bytecode.specs.Codes.{CodeTree};
 ghost use Rattle.thread_steps.specs.Threads.{Inside};
 ghost use Rattle.thread_steps.specs.Next.{next_of, stands, ending};
 ghost use Rattle.lam_threads.specs.Seen.{phase_of};
-ghost use Rattle.thread_ops.specs.Acting.{ask_of};
+ghost use Rattle.thread_sights.specs.Acting.{ask_of};
 ghost use Rattle.thread_core.specs.Turning.{turned, moved, standing_of, asked, awaited, awaited_by, monitor_in};
 ghost use Rattle.thread_core.specs.Coming.{next_from};
 ghost use Rattle.thread_core.specs.Moves.{dropped, put, jumped, called_with, failed, raised_ask, is_bottom};
@@ -17,7 +17,7 @@ use lam_bytecode::Code;
 use lam_threads::{Context, Frame, Operands, Phase, locals_of};
 use lam_value::{Name, Value};
 use std::mem::replace;
-use thread_ops::{Sight, Sketch, ask_from, value_from};
+use thread_sights::{Sight, Sketch, ask_from, value_from};
 use want_of_memory::NoMemory;
 
 fn drops(c: &mut Context, takes: usize)
@@ -69,6 +69,30 @@ fn fails(c: &mut Context, fault: Fault)
     c.fault = Some(fault);
 }
 
+/// The caller of the acting call, taken off.
+fn pop_caller(callers: &mut Vec<Frame>) -> Option<Frame>
+    ensures frames { MatchOption result ((reverse callers.old.items ≡ []) × (callers.new.items ≡ callers.old.items)) (λ f. reverse callers.old.items ≡ f ∷ reverse callers.new.items) }
+    ensures room { IfSome result (λ _. vec_len callers.new < vec_capacity callers.new) }
+{
+    callers.pop()
+}
+
+/// A caller is put on, for which there is room.
+fn put_caller(callers: &mut Vec<Frame>, frame: Frame)
+    requires { vec_len callers.old < vec_capacity callers.old }
+    ensures { reverse callers.new.items ≡ frame ∷ reverse callers.old.items }
+{
+    callers.push_reserved(frame);
+}
+
+fn make_room(callers: &mut Vec<Frame>) -> Result<(), NoMemory>
+    ensures frames { callers.new.items ≡ callers.old.items }
+    ensures room { OnOk result (vec_len callers.new < vec_capacity callers.new) }
+{
+    callers.reserve(1)?;
+    Ok(())
+}
+
 /// A function is called with the arguments on top.
 fn calls(c: &mut Context, code: &Code, unit: usize, count: usize) -> Result<(), NoMemory>
     requires { c.old.inside.frame.at + 1 < 2 ^ 64 }
@@ -76,7 +100,7 @@ fn calls(c: &mut Context, code: &Code, unit: usize, count: usize) -> Result<(), 
     ensures err { OnErr result (c.new ≡ c.old) }
 {
     let size = locals_of(code, unit);
-    c.callers.reserve(1)?;
+    make_room(&mut c.callers)?;
     let locals = c.stack.take_many(count, size)?;
     let alloc = c.stack.allocator();
     let frame = Frame {
@@ -85,7 +109,7 @@ fn calls(c: &mut Context, code: &Code, unit: usize, count: usize) -> Result<(), 
         locals: replace(&mut c.locals, locals),
         stack: replace(&mut c.stack, Operands::new(alloc)),
     };
-    c.callers.push_reserved(frame);
+    put_caller(&mut c.callers, frame);
     c.unit = unit;
     c.at = 0;
     c.fault = None;
@@ -113,11 +137,11 @@ fn returns(c: &mut Context) -> Result<Turn, NoMemory>
         return Ok(Turn::Stuck);
     };
     let value = value.copy()?;
-    let Some(mut frame) = c.callers.pop() else {
+    let Some(mut frame) = pop_caller(&mut c.callers) else {
         return Ok(end(c.phase, value));
     };
     if frame.stack.push(value).is_err() {
-        c.callers.push_reserved(frame);
+        put_caller(&mut c.callers, frame);
         return Err(NoMemory);
     }
     let Frame {
@@ -156,6 +180,7 @@ fn is_bottom(phase: Phase) -> bool
 /// # Errors
 ///
 /// `NoMemory` where memory is refused; the context is then as it was.
+#[tactic(auto, using(crate::proofs::Cases::raised_turned, crate::proofs::Cases::raised_moved, crate::proofs::Cases::leaving_turned, crate::proofs::Cases::leaving_moved))]
 pub fn advance_context(c: &mut Context, code: &Code) -> Result<Turn, NoMemory>
     ensures turn { IfOk result (λ t. t ≡ turned (next_of code.now c.old)) }
     ensures new { OnOk result (c.new ≡ moved c.old (next_of code.now c.old)) }
@@ -212,6 +237,7 @@ fn private_where(holds: bool) -> Standing
 }
 
 /// How a context stands whose call returns.
+#[tactic(auto, using(crate::proofs::Cases::ending_stands))]
 fn returning(c: &Context) -> Standing
     ensures { (code : CodeTree) → standing_of result ≡ stands (next_from code c.now (Coming.Sees Sight.Returns)) }
 {
@@ -229,6 +255,7 @@ fn returning(c: &Context) -> Standing
 }
 
 /// How a context stands.
+#[tactic(auto, using(crate::proofs::Cases::raised_stands, crate::proofs::Cases::leaving_stands))]
 pub fn context_stands(c: &Context, code: &Code) -> Standing
     ensures { standing_of result ≡ stands (next_of code.now c.now) }
 {
@@ -257,6 +284,7 @@ pub fn context_stands(c: &Context, code: &Code) -> Standing
 }
 
 /// The ask of a context whose call returns, if it asks.
+#[tactic(auto, using(crate::proofs::Cases::ending_asked))]
 fn returning_ask(c: &Context) -> Result<Option<Ask>, NoMemory>
     ensures { IfOk result (λ a. (code : CodeTree) → a ≡ asked (next_from code c.now (Coming.Sees Sight.Returns))) }
 {
@@ -274,6 +302,7 @@ fn returning_ask(c: &Context) -> Result<Option<Ask>, NoMemory>
 /// # Errors
 ///
 /// `NoMemory` where memory is refused.
+#[tactic(auto, using(crate::proofs::Cases::raised_asked, crate::proofs::Cases::leaving_asked, crate::proofs::Cases::set_asked))]
 pub fn context_ask(c: &Context, code: &Code) -> Result<Option<Ask>, NoMemory>
     ensures { IfOk result (λ a. a ≡ asked (next_of code.now c.now)) }
 {
@@ -323,6 +352,7 @@ fn awaited_by_sketch<'a>(sketch: &Sketch<'a>) -> Waits<'a>
 }
 
 /// What a context's next ask may wait for.
+#[tactic(auto, using(crate::proofs::Cases::raised_waits, crate::proofs::Cases::returned_waits, crate::proofs::Cases::leaving_waits, crate::proofs::Cases::set_waits))]
 pub fn context_waits<'a>(c: &'a Context, code: &'a Code) -> Waits<'a>
     ensures { awaited_by result ≡ awaited (asked (next_of code.now c.now)) }
 {

@@ -45,6 +45,7 @@ fn asked(thread: &LamThread, code: &Code) -> Result<Option<Ask>, NoMemory>
 /// # Errors
 ///
 /// `NoMemory` where memory is refused.
+#[tactic(auto, using(crate::proofs::Cases::shared_asks))]
 pub fn ask(thread: &LamThread, code: &Code) -> Result<Ask, NoMemory>
     requires { standing code.now thread.now ≡ is_shared }
     ensures { IfOk result (λ a. ask_of code.now thread.now ≡ Some a) }
@@ -55,6 +56,7 @@ pub fn ask(thread: &LamThread, code: &Code) -> Result<Ask, NoMemory>
     }
 }
 
+#[tactic(auto, using(crate::proofs::Tops::turn_top, crate::proofs::Tops::stepped_top, crate::proofs::Tops::kept_top))]
 fn advance_last(contexts: &mut Vec<Context>, code: &Code) -> Result<Turn, NoMemory>
     ensures turn { IfOk result (λ t. t ≡ turn_in code.now (reverse contexts.old.items)) }
     ensures new { OnOk result (reverse contexts.new.items ≡ stepped_in code.now (reverse contexts.old.items)) }
@@ -64,7 +66,8 @@ fn advance_last(contexts: &mut Vec<Context>, code: &Code) -> Result<Turn, NoMemo
         return Ok(Turn::Ended);
     }
     let last = contexts.len() - 1;
-    advance_context(&mut contexts[last], code)
+    let turn = advance_context(&mut contexts[last], code)?;
+    Ok(turn)
 }
 
 /// The next turn of a thread: a private one is taken, and an ask is handed out.

@@ -10,7 +10,7 @@ use Rattle.lam_value.specs.declared.values.Value.TheVariants.{Obj, Arr, Nothing}
 use Rattle.lam_asks.specs.declared.fault.Fault.TheVariants.{Null}
 use Rattle.thread_steps.specs.Operators.{is_null}
 use Rattle.thread_steps.specs.Ops.{Did, breaks, fails, on_thing, tested, barrier}
-use Rattle.thread_ops.specs.Reading.{thing_in}
+use Rattle.thread_sights.specs.Reading.{thing_in}
 
 pub drop_none : {A : Type 0} (s : List A) (d : ℕ) → slice_get s d ≡ None → drop d s ≡ []
 drop_none [] zero e = refl

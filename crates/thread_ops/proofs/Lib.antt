@@ -1,3 +1,3 @@
-pub mod Lists
+pub mod UnitLists
 pub mod Heads
 pub mod Many

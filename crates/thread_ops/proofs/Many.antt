@@ -9,8 +9,8 @@ use Rattle.lam_value.specs.declared.values.Value.TheVariants.{Lab}
 use Rattle.lam_asks.specs.declared.fault.Fault.TheVariants.{Null}
 use Rattle.thread_steps.specs.Operators.{Pure, fine, faults, wrong, is_null, some_null, tags_in, label_by, label_from}
 use Rattle.thread_steps.specs.Ops.{Did, breaks, on_many, operated}
-use Rattle.thread_ops.specs.Acting.{tag_list, labelled}
-use Rattle.thread_ops.proofs.Lists.{tags_are}
+use Rattle.thread_sights.specs.Acting.{tag_list, labelled}
+use Rattle.thread_sights.proofs.Lists.{tags_are}
 
 pub many_fits : (n : ℕ) (s : List Value) (go : List Value → List Value → Did) → n ≤ length s → on_many n s go ≡ go (reverse (take n s)) (drop n s)
 many_fits n s go h = ap (λ b. cond b (go (reverse (take n s)) (drop n s)) breaks) (le-leb n (length s) h)
@@ -39,6 +39,12 @@ some_null-append (x ∷ xs) ys = or_more (is_null x) (some_null xs) (some_null y
 
 pub either_null : (xs ys : List Value) → (some_null xs || some_null ys) ≡ some_null (xs ++ ys)
 either_null xs ys = sym (some_null-append xs ys)
+
+pub null_left : (xs ys : List Value) (b : Bool) → b ≡ some_null xs → b ≡ true → b ≡ some_null (xs ++ ys)
+null_left xs ys b e t = t ∙ (sym (ap (λ x. x || some_null ys) (sym e ∙ t)) ∙ either_null xs ys)
+
+pub null_right : (xs ys : List Value) (a b : Bool) → a ≡ some_null xs → a ≡ false → b ≡ some_null ys → b ≡ some_null (xs ++ ys)
+null_right xs ys a b e f g = g ∙ (sym (ap (λ x. x || some_null ys) (sym e ∙ f)) ∙ either_null xs ys)
 
 pub label_null : (xs ys : List Value) → some_null (xs ++ ys) ≡ true → label_from xs ys ≡ faults Null
 label_null xs ys e = ap (λ b. cond b (faults Null) (label_by (tags_in xs) (tags_in ys))) e
@@ -95,3 +101,11 @@ labelled_by p q s h true true e f = absurd (omega (arith, leb-true q (length s) 
 
 pub labelled_short : (p q : ℕ) (s : List Value) → length s < p + q → labelled p q s ≡ breaks
 labelled_short p q s h = labelled_by p q s h (nat_le q (length s)) (nat_le p (length (drop q s))) refl refl
+
+pub made_label : (p q : ℕ) (s tags a b : List Value) (x : Pure) → p + q ≤ length s → tags ≡ reverse (take (p + q) s) → a ≡ take p tags → b ≡ drop p tags → x ≡ label_from a b
+    → operated (drop (p + q) s) x ≡ labelled p q s
+made_label p q s tags a b x h t f g e =
+    let r = reverse (take (p + q) s) in
+    let m : a ≡ take p r = f ∙ ap (take p) t in
+    let n : b ≡ drop p r = g ∙ ap (drop p) t in
+    ap (operated (drop (p + q) s)) (e ∙ (ap (λ l. label_from l b) m ∙ ap (λ l. label_from (take p r) l) n)) ∙ sym (labelled_fits p q s h)

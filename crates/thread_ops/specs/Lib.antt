@@ -1,4 +1,1 @@
-pub mod Fitting
-pub mod Acting
-pub mod Reading
 pub mod Units

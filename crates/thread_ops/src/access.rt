@@ -4,17 +4,15 @@ ghost use Rattle.std.specs.Prelude.{◌≡◌, ◌∷◌, true, reverse, List};
 ghost use Rattle.lam_asks.specs.declared.ask.Ask.TheVariants as ask;
 ghost use Rattle.thread_steps.specs.Ops.{tested, on_thing, may_read, may_write, barrier, gets_field, puts_field, gets_element, puts_element, new_array, on_any, on_int, monitor_of, is_held};
 ghost use Rattle.lam_value.specs.declared.values.Value.{Value};
-ghost use Rattle.thread_ops.specs.Acting.{did_of, makes_object};
-ghost use Rattle.thread_ops.specs.Fitting.{place_in};
+ghost use Rattle.thread_sights.specs.Acting.{did_of, makes_object};
+ghost use Rattle.thread_sights.specs.Fitting.{place_in};
 
-use crate::acted::{Sight, Sketch};
-use crate::equal::same_names;
-use crate::reading::{is_null, thing_in};
 use flow_labels::{Denied, Label, read_rule, write_rule};
 use lam_asks::Fault;
 use lam_bytecode::Kinds;
 use lam_threads::Operands;
 use lam_value::{Kind, Name, Value};
+use thread_sights::{Sight, Sketch, is_null, same_names, thing_in};
 
 fn barred(denied: Option<Denied>) -> Sight<'static>
     ensures { (locals s : List Value) → did_of result locals s ≡ barrier s denied }

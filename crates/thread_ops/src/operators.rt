@@ -4,18 +4,16 @@ ghost use Rattle.std.specs.Prelude.{◌≡◌, ◌⊎◌, ◌++◌, ◌&&◌, Li
 ghost use Rattle.lam_value.specs.declared.values.Value.{Value};
 ghost use Rattle.thread_steps.specs.Operators.{operator, prefix, label_from, with_sign, some_null, tags_in};
 ghost use Rattle.thread_steps.specs.Ops.{between, before};
-ghost use Rattle.thread_ops.specs.Acting.{did_of, labelled, signs, pure_of};
-ghost use Rattle.thread_ops.specs.Reading.{number_in, tag_in};
+ghost use Rattle.thread_sights.specs.Acting.{did_of, labelled, signs, pure_of};
+ghost use Rattle.thread_sights.specs.Reading.{number_in, tag_in};
 ghost use Rattle.std.specs.List.{list_all};
-ghost use Rattle.thread_ops.specs.Fitting.{number_if};
+ghost use Rattle.thread_sights.specs.Fitting.{number_if};
 
-use crate::acted::{Computed, Sight, Worth};
-use crate::equal::same_values;
-use crate::reading::{number_in, some_null, tag_in};
 use lam_asks::Fault;
 use lam_syntax::{BinaryOp, UnaryOp};
 use lam_threads::Operands;
 use lam_value::Value;
+use thread_sights::{Computed, Sight, Worth, number_in, same_values, some_null, tag_in};
 
 fn truth(b: bool) -> Computed<'static>
     ensures { result ≡ Computed.Fine (Worth.Bool b) }
@@ -170,7 +168,6 @@ fn are_tags(values: &[Value]) -> bool
     all_tags(values)
 }
 
-#[tactic(auto, using(crate::proofs::Many::either_null))]
 fn have_null(secrets: &[Value], vouchers: &[Value]) -> bool
     ensures { result ≡ some_null (secrets.now ++ vouchers.now) }
 {

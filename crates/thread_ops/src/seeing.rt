@@ -5,22 +5,21 @@ ghost use Rattle.lam_value.specs.declared.values.Value.{Value};
 ghost use Rattle.thread_steps.specs.Ops.{effect, on_constant, on_any, on_truth, on_int, stores, goes_to, gives, fails, returns};
 ghost use Rattle.lam_asks.specs.declared.fault.Fault.TheVariants as fault;
 ghost use Rattle.thread_steps.specs.Next.{around, ops_of};
-ghost use Rattle.thread_ops.specs.Acting.{did_of, calls_unit};
+ghost use Rattle.thread_sights.specs.Acting.{did_of, calls_unit};
 
 use crate::access::{
     enter_monitor, get_element, get_field, leave_monitor, new_array, new_object, put_element,
     put_field, read_barrier, write_barrier,
 };
-use crate::acted::{Sight, Worth};
-use crate::builtins::system;
 use crate::operators::{add_cap, before, between, make_label};
-use crate::reading::{number_in, truth_in};
 use crate::units::{enter_region, function_takes, spawn};
 use lam_asks::Fault;
 use lam_bytecode::{Code, CodeUnit, Op};
 use lam_syntax::{BinaryOp, UnaryOp};
 use lam_threads::{Context, Operands};
 use lam_value::Value;
+use thread_builtins::system;
+use thread_sights::{Sight, Worth, number_in, truth_in};
 
 /// How many calls may be open in a context.
 const FRAMES_LIMIT: usize = 256;

@@ -4,15 +4,15 @@ ghost use Rattle.std.specs.Prelude.{◌≡◌, ◌<◌, ◌+◌, ◌∷◌, List
 ghost use Rattle.lam_value.specs.declared.values.Value.{Value};
 ghost use Rattle.thread_steps.specs.Ops.{function_takes, is_region, region_in, region_takes, captures_of, on_caps, on_many, on_label, wants};
 ghost use Rattle.thread_ops.specs.Units.{unit_at};
-ghost use Rattle.thread_ops.specs.Acting.{did_of, enters, enters_with, spawns, spawns_with};
+ghost use Rattle.thread_sights.specs.Acting.{did_of, enters, enters_with, spawns, spawns_with};
 ghost use Rattle.lam_asks.specs.declared.ask.Ask.TheVariants as ask;
 
-use crate::acted::{Sight, Sketch};
 use lam_asks::Fault;
 use lam_bytecode::{CodeUnit, UnitKind};
 use lam_threads::Operands;
 use lam_value::Value;
 use tag_sets::TagSet;
+use thread_sights::{Sight, Sketch};
 
 /// How many arguments the function with a number takes, `None` where there is no such function.
 pub fn function_takes(units: &[CodeUnit], unit: u32) -> Option<usize>
@@ -44,6 +44,7 @@ fn is_region(region: u32, kind: &UnitKind) -> bool
 }
 
 /// The first unit of a region.
+#[tactic(auto, using(crate::proofs::UnitLists::region_skip, crate::proofs::UnitLists::region_hit, crate::proofs::UnitLists::region_end))]
 pub fn region_in(units: &[CodeUnit], region: u32) -> Option<UnitAt<'_>>
     ensures { unit_at result ≡ region_in region units.now }
 {

@@ -1,5 +1,5 @@
 use Rattle.std.proofs.Common.{◌∙◌}
-use Rattle.thread_ops.proofs.Lists.{all_tags_is}
+use Rattle.thread_sights.proofs.Lists.{all_tags_is}
 use Rattle.thread_ops.proofs.operators.are_tags.Goals as goal
 
 pub returns : goal.returns

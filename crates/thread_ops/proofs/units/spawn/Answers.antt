@@ -1,6 +1,6 @@
 use Rattle.std.proofs.Common.{◌∙◌, ap}
 use Rattle.thread_steps.specs.Ops.{on_known, on_many}
-use Rattle.thread_ops.specs.Acting.{spawns_with}
+use Rattle.thread_sights.specs.Acting.{spawns_with}
 use Rattle.thread_ops.proofs.units.spawn.Goals as goal
 
 pub returns-in-None : goal.returns-in-None

@@ -1,5 +1,5 @@
 use Rattle.std.proofs.Common.{◌∙◌, drop, sym, ap}
-use Rattle.thread_ops.specs.Acting.{spawns_with}
+use Rattle.thread_sights.specs.Acting.{spawns_with}
 use Rattle.thread_ops.proofs.Many.{many_fits, many_short}
 use Rattle.thread_ops.proofs.units.spawn_many.Goals as goal
 

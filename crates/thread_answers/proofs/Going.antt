@@ -1,0 +1,68 @@
+-- How a context goes on after an answer.
+use Rattle.std.proofs.Common.{◌≡◌, ℕ, ◌+◌, Bool, true, false, List, [], ◌∷◌, ◌++◌, drop, take, Option, Some, None, sym, ap, ◌∙◌, refl}
+use Rattle.capabilities.specs.declared.Caps.{Caps}
+use Rattle.lam_value.specs.declared.names.Name.{Name}
+use Rattle.lam_value.specs.declared.values.Value.{Value}
+use Rattle.lam_value.specs.declared.values.Value.TheVariants.{Nothing}
+use Rattle.lam_asks.specs.declared.ask.Ask.{Ask}
+use Rattle.thread_steps.specs.Threads.{Frame, Inside, Context}
+use Rattle.thread_steps.specs.Next.{given, gains, with_caps, with_inside, frame_at}
+use Rattle.thread_sights.specs.Acting.{left_over}
+use Rattle.thread_answers.specs.Preparing.{after_of, nulls, gone, undone, caps_or}
+use Rattle.thread_answers.specs.declared.plan.Left.{Left}
+use Rattle.thread_answers.specs.declared.plan.Going.{Going}
+use Rattle.thread_answers.specs.declared.plan.Monitor.TheVariants.{Stays}
+
+-- a context with other operands
+abbrev pub with_stack : Context → List Value → Context
+with_stack c s = with_inside c (record { frame = frame_at c.inside.frame c.inside.frame.at c.inside.frame.locals s; callers = c.inside.callers; fault = c.inside.fault })
+
+nulls_left : (b : Bool) (takes : ℕ) (s : List Value) → nulls b ++ drop takes s ≡ left_over takes b s
+nulls_left true takes s = refl
+nulls_left false takes s = refl
+
+abbrev going : ℕ → ℕ → ℕ → Bool → Option Caps → Going
+going at takes added clears caps = record { at = at; takes = takes; added = added; clears = clears; caps = caps; monitor = Stays }
+
+abbrev left_of : ℕ → ℕ → Bool → Left
+left_of at takes b = record { at = at; takes = takes; leaves_null = b }
+
+pub undone_is : (c : Context) (s : List Value) (at takes added : ℕ) (clears : Bool) (caps : Option Caps) → drop added s ≡ c.inside.frame.stack
+    → undone (going at takes added clears caps) (with_stack c s) ≡ c
+undone_is c s at takes added clears caps e = ap (with_stack c) e
+
+-- with a value
+pub value_gone : (c : Context) (i : Inside) (at takes added : ℕ) (b : Bool) (s : List Value) (v : Value) (o : Option Caps) (a : Ask)
+    → take added s ≡ v ∷ nulls b → drop added s ≡ c.inside.frame.stack → i ≡ after_of (left_of at takes b) c.inside
+    → ((d : Context) → d.caps ≡ c.caps → gains a v d ≡ with_caps d (caps_or o d.caps))
+    → gone (going at takes added true o) (with_stack c s) ≡ gains a v (given c i v)
+value_gone c i at takes added b s v o a t d l g =
+    let st : take added s ++ drop takes (drop added s) ≡ v ∷ left_over takes b c.inside.frame.stack =
+    ap (λ x. x ++ drop takes (drop added s)) t ∙ ap (λ x. v ∷ x) (ap (λ x. nulls b ++ drop takes x) d ∙ nulls_left b takes c.inside.frame.stack) in
+    let w : given c i v ≡ given c (after_of (left_of at takes b) c.inside) v = ap (λ j. given c j v) l in
+    ap (λ x. record {
+      label = c.label;
+      caps = caps_or o c.caps;
+      depth = c.depth;
+      phase = c.phase;
+      held = c.held;
+      inside = record { frame = frame_at c.inside.frame at c.inside.frame.locals x; callers = c.inside.callers; fault = None };
+    }) st
+    ∙ sym (ap (gains a v) w ∙ g (given c (after_of (left_of at takes b) c.inside) v) refl)
+
+-- without one
+pub rest_gone : (c : Context) (i : Inside) (at takes added : ℕ) (b : Bool) (s : List Value)
+    → take added s ≡ nulls b → drop added s ≡ c.inside.frame.stack → i ≡ after_of (left_of at takes b) c.inside
+    → gone (going at takes added false None) (with_stack c s) ≡ with_inside c i
+rest_gone c i at takes added b s t d l =
+    let st : take added s ++ drop takes (drop added s) ≡ left_over takes b c.inside.frame.stack =
+    ap (λ x. x ++ drop takes (drop added s)) t ∙ (ap (λ x. nulls b ++ drop takes x) d ∙ nulls_left b takes c.inside.frame.stack) in
+    ap (λ x. record {
+      label = c.label;
+      caps = c.caps;
+      depth = c.depth;
+      phase = c.phase;
+      held = c.held;
+      inside = record { frame = frame_at c.inside.frame at c.inside.frame.locals x; callers = c.inside.callers; fault = c.inside.fault };
+    }) st
+    ∙ sym (ap (with_inside c) l)
