@@ -1,5 +1,5 @@
 -- The step of a thread, and the world after an effect, by their parts.
-use Rattle.std.proofs.Common.{◌≡◌, ℕ, Bool, true, List, [], ◌∷◌, ◌++◌, Option, Some, None, refl, sym, ap, ◌∙◌, append-nil}
+use Rattle.std.proofs.Common.{◌≡◌, ℕ, true, List, ◌++◌, Some, None, refl, sym, ap, ◌∙◌, append-nil}
 use Rattle.std.specs.Prelude.{slice_set, if◌then◌else◌}
 use Rattle.lam_asks.specs.declared.ask.Ask.{Ask}
 use Rattle.lam_asks.specs.declared.answer.Answer.{Answer}
@@ -8,7 +8,6 @@ use Rattle.lam_bytecode.specs.Codes.{CodeTree}
 use Rattle.thread_steps.specs.Threads.{Inside, Context, Thread}
 use Rattle.thread_steps.specs.Next.{Next, next_of, goes, asks, takes}
 use Rattle.lam_worlds.specs.Worlds.{World, with_thread}
-use Rattle.lam_worlds.specs.Deeds as told
 use Rattle.lam_worlds.specs.Deeds.{effect_of}
 use Rattle.lam_worlds.specs.Serving.{serve}
 use Rattle.lam_worlds.specs.Turns.{Moment, is_ready, served, turn_by, turn_on, turn_in, step}
@@ -44,7 +43,7 @@ asked_parts code w t th c rest a i d s acts e ready does after =
     let other = serve w c a in
     let answer : other.answer ≡ d.answer = sym does.answer in
     let effect : other.effect ≡ meaning d.effect = sym does.effect in
-    let moment = λ (x : Answer) (v : World). record { event = record { label = c.label; thread = t; what = Asked a x }; made = other.made; world = v } in
+    let moment : Answer → World → Moment = λ x v. record { event = record { label = c.label; thread = t; what = Asked a x }; made = other.made; world = v } in
     let ready_step : step code w t ≡ Some (served code w t th c rest a i other) = step_by code w t th c rest (asks a i) acts e ∙ ap (λ b. if b then Some (served code w t th c rest a i other) else None) ready in
     let world : effect_of code t other.effect (with_thread w t (takes code th c rest i a other.answer)) ≡ world_of s (slice_set w.threads t (takes code th c rest i a d.answer) ++ born code d.effect) =
     (λ j. effect_of code t (effect j) (with_thread w t (takes code th c rest i a (answer j))))

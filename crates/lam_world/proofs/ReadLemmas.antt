@@ -1,5 +1,5 @@
 -- The serving of an ask and its readiness, at one world and one context.
-use Rattle.std.proofs.Common.{◌≡◌, ℕ, Option, Result, Ok, Err, IfOk}
+use Rattle.std.proofs.Common.{ℕ, Option, Result, Ok, Err, IfOk}
 use Rattle.want_of_memory.specs.declared.NoMemory.{NoMemory}
 use Rattle.lam_asks.specs.declared.answer.Outcome.{Outcome}
 use Rattle.lam_asks.specs.declared.ask.Ask.{Ask}

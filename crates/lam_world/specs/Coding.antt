@@ -1,5 +1,5 @@
 -- How worlds are stored, for what holds them.
-use Rattle.std.specs.Prelude.{◌≡◌, ℕ, List, refl}
+use Rattle.std.specs.Prelude.{ℕ, List, refl}
 use Rattle.std.specs.Coded.{Coded, code_by, coded×, coded_ℕ, coded_list}
 use Rattle.labelled_heap.specs.Things.{Things, coded_things}
 use Rattle.monitor_core.specs.Held.{Held, coded_held}

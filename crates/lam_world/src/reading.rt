@@ -99,13 +99,7 @@ fn joins_living(threads: &[LamThread], ask: &Ask) -> bool
 }
 
 /// Whether a context of a thread may make an ask, and the ask does not wait.
-pub fn is_ready(
-    stores: &Stores,
-    threads: &[LamThread],
-    thread: u32,
-    c: &Context,
-    ask: &Ask,
-) -> bool
+pub fn is_ready(stores: &Stores, threads: &[LamThread], thread: u32, c: &Context, ask: &Ask) -> bool
     ensures { result ≡ turns.is_ready (world_of stores.now threads.now) thread c.now ask.now }
 {
     let who = acting(c);
