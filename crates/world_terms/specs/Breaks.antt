@@ -1,5 +1,5 @@
 -- Why a document is no world, and how its members are looked at. What is looked at first breaks first.
-use Rattle.std.specs.Prelude.{◌≡◌, ℕ, Bool, true, false, if◌then◌else◌, [], ◌∷◌, Option, Some, None, Result, Ok, Err, codes, refl}
+use Rattle.std.specs.Prelude.{◌≡◌, ℕ, Bool, true, if◌then◌else◌, Option, Some, None, Result, Ok, Err, codes, refl}
 use Rattle.serde_json.specs.Data.{Data, null, boolean, string, Members, no_members, member}
 use Rattle.serde_json.specs.Find.{get_member, as_str, as_bool}
 use Rattle.flow_labels.specs.TwoLists.{Text}

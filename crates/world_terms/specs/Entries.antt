@@ -2,7 +2,7 @@
 --
 -- A function that takes a number and a tag is run with `[{"int":5},{"tag":"a"}]`. With `[{"tag":"a"},{"int":5}]`, and
 -- with one argument alone, `args` is of another form.
-use Rattle.std.specs.Prelude.{◌≡◌, ℕ, pos, ◌&&◌, Bool, true, false, nat_eq, nat_le, nat_lt, if◌then◌else◌, List, [], ◌∷◌, length, slice_get, Option, Some, None, Ok, Err, codes, option_and_then, option_map, refl}
+use Rattle.std.specs.Prelude.{◌≡◌, ℕ, pos, ◌&&◌, Bool, true, false, nat_eq, nat_le, nat_lt, List, [], ◌∷◌, length, slice_get, Option, Some, None, Ok, Err, codes, option_and_then, option_map, refl}
 use Rattle.serde_json.specs.Data.{Data, null, boolean, number, string, unsigned, Items, no_items, item, Members, no_members, member, object}
 use Rattle.serde_json.specs.Find.{get_member, as_bool, as_number, as_i64, as_str, as_array, as_object}
 use Rattle.serde_json.specs.Events.{items_len}

@@ -2,7 +2,7 @@
 --
 -- The members are looked at in the order `version`, `tags`, `tree`, `pipes`, `threads`, and the items of lists in their
 -- order; members with other names are not looked at.
-use Rattle.std.specs.Prelude.{◌≡◌, ℕ, nat_eq, List, [], length, Option, Some, None, Ok, Err, codes, option_and_then, refl}
+use Rattle.std.specs.Prelude.{◌≡◌, ℕ, nat_eq, [], length, Option, Some, None, Ok, Err, codes, option_and_then, refl}
 use Rattle.std.specs.FinMap.{empty}
 use Rattle.serde_json.specs.Data.{Data, null, number, string, array, object, unsigned, no_items, Members, no_members, member}
 use Rattle.serde_json.specs.Find.{as_number, as_object, as_u64}

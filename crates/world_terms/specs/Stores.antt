@@ -2,7 +2,7 @@
 -- document, in the home whose maker's label and own label are the label that it has.
 --
 -- After the directory `d` the path `d/x` is that of a place in it, and `e/x` is none.
-use Rattle.std.specs.Prelude.{◌≡◌, ℕ, suc, Bool, true, false, not, nat_eq, nat_le, nat_lt, if◌then◌else◌, List, [], ◌∷◌, ◌++◌, length, is_some, Option, Some, None, Result, Ok, Err, codes, option_and_then, refl}
+use Rattle.std.specs.Prelude.{◌≡◌, ℕ, suc, true, false, not, nat_eq, nat_le, nat_lt, if◌then◌else◌, List, [], ◌∷◌, ◌++◌, length, is_some, Option, Some, None, Ok, Err, codes, option_and_then, refl}
 use Rattle.std.specs.Map.{lookup}
 use Rattle.serde_json.specs.Data.{Data, null, boolean, string, Items, no_items, item, Members}
 use Rattle.serde_json.specs.Find.{get_member, as_bool, as_str, as_array, as_object}

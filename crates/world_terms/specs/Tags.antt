@@ -2,7 +2,7 @@
 --
 -- With the names a and b: the label `{b}/{a}` is that of the secret 1 that 0 vouches for, and in `{a,c}/{}` the name c
 -- breaks it.
-use Rattle.std.specs.Prelude.{◌≡◌, ℕ, ◌&&◌, not, nat_le, if◌then◌else◌, List, [], ◌∷◌, ◌++◌, take, drop, is_some, Option, Some, None, Result, Ok, Err, codes, option_and_then, refl}
+use Rattle.std.specs.Prelude.{◌≡◌, ℕ, not, nat_le, if◌then◌else◌, List, [], ◌∷◌, ◌++◌, take, drop, is_some, Option, Some, None, Result, Ok, Err, codes, option_and_then, refl}
 use Rattle.std.specs.List.{prefix_len}
 use Rattle.std.specs.FinSet.{from_list}
 use Rattle.serde_json.specs.Data.{Data, null, string, array, object, Items, no_items, item, Members, no_members, member}
