@@ -1,17 +1,18 @@
 -- How a context goes on after an answer.
-use Rattle.std.proofs.Common.{◌≡◌, ℕ, ◌+◌, Bool, true, false, List, [], ◌∷◌, ◌++◌, drop, take, Option, Some, None, sym, ap, ◌∙◌, refl}
+use Rattle.std.proofs.Common.{◌≡◌, ℕ, ◌+◌, Bool, true, false, List, ◌∷◌, ◌++◌, drop, take, Option, Some, None, sym, ap, ◌∙◌, refl}
 use Rattle.capabilities.specs.declared.Caps.{Caps}
 use Rattle.lam_value.specs.declared.names.Name.{Name}
 use Rattle.lam_value.specs.declared.values.Value.{Value}
-use Rattle.lam_value.specs.declared.values.Value.TheVariants.{Nothing}
+use Rattle.lam_value.specs.declared.values.Value.TheVariants.{Obj, Arr}
 use Rattle.lam_asks.specs.declared.ask.Ask.{Ask}
-use Rattle.thread_steps.specs.Threads.{Frame, Inside, Context}
-use Rattle.thread_steps.specs.Next.{given, gains, with_caps, with_inside, frame_at}
+use Rattle.thread_steps.specs.Threads.{Inside, Context}
+use Rattle.thread_steps.specs.Next.{given, gains, with_caps, with_inside, with_held, held_by, frame_at}
 use Rattle.thread_sights.specs.Acting.{left_over}
-use Rattle.thread_answers.specs.Preparing.{after_of, nulls, gone, undone, caps_or}
+use Rattle.thread_answers.specs.Preparing.{after_of, nulls, gone, undone, caps_or, held_before, held_after, thing_in}
 use Rattle.thread_answers.specs.declared.plan.Left.{Left}
 use Rattle.thread_answers.specs.declared.plan.Going.{Going}
-use Rattle.thread_answers.specs.declared.plan.Monitor.TheVariants.{Stays}
+use Rattle.thread_answers.specs.declared.plan.Monitor.{Monitor}
+use Rattle.thread_answers.specs.declared.plan.Monitor.TheVariants.{Stays, Taken}
 
 -- a context with other operands
 abbrev pub with_stack : Context → List Value → Context
@@ -21,10 +22,10 @@ nulls_left : (b : Bool) (takes : ℕ) (s : List Value) → nulls b ++ drop takes
 nulls_left true takes s = refl
 nulls_left false takes s = refl
 
-abbrev going : ℕ → ℕ → ℕ → Bool → Option Caps → Going
+abbrev pub going : ℕ → ℕ → ℕ → Bool → Option Caps → Going
 going at takes added clears caps = record { at = at; takes = takes; added = added; clears = clears; caps = caps; monitor = Stays }
 
-abbrev left_of : ℕ → ℕ → Bool → Left
+abbrev pub left_of : ℕ → ℕ → Bool → Left
 left_of at takes b = record { at = at; takes = takes; leaves_null = b }
 
 pub undone_is : (c : Context) (s : List Value) (at takes added : ℕ) (clears : Bool) (caps : Option Caps) → drop added s ≡ c.inside.frame.stack
@@ -66,3 +67,38 @@ rest_gone c i at takes added b s t d l =
       inside = record { frame = frame_at c.inside.frame at c.inside.frame.locals x; callers = c.inside.callers; fault = c.inside.fault };
     }) st
     ∙ sym (ap (with_inside c) l)
+
+-- ---- monitors
+
+abbrev pub going_with : ℕ → ℕ → ℕ → Monitor → Going
+going_with at takes added m = record { at = at; takes = takes; added = added; clears = false; caps = None; monitor = m }
+
+pub kept_undone : (c : Context) (s : List Value) (at takes added : ℕ) (m : Monitor) → drop added s ≡ c.inside.frame.stack → held_before m c.held ≡ c.held
+    → undone (going_with at takes added m) (with_stack c s) ≡ c
+kept_undone c s at takes added m e h = ap (λ t. with_held (with_stack c t) (held_before m c.held)) e ∙ ap (with_held c) h
+
+pub kept_gone : (c : Context) (i : Inside) (at takes added : ℕ) (b : Bool) (s : List Value) (m : Monitor) (ns : List Name)
+    → take added s ≡ nulls b → drop added s ≡ c.inside.frame.stack → i ≡ after_of (left_of at takes b) c.inside → held_after m c.held ≡ ns
+    → gone (going_with at takes added m) (with_stack c s) ≡ with_held (with_inside c i) ns
+kept_gone c i at takes added b s m ns t d l h =
+    ap (λ k. with_held k (held_after m c.held)) (rest_gone c i at takes added b s t d l) ∙ ap (with_held (with_inside c i)) h
+
+-- a monitor was put first
+pub taken_undone : (c : Context) (s : List Value) (at takes added : ℕ) (n : Name) → drop added s ≡ c.inside.frame.stack
+    → undone (going_with at takes added Taken) (with_held (with_stack c s) (n ∷ c.held)) ≡ c
+taken_undone c s at takes added n e = ap (with_stack c) e
+
+pub taken_gone : (c : Context) (i : Inside) (at takes added : ℕ) (b : Bool) (s : List Value) (n : Name)
+    → take added s ≡ nulls b → drop added s ≡ c.inside.frame.stack → i ≡ after_of (left_of at takes b) c.inside
+    → gone (going_with at takes added Taken) (with_held (with_stack c s) (n ∷ c.held)) ≡ with_held (with_inside c i) (n ∷ c.held)
+taken_gone c i at takes added b s n t d l = ap (λ k. with_held k (n ∷ c.held)) (rest_gone c i at takes added b s t d l)
+
+pub held_some : (r : Value) (n : Name) (f : Name → List Name) (ns : List Name) → thing_in r ≡ Some n → held_by r f ns ≡ f n
+held_some (Obj m) n f ns e = let k : m ≡ n = cc in ap f k
+held_some (Arr m len) n f ns e = let k : m ≡ n = cc in ap f k
+held_some r n f ns e = cc
+
+pub held_none : (r : Value) (f : Name → List Name) (ns : List Name) → thing_in r ≡ None → held_by r f ns ≡ ns
+held_none (Obj m) f ns e = cc
+held_none (Arr m len) f ns e = cc
+held_none r f ns e = refl

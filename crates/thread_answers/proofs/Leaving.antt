@@ -1,10 +1,9 @@
 -- What stands of a call when its ask was answered.
-use Rattle.std.proofs.Common.{◌≡◌, ℕ, ◌+◌, Bool, true, false, List, [], ◌∷◌, ◌++◌, drop, take, Option, Some, None, sym, ap, ◌∙◌, refl}
-use Rattle.lam_value.specs.declared.values.Value.{Value}
+use Rattle.std.proofs.Common.{◌≡◌, ℕ, ◌+◌, Bool, Option, None, sym, ap, ◌∙◌}
 use Rattle.lam_asks.specs.declared.fault.Fault.{Fault}
 use Rattle.lam_asks.specs.declared.ask.Ask.{Ask}
-use Rattle.thread_steps.specs.Threads.{Frame, Inside, Context}
-use Rattle.thread_steps.specs.Next.{Next, asks, past, frame_at}
+use Rattle.thread_steps.specs.Threads.{Inside}
+use Rattle.thread_steps.specs.Next.{asks, past, frame_at}
 use Rattle.thread_sights.specs.Acting.{left_over}
 
 -- past an operation that asks, where no fault was raised

@@ -1,3 +1,5 @@
 pub mod Leaving
 pub mod Going
 pub mod Tops
+pub mod Outermost
+pub mod Results

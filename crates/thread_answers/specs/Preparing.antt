@@ -10,7 +10,7 @@ use Rattle.lam_bytecode.specs.declared.unit.UnitKind.TheVariants.{Function, Regi
 use Rattle.lam_asks.specs.declared.ask.Ask.{Ask}
 use Rattle.lam_asks.specs.declared.ask.Ask.TheVariants.{End}
 use Rattle.lam_asks.specs.declared.answer.Outcome.{Outcome}
-use Rattle.thread_steps.specs.Threads.{Frame, Inside, Catch, Context, Thread}
+use Rattle.thread_steps.specs.Threads.{Inside, Catch, Context, Thread}
 use Rattle.thread_steps.specs.Next.{frame_at, outermost, with_held, held_by, without}
 use Rattle.thread_sights.specs.Acting.{left_over}
 use Rattle.thread_core.specs.Moves.{failed}
@@ -79,6 +79,27 @@ undone g c =
       inside = record {
         frame = frame_at c.inside.frame c.inside.frame.at c.inside.frame.locals (drop g.added c.inside.frame.stack);
         callers = c.inside.callers;
+        fault = c.inside.fault;
+      };
+    }
+
+-- the outermost call is the acting one, at the address and with the operands that stand
+abbrev pub unwound : Context → Context
+unwound c =
+    record {
+      label = c.label;
+      caps = c.caps;
+      depth = c.depth;
+      phase = c.phase;
+      held = c.held;
+      inside = record {
+        frame = record {
+          unit = (outermost c.inside.frame c.inside.callers).unit;
+          at = c.inside.frame.at;
+          locals = (outermost c.inside.frame c.inside.callers).locals;
+          stack = c.inside.frame.stack;
+        };
+        callers = [];
         fault = c.inside.fault;
       };
     }

@@ -7,6 +7,8 @@
 #![tactic(auto)]
 
 mod answering;
+mod doing;
 mod plan;
+mod planning;
 
 pub use answering::{Prepared, prepare};
