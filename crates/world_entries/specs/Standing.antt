@@ -1,4 +1,4 @@
--- What holds of every world that a document gives.
+-- How the threads of a world that a document gives stand.
 use Rattle.std.specs.Prelude.{◌≡◌, ℕ, ◌<◌, ◌≤◌, IsTrue, true, List, [], ◌∷◌, length, slice_get, Some, Ok}
 use Rattle.std.specs.List.{AllByRecursion}
 use Rattle.serde_json.specs.Data.{Data}
@@ -12,7 +12,6 @@ use Rattle.lam_bytecode.specs.declared.unit.UnitKind.TheVariants.{Function}
 use Rattle.thread_steps.specs.Threads.{Thread}
 use Rattle.thread_steps.specs.Next.{started}
 use Rattle.lam_worlds.specs.Worlds.{World}
-use Rattle.lam_worlds.specs.Valid.{IsValid}
 use Rattle.world_terms.specs.Entries.{fits}
 use Rattle.world_terms.specs.Start.{world_of}
 
@@ -39,12 +38,6 @@ pub record StandsAtEntry (code : CodeTree) (th : Thread) : Type 0 where
   pub fitting : AreArguments takes args
   pub it : th ≡ started code unit args caps
 
-pub record IsStartOf (code : CodeTree) (w : World) : Type 0 where
-  pub valid : IsValid w
-  pub entries : AllByRecursion (StandsAtEntry code) w.threads
-  pub some : 0 < length w.threads
-  pub few : length w.threads ≤ 64
-
--- the world of a document is valid, and its threads stand at entries
-abbrev pub WorldsStart : CodeTree → Type 0
-WorldsStart code = (d : Data) (w : World) → world_of d code ≡ Ok w → IsStartOf code w
+-- the threads of a document's world stand at entries, and are one to 64
+abbrev pub ThreadsStand : CodeTree → Type 0
+ThreadsStand code = (d : Data) (w : World) → world_of d code ≡ Ok w → AllByRecursion (StandsAtEntry code) w.threads × ((0 < length w.threads) × (length w.threads ≤ 64))

@@ -1,5 +1,0 @@
-pub mod LabelLemmas
-pub mod ReadLemmas
-pub mod StoreLemmas
-pub mod EntryLemmas
-pub mod StartLemmas
