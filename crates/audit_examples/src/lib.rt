@@ -7,7 +7,6 @@
 #[cfg(test)]
 mod audit;
 #[cfg(test)]
-mod lines;
 #[cfg(test)]
 mod things;
 #[cfg(test)]
