@@ -3,7 +3,7 @@
 use capabilities::Caps;
 use flow_labels::{Denied, Label, Rule, TagNames};
 use lam_asks::{Answer, Ask, Event, What};
-use lam_value::{ByteText, Name, Value, Values};
+use lam_value::{Name, Value, Values};
 use std::alloc::Global;
 use tag_sets::{NoMemory, TagId, TagSet};
 
@@ -48,12 +48,6 @@ pub(crate) fn first(alloc: Global) -> Result<Name, NoMemory> {
     made(alloc, &Label::public(alloc))
 }
 
-/// A thing of the start with these secrets.
-pub(crate) fn of_start(alloc: Global, tags: &[TagId]) -> Result<Name, NoMemory> {
-    let own = secret(alloc, tags)?;
-    Name::of(&own, &own, 0)
-}
-
 /// An array of length 2.
 pub(crate) fn pair(name: Name) -> Value {
     Value::Arr { name, len: 2 }
@@ -64,10 +58,6 @@ pub(crate) fn one(alloc: Global, n: i64) -> Result<Values, NoMemory> {
     let mut values = Values::new(alloc);
     values.push(Value::Int(n))?;
     Ok(values)
-}
-
-pub(crate) fn bytes(alloc: Global, text: &str) -> Result<ByteText, NoMemory> {
-    ByteText::from_slice(alloc, text.as_bytes())
 }
 
 /// What thread 0 asked at a label, and was answered.
