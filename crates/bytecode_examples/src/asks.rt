@@ -1,9 +1,9 @@
-//! A copy of each ask, of each answer, and of an event. That a copy is equal is proved; here it is made.
+//! Copies of asks, of each answer, and of an event. That a copy is equal is proved; here it is made.
 
 use capabilities::Caps;
 use flow_labels::{Denied, Label, Rule};
 use lam_asks::{Answer, Ask, Event, Fault, Outcome, What};
-use lam_value::{ByteText, Kind, Name, Shape, Value, Values};
+use lam_value::{Kind, Name, Shape, Value, Values};
 use std::alloc::Global;
 use tag_sets::{NoMemory, TagId};
 
@@ -21,10 +21,6 @@ fn name(alloc: Global) -> Result<Name, NoMemory> {
 /// A reference to an object.
 fn object(alloc: Global) -> Result<Value, NoMemory> {
     Ok(Value::Obj(name(alloc)?))
-}
-
-fn bytes(alloc: Global) -> Result<ByteText, NoMemory> {
-    ByteText::from_slice(alloc, b"a")
 }
 
 /// A list of one value.
@@ -122,133 +118,6 @@ fn ends_are_copied(rt: HostRuntime) {
 fn regions_are_copied(rt: HostRuntime) {
     assert!(rt; copies_enter(rt.alloc()) == Ok(true));
     assert!(rt; copies(&Ask::Leave));
-}
-
-fn copies_make_file(alloc: Global) -> Result<bool, NoMemory> {
-    let dir = name(alloc)?;
-    let entry = bytes(alloc)?;
-    let own = Label::public(alloc);
-    Ok(copies(&Ask::MakeFile { dir, entry, own }))
-}
-
-fn copies_make_dir(alloc: Global) -> Result<bool, NoMemory> {
-    let dir = name(alloc)?;
-    let entry = bytes(alloc)?;
-    let own = Label::public(alloc);
-    Ok(copies(&Ask::MakeDir { dir, entry, own }))
-}
-
-fn copies_open_file(alloc: Global) -> Result<bool, NoMemory> {
-    let dir = name(alloc)?;
-    let entry = bytes(alloc)?;
-    Ok(copies(&Ask::OpenFile { dir, entry }))
-}
-
-fn copies_open_dir(alloc: Global) -> Result<bool, NoMemory> {
-    let dir = name(alloc)?;
-    let entry = bytes(alloc)?;
-    Ok(copies(&Ask::OpenDir { dir, entry }))
-}
-
-fn copies_remove(alloc: Global) -> Result<bool, NoMemory> {
-    let dir = name(alloc)?;
-    let entry = bytes(alloc)?;
-    Ok(copies(&Ask::Remove { dir, entry }))
-}
-
-#[test]
-fn asks_of_directories_are_copied(rt: HostRuntime) {
-    assert!(rt; copies_make_file(rt.alloc()) == Ok(true));
-    assert!(rt; copies_make_dir(rt.alloc()) == Ok(true));
-    assert!(rt; copies_open_file(rt.alloc()) == Ok(true));
-    assert!(rt; copies_open_dir(rt.alloc()) == Ok(true));
-    assert!(rt; copies_remove(rt.alloc()) == Ok(true));
-}
-
-fn copies_file_read(alloc: Global) -> Result<bool, NoMemory> {
-    let file = name(alloc)?;
-    Ok(copies(&Ask::FileRead { file, at: 1, n: 2 }))
-}
-
-fn copies_file_length(alloc: Global) -> Result<bool, NoMemory> {
-    let file = name(alloc)?;
-    Ok(copies(&Ask::FileLength { file }))
-}
-
-fn copies_append(alloc: Global) -> Result<bool, NoMemory> {
-    let file = name(alloc)?;
-    let bytes = bytes(alloc)?;
-    Ok(copies(&Ask::Append { file, bytes }))
-}
-
-fn copies_cut(alloc: Global) -> Result<bool, NoMemory> {
-    let file = name(alloc)?;
-    Ok(copies(&Ask::Cut { file, len: 3 }))
-}
-
-#[test]
-fn asks_of_files_are_copied(rt: HostRuntime) {
-    assert!(rt; copies_file_read(rt.alloc()) == Ok(true));
-    assert!(rt; copies_file_length(rt.alloc()) == Ok(true));
-    assert!(rt; copies_append(rt.alloc()) == Ok(true));
-    assert!(rt; copies_cut(rt.alloc()) == Ok(true));
-}
-
-fn copies_make_pipe(alloc: Global) -> Result<bool, NoMemory> {
-    let own = Label::public(alloc);
-    Ok(copies(&Ask::MakePipe { own }))
-}
-
-fn copies_send(alloc: Global) -> Result<bool, NoMemory> {
-    let pipe = name(alloc)?;
-    let bytes = bytes(alloc)?;
-    Ok(copies(&Ask::Send { pipe, bytes }))
-}
-
-fn copies_send_caps(alloc: Global) -> Result<bool, NoMemory> {
-    let pipe = name(alloc)?;
-    let caps = Caps::none(alloc);
-    Ok(copies(&Ask::SendCaps { pipe, caps }))
-}
-
-fn copies_receive(alloc: Global) -> Result<bool, NoMemory> {
-    let pipe = name(alloc)?;
-    Ok(copies(&Ask::Receive { pipe }))
-}
-
-fn copies_receive_caps(alloc: Global) -> Result<bool, NoMemory> {
-    let pipe = name(alloc)?;
-    Ok(copies(&Ask::ReceiveCaps { pipe }))
-}
-
-#[test]
-fn asks_of_pipes_are_copied(rt: HostRuntime) {
-    assert!(rt; copies_make_pipe(rt.alloc()) == Ok(true));
-    assert!(rt; copies_send(rt.alloc()) == Ok(true));
-    assert!(rt; copies_send_caps(rt.alloc()) == Ok(true));
-    assert!(rt; copies_receive(rt.alloc()) == Ok(true));
-    assert!(rt; copies_receive_caps(rt.alloc()) == Ok(true));
-}
-
-fn copies_say(alloc: Global) -> Result<bool, NoMemory> {
-    let bytes = bytes(alloc)?;
-    Ok(copies(&Ask::Say { bytes }))
-}
-
-fn copies_spawn(alloc: Global) -> Result<bool, NoMemory> {
-    let args = values(alloc)?;
-    let caps = Caps::none(alloc);
-    Ok(copies(&Ask::Spawn {
-        unit: 2,
-        args,
-        caps,
-    }))
-}
-
-#[test]
-fn speech_and_threads_are_copied(rt: HostRuntime) {
-    assert!(rt; copies_say(rt.alloc()) == Ok(true));
-    assert!(rt; copies_spawn(rt.alloc()) == Ok(true));
 }
 
 fn copies_answer(answer: &Answer) -> bool {
