@@ -10,7 +10,7 @@ use Rattle.lam_plan.specs.Plan.{Plan, no_word}
 use Rattle.lam_plan.specs.Answer.{outside, IsPrinted, whole, front, AsPlanned, IsPlanned, by_plan, without_memory, without_shelf}
 use Rattle.lam_plan.proofs.AnswerLemmas.{no_file_written}
 use Rattle.lam_main.specs.declared.halt.Refusal.{Refusal}
-use Rattle.lam_main.specs.declared.halt.Refusal.TheVariants.{Word, Script, NotUtf8, Flawed, Absent, TooLong}
+use Rattle.lam_main.specs.declared.halt.Refusal.TheVariants.{Word, Script, NotUtf8, Flawed, CodeTooLong, Absent, TooLong}
 use Rattle.lam_main.specs.declared.halt.Halt.{Halt}
 use Rattle.lam_main.specs.declared.halt.Halt.TheVariants.{Refused, NoMemory as no_memory, ShelfFailed}
 use Rattle.lam_main.specs.Halts.{refuses, Gives, Ends}
@@ -35,6 +35,7 @@ refusals (Word index) = record { plain = record { memory = λ e. cc; shelf = λ 
 refusals (Script number) = record { plain = record { memory = λ e. cc; shelf = λ e. cc; sink = λ e. cc }; no_file = refl }
 refusals NotUtf8 = record { plain = record { memory = λ e. cc; shelf = λ e. cc; sink = λ e. cc }; no_file = refl }
 refusals (Flawed flaw at) = record { plain = record { memory = λ e. cc; shelf = λ e. cc; sink = λ e. cc }; no_file = refl }
+refusals (CodeTooLong unit) = record { plain = record { memory = λ e. cc; shelf = λ e. cc; sink = λ e. cc }; no_file = refl }
 refusals (Absent name) = record { plain = record { memory = λ e. cc; shelf = λ e. cc; sink = λ e. cc }; no_file = refl }
 refusals (TooLong name) = record { plain = record { memory = λ e. cc; shelf = λ e. cc; sink = λ e. cc }; no_file = refl }
 

@@ -11,3 +11,6 @@ returns-in-NotUtf8-clause-printed g c = rw c.in-NotUtf8.is (rw c.as_slice-in-Not
 
 pub returns-in-Absent-clause-printed : goal.returns-in-Absent-clause-printed
 returns-in-Absent-clause-printed g c = rw c.in-Absent.is (rw (c.as_slice-in-Absent.ensures, c.as_bytes-in-Absent.ensures.value) at c.print_line-in-Absent.ensures.printed)
+
+pub returns-in-CodeTooLong-clause-printed : goal.returns-in-CodeTooLong-clause-printed
+returns-in-CodeTooLong-clause-printed g c = rw c.in-CodeTooLong.is (rw (c.as_slice-in-CodeTooLong.ensures, c.as_bytes-unit.ensures.value, c.format-in-CodeTooLong.ensures.text) at c.print_line-in-CodeTooLong.ensures.printed)
