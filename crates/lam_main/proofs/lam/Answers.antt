@@ -1,10 +1,11 @@
-use Rattle.std.proofs.Common.{map, string_bytes}
+use Rattle.std.proofs.Common.{map, string_bytes, ap}
+use Rattle.lam_words.specs.Words.{request_of}
 use Rattle.lam_plan.specs.Answer.{outside}
 use Rattle.lam_plan.specs.Plan.{IsPlan}
 use Rattle.lam_plan.proofs.AnswerLemmas.{answers_to, status_of}
 use Rattle.lam_plan.proofs.PlanLemmas.{plans_are_one}
 use Rattle.lam_plan.proofs.FormatLemmas.{steady_of}
-use Rattle.lam_main.proofs.EndLemmas.{planned_of, silent_memory, silent_shelf, shelf_failed_as}
+use Rattle.lam_main.proofs.EndLemmas.{planned_of, silent_memory, silent_shelf, shelf_failed_as, words_first}
 use Rattle.lam_main.proofs.lam.Goals as goal
 
 pub returns-clause-planned : goal.returns-clause-planned
@@ -33,3 +34,9 @@ returns-clause-no_fault g c = λ told none quiet_shelf quiet_sink some plan is.
 
 pub returns-clause-steady : goal.returns-clause-steady
 returns-clause-steady g c = steady_of (map string_bytes c.args.words.now) (g.H.Shelf.files c.args.shelf.now) c.canonical_text_is_lexed.ensures c.canonical_text_is_read_as_the_tree.ensures c.canonical_text_is_steady.ensures
+
+pub returns-clause-words_first : goal.returns-clause-words_first
+returns-clause-words_first g c =
+    words_first c.end_with.result (g.H.Shelf.files c.args.shelf.now) (g.H.Shelf.files c.answer_of-answer.new.shelf) (g.O.Sink.taken c.args.out.now) (g.O.Sink.taken c.end_with.new.out) (request_of (map string_bytes c.args.words.now)) c.answer_of-answer.result c.answer_of-answer.ensures.words_first
+    (λ bad name. ap (λ shelf. g.H.Shelf.files shelf name) (c.answer_of-answer.ensures.untouched bad))
+    c.end_with.ensures.ends
