@@ -1,0 +1,12 @@
+use Rattle.std.proofs.Common.{◌≡◌, ◌++◌, drop}
+use Rattle.lam_worlds.specs.Turns.{moments}
+use Rattle.run_notes.specs.Notes.{seen_by}
+use Rattle.lam_run.proofs.RunLemmas.{Left}
+use Rattle.lam_run.proofs.viewing.seen_by.Given as goal
+
+abbrev pub invariant-loop-turn : goal.invariant-loop-turn
+invariant-loop-turn l =
+    record {
+      left : Left l.code l.fn.start l.turns l.turn l.world;
+      seen : l.all.items ++ seen_by l.observer (moments l.code (drop l.turn l.turns) l.world) ≡ seen_by l.observer (moments l.code l.turns l.fn.start)
+    }
