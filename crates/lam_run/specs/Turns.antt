@@ -1,5 +1,6 @@
 -- What is seen and what is noted of one turn.
-use Rattle.std.specs.Prelude.{ℕ, Bool, true, false, cond, ◌||◌, is_some, Option, Some, None}
+use Rattle.std.specs.Prelude.{◌≡◌, ◌++◌, ℕ, List, Bool, true, false, cond, ◌||◌, is_some, Option, Some, None}
+use Rattle.std.specs.Option.{option_to_list}
 use Rattle.flow_labels.specs.declared.Label.{Label}
 use Rattle.flow_labels.specs.declared.Denied.{Denied}
 use Rattle.flow_labels.specs.Flow.{flows, seen}
@@ -8,7 +9,10 @@ use Rattle.capabilities.specs.Changes.{used}
 use Rattle.lam_asks.specs.declared.answer.What.{What}
 use Rattle.lam_asks.specs.declared.answer.What.TheVariants.{Private, Asked}
 use Rattle.lam_asks.specs.declared.answer.Event.{Event}
+use Rattle.lam_bytecode.specs.Codes.{CodeTree}
 use Rattle.lam_worlds.specs.Worlds.{World}
+use Rattle.lam_worlds.specs.Turns.{step}
+use Rattle.lam_turn_parts.specs.Turned.{IsTurn}
 use Rattle.run_notes.specs.Notes.{refusal_of}
 use Rattle.run_notes.specs.declared.Content.{Content}
 use Rattle.run_notes.specs.declared.Seen.{Seen}
@@ -58,3 +62,10 @@ note turn e by refusal = cond (is_some by || is_some refusal) (Some (record { tu
 
 abbrev pub noted_of : ℕ → Event → Option Noted
 noted_of turn e = note turn e (taken e) (refusal_of e.what)
+
+-- ---- turns one by one
+
+-- a turn is taken, and what is to be kept of it is put behind what was kept before; or its thread is not ready
+abbrev pub Takes : {X : Type 0} → CodeTree → ℕ → (Event → World → Option X) → World → List X → Bool → World → List X → Type 0
+Takes code t keeps w before true after now_kept = (e : Event) × IsTurn code t w e after × (now_kept ≡ before ++ option_to_list (keeps e after))
+Takes code t keeps w before false after now_kept = step code w t ≡ None

@@ -6,8 +6,9 @@ ghost use Rattle.lam_bytecode.specs.Codes.{IsCode};
 ghost use Rattle.lam_worlds.specs.Turns.{moments};
 ghost use Rattle.lam_worlds.specs.Valid.{IsValid};
 ghost use Rattle.run_notes.specs.Notes.{noted_in, refusal_of};
+ghost use Rattle.lam_machine.specs.Machine.{CopiesLive};
 ghost use Rattle.lam_run.specs.Stops.{stopped_at, IsStop};
-ghost use Rattle.lam_run.specs.Turns.{taken, note, noted_of};
+ghost use Rattle.lam_run.specs.Turns.{taken, note, noted_of, Takes};
 
 use crate::fault::RunFault;
 use crate::telling::product_label;
@@ -43,19 +44,55 @@ pub fn noted_in(
 {
     let mut world = start;
     let mut all = Vec::new(alloc);
+    audit_turns(alloc, &mut all, &mut world, code, turns)?;
+    Ok(all)
+}
+
+fn audit_turns(
+    alloc: Global,
+    all: &mut Vec<Noted>,
+    world: &mut World,
+    code: &Code,
+    turns: &[u32],
+) -> Result<(), RunFault>
+    requires code { IsCode code.now }
+    requires valid { IsValid world.old }
+    ensures ok { OnOk result (all.new.items ≡ all.old.items ++ noted_in (moments code.now turns.now world.old)) }
+    ensures run { OnOk result (stopped_at code.now turns.now world.old ≡ None) }
+    ensures stops { IfErr result (λ f. IsStop f (stopped_at code.now turns.now world.old)) }
+{
     for (turn, thread) in turns.iter().enumerate() {
         let thread = *thread;
-        match step(alloc, &mut world, code, thread)? {
-            None => {
-                return Err(RunFault::NotReady {
-                    turn: turn as u64,
-                    thread,
-                });
-            }
-            Some(event) => push_noted(&mut all, turn as u64, event)?,
+        let number = turn as u64;
+        if !audit_turn(alloc, all, world, code, number, thread)? {
+            return Err(RunFault::NotReady {
+                turn: number,
+                thread,
+            });
         }
     }
-    Ok(all)
+    Ok(())
+}
+
+/// Takes a turn of this number, with what is noted of it; `false` where the thread is not ready.
+fn audit_turn(
+    alloc: Global,
+    all: &mut Vec<Noted>,
+    world: &mut World,
+    code: &Code,
+    turn: u64,
+    thread: u32,
+) -> Result<bool, NoMemory>
+    requires { CopiesLive code.now world.old thread }
+    ensures { IfOk result (λ taken. Takes code.now thread (λ e after. noted_of turn e) world.old all.old.items taken world.new all.new.items) }
+{
+    match step(alloc, world, code, thread)? {
+        None => Ok(false),
+        Some(event) => {
+            push_noted(all, turn, event)?;
+            Ok(true)
+        }
+    }
 }
 
 /// Puts what is noted of a turn at the end.

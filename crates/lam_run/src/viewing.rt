@@ -6,8 +6,9 @@ ghost use Rattle.lam_bytecode.specs.Codes.{IsCode};
 ghost use Rattle.lam_worlds.specs.Turns.{moments};
 ghost use Rattle.lam_worlds.specs.Valid.{IsValid};
 ghost use Rattle.run_notes.specs.Notes.{seen_by};
+ghost use Rattle.lam_machine.specs.Machine.{CopiesLive};
 ghost use Rattle.lam_run.specs.Stops.{stopped_at, IsStop};
-ghost use Rattle.lam_run.specs.Turns.{is_private, own_turn, told, past, seen_of};
+ghost use Rattle.lam_run.specs.Turns.{is_private, own_turn, told, past, seen_of, Takes};
 
 use crate::fault::RunFault;
 use crate::telling::{product, product_label};
@@ -45,19 +46,53 @@ pub fn seen_by(
 {
     let mut world = start;
     let mut all = Vec::new(alloc);
+    view_turns(alloc, &mut all, &mut world, code, turns, observer)?;
+    Ok(all)
+}
+
+fn view_turns(
+    alloc: Global,
+    all: &mut Vec<Seen>,
+    world: &mut World,
+    code: &Code,
+    turns: &[u32],
+    observer: &Label,
+) -> Result<(), RunFault>
+    requires code { IsCode code.now }
+    requires valid { IsValid world.old }
+    ensures ok { OnOk result (all.new.items ≡ all.old.items ++ seen_by observer.now (moments code.now turns.now world.old)) }
+    ensures run { OnOk result (stopped_at code.now turns.now world.old ≡ None) }
+    ensures stops { IfErr result (λ f. IsStop f (stopped_at code.now turns.now world.old)) }
+{
     for (turn, thread) in turns.iter().enumerate() {
         let thread = *thread;
-        match step(alloc, &mut world, code, thread)? {
-            None => {
-                return Err(RunFault::NotReady {
-                    turn: turn as u64,
-                    thread,
-                });
-            }
-            Some(event) => push_seen(alloc, &mut all, event, &world, observer)?,
+        if !view_turn(alloc, all, world, code, thread, observer)? {
+            let turn = turn as u64;
+            return Err(RunFault::NotReady { turn, thread });
         }
     }
-    Ok(all)
+    Ok(())
+}
+
+/// Takes a turn, with what an observer sees of it; `false` where the thread is not ready.
+fn view_turn(
+    alloc: Global,
+    all: &mut Vec<Seen>,
+    world: &mut World,
+    code: &Code,
+    thread: u32,
+    observer: &Label,
+) -> Result<bool, NoMemory>
+    requires { CopiesLive code.now world.old thread }
+    ensures { IfOk result (λ taken. Takes code.now thread (seen_of observer.now) world.old all.old.items taken world.new all.new.items) }
+{
+    match step(alloc, world, code, thread)? {
+        None => Ok(false),
+        Some(event) => {
+            push_seen(alloc, all, event, world, observer)?;
+            Ok(true)
+        }
+    }
 }
 
 /// Puts what an observer sees of a turn at the end, by the turn's event and the world after it.
