@@ -44,8 +44,10 @@ pub fn noted_in(
 {
     let mut world = start;
     let mut all = Vec::new(alloc);
-    audit_turns(alloc, &mut all, &mut world, code, turns)?;
-    Ok(all)
+    match audit_turns(alloc, &mut all, &mut world, code, turns) {
+        Ok(()) => Ok(all),
+        Err(fault) => Err(fault),
+    }
 }
 
 fn audit_turns(

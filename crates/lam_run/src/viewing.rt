@@ -46,8 +46,10 @@ pub fn seen_by(
 {
     let mut world = start;
     let mut all = Vec::new(alloc);
-    view_turns(alloc, &mut all, &mut world, code, turns, observer)?;
-    Ok(all)
+    match view_turns(alloc, &mut all, &mut world, code, turns, observer) {
+        Ok(()) => Ok(all),
+        Err(fault) => Err(fault),
+    }
 }
 
 fn view_turns(
