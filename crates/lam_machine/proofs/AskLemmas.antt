@@ -109,7 +109,7 @@ module _ (code : CodeTree) (s : Stores) (threads : List Thread) (t : ℕ) (a : A
 
   does : (d : Deed) → Serves (world_of s threads) t a d → DoesAs d (serve (world_of s threads) asking.asking.top a)
   unfolding Serves
-  does d serves = serves asking.asking.top top_there.1
+  does d serves = serves asking.asking.top (acts_top (world_of s threads) t asking.asking.thread asking.asking.top asking.asking.rest asking.asking.acts)
 
   pub fits : (d : Deed) → Serves (world_of s threads) t a d → Fits t d.effect s
   unfolding Fits
@@ -168,6 +168,7 @@ pub born_longer : (code : CodeTree) (e : Effect) (threads : List Thread) (t : �
 unfolding with_born
 born_longer code e threads t h = let n : length (threads ++ born code e) ≡ length threads + length (born code e) = length-append threads (born code e) in omega arith
 
-pub born_gone : (code : CodeTree) (e : Effect) (threads grown : List Thread) → grown ≡ with_born code e threads → take (length threads) grown ≡ threads
+pub born_gone : (code : CodeTree) (e : Effect) (threads grown after : List Thread) (n : ℕ) → n ≡ length threads → grown ≡ with_born code e threads → after ≡ grown → take n after ≡ threads
 unfolding with_born
-born_gone code e threads grown h = ap (take (length threads)) h ∙ take-append_seam threads (born code e)
+born_gone code e threads grown after n k h f =
+    ap (λ m. take m after) k ∙ (ap (take (length threads)) (f ∙ h) ∙ take-append_seam threads (born code e))

@@ -1,12 +1,6 @@
-//! Asks and effects that are of no further use.
+//! Effects that are of no further use.
 
-use lam_asks::Ask;
 use lam_deeds::Effect;
-
-/// An ask is let go.
-pub fn drop_ask(ask: Ask) {
-    drop_ask(ask)
-}
 
 /// An effect is let go.
 pub fn drop_effect(effect: Effect) {

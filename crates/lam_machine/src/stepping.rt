@@ -9,13 +9,13 @@ ghost use Rattle.lam_machine.specs.Machine.{CopiesLive, IsStep};
 ghost use Rattle.lam_machine.specs.Asking.{top_label, label_at, asked_event, AsksNext, Advances};
 
 use crate::asking::{asks_ready, take_ask, top_of};
-use crate::letting::drop_ask;
 use flow_labels::Label;
 use lam_asks::{Answer, Ask, Event, What};
 use lam_bytecode::Code;
 use lam_stores::Stores;
 use lam_threads::LamThread;
 use lam_world::World;
+use letting_go::let_go;
 use std::alloc::Global;
 use thread_core::{Turn, advance};
 use want_of_memory::NoMemory;
@@ -122,11 +122,11 @@ fn step_asking(
             what: What::Asked { ask, answer },
         })),
         Ok(None) => {
-            drop_ask(ask);
+            let_go(ask);
             Ok(None)
         }
         Err(error) => {
-            drop_ask(ask);
+            let_go(ask);
             Err(error)
         }
     }
