@@ -76,12 +76,7 @@ pub fn take_ask(
 }
 
 /// What the ask of a thread is served by.
-fn served(
-    stores: &Stores,
-    threads: &[LamThread],
-    thread: u32,
-    ask: &Ask,
-) -> Result<Deed, NoMemory>
+fn served(stores: &Stores, threads: &[LamThread], thread: u32, ask: &Ask) -> Result<Deed, NoMemory>
     requires few { length threads.now ≤ 4096 }
     requires top { (c : Plain) × (slice_get (contexts_in (slice_get threads.now thread)) 0 ≡ Some c) }
     ensures { IfOk result (λ d. Serves (world_of stores.now threads.now) thread ask.now d) }

@@ -79,11 +79,7 @@ fn acting_label(alloc: Global, threads: &[LamThread], thread: u32) -> Result<Lab
 
 /// A private turn of a thread is taken, and an ask is handed out. A thread that is not there has nothing to do.
 #[tactic(auto, using(crate::proofs::AdvanceLemmas::advances, crate::proofs::AdvanceLemmas::absent, crate::proofs::AdvanceLemmas::kept_at))]
-fn advance_at(
-    threads: &mut Vec<LamThread>,
-    code: &Code,
-    thread: u32,
-) -> Result<Turn, NoMemory>
+fn advance_at(threads: &mut Vec<LamThread>, code: &Code, thread: u32) -> Result<Turn, NoMemory>
     ensures ok { IfOk result (λ x. (s : Stores) → Advances code.now (world_of s threads.old.items) thread x (world_of s threads.new.items)) }
     ensures few { length threads.new.items ≡ length threads.old.items }
     ensures err { OnErr result (threads.new.items ≡ threads.old.items) }

@@ -6,9 +6,11 @@ use Rattle.lam_machine.proofs.AskLemmas.{waits_still, may_ask_now}
 use Rattle.lam_machine.proofs.stepping.answer_ask.Goals as goal
 
 pub returns-then-not-asks_ready-clause-ok : goal.returns-then-not-asks_ready-clause-ok
-returns-then-not-asks_ready-clause-ok c = λ l e.
-    (waits_still c.args.code.now (world_of c.args.stores.now c.args.threads.now.items) c.args.thread c.args.ask.now c.requires.asks false
-    (subst (λ (xs : List Thread). IsReadiness (world_of c.args.stores.now xs) c.args.thread c.args.ask.now false) c.as_slice.ensures.value c.if-not-asks_ready.ensures) refl, refl)
+returns-then-not-asks_ready-clause-ok c = λ l e. (
+  waits_still c.args.code.now (world_of c.args.stores.now c.args.threads.now.items) c.args.thread c.args.ask.now c.requires.asks false
+      (subst (λ (xs : List Thread). IsReadiness (world_of c.args.stores.now xs) c.args.thread c.args.ask.now false) c.as_slice.ensures.value c.if-not-asks_ready.ensures) refl,
+  refl,
+)
 
 pub take_ask-requires-clause-asks : goal.take_ask-requires-clause-asks
 take_ask-requires-clause-asks c =
