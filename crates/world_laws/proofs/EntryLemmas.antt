@@ -1,5 +1,5 @@
 -- The threads of a document just start: their arguments live, and the tags of their capabilities are known.
-use Rattle.std.proofs.Common.{◌≡◌, ℕ, suc, ◌<◌, Bool, true, false, cond, List, [], ◌∷◌, length, Option, Some, None, Ok, refl}
+use Rattle.std.proofs.Common.{ℕ, ◌<◌, Bool, true, false, cond, List, [], ◌∷◌, length, Option, Some, None, Ok, refl}
 use Rattle.std.specs.Prelude.{IfOk, IfSome, nat_eq, nat_lt, nat_le, ◌&&◌, codes, option_map, option_and_then}
 use Rattle.std.specs.List.{AllByRecursion}
 use Rattle.std.specs.Map.{lookup}

@@ -8,7 +8,6 @@ use Rattle.std.proofs.lemmas.List.Quantifiers.{position-Some}
 use Rattle.flow_labels.specs.declared.Label.{Label}
 use Rattle.flow_labels.specs.declared.two_lists.TwoSets.{TwoSets}
 use Rattle.flow_labels.specs.declared.two_lists.Form.TheVariants.{Label as label_form}
-use Rattle.flow_labels.specs.declared.texts.LabelFault.{LabelFault}
 use Rattle.flow_labels.specs.TwoLists.{Text}
 use Rattle.flow_labels.specs.Names.{place_of}
 use Rattle.flow_labels.specs.Reading.{◌>>=◌, found, tags_of_names, sets_of, sets_in, first_end, words, bad_place}

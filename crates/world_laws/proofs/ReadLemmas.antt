@@ -1,5 +1,5 @@
 -- What holds of what is read: names, labels, tags, capabilities.
-use Rattle.std.proofs.Common.{◌≡◌, ℕ, suc, ◌+◌, ◌<◌, ◌≤◌, Bool, true, false, List, [], ◌∷◌, ◌++◌, length, Option, Some, None, Result, Ok, Err, refl, sym, ap, ◌∙◌, arith, length-append}
+use Rattle.std.proofs.Common.{◌≡◌, ℕ, suc, ◌+◌, ◌<◌, ◌≤◌, Bool, true, false, List, [], ◌∷◌, ◌++◌, length, Option, Some, None, Result, Ok, Err, refl, arith, length-append}
 use Rattle.std.specs.Prelude.{IfOk, IfSome, nat_le, codes, option_and_then, if◌then◌else◌}
 use Rattle.std.specs.List.{AllByRecursion}
 use Rattle.std.specs.FinSet.{from_list}
@@ -65,8 +65,8 @@ names_longer names no_items = omega arith
 names_longer names (item d ds) =
     option_good (λ out. length out ≡ length names + suc (items_len ds)) (λ name. names_after (names ++ name ∷ []) ds) (option_and_then (unless_there names) (named d))
     (λ name. some_on (λ out. length out ≡ length (names ++ name ∷ []) + items_len ds) (λ out. length out ≡ length names + suc (items_len ds))
-        (λ out e. (let more : length (names ++ name ∷ []) ≡ length names + 1 = length-append names (name ∷ []) in omega arith))
-        (names_after (names ++ name ∷ []) ds) (names_longer (names ++ name ∷ []) ds))
+    (λ out e. (let more : length (names ++ name ∷ []) ≡ length names + 1 = length-append names (name ∷ []) in omega arith))
+    (names_after (names ++ name ∷ []) ds) (names_longer (names ++ name ∷ []) ds))
 
 abbrev pub AreFew : List Text → Type 0
 AreFew names = length names ≤ 65536
@@ -133,4 +133,4 @@ module _ (names : List Text) where
   caps_known ms =
       after (member_as (codes "caps") as_object ms) (λ inside. set_in (codes "plus") names inside >>= λ plus. set_in (codes "minus") names inside >>= λ minus. caps_made plus minus) CapsBelow
       (λ inside. onward (set_in (codes "plus") names inside) SetBelow (set_below (codes "plus") inside) (λ plus. set_in (codes "minus") names inside >>= λ minus. caps_made plus minus) CapsBelow
-          (λ plus p. onward (set_in (codes "minus") names inside) SetBelow (set_below (codes "minus") inside) (λ minus. caps_made plus minus) CapsBelow (λ minus m. (p, m))))
+      (λ plus p. onward (set_in (codes "minus") names inside) SetBelow (set_below (codes "minus") inside) (λ minus. caps_made plus minus) CapsBelow (λ minus m. (p, m))))

@@ -1,5 +1,5 @@
 -- The world of a document is valid, and its threads stand at entries.
-use Rattle.std.proofs.Common.{◌≡◌, ◌≤◌, List, [], length, Ok, refl, subst, arith}
+use Rattle.std.proofs.Common.{◌≤◌, List, [], Ok, refl, subst, arith}
 use Rattle.std.specs.Prelude.{IfOk, codes}
 use Rattle.std.specs.List.{AllByRecursion}
 use Rattle.serde_json.specs.Data.{Data, Members}
@@ -26,13 +26,16 @@ use Rattle.world_laws.proofs.ReadLemmas.{after, onward, AreFew, tags_few}
 use Rattle.world_laws.proofs.StoreLemmas.{staged, IsGood, GoodTree, tree_good, GoodPipes, pipes_good}
 use Rattle.world_laws.proofs.EntryLemmas.{AllStart, threads_good}
 
+-- what makes a world with a few threads valid
+record IsReady (code : CodeTree) (w : World) : Type 0 where
+  sound : AreSoundStores w
+  live : StoresLive w
+  tags : w.next_tag ≤ 65536
+  starts : AllByRecursion (IsStart code w) w.threads
+
 module _ (code : CodeTree) where
-  -- what makes a world with a few threads valid
-  record IsReady (w : World) : Type 0 where
-    pub sound : AreSoundStores w
-    pub live : StoresLive w
-    pub tags : w.next_tag ≤ 65536
-    pub starts : AllByRecursion (IsStart code w) w.threads
+  abbrev Ready : World → Type 0
+  Ready w = IsReady code w
 
   module _ (names : List Text) (t : Tree) (q : Queues) (ths : List Thread) where
     abbrev before : World
@@ -47,7 +50,7 @@ module _ (code : CodeTree) where
     still_starts : (th : Thread) → IsStart code before th → IsStart code begun th
     still_starts th s = record { unit = s.unit; args = s.args; caps = s.caps; it = s.it; lives = all_lives_on before begun grows s.args s.lives; known = s.known }
 
-    begins : AreFew names → IsGood before → AllByRecursion (IsStart code before) ths → IsReady begun
+    begins : AreFew names → IsGood before → AllByRecursion (IsStart code before) ths → Ready begun
     begins few g s =
         let sound = g.sound in
         record {
@@ -70,28 +73,28 @@ module _ (code : CodeTree) where
     abbrev with_names : List Text → Reading World
     with_names names = tree_in names ms >>= λ t. with_tree names t
 
-    pipes_start : (names : List Text) → AreFew names → (t : Tree) (p : Pipes) → GoodPipes names t p → IfOk (with_pipes names t p) IsReady
+    pipes_start : (names : List Text) → AreFew names → (t : Tree) (p : Pipes) → GoodPipes names t p → IfOk (with_pipes names t p) Ready
     pipes_start names few t p g =
-        onward (threads_in code names p.called ms) (AllStart names t p.queues p.called g.live code) (threads_good names t p.queues p.called g.live code ms) (λ ths. whole names t p ths) IsReady
+        onward (threads_in code names p.called ms) (AllStart names t p.queues p.called g.live code) (threads_good names t p.queues p.called g.live code ms) (λ ths. whole names t p ths) Ready
         (λ ths s. begins names t p.queues ths few g.good s)
 
-    tree_starts : (names : List Text) → AreFew names → (t : Tree) → GoodTree code names t → IfOk (with_tree names t) IsReady
-    tree_starts names few t g = onward (pipes_in names ms) (GoodPipes names t) (pipes_good code names t g ms) (λ p. with_pipes names t p) IsReady (pipes_start names few t)
+    tree_starts : (names : List Text) → AreFew names → (t : Tree) → GoodTree code names t → IfOk (with_tree names t) Ready
+    tree_starts names few t g = onward (pipes_in names ms) (GoodPipes names t) (pipes_good code names t g ms) (λ p. with_pipes names t p) Ready (pipes_start names few t)
 
-    names_start : (names : List Text) → AreFew names → IfOk (with_names names) IsReady
-    names_start names few = onward (tree_in names ms) (GoodTree code names) (tree_good code names few ms) (λ t. with_tree names t) IsReady (tree_starts names few)
+    names_start : (names : List Text) → AreFew names → IfOk (with_names names) Ready
+    names_start names few = onward (tree_in names ms) (GoodTree code names) (tree_good code names few ms) (λ t. with_tree names t) Ready (tree_starts names few)
 
-    members_start : IfOk (world_in code ms) IsReady
+    members_start : IfOk (world_in code ms) Ready
     members_start =
-        after (version_in ms) (λ version. tags_in ms >>= λ names. with_names names) IsReady
-        (λ version. onward (tags_in ms) AreFew (tags_few ms) (λ names. with_names names) IsReady names_start)
+        after (version_in ms) (λ version. tags_in ms >>= λ names. with_names names) Ready
+        (λ version. onward (tags_in ms) AreFew (tags_few ms) (λ names. with_names names) Ready names_start)
 
-  ready : (d : Data) → IfOk (formed (codes "version") (as_object d) >>= λ ms. world_in code ms) IsReady
-  ready d = after (formed (codes "version") (as_object d)) (λ ms. world_in code ms) IsReady members_start
+  ready : (d : Data) → IfOk (formed (codes "version") (as_object d) >>= λ ms. world_in code ms) Ready
+  ready d = after (formed (codes "version") (as_object d)) (λ ms. world_in code ms) Ready members_start
 
   pub start : WorldsStart code
   start d w e =
-      let r : IsReady w = subst (λ (r : Reading World). IfOk r IsReady) e (ready d) in
+      let r : Ready w = subst (λ (r : Reading World). IfOk r Ready) e (ready d) in
       let s = stand code d w e in
       let few = s.1.1 in
       record { valid = (valid_starts code).all w r.sound r.live r.tags (omega arith) r.starts; entries = s.0; some = s.1.0; few = s.1.1 }

@@ -1,10 +1,10 @@
 -- The stores of a document are sound at each step, and what stands in them lives.
-use Rattle.std.proofs.Common.{◌≡◌, ℕ, suc, ◌<◌, ◌≤◌, Bool, true, false, List, [], ◌∷◌, ◌++◌, length, Option, Some, None, Result, Ok, Err, refl, ap, arith}
+use Rattle.std.proofs.Common.{◌≡◌, ℕ, suc, ◌<◌, Bool, true, false, List, [], ◌∷◌, ◌++◌, length, Option, Some, None, Ok, Err, refl, ap, arith}
 use Rattle.std.specs.Prelude.{IfOk, is_some, nat_lt, codes, if◌then◌else◌}
 use Rattle.std.specs.List.{AllByRecursion}
 use Rattle.std.specs.FinMap.{empty}
 use Rattle.std.proofs.lemmas.Bool.Decides.{nat_tests}
-use Rattle.serde_json.specs.Data.{Data, Items, no_items, item, Members}
+use Rattle.serde_json.specs.Data.{Items, no_items, item, Members}
 use Rattle.serde_json.specs.Find.{get_member, as_str, as_array, as_object}
 use Rattle.flow_labels.specs.declared.Label.{Label}
 use Rattle.flow_labels.specs.TwoLists.{Text}
@@ -129,8 +129,8 @@ module _ (code : CodeTree) (names : List Text) where
     item_good =
         after (member_as (codes "path") as_str ms) (λ path. spot_of index t path >>= λ s. placed s) GoodTree
         (λ path. after (spot_of index t path) (λ s. placed s) GoodTree
-            (λ s. onward (label_in names ms) (IsBelow (length names)) (label_known names ms) (λ l. labelled s l) GoodTree
-                (λ l below. after (content_of (get_member (codes "dir") ms) (get_member (codes "text") ms)) (λ content. put s l content) GoodTree (put_good s l below))))
+        (λ s. onward (label_in names ms) (IsBelow (length names)) (label_known names ms) (λ l. labelled s l) GoodTree
+        (λ l below. after (content_of (get_member (codes "dir") ms) (get_member (codes "text") ms)) (λ content. put s l content) GoodTree (put_good s l below))))
 
   items_good : (index : ℕ) (t : Tree) → GoodTree t → (ds : Items) → IfOk (with_items names index t ds) GoodTree
   items_good index t g no_items = g
