@@ -1,5 +1,5 @@
 -- The world of a document is valid, and its threads stand at entries.
-use Rattle.std.proofs.Common.{◌≤◌, List, [], Ok, refl, subst, arith}
+use Rattle.std.proofs.Common.{◌≡◌, ◌≤◌, List, [], Option, Some, None, Ok, refl, subst, arith}
 use Rattle.std.specs.Prelude.{IfOk, codes}
 use Rattle.std.specs.List.{AllByRecursion}
 use Rattle.serde_json.specs.Data.{Data, Members}
@@ -19,9 +19,9 @@ use Rattle.world_terms.specs.Breaks.{Reading, ◌>>=◌, formed}
 use Rattle.world_terms.specs.Tags.{tags_in}
 use Rattle.world_terms.specs.Stores.{tree_in, Pipes, pipes_in}
 use Rattle.world_terms.specs.Entries.{threads_in}
-use Rattle.world_terms.specs.Start.{version_in, world_in}
+use Rattle.world_terms.specs.Start.{version_in, world_in, world_or}
 use Rattle.world_entries.proofs.StandLemmas.{stand}
-use Rattle.world_laws.specs.Starts.{WorldsStart}
+use Rattle.world_laws.specs.Starts.{IsStartOf, WorldsStart, TextsStart}
 use Rattle.world_laws.proofs.ReadLemmas.{after, onward, AreFew, tags_few}
 use Rattle.world_laws.proofs.StoreLemmas.{staged, IsGood, GoodTree, tree_good, GoodPipes, pipes_good}
 use Rattle.world_laws.proofs.EntryLemmas.{AllStart, threads_good}
@@ -98,3 +98,10 @@ module _ (code : CodeTree) where
       let s = stand code d w e in
       let few = s.1.1 in
       record { valid = (valid_starts code).all w r.sound r.live r.tags (omega arith) r.starts; entries = s.0; some = s.1.0; few = s.1.1 }
+
+  reading : (o : Option Data) (w : World) → world_or o code ≡ Ok w → IsStartOf code w
+  reading None w e = cc
+  reading (Some d) w e = start d w e
+
+  pub text_start : TextsStart code
+  text_start text w e = search (reading, e)
