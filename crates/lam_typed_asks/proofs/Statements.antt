@@ -198,14 +198,15 @@ module _ (r : ResolvedTree) where
           region_tree r E J l c n o _ (is_on H J m label l il) ic lo (λ l k.
           let args = map (λ x. local o x) from in
           let first : Own = record { locals = captured o from (length own); caps = k } in
-          let keep = keeps r (length slots) env J o lo in
-          (any_ask r J (ask.Enter l k number args) tt tt,
-          λ K x a s y.
-          enter_tree E o J (λ L a n. (keep L a, refl)) (λ L a f n. keep L a) l k number args _ n K a
-          (end_tree r (OfBlock own in_region (locals_of ts) (block_ends false body)) E K (exec_block r call again [] body (inside l) n first) (body_end o slot (λ n o. exec_block r call again [] handler (inside l) n o))
-          (block_tree [] own in_region (locals_of ts) body false hb tt refl (inside l) n first K (head_fit K o from own ts more hcap hown (keep K a)))
-          (λ L b e k. body_tree E o J (λ L a n. (keep L a, refl)) (λ L a f n. keep L a) (length own) (locals_of ts) env' (block_ends false body) (block_ends false handler) slot _
-          (λ L z o m. set_with L (length own) (locals_of ts) o.locals slot (a_local int) (Int z) (slice_get_within own slot int hf.0) refl m) (λ L n o m. block_tree [] own in_region env' handler false hh tt refl (inside l) n o L m) L (further J K L a b) e k)) x s))))
+          let keep = keeps r (length slots) env J o lo in (
+            any_ask r J (ask.Enter l k number args) tt tt,
+            λ K x a s y.
+                enter_tree E o J (λ L a n. (keep L a, refl)) (λ L a f n. keep L a) l k number args _ n K a
+                (end_tree r (OfBlock own in_region (locals_of ts) (block_ends false body)) E K (exec_block r call again [] body (inside l) n first) (body_end o slot (λ n o. exec_block r call again [] handler (inside l) n o))
+                (block_tree [] own in_region (locals_of ts) body false hb tt refl (inside l) n first K (head_fit K o from own ts more hcap hown (keep K a)))
+                (λ L b e k. body_tree E o J (λ L a n. (keep L a, refl)) (λ L a f n. keep L a) (length own) (locals_of ts) env' (block_ends false body) (block_ends false handler) slot _
+                (λ L z o m. set_with L (length own) (locals_of ts) o.locals slot (a_local int) (Int z) (slice_get_within own slot int hf.0) refl m) (λ L n o m. block_tree [] own in_region env' handler false hh tt refl (inside l) n o L m) L (further J K L a b) e k)) x s,
+          ))))
         where
           head_fit : (G : Typing) (o : Own) (from : List ℕ) (own ts more : List ResolvedType) → typing.AreCaptured env from ts → own ≡ ts ++ more → Fit G (length slots) env o.locals → Fit G (length own) (locals_of ts) (captured o from (length own))
           head_fit G o from own ts more hcap hown lo =

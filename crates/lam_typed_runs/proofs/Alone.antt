@@ -1,14 +1,14 @@
 -- A thread's own turns are those of a thread alone that gets the same answers.
-use Rattle.std.proofs.Common.{◌≡◌, ℕ, zero, suc, ◌+◌, List, [], ◌∷◌, ◌++◌, length, refl, sym, ap, ◌∙◌, subst, arith, append_assoc}
+use Rattle.std.proofs.Common.{◌≡◌, ℕ, suc, ◌+◌, List, [], ◌∷◌, ◌++◌, length, refl, sym, ap, ◌∙◌, subst, append_assoc}
 use Rattle.std.proofs.lemmas.List.{append-nil}
 use Rattle.lam_asks.specs.declared.answer.Answer.{Answer}
 use Rattle.lam_asks.specs.declared.answer.What.{What}
 use Rattle.lam_asks.specs.declared.answer.What.TheVariants.{Private, Asked}
 use Rattle.lam_asks.specs.declared.ask.Ask.{Ask}
 use Rattle.lam_bytecode.specs.Codes.{CodeTree}
-use Rattle.thread_steps.specs.Threads.{Inside, Context, Thread}
-use Rattle.thread_steps.specs.Next.{goes, asks, next_of, with_inside, takes}
-use Rattle.lam_flat_acts.specs.Lone.{Lone, runs, waits, work_of, asked, done, turn_of, turn, turns}
+use Rattle.thread_steps.specs.Threads.{Context, Thread}
+use Rattle.thread_steps.specs.Next.{next_of}
+use Rattle.lam_flat_acts.specs.Lone.{runs, waits, work_of, done, turn_of, turn, turns}
 use Rattle.lam_own_turns.specs.Own.{OwnTurn, OwnTurns}
 use Rattle.lam_typed_runs.specs.Runs.{asked_in, answers_in}
 

@@ -1,5 +1,5 @@
 -- One turn of a thread that stands as its source means.
-use Rattle.std.proofs.Common.{◌≡◌, ℕ, zero, suc, ◌+◌, ◌<◌, ◌≤◌, Bool, true, List, [], ◌∷◌, ◌++◌, length, map, Option, Some, None, refl, sym, ap, ◌∙◌, subst, arith, length-append, ⊎_elim}
+use Rattle.std.proofs.Common.{◌≡◌, ℕ, ◌+◌, ◌<◌, ◌≤◌, true, List, [], ◌∷◌, ◌++◌, length, Some, refl, sym, ap, ◌∙◌, subst, arith, length-append, ⊎_elim}
 use Rattle.std.specs.Prelude.{slice_get}
 use Rattle.std.proofs.lemmas.Bool.{cases_lt}
 use Rattle.std.proofs.lemmas.List.{append-nil, length-map}
@@ -42,7 +42,7 @@ use Rattle.lam_typed_asks.proofs.Values.{kinds_are}
 use Rattle.lam_typed_asks.proofs.Threads.{asks_typed}
 use Rattle.lam_typed_runs.specs.Runs.{asked_in, answers_in}
 use Rattle.lam_typed_runs.proofs.Alone.{even, answers_append, last_turn, own_turns, own_more}
-use Rattle.lam_typed_runs.proofs.Following.{rest_of, rest_none, NextAsk, plain, fit_none, next_is, more_fit, rest_more, front_fit, beyond_fit}
+use Rattle.lam_typed_runs.proofs.Following.{rest_of, rest_none, NextAsk, fit_none, next_is, more_fit, rest_more, front_fit, beyond_fit}
 use Rattle.lam_typed_runs.proofs.Typed.{start_on, well_on, fits_by, turn_suits}
 
 module _ (r : ResolvedTree) (N : ℕ) where
@@ -169,8 +169,8 @@ module _ (r : ResolvedTree) (N : ℕ) where
               let fits_here : fits n.q.want x ≡ true = subst (λ z. fits z x ≡ true) (sym (it.want ∙ ap (want_of (sort_of it.wanted)) n.same)) fit in
               let left : AsksWell r AnyEnd H (n.go x) = wl.1 H x turned.1 fits_here (subst (λ b. IsAnswer H (given_type it.wanted b) x) (sym n.same) answered) in
               let stands =
-                  by_answers H f vs k (did ++ Asked a x ∷ []) after (xs ++ x ∷ []) (sym (answers_append did (Asked a x ∷ []))) (own_more (scheme r) (started (scheme r) f vs k) th after did (Asked a x) st.own o) st.declared st.found st.sorts
-                  (more_fit n.q n.go x tree xs st.suit n.here fits_here) (subst (λ t. AsksWell r AnyEnd H t) (sym (rest_more n.q n.go x tree xs n.here)) left) in
+              by_answers H f vs k (did ++ Asked a x ∷ []) after (xs ++ x ∷ []) (sym (answers_append did (Asked a x ∷ []))) (own_more (scheme r) (started (scheme r) f vs k) th after did (Asked a x) st.own o) st.declared st.found st.sorts
+              (more_fit n.q n.go x tree xs st.suit n.here fits_here) (subst (λ t. AsksWell r AnyEnd H t) (sym (rest_more n.q n.go x tree xs n.here)) left) in
               record {
                 typing = H;
                 more = turned.1;

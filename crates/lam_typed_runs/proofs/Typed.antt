@@ -1,12 +1,10 @@
 -- What is typed stays so under a typing that knows more, and answers of the types wanted suit.
-use Rattle.std.proofs.Common.{◌≡◌, ℕ, true, List, Option, Some, None, refl, sym, ap, ◌∙◌, subst}
+use Rattle.std.proofs.Common.{◌≡◌, ℕ, true, List, Some, refl, sym, ap, ◌∙◌, subst}
 use Rattle.lam_value.specs.declared.values.Value.{Value}
 use Rattle.lam_builtins.specs.Types.{int}
-use Rattle.lam_asks.specs.declared.fault.Fault.TheVariants.{Child}
 use Rattle.lam_asks.specs.declared.answer.Answer.{Answer}
-use Rattle.lam_asks.specs.declared.answer.Answer.TheVariants.{Done, Entered, Val, Refused, Failed}
+use Rattle.lam_asks.specs.declared.answer.Answer.TheVariants.{Val}
 use Rattle.lam_asks.specs.declared.answer.What.TheVariants.{Private, Asked}
-use Rattle.lam_asks.specs.declared.answer.What.{What}
 use Rattle.lam_asks.specs.declared.ask.Ask.{Ask}
 use Rattle.lam_asks.specs.declared.ask.Ask.TheVariants.{Read, Write, New, CopyTo, Spawn, Join, End}
 use Rattle.lam_asks.specs.Suits.{want_of, fits}
@@ -24,10 +22,10 @@ use Rattle.lam_isolation.proofs.ThreadLemmas.{some_inj}
 use Rattle.lam_isolation.proofs.TurnLemmas.{acts, only}
 use Rattle.lam_answer_laws.specs.Suiting.{Joined, with_value, forbidden, without_value, Suits}
 use Rattle.lam_answer_laws.proofs.SuitLemmas.{all_suit}
-use Rattle.lam_typed_turns.specs.Typing.{Typing, Extends, Classes, Is}
+use Rattle.lam_typed_turns.specs.Typing.{Typing, Extends, Classes}
 use Rattle.lam_typed_turns.specs.Served.{IsSlot, IsAsk, given_type, IsAnswer}
 use Rattle.lam_typed_turns.proofs.HeapLemmas.{is_on, are_on}
-use Rattle.lam_typed_asks.specs.Asks.{IsStart, IsSpawn, IsTypedAsk, AsksWell, AnyEnd}
+use Rattle.lam_typed_asks.specs.Asks.{IsStart, IsSpawn, AsksWell, AnyEnd}
 use Rattle.lam_typed_asks.proofs.Typings.{further}
 use Rattle.lam_typed_asks.proofs.Values.{kind_is}
 
@@ -55,9 +53,10 @@ module _ (G H : Typing) (more : Extends G H) where
   well_on r spent h = tt
   well_on r broken h = absurd h
   well_on r (trees.asks q go) h =
-      let it = h.0 in
-      (record { wanted = it.wanted; typed = ask_on r.classes it.wanted q.ask it.typed; spawns = spawn_on r q.ask it.spawns; want = it.want },
-      λ J x later s a. h.1 J x (further G H J more later) s a)
+      let it = h.0 in (
+        record { wanted = it.wanted; typed = ask_on r.classes it.wanted q.ask it.typed; spawns = spawn_on r q.ask it.spawns; want = it.want },
+        λ J x later s a. h.1 J x (further G H J more later) s a,
+      )
 
 -- ---- answers
 

@@ -1,6 +1,6 @@
 -- A whole run: every thread stands as its source means, and what stands on the heap is typed.
-use Rattle.std.proofs.Common.{◌≡◌, ◌⊎◌, inl, inr, ℕ, zero, suc, ◌+◌, ◌<◌, ◌≤◌, Bool, true, false, cond, List, [], ◌∷◌, ◌++◌, length, Option, Some, None, refl, sym, ap, ◌∙◌, subst, arith, append_assoc}
-use Rattle.std.specs.Prelude.{nat_eq, map, filter, slice_get}
+use Rattle.std.proofs.Common.{◌≡◌, inl, inr, ℕ, suc, ◌+◌, ◌<◌, ◌≤◌, Bool, true, false, cond, List, [], ◌∷◌, ◌++◌, length, Option, Some, None, refl, sym, ap, ◌∙◌, subst, arith, append_assoc}
+use Rattle.std.specs.Prelude.{nat_eq, map, filter}
 use Rattle.std.proofs.lemmas.Bool.Decides.{nat_tests}
 use Rattle.std.proofs.lemmas.List.{append-nil, map-append}
 use Rattle.std.proofs.lemmas.List.Elements.{filter-append}
@@ -15,17 +15,17 @@ use Rattle.resolved_tree.specs.Tree.{ResolvedTree}
 use Rattle.resolved_tree.specs.Typing.{IsTypedTree}
 use Rattle.resolved_tree.specs.Regions.{AreNumbered}
 use Rattle.lam_scheme.specs.Scheme.{scheme}
-use Rattle.lam_worlds.specs.Worlds.{World, thread_at, result_in, result_at}
-use Rattle.lam_worlds.specs.Turns.{Moment, step, and_then, moments, left_by, replay}
+use Rattle.lam_worlds.specs.Worlds.{World, thread_at, result_in}
+use Rattle.lam_worlds.specs.Turns.{Moment, step, and_then, moments, left_by}
 use Rattle.lam_worlds.specs.Valid.{IsValid}
 use Rattle.lam_isolation.proofs.ThreadLemmas.{some_inj}
 use Rattle.lam_isolation.proofs.TurnLemmas.{turn_thread}
 use Rattle.lam_valid_steps.proofs.WholeLemmas.{stay_valid}
 use Rattle.lam_own_turns.specs.Own.{IsSpawned, Touches, done_by}
 use Rattle.lam_own_turns.proofs.OwnLemmas.{touch}
-use Rattle.lam_typed_turns.specs.Typing.{Typing, Extends}
+use Rattle.lam_typed_turns.specs.Typing.{Typing}
 use Rattle.lam_typed_turns.specs.Served.{IsNumber, IsTypedWorld}
-use Rattle.lam_typed_runs.specs.Runs.{nothing_known, ThreadsStart, WasSpawned, Began, AnswersSuitInRuns}
+use Rattle.lam_typed_runs.specs.Runs.{nothing_known, ThreadsStart, Began, AnswersSuitInRuns}
 use Rattle.lam_typed_runs.proofs.Steps.{Stands, stands_on, begins, suits_any, Moves, moves}
 
 -- ---- what a thread did, with one moment more

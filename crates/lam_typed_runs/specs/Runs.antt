@@ -1,5 +1,5 @@
 -- In every run of a typed program each answer suits the ask that it answers.
-use Rattle.std.specs.Prelude.{◌≡◌, ◌⊎◌, ℕ, List, [], ◌∷◌, ◌++◌, Option, Some, None, slice_get}
+use Rattle.std.specs.Prelude.{◌≡◌, ◌⊎◌, ℕ, List, [], ◌∷◌, ◌++◌, Some, None, slice_get}
 use Rattle.capabilities.specs.declared.Caps.{Caps}
 use Rattle.lam_value.specs.declared.values.Value.{Value}
 use Rattle.lam_value.specs.declared.values.Value.TheVariants as value
@@ -23,7 +23,7 @@ use Rattle.lam_worlds.specs.Worlds.{World, thread_at}
 use Rattle.lam_worlds.specs.Turns.{Moment, moments, replay}
 use Rattle.lam_worlds.specs.Valid.{IsValid}
 use Rattle.lam_own_turns.specs.Own.{done_by, OwnTurns}
-use Rattle.lam_typed_turns.specs.Typing.{Thing, Typing}
+use Rattle.lam_typed_turns.specs.Typing.{Typing}
 use Rattle.lam_typed_asks.specs.Asks.{IsStart}
 
 -- what a thread asked in its turns, in order, and what it was answered
