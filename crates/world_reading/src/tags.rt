@@ -76,11 +76,7 @@ fn add_name(alloc: Global, names: &mut TagNames, item: &Value) -> Result<(), Wor
 ///
 /// `NoMember` where it is not there, `BadMember` where it is no text of a label, and `NoTag` with the first name that is
 /// no tag's.
-pub fn read_label(
-    alloc: Global,
-    object: &Value,
-    names: &TagNames,
-) -> Result<Label, WorldFault>
+pub fn read_label(alloc: Global, object: &Value, names: &TagNames) -> Result<Label, WorldFault>
     ensures { Gives (λ l. l) result (label_in names.now (members (view object.now))) }
 {
     let text = str_member(alloc, object, "label")?;
@@ -161,12 +157,7 @@ fn tags_of(
     Ok(tags)
 }
 
-fn read_set(
-    alloc: Global,
-    object: &Value,
-    at: &str,
-    names: &TagNames,
-) -> Result<TagSet, WorldFault>
+fn read_set(alloc: Global, object: &Value, at: &str, names: &TagNames) -> Result<TagSet, WorldFault>
     ensures { Gives (λ s. s) result (set_in at.now names.now (members (view object.now))) }
 {
     let items = array_member(alloc, object, at)?;

@@ -77,6 +77,7 @@ name_taken es ms text r e is t = member_on (codes "name") as_str (unless_called 
 
 pub name_new : (es : List (Bor Text × Name)) (ms : Members) (text : Text) (r : Bool) → member_as (codes "name") as_str ms ≡ Ok text → r ≡ is_some (lookup (key_is text) es) → r ≡ false → member_as (codes "name") (new_name (called_of es)) ms ≡ Ok text
 name_new es ms text r e is f = member_on (codes "name") as_str (unless_called es) ms text e ∙ by_called es text false r is f
+
 unless_new : (es : List (Bor Text × Name)) (o : Option Text) (text : Text) → formed (codes "name") (option_and_then (unless_called es) o) ≡ Ok text → pipe_called (called_of es) text ≡ None
 unless_new es None text e = absurd cc
 unless_new es (Some t) text e = by_name (pipe_called (called_of es) t) refl e

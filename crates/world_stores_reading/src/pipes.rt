@@ -28,11 +28,7 @@ pub fn find_pipe<'a>(called: &'a PipeNames, name: &str) -> Option<&'a Name>
 }
 
 // A name that no pipe before has.
-fn new_name<'a>(
-    alloc: Global,
-    called: &PipeNames,
-    item: &'a Value,
-) -> Result<&'a str, WorldFault>
+fn new_name<'a>(alloc: Global, called: &PipeNames, item: &'a Value) -> Result<&'a str, WorldFault>
     ensures { Gives (λ s. s.now) result (member_as (codes "name") (new_name (called_of called.now.entries)) (members (view item.now))) }
 {
     let name = str_member(alloc, item, "name")?;
