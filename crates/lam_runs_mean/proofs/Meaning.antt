@@ -1,17 +1,16 @@
 -- A thread of a run is one that runs alone with the answers that it got, and those suit.
-use Rattle.std.proofs.Common.{◌≡◌, ◌≢◌, ◌⊎◌, inl, inr, ℕ, suc, ◌+◌, ◌*◌, ◌≤◌, List, [], ◌∷◌, ◌++◌, length, Option, Some, None, refl, sym, ap, ◌∙◌, subst, arith}
-use Rattle.std.specs.Prelude.{Result, Ok, Err, slice_get}
+use Rattle.std.proofs.Common.{◌≡◌, inl, inr, ℕ, ◌+◌, ◌*◌, ◌≤◌, List, [], ◌∷◌, length, Option, Some, None, refl, sym, ap, ◌∙◌, subst, arith}
+use Rattle.std.specs.Prelude.{Ok, slice_get}
 use Rattle.std.proofs.lemmas.List.{append-nil}
 use Rattle.capabilities.specs.declared.Caps.{Caps}
 use Rattle.lam_value.specs.declared.values.Value.{Value}
-use Rattle.lam_asks.specs.declared.answer.Answer.{Answer}
 use Rattle.lam_asks.specs.declared.answer.What.{What}
-use Rattle.lam_bytecode.specs.Codes.{CodeTree, IsCode}
+use Rattle.lam_bytecode.specs.Codes.{CodeTree}
 use Rattle.resolved_tree.specs.Tree.{ResolvedFunction, ResolvedTree}
 use Rattle.resolved_tree.specs.Typing.{IsTypedTree}
 use Rattle.resolved_tree.specs.Regions.{AreNumbered}
 use Rattle.thread_steps.specs.Threads.{Context, Thread}
-use Rattle.thread_steps.specs.Next.{Next, goes, asks, stuck, started, next_of, stands, standing, standing_in, is_ended}
+use Rattle.thread_steps.specs.Next.{Next, goes, asks, stuck, started, next_of, stands, standing_in, is_ended}
 use Rattle.lam_meaning.specs.Means.{means}
 use Rattle.lam_meaning.specs.Plays.{asks_of, AllFit, asks_made}
 use Rattle.lam_typed.specs.Kinds.{AreOf}
@@ -22,8 +21,7 @@ use Rattle.lam_flat_acts.proofs.Turns.{turns_add}
 use Rattle.lam_acting.specs.Acts.{AreFirst, lone, ActsWith}
 use Rattle.lam_acting.proofs.Acting.{code_acts}
 use Rattle.lam_acting.proofs.Grows.{turns_grow, stays}
-use Rattle.lam_worlds.specs.Worlds.{World, thread_at}
-use Rattle.lam_worlds.specs.Turns.{moments, replay}
+use Rattle.lam_worlds.specs.Turns.{moments}
 use Rattle.lam_own_turns.specs.Own.{OwnTurns, done_by}
 use Rattle.lam_typed_runs.specs.Runs.{asked_in, answers_in}
 use Rattle.lam_typed_runs.proofs.Alone.{own_turns}
@@ -86,6 +84,9 @@ of_scheme r e is_code typed numbered w turns valid starts u th at =
       args = s.args;
       caps = s.caps;
       began = s.began;
+      declared = s.declared;
+      found = s.found;
+      sorts = s.sorts;
       meant = meant r typed numbered s.function s.declared s.args s.caps (done_by u (moments (scheme r) turns w)) th s.found s.sorts s.own s.suit;
     }
 

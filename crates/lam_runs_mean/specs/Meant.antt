@@ -1,15 +1,17 @@
 -- That the threads of a run mean what their source means.
-use Rattle.std.specs.Prelude.{◌≡◌, ◌≢◌, ◌≤◌, ◌⊎◌, ℕ, ◌+◌, ◌*◌, List, length, Some, Ok}
+use Rattle.std.specs.Prelude.{◌≡◌, ◌≢◌, ◌≤◌, ◌⊎◌, ℕ, ◌+◌, ◌*◌, List, length, Some, Ok, slice_get}
+use Rattle.std.specs.List.{AllByRecursion}
 use Rattle.capabilities.specs.declared.Caps.{Caps}
 use Rattle.lam_value.specs.declared.values.Value.{Value}
 use Rattle.lam_asks.specs.declared.answer.What.{What}
 use Rattle.lam_bytecode.specs.Codes.{CodeTree, IsCode}
-use Rattle.resolved_tree.specs.Tree.{ResolvedTree}
+use Rattle.resolved_tree.specs.Tree.{ResolvedFunction, ResolvedTree}
 use Rattle.resolved_tree.specs.Typing.{IsTypedTree}
 use Rattle.resolved_tree.specs.Regions.{AreNumbered}
 use Rattle.thread_steps.specs.Threads.{Thread}
 use Rattle.thread_steps.specs.Next.{standing, is_stuck, is_ended}
 use Rattle.lam_meaning.specs.Plays.{asks_made}
+use Rattle.lam_typed.specs.Kinds.{AreOf}
 use Rattle.lam_scheme.specs.Long.{compiled}
 use Rattle.lam_flat_acts.specs.Lone.{bound}
 use Rattle.lam_acting.specs.Acts.{AreFirst}
@@ -32,16 +34,29 @@ pub record DoesAsMeant (r : ResolvedTree) (code : CodeTree) (f : ℕ) (vs : List
   -- those that the source makes with n units, and its answers, are the first ones of its own
   pub asks_all : (n : ℕ) → IsFar r code n did th → AreFirst (asks_made r n f vs k (answers_in did)) (asked_in did)
 
+-- a thread of a run: how it began, with arguments of the sorts of its function's parameters, and that it does as meant
 pub record MeansItsSource (r : ResolvedTree) (code : CodeTree) (w : World) (ms : List Moment) (u : ℕ) (th : Thread) : Type 0 where
   pub function : ℕ
   pub args : List Value
   pub caps : Caps
   pub began : Began code w ms u function args caps
+  pub declared : ResolvedFunction
+  pub found : slice_get r.functions function ≡ Some declared
+  pub sorts : AreOf declared.params args
   pub meant : DoesAsMeant r code function args caps (done_by u ms) th
 
--- Each thread, also one that was spawned, after any turns from a valid world whose threads just start. Each world of a
--- run is what the turns before it leave.
+-- each thread, also one that was spawned, after any turns from a valid world whose threads just start
 abbrev pub RunsMean : ResolvedTree → CodeTree → Type 0
 RunsMean r code =
     compiled r ≡ Ok code → IsCode code → IsTypedTree r → AreNumbered r → (w : World) (turns : List ℕ) → IsValid w → ThreadsStart r code w → (u : ℕ) (th : Thread) → thread_at (replay code turns w) u ≡ Some th →
     MeansItsSource r code w (moments code turns w) u th
+
+-- no thread of a world is stuck
+abbrev pub NoneStuck : CodeTree → World → Type 0
+NoneStuck code w = (u : ℕ) (th : Thread) → thread_at w u ≡ Some th → standing code th ≢ is_stuck
+
+-- at the start, and after each turn
+abbrev pub NoRunSticks : ResolvedTree → CodeTree → Type 0
+NoRunSticks r code =
+    compiled r ≡ Ok code → IsCode code → IsTypedTree r → AreNumbered r → (w : World) (turns : List ℕ) → IsValid w → ThreadsStart r code w →
+    NoneStuck code w × AllByRecursion (λ (m : Moment). NoneStuck code m.world) (moments code turns w)

@@ -11,10 +11,15 @@
 
 ghost use Rattle.lam_bytecode.specs.Codes.{CodeTree};
 ghost use Rattle.resolved_tree.specs.Tree.{ResolvedTree};
-ghost use Rattle.lam_runs_mean.specs.Meant.{RunsMean};
+ghost use Rattle.lam_runs_mean.specs.Meant.{RunsMean, NoRunSticks};
 
 /// Each thread of each run of a typed program's code is not stuck and asks what its source means, where the first world is
 /// valid and its threads stand at entries, with arguments of their parameters' types.
 pub fn runs_mean_what_the_source_means()
     ensures { (r : ResolvedTree) (code : CodeTree) → RunsMean r code }
+{}
+
+/// In such a run no thread of any world is stuck: not at the start, and not after any turn.
+pub fn no_run_sticks()
+    ensures { (r : ResolvedTree) (code : CodeTree) → NoRunSticks r code }
 {}
