@@ -1,0 +1,93 @@
+//! One call of the tool over a program, a world and a book.
+
+use lam_io::{MemShelf, MemSink, OpenGate};
+use lam_main::{Status, lam};
+use std::alloc::{AllocError, Global};
+use std::process::Abort;
+use std::sync::Wait;
+use std::test::Fail;
+use std::thread::Threads;
+
+/// What a call of the tool and a test of its answer need of the runtime.
+pub trait Tested: Threads + Wait + Sync + Abort + AllocGlobal {}
+
+impl<R: Threads + Wait + Sync + Abort + AllocGlobal> Tested for R {}
+
+/// The files of a call: `P`, `W` and `B`.
+#[derive(Clone, Copy, Debug)]
+pub struct Given<'a> {
+    pub program: &'a str,
+    pub world: &'a str,
+    pub book: &'a str,
+}
+
+/// The calls that fail: by their numbers, from 0, of the store and of the output.
+#[derive(Clone, Copy, Debug)]
+pub struct Faults<'a> {
+    pub shelf: &'a [u64],
+    pub sink: &'a [u64],
+}
+
+/// Runs the words over the files, and compares the status and the bytes printed.
+pub fn run_with<R: Tested>(
+    rt: &R,
+    given: Given<'_>,
+    words: &[&str],
+    faults: Faults<'_>,
+    status: Status,
+    printed: &str,
+) -> Result<(), Fail> {
+    let alloc = rt.alloc();
+    let mut shelf = shelf_of(alloc, given, faults.shelf)?;
+    let mut sink = MemSink::new(alloc, 65_536, faults.sink.to_vec(alloc)?)?;
+    let words = texts_of(alloc, words)?;
+    let ended = lam(
+        rt,
+        alloc,
+        words.as_slice(),
+        &mut shelf,
+        &mut sink,
+        &OpenGate,
+    );
+    assert_eq!(rt; sink.bytes(), printed.as_bytes(), "printed by {words:?}");
+    assert_eq!(rt; ended, status, "status of {words:?}");
+    Ok(())
+}
+
+/// The same where nothing fails.
+pub fn run<R: Tested>(
+    rt: &R,
+    given: Given<'_>,
+    words: &[&str],
+    status: Status,
+    printed: &str,
+) -> Result<(), Fail> {
+    let none = Faults {
+        shelf: &[],
+        sink: &[],
+    };
+    run_with(rt, given, words, none, status, printed)
+}
+
+fn shelf_of(alloc: Global, given: Given<'_>, failing: &[u64]) -> Result<MemShelf, AllocError> {
+    let mut files = Vec::new(alloc);
+    files.push(file_of(alloc, "P", given.program)?)?;
+    files.push(file_of(alloc, "W", given.world)?)?;
+    files.push(file_of(alloc, "B", given.book)?)?;
+    Ok(MemShelf::new(files, failing.to_vec(alloc)?))
+}
+
+fn file_of(alloc: Global, name: &str, text: &str) -> Result<(String, Vec<u8>), AllocError> {
+    Ok((
+        String::from_str(alloc, name)?,
+        Vec::from_slice(alloc, text.as_bytes())?,
+    ))
+}
+
+fn texts_of(alloc: Global, words: &[&str]) -> Result<Vec<String>, AllocError> {
+    let mut texts = Vec::new(alloc);
+    for word in words {
+        texts.push(String::from_str(alloc, word)?)?;
+    }
+    Ok(texts)
+}
