@@ -61,13 +61,13 @@ fn a_broken_line(rt: HostRuntime) -> Result<(), Fail> {
 fn the_outside_fails(rt: HostRuntime) -> Result<(), Fail> {
     let given = with_book("lam book 1\n0 8\n");
     let shelf = Faults {
-        shelf: &[1],
+        shelf: &[5],
         sink: &[],
     };
     run_with(&rt, given, &WORDS, shelf, Status::ShelfFault, "")?;
     let sink = Faults {
         shelf: &[],
-        sink: &[0],
+        sink: &[1],
     };
     run_with(&rt, given, &WORDS, sink, Status::SinkFault, "")
 }

@@ -1,6 +1,6 @@
 //! One call of the tool over a program, a world and a book.
 
-use lam_io::{MemShelf, MemSink, OpenGate};
+use lam_io::{MemShelf, MemSink, OpenGate, Shelf};
 use lam_main::{Status, lam};
 use std::alloc::{AllocError, Global};
 use std::process::Abort;
@@ -21,7 +21,8 @@ pub struct Given<'a> {
     pub book: &'a str,
 }
 
-/// The calls that fail: by their numbers, from 0, of the store and of the output.
+/// The calls that fail, of the store and of the output: by their numbers, from 1. The files are there after the third call
+/// of the store.
 #[derive(Clone, Copy, Debug)]
 pub struct Faults<'a> {
     pub shelf: &'a [u64],
@@ -38,7 +39,7 @@ pub fn run_with<R: Tested>(
     printed: &str,
 ) -> Result<(), Fail> {
     let alloc = rt.alloc();
-    let mut shelf = shelf_of(alloc, given, faults.shelf)?;
+    let mut shelf = shelf_of(rt, given, faults.shelf.to_vec(alloc)?);
     let mut sink = MemSink::new(alloc, 65_536, faults.sink.to_vec(alloc)?)?;
     let words = texts_of(alloc, words)?;
     let ended = lam(
@@ -49,7 +50,8 @@ pub fn run_with<R: Tested>(
         &mut sink,
         &OpenGate,
     );
-    assert_eq!(rt; sink.bytes(), printed.as_bytes(), "printed by {words:?}");
+    let taken = String::from_utf8_lossy(alloc, sink.bytes())?;
+    assert_eq!(rt; taken.as_str(), printed, "printed by {words:?}");
     assert_eq!(rt; ended, status, "status of {words:?}");
     Ok(())
 }
@@ -69,19 +71,12 @@ pub fn run<R: Tested>(
     run_with(rt, given, words, none, status, printed)
 }
 
-fn shelf_of(alloc: Global, given: Given<'_>, failing: &[u64]) -> Result<MemShelf, AllocError> {
-    let mut files = Vec::new(alloc);
-    files.push(file_of(alloc, "P", given.program)?)?;
-    files.push(file_of(alloc, "W", given.world)?)?;
-    files.push(file_of(alloc, "B", given.book)?)?;
-    Ok(MemShelf::new(files, failing.to_vec(alloc)?))
-}
-
-fn file_of(alloc: Global, name: &str, text: &str) -> Result<(String, Vec<u8>), AllocError> {
-    Ok((
-        String::from_str(alloc, name)?,
-        Vec::from_slice(alloc, text.as_bytes())?,
-    ))
+fn shelf_of<R: Tested>(rt: &R, given: Given<'_>, failing: Vec<u64>) -> MemShelf {
+    let mut shelf = MemShelf::new(Vec::new(rt.alloc()), failing);
+    for (name, text) in [("P", given.program), ("W", given.world), ("B", given.book)] {
+        assert_eq!(rt; shelf.write(name, text.as_bytes()), Ok(()), "file {name}");
+    }
+    shelf
 }
 
 fn texts_of(alloc: Global, words: &[&str]) -> Result<Vec<String>, AllocError> {
