@@ -1,0 +1,13 @@
+//! The machine: a step of a thread over the shared stores.
+//!
+//! [`step`] takes the turn of a thread that `lam_worlds` defines, where the thread is ready. A private turn changes its
+//! thread alone. A turn that asks is served by reading (`lam_world`); then the thread readies itself for the answer, and
+//! the effect on the stores is applied last, so that a refusal of memory leaves the world as it was. Neither the thread
+//! nor the world is copied.
+#![tactic(auto)]
+
+mod asking;
+mod letting;
+mod stepping;
+
+pub use stepping::step;

@@ -1,0 +1,153 @@
+//! Steps.
+
+ghost use Rattle.std.specs.Prelude.{◌≡◌, ◌≤◌, length, slice_get, IfOk, OnErr};
+ghost use Rattle.flow_labels.specs.declared.Label.{Label as LabelOf};
+ghost use Rattle.lam_stores.specs.declared.Stores.{Stores};
+ghost use Rattle.lam_worlds.specs.Worlds.{contexts_in};
+ghost use Rattle.lam_stores.specs.Parts.{world_of};
+ghost use Rattle.lam_machine.specs.Machine.{CopiesLive, IsStep};
+ghost use Rattle.lam_machine.specs.Asking.{top_label, label_at, asked_event, AsksNext, Advances};
+
+use crate::asking::{asks_ready, take_ask, top_of};
+use flow_labels::Label;
+use lam_asks::{Answer, Ask, Event, What};
+use lam_bytecode::Code;
+use lam_stores::Stores;
+use lam_threads::LamThread;
+use lam_world::World;
+use letting_go::let_go;
+use std::alloc::Global;
+use thread_core::{Turn, advance};
+use want_of_memory::NoMemory;
+
+/// One turn of a thread, where it is ready: the event that it is. Else `None`, and the world stays as it is.
+///
+/// What the turn copies has to live, as it does in every valid world.
+///
+/// # Errors
+///
+/// `NoMemory` where memory is refused; the world is then as it was.
+pub fn step(
+    alloc: Global,
+    world: &mut World,
+    code: &Code,
+    thread: u32,
+) -> Result<Option<Event>, NoMemory>
+    requires living { CopiesLive code.now world.old thread }
+    ensures ok { IfOk result (λ o. IsStep code.now thread world.old o world.new) }
+    ensures err { OnErr result (world.new ≡ world.old) }
+{
+    take_step(alloc, &mut world.stores, &mut world.threads, code, thread)
+}
+
+fn take_step(
+    alloc: Global,
+    stores: &mut Stores,
+    threads: &mut Vec<LamThread>,
+    code: &Code,
+    thread: u32,
+) -> Result<Option<Event>, NoMemory>
+    requires few { length threads.old.items ≤ 4096 }
+    requires living { CopiesLive code.now (world_of stores.old threads.old.items) thread }
+    ensures ok { IfOk result (λ o. IsStep code.now thread (world_of stores.old threads.old.items) o (world_of stores.new threads.new.items)) }
+    ensures few { length threads.new.items ≤ 4096 }
+    ensures same_stores { OnErr result (stores.new ≡ stores.old) }
+    ensures same_threads { OnErr result (threads.new.items ≡ threads.old.items) }
+{
+    let label = acting_label(alloc, threads.as_slice(), thread)?;
+    match advance_at(threads, code, thread)? {
+        Turn::Private => Ok(Some(Event {
+            label,
+            thread,
+            what: What::Private,
+        })),
+        Turn::Asks(ask) => step_asking(alloc, stores, threads, code, label, thread, ask),
+        Turn::Stuck => Ok(None),
+        Turn::Ended => Ok(None),
+    }
+}
+
+/// The label of the acting context of a thread.
+fn acting_label(alloc: Global, threads: &[LamThread], thread: u32) -> Result<Label, NoMemory>
+    ensures { IfOk result (λ l. l ≡ top_label (contexts_in (slice_get threads.now thread))) }
+{
+    match top_of(threads, thread) {
+        None => Ok(Label::public(alloc)),
+        Some(c) => c.label().copy(),
+    }
+}
+
+/// A private turn of a thread is taken, and an ask is handed out. A thread that is not there has nothing to do.
+#[tactic(auto, using(crate::proofs::AdvanceLemmas::advances, crate::proofs::AdvanceLemmas::absent, crate::proofs::AdvanceLemmas::kept_at))]
+fn advance_at(threads: &mut Vec<LamThread>, code: &Code, thread: u32) -> Result<Turn, NoMemory>
+    ensures ok { IfOk result (λ x. (s : Stores) → Advances code.now (world_of s threads.old.items) thread x (world_of s threads.new.items)) }
+    ensures few { length threads.new.items ≡ length threads.old.items }
+    ensures err { OnErr result (threads.new.items ≡ threads.old.items) }
+{
+    let at = thread as usize;
+    if at >= threads.len() {
+        return Ok(Turn::Ended);
+    }
+    let turn = advance(&mut threads[at], code)?;
+    Ok(turn)
+}
+
+/// The step of a thread that asks.
+fn step_asking(
+    alloc: Global,
+    stores: &mut Stores,
+    threads: &mut Vec<LamThread>,
+    code: &Code,
+    label: Label,
+    thread: u32,
+    ask: Ask,
+) -> Result<Option<Event>, NoMemory>
+    requires few { length threads.old.items ≤ 4096 }
+    requires asks { AsksNext code.now (world_of stores.old threads.old.items) thread ask }
+    requires living { CopiesLive code.now (world_of stores.old threads.old.items) thread }
+    requires label { label ≡ label_at (world_of stores.old threads.old.items) thread }
+    ensures ok { IfOk result (λ o. IsStep code.now thread (world_of stores.old threads.old.items) o (world_of stores.new threads.new.items)) }
+    ensures few { length threads.new.items ≤ 4096 }
+    ensures same_stores { OnErr result (stores.new ≡ stores.old) }
+    ensures same_threads { OnErr result (threads.new.items ≡ threads.old.items) }
+{
+    match answer_ask(alloc, stores, threads, code, thread, &ask) {
+        Ok(Some(answer)) => Ok(Some(Event {
+            label,
+            thread,
+            what: What::Asked { ask, answer },
+        })),
+        Ok(None) => {
+            let_go(ask);
+            Ok(None)
+        }
+        Err(error) => {
+            let_go(ask);
+            Err(error)
+        }
+    }
+}
+
+/// The ask of a thread gets its answer, where it is ready.
+fn answer_ask(
+    alloc: Global,
+    stores: &mut Stores,
+    threads: &mut Vec<LamThread>,
+    code: &Code,
+    thread: u32,
+    ask: &Ask,
+) -> Result<Option<Answer>, NoMemory>
+    requires few { length threads.old.items ≤ 4096 }
+    requires asks { AsksNext code.now (world_of stores.old threads.old.items) thread ask.now }
+    requires living { CopiesLive code.now (world_of stores.old threads.old.items) thread }
+    ensures ok { IfOk result (λ x. (l : LabelOf) → l ≡ label_at (world_of stores.old threads.old.items) thread → IsStep code.now thread (world_of stores.old threads.old.items) (asked_event l thread ask.now x) (world_of stores.new threads.new.items)) }
+    ensures few { length threads.new.items ≤ 4096 }
+    ensures same_stores { OnErr result (stores.new ≡ stores.old) }
+    ensures same_threads { OnErr result (threads.new.items ≡ threads.old.items) }
+{
+    if !asks_ready(stores, threads.as_slice(), thread, ask) {
+        return Ok(None);
+    }
+    let answer = take_ask(alloc, stores, threads, code, thread, ask)?;
+    Ok(Some(answer))
+}

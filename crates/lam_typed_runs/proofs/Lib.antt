@@ -1,0 +1,5 @@
+pub mod Alone
+pub mod Following
+pub mod Typed
+pub mod Steps
+pub mod Whole

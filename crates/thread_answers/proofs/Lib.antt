@@ -1,0 +1,6 @@
+pub mod Leaving
+pub mod Going
+pub mod Tops
+pub mod Outermost
+pub mod Held
+pub mod Results

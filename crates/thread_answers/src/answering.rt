@@ -1,0 +1,94 @@
+//! Threads between their ask and the answer to it.
+
+ghost use Rattle.std.specs.Prelude.{◌≡◌, ◌∷◌, List, IfOk, IfErr};
+ghost use Rattle.thread_steps.specs.Threads.{Inside, Context};
+ghost use Rattle.thread_steps.specs.Next.{next_of, asks, takes};
+
+use crate::doing::{do_plan, undo_plan};
+use crate::plan::Plan;
+use crate::planning::{ending_of, plan_answer};
+use lam_asks::{Answer, Ask, Outcome};
+use lam_bytecode::Code;
+use lam_threads::LamThread;
+use std::marker::Model;
+
+/// A thread between its ask and the answer to it: all memory that the answer needs is taken, and it is not done yet.
+#[derive(Drop)]
+pub struct Prepared {
+    thread: LamThread,
+    plan: Plan,
+    result: Option<Outcome>,
+}
+
+impl Model for Prepared {
+    ghost use Rattle.thread_answers.specs.Preparing.{Ready};
+    ghost use Rattle.thread_answers.specs.Coding.{coded_ready};
+
+    ghost Value = { Ready };
+
+    ghost coded = { coded_ready };
+
+    ghost use Rattle.thread_answers.specs.Preparing.{ready_of};
+
+    ghost view = { λ p. ready_of p.thread p.plan p.result };
+}
+
+/// Takes all memory that an answer to a thread's ask needs. Nothing of the thread is copied.
+///
+/// # Errors
+///
+/// The thread as it was, where memory is refused.
+pub fn prepare(
+    thread: LamThread,
+    code: &Code,
+    ask: &Ask,
+    answer: Answer,
+) -> Result<Prepared, LamThread>
+    ensures before { IfOk result (λ p. p.before ≡ thread) }
+    ensures after { IfOk result (λ p. (c : Context) (rest : List Context) (i : Inside) → thread.contexts ≡ c ∷ rest → next_of code.now c ≡ asks ask.now i → p.after ≡ takes code.now thread c rest i ask.now answer) }
+    ensures err { IfErr result (λ t. t ≡ thread) }
+{
+    let Ok(result) = ending_of(ask) else {
+        return Err(thread);
+    };
+    let mut thread = thread;
+    match plan_answer(&mut thread.contexts, code, ask, answer) {
+        Ok(plan) => Ok(Prepared {
+            thread,
+            plan,
+            result,
+        }),
+        Err(_) => Err(thread),
+    }
+}
+
+impl Prepared {
+    /// The thread after the answer. Takes no memory.
+    pub fn done(self) -> LamThread
+        ensures { result ≡ self.after }
+    {
+        let Prepared {
+            mut thread,
+            plan,
+            result,
+        } = self;
+        do_plan(&mut thread.contexts, plan);
+        if let Some(result) = result {
+            thread.result = Some(result);
+        }
+        thread
+    }
+
+    /// The thread as it was before the answer. Takes no memory.
+    pub fn back(self) -> LamThread
+        ensures { result ≡ self.before }
+    {
+        let Prepared {
+            mut thread,
+            plan,
+            ..
+        } = self;
+        undo_plan(&mut thread.contexts, plan);
+        thread
+    }
+}

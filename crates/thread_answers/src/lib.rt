@@ -1,0 +1,14 @@
+//! What an answer does to a thread, in two parts.
+//!
+//! The machine serves an ask in its shared stores and answers it to the thread, and a refusal of memory must change
+//! neither. So [`prepare`] takes all memory that the answer needs first, and a [`Prepared`] is then done, or undone,
+//! without any: what grows was put on the thread already, and doing it only takes away. Nothing of the thread is
+//! copied.
+#![tactic(auto)]
+
+mod answering;
+mod doing;
+mod plan;
+mod planning;
+
+pub use answering::{Prepared, prepare};

@@ -1,0 +1,186 @@
+-- What comes next, case by case.
+use Rattle.std.proofs.Common.{◌≡◌, ℕ, cond, List, [], ◌∷◌, drop, Some, None, ap, ◌∙◌, refl}
+use Rattle.std.specs.Prelude.{slice_get, slice_set}
+use Rattle.lam_value.specs.declared.values.Value.{Value}
+use Rattle.lam_asks.specs.declared.fault.Fault.{Fault}
+use Rattle.lam_asks.specs.declared.ask.Ask.{Ask}
+use Rattle.lam_asks.specs.declared.ask.Ask.TheVariants as ask
+use Rattle.lam_asks.specs.declared.answer.Outcome.TheVariants as outcome
+use Rattle.lam_bytecode.specs.Codes.{CodeTree}
+use Rattle.thread_steps.specs.Threads.{Frame, Inside, Phase, Bottom, Body, Catch, Context}
+use Rattle.thread_steps.specs.Ops.{sets, returns, on_any}
+use Rattle.thread_steps.specs.Next.{Next, goes, asks, stuck, stands, is_shared, is_private, is_stuck, raised, returned, ending, leaving, next_by, next_of, standing_in, with_inside}
+use Rattle.thread_core.specs.declared.turn.Turn.{Turn}
+use Rattle.thread_core.specs.declared.turn.Turn.TheVariants as turn
+use Rattle.thread_core.specs.Turning.{turned, moved, turn_in, asked, asked_in, awaited, nobody}
+use Rattle.thread_core.specs.Moves.{raised_ask, is_bottom, with_result, caller_with}
+
+-- ---- a fault that was raised
+
+pub raised_stands : (ph : Phase) (i : Inside) (f : Fault) → stands (raised ph i f) ≡ is_shared
+raised_stands Bottom i f = refl
+raised_stands (Body at) i f = refl
+raised_stands Catch i f = refl
+
+pub raised_asked : (ph : Phase) (i : Inside) (f : Fault) → asked (raised ph i f) ≡ Some (raised_ask ph f)
+raised_asked Bottom i f = refl
+raised_asked (Body at) i f = refl
+raised_asked Catch i f = refl
+
+pub raised_turned : (ph : Phase) (i : Inside) (f : Fault) → turned (raised ph i f) ≡ turn.Asks (raised_ask ph f)
+raised_turned Bottom i f = refl
+raised_turned (Body at) i f = refl
+raised_turned Catch i f = refl
+
+pub raised_moved : (c : Context) (ph : Phase) (i : Inside) (f : Fault) → moved c (raised ph i f) ≡ c
+raised_moved c Bottom i f = refl
+raised_moved c (Body at) i f = refl
+raised_moved c Catch i f = refl
+
+pub raised_waits : (ph : Phase) (i : Inside) (f : Fault) → awaited (asked (raised ph i f)) ≡ nobody
+raised_waits Bottom i f = refl
+raised_waits (Body at) i f = refl
+raised_waits Catch i f = refl
+
+pub raised_left : (ph : Phase) (i j : Inside) (f : Fault) (a : Ask) → raised ph i f ≡ asks a j → j ≡ i
+raised_left Bottom i j f a e = cc
+raised_left (Body at) i j f a e = cc
+raised_left Catch i j f a e = cc
+
+-- ---- a result
+
+returned_frames : (ph : Phase) (i j : Inside) (v : Value) (fs : List Frame) (a : Ask) → returned ph i v fs ≡ asks a j → j ≡ i
+returned_frames Bottom i j v [] a e = cc
+returned_frames (Body at) i j v [] a e = cc
+returned_frames Catch i j v [] a e = cc
+returned_frames ph i j v (f ∷ fs) a e = cc
+
+returned_frames_wait : (ph : Phase) (i : Inside) (v : Value) (fs : List Frame) → awaited (asked (returned ph i v fs)) ≡ nobody
+returned_frames_wait Bottom i v [] = refl
+returned_frames_wait (Body at) i v [] = refl
+returned_frames_wait Catch i v [] = refl
+returned_frames_wait ph i v (f ∷ fs) = refl
+
+pub returned_left : (code : CodeTree) (ph : Phase) (i j : Inside) (s : List Value) (a : Ask) → next_by code ph i (on_any s (λ v s. returns v)) ≡ asks a j → j ≡ i
+returned_left code ph i j [] a e = cc
+returned_left code ph i j (v ∷ s) a e = returned_frames ph i j v i.callers a e
+
+pub returned_waits : (code : CodeTree) (ph : Phase) (i : Inside) (s : List Value) → awaited (asked (next_by code ph i (on_any s (λ v s. returns v)))) ≡ nobody
+returned_waits code ph i [] = refl
+returned_waits code ph i (v ∷ s) = returned_frames_wait ph i v i.callers
+
+-- ---- a region that is left
+
+pub leaving_left : (ph : Phase) (i j : Inside) (a : Ask) → leaving ph i ≡ asks a j → j ≡ i
+leaving_left Bottom i j a e = cc
+leaving_left (Body at) i j a e = cc
+leaving_left Catch i j a e = cc
+
+pub leaving_waits : (ph : Phase) (i : Inside) → awaited (asked (leaving ph i)) ≡ nobody
+leaving_waits Bottom i = refl
+leaving_waits (Body at) i = refl
+leaving_waits Catch i = refl
+
+-- ---- a local
+
+pub set_left : (code : CodeTree) (ph : Phase) (i j : Inside) (s ls : List Value) (n : ℕ) (a : Ask) → next_by code ph i (on_any s (λ v s. sets (slice_set ls n v) s)) ≡ asks a j → j ≡ i
+set_left code ph i j [] ls n a e = cc
+set_left code ph i j (v ∷ s) ls n a e = cc
+
+pub set_waits : (code : CodeTree) (ph : Phase) (i : Inside) (s ls : List Value) (n : ℕ) → awaited (asked (next_by code ph i (on_any s (λ v s. sets (slice_set ls n v) s)))) ≡ nobody
+set_waits code ph i [] ls n = refl
+set_waits code ph i (v ∷ s) ls n = refl
+
+pub set_stands : (code : CodeTree) (ph : Phase) (i : Inside) (v : Value) (s ls : List Value) (n : ℕ) → stands (next_by code ph i (on_any (v ∷ s) (λ v s. sets (slice_set ls n v) s))) ≡ is_private
+set_stands code ph i v s ls n = refl
+
+pub set_asked : (code : CodeTree) (ph : Phase) (i : Inside) (s ls : List Value) (n : ℕ) → asked (next_by code ph i (on_any s (λ v s. sets (slice_set ls n v) s))) ≡ None
+set_asked code ph i [] ls n = refl
+set_asked code ph i (v ∷ s) ls n = refl
+
+-- ---- a region that is left, by what the context is
+
+pub leaving_stands : (ph : Phase) (i : Inside) → stands (leaving ph i) ≡ cond (is_bottom ph) is_stuck is_shared
+leaving_stands Bottom i = refl
+leaving_stands (Body at) i = refl
+leaving_stands Catch i = refl
+
+pub leaving_asked : (ph : Phase) (i : Inside) → asked (leaving ph i) ≡ cond (is_bottom ph) None (Some ask.Leave)
+leaving_asked Bottom i = refl
+leaving_asked (Body at) i = refl
+leaving_asked Catch i = refl
+
+pub leaving_turned : (ph : Phase) (i : Inside) → turned (leaving ph i) ≡ cond (is_bottom ph) turn.Stuck (turn.Asks ask.Leave)
+leaving_turned Bottom i = refl
+leaving_turned (Body at) i = refl
+leaving_turned Catch i = refl
+
+pub leaving_moved : (c : Context) (ph : Phase) (i : Inside) → moved c (leaving ph i) ≡ c
+leaving_moved c Bottom i = refl
+leaving_moved c (Body at) i = refl
+leaving_moved c Catch i = refl
+
+-- ---- a result, by what the context is
+
+pub ending_stands : (ph : Phase) (i : Inside) (v : Value) → stands (ending ph i v) ≡ cond (is_bottom ph) is_shared is_stuck
+ending_stands Bottom i v = refl
+ending_stands (Body at) i v = refl
+ending_stands Catch i v = refl
+
+pub ending_asked : (ph : Phase) (i : Inside) (v : Value) → asked (ending ph i v) ≡ cond (is_bottom ph) (Some (ask.End (outcome.Value v))) None
+ending_asked Bottom i v = refl
+ending_asked (Body at) i v = refl
+ending_asked Catch i v = refl
+
+pub ending_moved : (c : Context) (ph : Phase) (i : Inside) (v : Value) → moved c (ending ph i v) ≡ c
+ending_moved c Bottom i v = refl
+ending_moved c (Body at) i v = refl
+ending_moved c Catch i v = refl
+
+-- the only call of a context returns
+pub ended_turned : (code : CodeTree) (ph : Phase) (i : Inside) (v : Value) (s : List Value) → slice_get s 0 ≡ Some v → i.callers ≡ [] → turned (next_by code ph i (on_any s (λ v s. returns v))) ≡ turned (ending ph i v)
+ended_turned code ph i v [] e f = cc
+ended_turned code ph i v (w ∷ s) e f = let k : w ≡ v = cc in ap (λ fs. turned (returned ph i w fs)) f ∙ ap (λ x. turned (ending ph i x)) k
+
+pub ended_moved : (code : CodeTree) (c : Context) (v : Value) (s : List Value) → slice_get s 0 ≡ Some v → c.inside.callers ≡ [] → moved c (next_by code c.phase c.inside (on_any s (λ v s. returns v))) ≡ c
+ended_moved code c v [] e f = cc
+ended_moved code c v (w ∷ s) e f = ap (λ fs. moved c (returned c.phase c.inside w fs)) f ∙ ending_moved c c.phase c.inside w
+
+-- a call returns to the one that waits for it
+pub back_turned : (code : CodeTree) (c : Context) (v : Value) (f : Frame) (fs : List Frame) (s : List Value) → slice_get s 0 ≡ Some v → c.inside.callers ≡ fs → Some f ≡ caller_with v fs
+    → turned (next_by code c.phase c.inside (on_any s (λ v s. returns v))) ≡ turn.Private
+back_turned code c v f fs [] e g h = cc
+back_turned code c v f [] (w ∷ s) e g h = cc
+back_turned code c v f (k ∷ ks) (w ∷ s) e g h = ap (λ l. turned (returned c.phase c.inside w l)) g
+
+pub back_moved : (code : CodeTree) (c : Context) (v : Value) (f : Frame) (fs : List Frame) (s : List Value) → slice_get s 0 ≡ Some v → c.inside.callers ≡ fs → Some f ≡ caller_with v fs
+    → moved c (next_by code c.phase c.inside (on_any s (λ v s. returns v))) ≡ with_inside c (record { frame = f; callers = drop 1 fs; fault = None })
+back_moved code c v f fs [] e g h = cc
+back_moved code c v f [] (w ∷ s) e g h = cc
+back_moved code c v f (k ∷ ks) (w ∷ s) e g h =
+    let n : w ≡ v = cc in
+    let m : with_result k v ≡ f = cc in
+    ap (λ l. moved c (returned c.phase c.inside w l)) g
+    ∙ (ap (λ x. with_inside c (record { frame = with_result k x; callers = ks; fault = None })) n ∙ ap (λ x. with_inside c (record { frame = x; callers = ks; fault = None })) m)
+
+-- ---- a thread that stands shared asks
+
+next_asks : (n : Next) → stands n ≡ is_shared → asked n ≡ None → ⊥
+next_asks (goes i) e f = cc
+next_asks (asks a i) e f = cc
+next_asks stuck e f = cc
+
+pub shared_asks : (code : CodeTree) (cs : List Context) → standing_in code cs ≡ is_shared → asked_in code cs ≡ None → ⊥
+shared_asks code [] e f = cc
+shared_asks code (c ∷ cs) e f = next_asks (next_of code c) e f
+
+-- ---- the turn of a thread that stands private
+
+next_private : (n : Next) (t : Turn) → stands n ≡ is_private → t ≡ turned n → t ≡ turn.Private
+next_private (goes i) t e f = f
+next_private (asks a i) t e f = cc
+next_private stuck t e f = cc
+
+pub private_turn : (code : CodeTree) (cs : List Context) (t : Turn) → standing_in code cs ≡ is_private → t ≡ turn_in code cs → t ≡ turn.Private
+private_turn code [] t e f = cc
+private_turn code (c ∷ cs) t e f = next_private (next_of code c) t e f

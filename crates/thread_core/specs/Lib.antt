@@ -1,0 +1,4 @@
+pub mod Turning
+pub mod Coming
+pub mod Moves
+pub mod Steps

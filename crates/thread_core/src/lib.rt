@@ -1,0 +1,17 @@
+//! The turns of a thread: how it stands, what it asks, what it waits for, and its private turns.
+//!
+//! What comes next of a thread hangs on its acting context alone, and is read without memory ([`next`]). `standing`,
+//! `waits_for` and `ask` say what that is; [`advance`] computes it once and takes a private turn, or hands the ask out.
+//! A step that memory is refused to leaves the thread as it was. What an answer does to a thread is a crate of its own,
+//! above this one.
+#![tactic(auto)]
+
+mod coming;
+mod step;
+mod stepping;
+mod threads;
+mod turn;
+
+pub use coming::{Coming, next};
+pub use threads::{advance, ask, private_step, standing, waits_for};
+pub use turn::{Standing, Turn, Waits};

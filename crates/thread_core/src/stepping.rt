@@ -1,0 +1,489 @@
+//! Turns of a context.
+
+ghost use Rattle.std.specs.Prelude.{◌≡◌, ◌<◌, ◌+◌, ◌^◌, ◌∷◌, [], Some, if◌then◌else◌, reverse, length, drop, slice_get, vec_len, vec_capacity, IfSome, IfOk, OnOk, OnErr, MatchOption};
+ghost use Rattle.lam_bytecode.specs.Codes.{CodeTree};
+ghost use Rattle.thread_steps.specs.Threads.{Inside, Context as Plain};
+ghost use Rattle.thread_steps.specs.Next.{next_of, next_by, stands, ending, leaving};
+ghost use Rattle.thread_steps.specs.Ops.{on_any, returns};
+ghost use Rattle.lam_threads.specs.Seen.{phase_of};
+ghost use Rattle.thread_sights.specs.Acting.{ask_of};
+ghost use Rattle.thread_core.specs.Turning.{turned, moved, standing_of, asked, awaited, awaited_by, monitor_in};
+ghost use Rattle.thread_core.specs.Coming.{next_from};
+ghost use Rattle.thread_core.specs.Steps.{changed, turn_by, moved_by, HasNext};
+ghost use Rattle.thread_core.specs.Moves.{dropped, put, jumped, called_with, failed, raised_ask, is_bottom, with_result, caller_with, acting};
+
+use crate::coming::{Coming, next};
+use crate::step::{Change, Step};
+use crate::turn::{Standing, Turn, Waits};
+use lam_asks::{Ask, Fault, Outcome};
+use lam_bytecode::Code;
+use lam_threads::{Context, Frame, Operands, Phase, locals_of};
+use lam_value::{Name, Value};
+use std::mem::replace;
+use thread_sights::{Sight, Sketch, ask_from, value_from};
+use want_of_memory::NoMemory;
+
+fn drops(c: &mut Context, takes: usize)
+    requires { c.old.inside.frame.at + 1 < 2 ^ 64 }
+    ensures { c.new ≡ dropped c.old takes }
+{
+    c.stack.drop_many(takes);
+    c.at += 1;
+    c.fault = None;
+}
+
+fn puts(c: &mut Context, takes: usize, value: Value) -> Result<(), NoMemory>
+    requires { c.old.inside.frame.at + 1 < 2 ^ 64 }
+    ensures ok { OnOk result (c.new ≡ put c.old takes value) }
+    ensures err { OnErr result (c.new ≡ c.old) }
+{
+    c.stack.place(takes, value)?;
+    c.at += 1;
+    c.fault = None;
+    Ok(())
+}
+
+/// The top operand goes into a local.
+fn sets(c: &mut Context, local: usize) -> Turn
+    requires { c.old.inside.frame.at + 1 < 2 ^ 64 }
+    ensures turn { (code : CodeTree) → result ≡ turned (next_from code c.old (Coming.Sees (Sight.Sets local))) }
+    ensures new { (code : CodeTree) → c.new ≡ moved c.old (next_from code c.old (Coming.Sees (Sight.Sets local))) }
+{
+    let Some(value) = c.stack.pop() else {
+        return Turn::Stuck;
+    };
+    let _ = c.locals.set(local as u64, value);
+    c.at += 1;
+    c.fault = None;
+    Turn::Private
+}
+
+fn jumps(c: &mut Context, to: usize, takes: usize)
+    ensures { c.new ≡ jumped c.old to takes }
+{
+    c.stack.drop_many(takes);
+    c.at = to;
+    c.fault = None;
+}
+
+fn fails(c: &mut Context, fault: Fault)
+    ensures { c.new ≡ failed c.old fault }
+{
+    c.fault = Some(fault);
+}
+
+/// The caller of the acting call, taken off.
+fn pop_caller(callers: &mut Vec<Frame>) -> Option<Frame>
+    ensures frames { MatchOption result ((reverse callers.old.items ≡ []) × (callers.new.items ≡ callers.old.items)) (λ f. reverse callers.old.items ≡ f ∷ reverse callers.new.items) }
+    ensures room { IfSome result (λ _. vec_len callers.new < vec_capacity callers.new) }
+{
+    callers.pop()
+}
+
+/// A caller is put on, for which there is room.
+fn put_caller(callers: &mut Vec<Frame>, frame: Frame)
+    requires { vec_len callers.old < vec_capacity callers.old }
+    ensures { reverse callers.new.items ≡ frame ∷ reverse callers.old.items }
+{
+    callers.push_reserved(frame);
+}
+
+fn make_room(callers: &mut Vec<Frame>) -> Result<(), NoMemory>
+    ensures frames { callers.new.items ≡ callers.old.items }
+    ensures room { OnOk result (vec_len callers.new < vec_capacity callers.new) }
+{
+    callers.reserve(1)?;
+    Ok(())
+}
+
+/// A function is called with the arguments on top.
+fn calls(c: &mut Context, code: &Code, unit: usize, count: usize) -> Result<(), NoMemory>
+    requires { c.old.inside.frame.at + 1 < 2 ^ 64 }
+    ensures ok { OnOk result (c.new ≡ called_with code.now c.old unit count) }
+    ensures err { OnErr result (c.new ≡ c.old) }
+{
+    let size = locals_of(code, unit);
+    make_room(&mut c.callers)?;
+    let locals = c.stack.take_many(count, size)?;
+    let alloc = c.stack.allocator();
+    let frame = Frame {
+        unit: c.unit,
+        at: c.at + 1,
+        locals: replace(&mut c.locals, locals),
+        stack: replace(&mut c.stack, Operands::new(alloc)),
+    };
+    put_caller(&mut c.callers, frame);
+    c.unit = unit;
+    c.at = 0;
+    c.fault = None;
+    Ok(())
+}
+
+/// The result of a context's only call.
+fn end(phase: Phase, value: Value) -> Turn
+    ensures { (i : Inside) → result ≡ turned (ending (phase_of phase) i value) }
+{
+    match phase {
+        Phase::Bottom => Turn::Asks(Ask::End(Outcome::Value(value))),
+        Phase::Body { .. } => Turn::Stuck,
+        Phase::Catch => Turn::Stuck,
+    }
+}
+
+/// A copy of the top operand, where there is one.
+fn top_copy(stack: &Operands) -> Result<Option<Value>, NoMemory>
+    ensures { IfOk result (λ o. o ≡ slice_get stack.now 0) }
+{
+    match stack.get(0) {
+        None => Ok(None),
+        Some(value) => Ok(Some(value.copy()?)),
+    }
+}
+
+fn push_result(frame: &mut Frame, value: Value) -> Result<(), NoMemory>
+    ensures ok { OnOk result (frame.new ≡ with_result frame.old value) }
+    ensures err { OnErr result (frame.new ≡ frame.old) }
+{
+    frame.stack.push(value)
+}
+
+/// The caller of the acting call, taken off, with the call's result on its operands.
+fn take_back(callers: &mut Vec<Frame>, value: Value) -> Result<Option<Frame>, NoMemory>
+    ensures frame { IfOk result (λ f. f ≡ caller_with value (reverse callers.old.items)) }
+    ensures rest { OnOk result (reverse callers.new.items ≡ drop 1 (reverse callers.old.items)) }
+    ensures err { OnErr result (reverse callers.new.items ≡ reverse callers.old.items) }
+{
+    let Some(mut frame) = pop_caller(callers) else {
+        return Ok(None);
+    };
+    match push_result(&mut frame, value) {
+        Ok(()) => Ok(Some(frame)),
+        Err(_) => {
+            put_caller(callers, frame);
+            Err(NoMemory)
+        }
+    }
+}
+
+/// Another call of a context acts.
+fn acts(c: &mut Context, frame: Frame)
+    ensures { c.new ≡ acting c.old frame }
+{
+    let Frame {
+        unit,
+        at,
+        locals,
+        stack,
+    } = frame;
+    c.unit = unit;
+    c.at = at;
+    c.locals = locals;
+    c.stack = stack;
+    c.fault = None;
+}
+
+/// The acting call, which another one waits for, returns.
+#[tactic(auto, using(crate::proofs::Cases::back_turned, crate::proofs::Cases::back_moved))]
+fn goes_back(c: &mut Context, value: Value) -> Result<Turn, NoMemory>
+    requires waits { 0 < length c.old.inside.callers }
+    requires top { slice_get c.old.inside.frame.stack 0 ≡ Some value }
+    ensures turn { IfOk result (λ t. (code : CodeTree) → t ≡ turned (next_from code c.old (Coming.Sees Sight.Returns))) }
+    ensures new { OnOk result ((code : CodeTree) → c.new ≡ moved c.old (next_from code c.old (Coming.Sees Sight.Returns))) }
+    ensures err { OnErr result (c.new ≡ c.old) }
+{
+    match take_back(&mut c.callers, value)? {
+        None => Ok(Turn::Stuck),
+        Some(frame) => {
+            acts(c, frame);
+            Ok(Turn::Private)
+        }
+    }
+}
+
+/// The top operand is the result of the only call of a context.
+#[tactic(auto, using(crate::proofs::Cases::ended_turned))]
+fn ends(phase: Phase, value: Value) -> Turn
+    ensures { (code : CodeTree) (i : Inside) → slice_get i.frame.stack 0 ≡ Some value → i.callers ≡ [] → result ≡ turned (next_by code (phase_of phase) i (on_any i.frame.stack (λ v s. returns v))) }
+{
+    end(phase, value)
+}
+
+/// The top operand is the result of the call.
+#[tactic(auto, using(crate::proofs::Cases::ended_moved, crate::proofs::Tops::first_none))]
+fn returns(c: &mut Context) -> Result<Turn, NoMemory>
+    ensures turn { IfOk result (λ t. (code : CodeTree) → t ≡ turned (next_from code c.old (Coming.Sees Sight.Returns))) }
+    ensures new { OnOk result ((code : CodeTree) → c.new ≡ moved c.old (next_from code c.old (Coming.Sees Sight.Returns))) }
+    ensures err { OnErr result (c.new ≡ c.old) }
+{
+    match top_copy(&c.stack)? {
+        None => Ok(Turn::Stuck),
+        Some(value) => {
+            if c.callers.is_empty() {
+                Ok(ends(c.phase, value))
+            } else {
+                goes_back(c, value)
+            }
+        }
+    }
+}
+
+/// The ask by which a fault that was raised is handled.
+fn handling(phase: Phase, fault: Fault) -> Ask
+    ensures { result ≡ raised_ask (phase_of phase) fault }
+{
+    match phase {
+        Phase::Bottom => Ask::End(Outcome::Failed(fault)),
+        Phase::Body { .. } => Ask::Caught(fault),
+        Phase::Catch => Ask::Suppressed(fault),
+    }
+}
+
+fn is_bottom(phase: Phase) -> bool
+    ensures { result ≡ is_bottom (phase_of phase) }
+{
+    matches!(phase, Phase::Bottom)
+}
+
+fn leaving(phase: Phase) -> Step
+    ensures turn { (code : CodeTree) (c : Plain) → turn_by code c result ≡ turned (leaving (phase_of phase) c.inside) }
+    ensures new { (code : CodeTree) (c : Plain) → moved_by code c result ≡ moved c (leaving (phase_of phase) c.inside) }
+    ensures place { (c : Plain) → HasNext c result }
+{
+    match phase {
+        Phase::Bottom => Step::Breaks,
+        Phase::Body { .. } => Step::Asks(Ask::Leave),
+        Phase::Catch => Step::Asks(Ask::Leave),
+    }
+}
+
+/// What a context does in its next turn, with its value or its ask made.
+#[tactic(auto, using(crate::proofs::Cases::raised_turned, crate::proofs::Cases::raised_moved))]
+fn step_of(c: &Context, code: &Code) -> Result<Step, NoMemory>
+    ensures turn { IfOk result (λ s. turn_by code.now c.now s ≡ turned (next_of code.now c.now)) }
+    ensures new { IfOk result (λ s. moved_by code.now c.now s ≡ moved c.now (next_of code.now c.now)) }
+    ensures place { IfOk result (λ s. HasNext c.now s) }
+{
+    match next(c, code) {
+        Coming::Nothing => Ok(Step::Breaks),
+        Coming::Handles(fault) => Ok(Step::Asks(handling(c.phase, fault))),
+        Coming::Sees(sight) => match sight {
+            Sight::Drops { takes } => Ok(Step::Changes(Change::Drops { takes })),
+            Sight::Puts { takes, worth } => {
+                let value = value_from(c.stack.allocator(), &worth)?;
+                Ok(Step::Changes(Change::Puts { takes, value }))
+            }
+            Sight::Sets { local } => Ok(Step::Sets { local }),
+            Sight::Jumps { to, takes } => Ok(Step::Changes(Change::Jumps { to, takes })),
+            Sight::Calls { unit, count } => Ok(Step::Changes(Change::Calls { unit, count })),
+            Sight::Returns => Ok(Step::Returns),
+            Sight::Fails(fault) => Ok(Step::Changes(Change::Fails(fault))),
+            Sight::Asks { ask, .. } => Ok(Step::Asks(ask_from(c.stack.allocator(), &ask)?)),
+            Sight::Leaves => Ok(leaving(c.phase)),
+            Sight::Breaks => Ok(Step::Breaks),
+        },
+    }
+}
+
+fn changes(c: &mut Context, code: &Code, change: Change) -> Result<(), NoMemory>
+    requires { c.old.inside.frame.at + 1 < 2 ^ 64 }
+    ensures ok { OnOk result (c.new ≡ changed code.now c.old change) }
+    ensures err { OnErr result (c.new ≡ c.old) }
+{
+    match change {
+        Change::Drops { takes } => {
+            drops(c, takes);
+            Ok(())
+        }
+        Change::Puts { takes, value } => puts(c, takes, value),
+        Change::Jumps { to, takes } => {
+            jumps(c, to, takes);
+            Ok(())
+        }
+        Change::Calls { unit, count } => calls(c, code, unit, count),
+        Change::Fails(fault) => {
+            fails(c, fault);
+            Ok(())
+        }
+    }
+}
+
+/// A step that was made ready is taken.
+fn take_step(c: &mut Context, code: &Code, step: Step) -> Result<Turn, NoMemory>
+    requires { HasNext c.old step }
+    ensures turn { IfOk result (λ t. t ≡ turn_by code.now c.old step) }
+    ensures new { OnOk result (c.new ≡ moved_by code.now c.old step) }
+    ensures err { OnErr result (c.new ≡ c.old) }
+{
+    match step {
+        Step::Changes(change) => match changes(c, code, change) {
+            Ok(()) => Ok(Turn::Private),
+            Err(_) => Err(NoMemory),
+        },
+        Step::Sets { local } => Ok(sets(c, local)),
+        Step::Returns => returns(c),
+        Step::Asks(ask) => Ok(Turn::Asks(ask)),
+        Step::Breaks => Ok(Turn::Stuck),
+    }
+}
+
+/// One turn of a context: a private one is taken, and an ask is handed out.
+///
+/// # Errors
+///
+/// `NoMemory` where memory is refused; the context is then as it was.
+pub fn advance_context(c: &mut Context, code: &Code) -> Result<Turn, NoMemory>
+    ensures turn { IfOk result (λ t. t ≡ turned (next_of code.now c.old)) }
+    ensures new { OnOk result (c.new ≡ moved c.old (next_of code.now c.old)) }
+    ensures err { OnErr result (c.new ≡ c.old) }
+{
+    let step = step_of(c, code)?;
+    take_step(c, code, step)
+}
+
+fn private_where(holds: bool) -> Standing
+    ensures { result ≡ (if holds then Standing.Private else Standing.Stuck) }
+{
+    if holds {
+        Standing::Private
+    } else {
+        Standing::Stuck
+    }
+}
+
+/// How a context stands whose call returns.
+#[tactic(auto, using(crate::proofs::Cases::ending_stands))]
+fn returning(c: &Context) -> Standing
+    ensures { (code : CodeTree) → standing_of result ≡ stands (next_from code c.now (Coming.Sees Sight.Returns)) }
+{
+    if c.stack.len() == 0 {
+        return Standing::Stuck;
+    }
+    if c.callers.len() > 0 {
+        return Standing::Private;
+    }
+    if is_bottom(c.phase) {
+        Standing::Shared
+    } else {
+        Standing::Stuck
+    }
+}
+
+/// How a context stands.
+#[tactic(auto, using(crate::proofs::Cases::raised_stands, crate::proofs::Cases::leaving_stands))]
+pub fn context_stands(c: &Context, code: &Code) -> Standing
+    ensures { standing_of result ≡ stands (next_of code.now c.now) }
+{
+    match next(c, code) {
+        Coming::Nothing => Standing::Stuck,
+        Coming::Handles(_) => Standing::Shared,
+        Coming::Sees(sight) => match sight {
+            Sight::Drops { .. } => Standing::Private,
+            Sight::Puts { .. } => Standing::Private,
+            Sight::Sets { .. } => private_where(c.stack.len() > 0),
+            Sight::Jumps { .. } => Standing::Private,
+            Sight::Calls { .. } => Standing::Private,
+            Sight::Returns => returning(c),
+            Sight::Fails(_) => Standing::Private,
+            Sight::Asks { .. } => Standing::Shared,
+            Sight::Leaves => {
+                if is_bottom(c.phase) {
+                    Standing::Stuck
+                } else {
+                    Standing::Shared
+                }
+            }
+            Sight::Breaks => Standing::Stuck,
+        },
+    }
+}
+
+/// The ask of a context whose call returns, if it asks.
+#[tactic(auto, using(crate::proofs::Cases::ending_asked))]
+fn returning_ask(c: &Context) -> Result<Option<Ask>, NoMemory>
+    ensures { IfOk result (λ a. (code : CodeTree) → a ≡ asked (next_from code c.now (Coming.Sees Sight.Returns))) }
+{
+    if c.callers.len() > 0 || !is_bottom(c.phase) {
+        return Ok(None);
+    }
+    match c.stack.get(0) {
+        None => Ok(None),
+        Some(value) => Ok(Some(Ask::End(Outcome::Value(value.copy()?)))),
+    }
+}
+
+/// What a context asks next, `None` where it does not ask.
+///
+/// # Errors
+///
+/// `NoMemory` where memory is refused.
+#[tactic(auto, using(crate::proofs::Cases::raised_asked, crate::proofs::Cases::leaving_asked, crate::proofs::Cases::set_asked))]
+pub fn context_ask(c: &Context, code: &Code) -> Result<Option<Ask>, NoMemory>
+    ensures { IfOk result (λ a. a ≡ asked (next_of code.now c.now)) }
+{
+    match next(c, code) {
+        Coming::Nothing => Ok(None),
+        Coming::Handles(fault) => Ok(Some(handling(c.phase, fault))),
+        Coming::Sees(sight) => match sight {
+            Sight::Drops { .. } => Ok(None),
+            Sight::Puts { .. } => Ok(None),
+            Sight::Sets { .. } => Ok(None),
+            Sight::Jumps { .. } => Ok(None),
+            Sight::Calls { .. } => Ok(None),
+            Sight::Returns => returning_ask(c),
+            Sight::Fails(_) => Ok(None),
+            Sight::Asks { ask, .. } => Ok(Some(ask_from(c.stack.allocator(), &ask)?)),
+            Sight::Leaves => {
+                if is_bottom(c.phase) {
+                    Ok(None)
+                } else {
+                    Ok(Some(Ask::Leave))
+                }
+            }
+            Sight::Breaks => Ok(None),
+        },
+    }
+}
+
+/// What an ask for the monitor of a thing waits for.
+fn monitor_in(r: &Value) -> Waits<'_>
+    ensures { awaited_by result ≡ monitor_in r.now }
+{
+    match r {
+        Value::Obj(name) => Waits::Monitor(name),
+        Value::Arr { name, .. } => Waits::Monitor(name),
+        _ => Waits::Nobody,
+    }
+}
+
+fn awaited_by_sketch<'a>(sketch: &Sketch<'a>) -> Waits<'a>
+    ensures { awaited_by result ≡ awaited (Some (ask_of sketch.now)) }
+{
+    match sketch {
+        Sketch::MonEnter { r } => monitor_in(r),
+        Sketch::Join { thread } => Waits::Thread(*thread),
+        _ => Waits::Nobody,
+    }
+}
+
+/// What a context's next ask may wait for.
+#[tactic(auto, using(crate::proofs::Cases::raised_waits, crate::proofs::Cases::returned_waits, crate::proofs::Cases::leaving_waits, crate::proofs::Cases::set_waits))]
+pub fn context_waits<'a>(c: &'a Context, code: &'a Code) -> Waits<'a>
+    ensures { awaited_by result ≡ awaited (asked (next_of code.now c.now)) }
+{
+    match next(c, code) {
+        Coming::Nothing => Waits::Nobody,
+        Coming::Handles(_) => Waits::Nobody,
+        Coming::Sees(sight) => match sight {
+            Sight::Asks { ask, .. } => awaited_by_sketch(&ask),
+            Sight::Drops { .. } => Waits::Nobody,
+            Sight::Puts { .. } => Waits::Nobody,
+            Sight::Sets { .. } => Waits::Nobody,
+            Sight::Jumps { .. } => Waits::Nobody,
+            Sight::Calls { .. } => Waits::Nobody,
+            Sight::Returns => Waits::Nobody,
+            Sight::Fails(_) => Waits::Nobody,
+            Sight::Leaves => Waits::Nobody,
+            Sight::Breaks => Waits::Nobody,
+        },
+    }
+}

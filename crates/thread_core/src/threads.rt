@@ -1,0 +1,103 @@
+//! Threads: how one stands, what it asks, and its private turns.
+
+ghost use Rattle.std.specs.Prelude.{◌≡◌, Some, None, reverse, IfOk, OnOk, OnErr};
+ghost use Rattle.thread_steps.specs.Next.{standing, is_private, is_shared};
+ghost use Rattle.thread_core.specs.Turning.{turn_of, turn_in, stepped, stepped_in, standing_of, ask_of, awaited, awaited_by};
+
+use crate::stepping::{advance_context, context_ask, context_stands, context_waits};
+use crate::turn::{Standing, Turn, Waits};
+use lam_asks::Ask;
+use lam_bytecode::Code;
+use lam_threads::{Context, LamThread};
+use want_of_memory::NoMemory;
+
+/// How a thread stands.
+pub fn standing(thread: &LamThread, code: &Code) -> Standing
+    ensures { standing_of result ≡ standing code.now thread.now }
+{
+    match thread.top() {
+        None => Standing::Ended,
+        Some(c) => context_stands(c, code),
+    }
+}
+
+/// What a thread's next ask may wait for: the monitor that it is to take, or the end of the thread that it joins.
+pub fn waits_for<'a>(thread: &'a LamThread, code: &'a Code) -> Waits<'a>
+    ensures { awaited_by result ≡ awaited (ask_of code.now thread.now) }
+{
+    match thread.top() {
+        None => Waits::Nobody,
+        Some(c) => context_waits(c, code),
+    }
+}
+
+fn asked(thread: &LamThread, code: &Code) -> Result<Option<Ask>, NoMemory>
+    ensures { IfOk result (λ a. a ≡ ask_of code.now thread.now) }
+{
+    match thread.top() {
+        None => Ok(None),
+        Some(c) => context_ask(c, code),
+    }
+}
+
+/// What a thread asks next.
+///
+/// # Errors
+///
+/// `NoMemory` where memory is refused.
+#[tactic(auto, using(crate::proofs::Cases::shared_asks))]
+pub fn ask(thread: &LamThread, code: &Code) -> Result<Ask, NoMemory>
+    requires { standing code.now thread.now ≡ is_shared }
+    ensures { IfOk result (λ a. ask_of code.now thread.now ≡ Some a) }
+{
+    match asked(thread, code)? {
+        Some(ask) => Ok(ask),
+        None => unreachable!(),
+    }
+}
+
+#[tactic(auto, using(crate::proofs::Tops::turn_top, crate::proofs::Tops::stepped_top, crate::proofs::Tops::kept_top))]
+fn advance_last(contexts: &mut Vec<Context>, code: &Code) -> Result<Turn, NoMemory>
+    ensures turn { IfOk result (λ t. t ≡ turn_in code.now (reverse contexts.old.items)) }
+    ensures new { OnOk result (reverse contexts.new.items ≡ stepped_in code.now (reverse contexts.old.items)) }
+    ensures err { OnErr result (contexts.new.items ≡ contexts.old.items) }
+{
+    if contexts.is_empty() {
+        return Ok(Turn::Ended);
+    }
+    let last = contexts.len() - 1;
+    let turn = advance_context(&mut contexts[last], code)?;
+    Ok(turn)
+}
+
+/// The next turn of a thread: a private one is taken, and an ask is handed out.
+///
+/// # Errors
+///
+/// `NoMemory` where memory is refused; the thread is then as it was.
+pub fn advance(thread: &mut LamThread, code: &Code) -> Result<Turn, NoMemory>
+    ensures turn { IfOk result (λ t. t ≡ turn_of code.now thread.old) }
+    ensures ok { OnOk result (thread.new ≡ stepped code.now thread.old) }
+    ensures err { OnErr result (thread.new ≡ thread.old) }
+{
+    advance_last(&mut thread.contexts, code)
+}
+
+/// A private turn.
+///
+/// # Errors
+///
+/// `NoMemory` where memory is refused; the thread is then as it was.
+#[tactic(auto, using(crate::proofs::Cases::private_turn))]
+pub fn private_step(thread: &mut LamThread, code: &Code) -> Result<(), NoMemory>
+    requires { standing code.now thread.old ≡ is_private }
+    ensures ok { OnOk result (thread.new ≡ stepped code.now thread.old) }
+    ensures err { OnErr result (thread.new ≡ thread.old) }
+{
+    match advance(thread, code)? {
+        Turn::Private => Ok(()),
+        Turn::Asks(_ask) => unreachable!(),
+        Turn::Stuck => unreachable!(),
+        Turn::Ended => unreachable!(),
+    }
+}

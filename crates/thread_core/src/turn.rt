@@ -1,0 +1,38 @@
+//! What a turn of a thread is, how a thread stands, and what it waits for.
+
+use lam_asks::Ask;
+use lam_value::Name;
+
+/// What a thread's next turn is.
+#[derive(Drop)]
+pub enum Turn {
+    /// A private turn, which was taken.
+    Private,
+    /// An ask, which the reference monitor answers. The thread is as it was.
+    Asks(Ask),
+    /// Nothing: the thread is stuck.
+    Stuck,
+    /// Nothing: the thread has ended.
+    Ended,
+}
+
+/// How a thread stands.
+#[derive(Clone, Copy, Debug, PartialEq, Eq)]
+pub enum Standing {
+    /// Its next turn is private.
+    Private,
+    /// It asks next.
+    Shared,
+    Stuck,
+    Ended,
+}
+
+/// What a thread's next ask may wait for.
+#[derive(Clone, Copy)]
+pub enum Waits<'a> {
+    Nobody,
+    /// The monitor of a thing.
+    Monitor(&'a Name),
+    /// The end of a thread.
+    Thread(u32),
+}

@@ -1,0 +1,87 @@
+-- A document's members, one after another.
+use Rattle.std.proofs.Common.{◌≡◌, ℕ, List, [], length, Result, Ok, Err, refl, sym, ap, ◌∙◌}
+use Rattle.std.specs.Prelude.{codes}
+use Rattle.std.specs.FinMap.{empty}
+use Rattle.std.specs.Borrow.{Bor}
+use Rattle.serde_json.specs.Data.{Data, Members}
+use Rattle.serde_json.specs.Find.{as_object}
+use Rattle.flow_labels.specs.TwoLists.{Text}
+use Rattle.lam_value.specs.declared.names.Name.{Name}
+use Rattle.labelled_heap.specs.Things.{no_things}
+use Rattle.labelled_files.specs.Trees.{Tree}
+use Rattle.labelled_pipes.specs.Queues.{Queues}
+use Rattle.lam_bytecode.specs.Codes.{CodeTree}
+use Rattle.lam_worlds.specs.Worlds.{World}
+use Rattle.lam_stores.specs.declared.Stores.{Stores}
+use Rattle.lam_stores.specs.Parts.{first_stores}
+use Rattle.world_terms.specs.Breaks.{Reading, ◌>>=◌, formed}
+use Rattle.world_terms.specs.Tags.{tags_in}
+use Rattle.world_terms.specs.Stores.{Pipes, tree_in, pipes_in}
+use Rattle.world_terms.specs.Entries.{threads_in}
+use Rattle.world_terms.specs.Start.{version_in, world_in, world_of}
+use Rattle.world_reading.specs.declared.fault.WorldFault.{WorldFault}
+use Rattle.world_reading.specs.Meaning.{Fails, GivesOnto}
+use Rattle.world_reading.proofs.Steps.{fails_here, fails_same}
+use Rattle.world_stores_reading.specs.Contents.{tree_onto}
+use Rattle.world_stores_reading.specs.Called.{called_of, pipes_of, pipes_onto}
+use Rattle.world_doc.specs.Document.{filled, with_threads, after_tags}
+
+-- ---- the stores
+
+abbrev more_pipes : Stores → Tree → Pipes → Stores × List (Text × Name)
+more_pipes s files pipes = (record s { files = files; pipes = pipes.queues }, pipes.called)
+
+abbrev after_tree : Stores → List (Text × Name) → Members → Tree → Reading (Stores × List (Text × Name))
+after_tree s called ms files = pipes_onto s.names (record { queues = s.pipes; called = called }) ms >>= λ pipes. Ok (more_pipes s files pipes)
+
+pub not_filled : (e : WorldFault) (s : Stores) (called : List (Text × Name)) (ms : Members) → Fails e (tree_onto s.names s.files ms) → Fails e (filled s called ms)
+not_filled e s called ms h = fails_here e (tree_onto s.names s.files ms) (after_tree s called ms) h
+
+pub filled_by : (s : Stores) (es : List (Bor Text × Name)) (ms : Members) (files : Tree) (queues : Queues) (fs : List (Bor Text × Name)) (r : Result (Unit {0}) WorldFault) → tree_onto s.names s.files ms ≡ Ok files →
+    GivesOnto r (pipes_of queues fs) (pipes_onto s.names (pipes_of s.pipes es) ms) → GivesOnto r (record s { files = files; pipes = queues }, called_of fs) (filled s (called_of es) ms)
+filled_by s es ms files queues fs (Ok u) f h = ap (λ r. r >>= after_tree s (called_of es) ms) f ∙ ap (λ r. r >>= λ pipes. Ok (more_pipes s files pipes)) h
+filled_by s es ms files queues fs (Err e) f h =
+    fails_same (sym (ap (λ r. r >>= after_tree s (called_of es) ms) f)) (fails_here e (pipes_onto s.names (pipes_of s.pipes es) ms) (λ pipes. Ok (more_pipes s files pipes)) h)
+
+-- ---- from the first stores on
+
+module _ (code : CodeTree) (ms : Members) (names : List Text) (s : Stores) (es : List (Bor Text × Name)) (first : s ≡ first_stores names) (none : es ≡ []) where
+  first_filled : filled (first_stores names) [] ms ≡ filled s (called_of es) ms
+  first_filled = ap (λ (s : Stores). filled s [] ms) (sym first) ∙ ap (λ (es : List (Bor Text × Name)). filled s (called_of es) ms) (sym none)
+
+  pub no_stores : (e : WorldFault) → Fails e (filled s (called_of es) ms) → Fails e (after_tags code ms names)
+  no_stores e h = fails_here e (filled (first_stores names) [] ms) (with_threads code ms) (fails_same (sym first_filled) h)
+
+  pub of_stores : (p : Stores × List (Text × Name)) → filled s (called_of es) ms ≡ Ok p → with_threads code ms p ≡ after_tags code ms names
+  of_stores p h = sym (ap (λ r. r >>= with_threads code ms) (first_filled ∙ h))
+
+-- ---- from the version on
+
+abbrev then_tags : CodeTree → Members → List Text → Reading World
+then_tags code ms names =
+    tree_in names ms
+    >>= λ files. pipes_in names ms
+    >>= λ pipes. threads_in code names pipes.called ms
+    >>= λ threads. Ok (record { names = names; next_tag = length names; heap = no_things; monitors = empty; files = files; pipes = pipes.queues; threads = threads })
+
+joined : {A B C D : Type 0} (r : Reading A) (p : Reading B) (make : A → B → C) (f : C → Reading D) → (r >>= λ a. p >>= λ b. f (make a b)) ≡ ((r >>= λ a. p >>= λ b. Ok (make a b)) >>= f)
+joined (Ok a) (Ok b) make f = refl
+joined (Ok a) (Err e) make f = refl
+joined (Err e) p make f = refl
+
+tags_then : (code : CodeTree) (ms : Members) (names : List Text) → then_tags code ms names ≡ after_tags code ms names
+tags_then code ms names = joined (tree_in names ms) (pipes_in names ms) (λ files pipes. more_pipes (first_stores names) files pipes) (with_threads code ms)
+
+module _ (d : Data) (code : CodeTree) (ms : Members) (is : formed (codes "version") (as_object d) ≡ Ok ms) where
+  pub no_version : (e : WorldFault) → Fails e (version_in ms) → Fails e (world_of d code)
+  no_version e h = fails_same (sym (ap (λ r. r >>= world_in code) is)) (fails_here e (version_in ms) (λ version. tags_in ms >>= then_tags code ms) h)
+
+  module _ (n : ℕ) (v : version_in ms ≡ Ok n) where
+    to_tags : world_of d code ≡ (tags_in ms >>= then_tags code ms)
+    to_tags = ap (λ r. r >>= world_in code) is ∙ ap (λ r. r >>= λ version. tags_in ms >>= then_tags code ms) v
+
+    pub no_tags : (e : WorldFault) → Fails e (tags_in ms) → Fails e (world_of d code)
+    no_tags e h = fails_same (sym to_tags) (fails_here e (tags_in ms) (then_tags code ms) h)
+
+    pub of_tags : (names : List Text) → tags_in ms ≡ Ok names → after_tags code ms names ≡ world_of d code
+    of_tags names t = sym (to_tags ∙ ap (λ r. r >>= then_tags code ms) t ∙ tags_then code ms names)

@@ -1,0 +1,33 @@
+-- What a document makes of the stores, and with the stores of the threads.
+use Rattle.std.specs.Prelude.{ℕ, List, [], Option, Some, None, Ok, Err}
+use Rattle.serde_json.specs.Data.{Data, Members}
+use Rattle.flow_labels.specs.TwoLists.{Text}
+use Rattle.lam_value.specs.declared.names.Name.{Name}
+use Rattle.lam_bytecode.specs.Codes.{CodeTree}
+use Rattle.lam_worlds.specs.Worlds.{World}
+use Rattle.lam_stores.specs.declared.Stores.{Stores}
+use Rattle.lam_stores.specs.Parts.{first_stores, world_of}
+use Rattle.world_terms.specs.Breaks.{NotJson, Reading, ◌>>=◌}
+use Rattle.world_terms.specs.Entries.{threads_in}
+use Rattle.world_stores_reading.specs.Contents.{tree_onto}
+use Rattle.world_stores_reading.specs.Called.{pipes_onto}
+
+-- a document that was read
+abbrev pub document_or : Option Data → Reading Data
+document_or None = Err NotJson
+document_or (Some d) = Ok d
+
+-- stores with the files and the pipes of a document, and what it calls the pipes
+abbrev pub filled : Stores → List (Text × Name) → Members → Reading (Stores × List (Text × Name))
+filled s called ms =
+    tree_onto s.names s.files ms
+    >>= λ files. pipes_onto s.names (record { queues = s.pipes; called = called }) ms
+    >>= λ pipes. Ok (record s { files = files; pipes = pipes.queues }, pipes.called)
+
+-- the world of these stores and the threads of a document
+abbrev pub with_threads : CodeTree → Members → Stores × List (Text × Name) → Reading World
+with_threads code ms p = threads_in code p.0.names p.1 ms >>= λ threads. Ok (world_of p.0 threads)
+
+-- the members that are looked at after the names of tags
+abbrev pub after_tags : CodeTree → Members → List Text → Reading World
+after_tags code ms names = filled (first_stores names) [] ms >>= with_threads code ms

@@ -1,0 +1,119 @@
+//! The whole document, member after member.
+
+ghost use Rattle.std.specs.Prelude.{◌≡◌};
+ghost use Rattle.serde_json.specs.View.{view};
+ghost use Rattle.serde_json.specs.Read.{read};
+ghost use Rattle.world_terms.specs.Start.{version_in, world_of, world_or, start_of};
+ghost use Rattle.world_reading.specs.Meaning.{Gives, GivesOnto};
+ghost use Rattle.world_reading.specs.Seen.{members};
+ghost use Rattle.world_stores_reading.specs.Called.{called_of};
+ghost use Rattle.world_doc.specs.Document.{document_or, filled, with_threads, after_tags};
+
+use flow_labels::TagNames;
+use indexmap::IndexMap;
+use lam_bytecode::Code;
+use lam_stores::Stores;
+use lam_world::World;
+use serde_json::Value;
+use serde_json::error::Category;
+use std::alloc::Global;
+use std::str;
+use world_reading::{WorldFault, bad_member, member, object, read_tags};
+use world_stores_reading::{PipeNames, read_pipes, read_tree};
+use world_threads_reading::read_threads;
+
+fn read_version(alloc: Global, document: &Value) -> Result<(), WorldFault>
+    ensures { Gives (λ _. 1) result (version_in (members (view document.now))) }
+{
+    let version = member(alloc, document, "version")?;
+    match version.as_u64() {
+        Some(1) => Ok(()),
+        _ => Err(bad_member(alloc, "version")),
+    }
+}
+
+// Puts the files and the pipes of a document into the stores.
+fn fill<'a>(
+    alloc: Global,
+    document: &'a Value,
+    stores: &mut Stores,
+    called: &mut PipeNames<'a>,
+) -> Result<(), WorldFault>
+    ensures { GivesOnto result (stores.new, called_of called.new.entries) (filled stores.old (called_of called.old.entries) (members (view document.now))) }
+{
+    read_tree(alloc, document, &stores.names, &mut stores.files)?;
+    read_pipes(alloc, document, &stores.names, &mut stores.pipes, called)
+}
+
+// The world of stores and the threads of a document.
+fn with_threads(
+    alloc: Global,
+    document: &Value,
+    code: &Code,
+    stores: Stores,
+    called: &PipeNames,
+) -> Result<World, WorldFault>
+    ensures { Gives (λ w. w) result (with_threads code.now (members (view document.now)) (stores, called_of called.now.entries)) }
+{
+    let threads = read_threads(alloc, document, code, &stores.names, called)?;
+    Ok(World::new(stores, threads))
+}
+
+// The world of the names of tags and of all that is looked at after them.
+fn after_tags(
+    alloc: Global,
+    document: &Value,
+    code: &Code,
+    names: TagNames,
+) -> Result<World, WorldFault>
+    ensures { Gives (λ w. w) result (after_tags code.now (members (view document.now)) names) }
+{
+    let mut stores = Stores::new(alloc, names)?;
+    let mut called: PipeNames = IndexMap::new(alloc);
+    fill(alloc, document, &mut stores, &mut called)?;
+    with_threads(alloc, document, code, stores, &called)
+}
+
+fn read_world(alloc: Global, document: &Value, code: &Code) -> Result<World, WorldFault>
+    ensures { Gives (λ w. w) result (world_of (view document.now) code.now) }
+{
+    object(alloc, document, "version")?;
+    read_version(alloc, document)?;
+    let names = read_tags(alloc, document)?;
+    after_tags(alloc, document, code, names)
+}
+
+fn read_document(alloc: Global, text: &str) -> Result<Value, WorldFault>
+    ensures { Gives (λ v. view v) result (document_or (read text.now)) }
+{
+    match Value::from_str(alloc, text) {
+        Ok(document) => Ok(document),
+        Err(error) => match error.classify() {
+            Category::Memory => Err(WorldFault::NoMemory),
+            _ => Err(WorldFault::NotJson),
+        },
+    }
+}
+
+// The world of a document that is text.
+fn start_text(alloc: Global, text: &str, code: &Code) -> Result<World, WorldFault>
+    ensures { Gives (λ w. w) result (world_or (read text.now) code.now) }
+{
+    let document = read_document(alloc, text)?;
+    read_world(alloc, &document, code)
+}
+
+/// The world at the start of a run of a code, from a document.
+///
+/// # Errors
+///
+/// The first break of the document: `NotJson` where the bytes are not UTF-8 or no JSON text, else the first of the
+/// members in the order `version`, `tags`, `tree`, `pipes`, `threads`. `NoMemory` where memory is refused.
+pub fn start(alloc: Global, text: &[u8], code: &Code) -> Result<World, WorldFault>
+    ensures { Gives (λ w. w) result (start_of text.now code.now) }
+{
+    match str::from_utf8(text) {
+        Ok(text) => start_text(alloc, text, code),
+        Err(_) => Err(WorldFault::NotJson),
+    }
+}

@@ -1,0 +1,4 @@
+pub mod PathLemmas
+pub mod CalledLemmas
+pub mod ItemLemmas
+pub mod MemberOn

@@ -1,0 +1,12 @@
+use Rattle.serde_json.specs.View.{view}
+use Rattle.world_reading.specs.Seen.{members}
+use Rattle.world_reading.proofs.Steps.{says_fails}
+use Rattle.world_stores_reading.proofs.CalledLemmas.{name_taken, name_new}
+use Rattle.world_stores_reading.proofs.pipes.new_name.Goals as goal
+
+pub returns-then-contains_key : goal.returns-then-contains_key
+returns-then-contains_key c =
+    says_fails c.bad_member.ensures (name_taken c.args.called.now.entries (members (view c.args.item.now)) c.in_ok-name.name.now c.contains_key.result c.in_ok-name.ensures c.contains_key.ensures c.if-contains_key.true)
+
+pub returns : goal.returns
+returns c = name_new c.args.called.now.entries (members (view c.args.item.now)) c.in_ok-name.name.now c.contains_key.result c.in_ok-name.ensures c.contains_key.ensures c.if-contains_key.false

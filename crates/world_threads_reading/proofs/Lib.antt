@@ -1,0 +1,3 @@
+pub mod ArgLemmas
+pub mod ListLemmas
+pub mod CountLemmas
