@@ -1,0 +1,149 @@
+-- What is found, and what is shown, of the parts of a run.
+use Rattle.std.proofs.Common.{◌≡◌, ◌≤◌, ℕ, List, Option, Some, None, Result, Ok, Err, String, string_bytes, IfErr, refl, sym, ap, subst, ◌∙◌, ◌+◌, ◌-◌, ◌^◌, min, arith}
+use Rattle.std.specs.declared.alloc.Global.{Global}
+use Rattle.std.specs.Prelude.{Vec}
+use Rattle.flow_labels.specs.LabelText.{label_of}
+use Rattle.flow_labels.specs.declared.Label.{Label}
+use Rattle.flow_labels.specs.declared.texts.LabelFault.{LabelFault}
+use Rattle.lam_io.specs.Outside.{Files, AllStay, Rose}
+use Rattle.lam_bytecode.specs.Codes.{CodeTree}
+use Rattle.lam_worlds.specs.Worlds.{World}
+use Rattle.lam_worlds.specs.Turns.{Moment, moments}
+use Rattle.world_terms.specs.Breaks.{Break, Reading}
+use Rattle.world_terms.specs.Start.{start_of}
+use Rattle.turn_book.specs.Reading.{turns_of}
+use Rattle.turn_book.specs.Reading as book_reading
+use Rattle.turn_book.specs.declared.BookFault.{BookFault}
+use Rattle.turn_book.specs.declared.BookFault.TheVariants.{BadHead, BadLine, SameThread, TooMany, NoMemory as no_memory_of_book}
+use Rattle.world_reading.specs.Meaning as document_reading
+use Rattle.world_reading.specs.declared.fault.WorldFault.{WorldFault}
+use Rattle.world_reading.specs.declared.fault.WorldFault.TheVariants.{NotJson, NoMember, BadMember, NoTag, BadPath, PathTwice, NoMemory as no_memory_of_world}
+use Rattle.lam_run.specs.Stops.{NotReady, stopped_at, IsStop}
+use Rattle.lam_run.specs.declared.fault.RunFault.{RunFault}
+use Rattle.lam_run.specs.declared.fault.RunFault.TheVariants.{NotReady as not_ready, NoMemory as no_memory_of_run}
+use Rattle.lam_words.specs.Words.{Text}
+use Rattle.lam_plan.specs.Refusals.{Plan, prints, no_word, no_world, no_book}
+use Rattle.lam_plan.specs.Reading.{HasFile, WithFile, Never, Compiles, IsCompiled, program_limit, world_limit, book_limit, of_file, unread}
+use Rattle.lam_plan.specs.Replays.{Reader, an_observer, an_auditor, RunFiles, view_by, read_by, by_turns, by_list, by_book, IsOfTurns, IsOfBook, ByReader, ByWorld, NoStart, Replays, Starts, Runs}
+use Rattle.lam_plan.proofs.ReadLemmas.{same_files, program_then, no_program_then, start_then, no_start_then, reader_then, no_reader_then}
+use Rattle.lam_commands.specs.declared.halt.Halt.{Halt}
+use Rattle.lam_commands.specs.declared.halt.Halt.TheVariants.{Refused, NoMemory, ShelfFailed}
+use Rattle.lam_commands.specs.Halts.{refuses, Finds, Says, Gives, IsRead}
+use Rattle.lam_commands.proofs.FileLemmas.{says_map, not_found, gives_of}
+use Rattle.lam_replay.specs.Asked.{halt_of_world, halt_of_book, halt_of_run}
+
+-- ---- the start
+
+by_break : (read : Reading World) (b : Break) → read ≡ Err b → ByWorld Never read (no_world b)
+by_break read b is = subst (λ (r : Reading World). ByWorld Never r (no_world b)) (sym is) refl
+
+broken_start : (tree : CodeTree) (bytes : Text) (f : WorldFault) → document_reading.Fails f (start_of bytes tree) → Finds {X = World} (Err (halt_of_world f)) (λ start. start_of bytes tree ≡ Ok start) (NoStart tree bytes)
+broken_start tree bytes NotJson h = by_break (start_of bytes tree) _ h.breaks
+broken_start tree bytes (NoMember name) h = by_break (start_of bytes tree) _ h.breaks
+broken_start tree bytes (BadMember name) h = by_break (start_of bytes tree) _ h.breaks
+broken_start tree bytes (NoTag name) h = by_break (start_of bytes tree) _ h.breaks
+broken_start tree bytes (BadPath index) h = by_break (start_of bytes tree) _ h.breaks
+broken_start tree bytes (PathTwice index) h = by_break (start_of bytes tree) _ h.breaks
+broken_start tree bytes no_memory_of_world h = tt
+
+pub no_start_found : (tree : CodeTree) (bytes : Text) (f : WorldFault) (halt : Halt) → document_reading.Fails f (start_of bytes tree) → halt ≡ halt_of_world f → Finds {X = World} (Err halt) (λ start. start_of bytes tree ≡ Ok start) (NoStart tree bytes)
+no_start_found tree bytes f halt h is = subst (λ (x : Halt). Finds {X = World} (Err x) (λ start. start_of bytes tree ≡ Ok start) (NoStart tree bytes)) (sym is) (broken_start tree bytes f h)
+
+-- no fault of a document is one of the shelf
+pub no_shelf_world : (f : WorldFault) (halt : Halt) → halt ≡ halt_of_world f → halt ≡ ShelfFailed → ⊥
+no_shelf_world NotJson halt is e = cc
+no_shelf_world (NoMember name) halt is e = cc
+no_shelf_world (BadMember name) halt is e = cc
+no_shelf_world (NoTag name) halt is e = cc
+no_shelf_world (BadPath index) halt is e = cc
+no_shelf_world (PathTwice index) halt is e = cc
+no_shelf_world no_memory_of_world halt is e = cc
+
+-- ---- who reads
+
+pub bad_label : (names : List Text) (text : Text) (f : LabelFault) → label_of names text ≡ Err f → ByReader Never (read_by (an_observer text) names) (no_word 4)
+bad_label names text f is = subst (λ (r : Result Label LabelFault). ByReader Never (view_by names r) (no_word 4)) (sym is) refl
+
+-- ---- the turns
+
+module _ (tree : CodeTree) (start : World) (shown : List Moment → Text) where
+  -- a run, and its text
+  pub run_says : (turns : List ℕ) (text : String Global) → string_bytes text ≡ shown (moments tree turns start) → stopped_at tree turns start ≡ None → Says (Ok text) (IsOfTurns tree start shown turns)
+  run_says turns text is whole = ap prints is ∙ sym (ap (λ (stop : Option NotReady). by_turns stop (shown (moments tree turns start))) whole)
+
+  stopped_says : (turns : List ℕ) (f : RunFault) → IsStop f (stopped_at tree turns start) → Says (Err (halt_of_run f)) (IsOfTurns tree start shown turns)
+  stopped_says turns (not_ready turn thread) h = sym (ap (λ (stop : Option NotReady). by_turns stop (shown (moments tree turns start))) h)
+  stopped_says turns no_memory_of_run h = tt
+
+  pub no_run_says : (turns : List ℕ) (f : RunFault) (halt : Halt) → IsStop f (stopped_at tree turns start) → halt ≡ halt_of_run f → Says (Err halt) (IsOfTurns tree start shown turns)
+  no_run_says turns f halt h is = subst (λ (x : Halt). Says (Err x) (IsOfTurns tree start shown turns)) (sym is) (stopped_says turns f h)
+
+  -- ---- the book
+
+  pub book_says : (bytes : Text) (turns : List ℕ) (answer : Result (String Global) Halt) → turns_of bytes ≡ Ok turns → Says answer (IsOfTurns tree start shown turns) → Says answer (IsOfBook tree start shown bytes)
+  book_says bytes turns answer is h = says_map (IsOfTurns tree start shown turns) (IsOfBook tree start shown bytes) (λ p k. k ∙ sym (ap (by_book tree start shown) is)) answer h
+
+  broken_book : (bytes : Text) (f : BookFault) → book_reading.Fails f (turns_of bytes) → Says (Err (halt_of_book f)) (IsOfBook tree start shown bytes)
+  broken_book bytes BadHead h = sym (ap (by_book tree start shown) h)
+  broken_book bytes (BadLine number) h = sym (ap (by_book tree start shown) h)
+  broken_book bytes (SameThread number) h = sym (ap (by_book tree start shown) h)
+  broken_book bytes (TooMany number) h = sym (ap (by_book tree start shown) h)
+  broken_book bytes no_memory_of_book h = tt
+
+  pub no_book_says : (bytes : Text) (f : BookFault) (halt : Halt) → book_reading.Fails f (turns_of bytes) → halt ≡ halt_of_book f → Says (Err halt) (IsOfBook tree start shown bytes)
+  no_book_says bytes f halt h is = subst (λ (x : Halt). Says (Err x) (IsOfBook tree start shown bytes)) (sym is) (broken_book bytes f h)
+
+pub no_shelf_book : (f : BookFault) (halt : Halt) → halt ≡ halt_of_book f → halt ≡ ShelfFailed → ⊥
+no_shelf_book BadHead halt is e = cc
+no_shelf_book (BadLine number) halt is e = cc
+no_shelf_book (SameThread number) halt is e = cc
+no_shelf_book (TooMany number) halt is e = cc
+no_shelf_book no_memory_of_book halt is e = cc
+
+pub no_shelf_run : (f : RunFault) (halt : Halt) → halt ≡ halt_of_run f → halt ≡ ShelfFailed → ⊥
+no_shelf_run (not_ready turn thread) halt is e = cc
+no_shelf_run no_memory_of_run halt is e = cc
+
+-- ---- one part after another
+
+module _ (files : Files) (book : Text) (reader : Reader) (tree : CodeTree) (start : World) where
+  -- the book was read
+  pub reader_says : (shown : List Moment → Text) → read_by reader start.names ≡ Ok shown → (bytes : Vec ℕ Global) → IsRead (Ok bytes) (files book) book book_limit → (answer : Result (String Global) Halt) → Says answer (IsOfBook tree start shown bytes.items) → Says answer (Replays files book reader tree start)
+  reader_says shown is bytes read answer h = says_map (IsOfBook tree start shown bytes.items) (Replays files book reader tree start) (λ p k. reader_then files book reader tree start p shown is (of_file (record { bytes = bytes.items; there = read.0; short = read.1; follows = k }))) answer h
+
+  -- it was not
+  pub unread_says : (shown : List Moment → Text) → read_by reader start.names ≡ Ok shown → (halt : Halt) → IsRead (Err halt) (files book) book book_limit → Says (Err halt) (Replays files book reader tree start)
+  unread_says shown is (Refused refusal) read = reader_then files book reader tree start (refuses refusal) shown is (unread read)
+  unread_says shown is NoMemory read = tt
+  unread_says shown is ShelfFailed read = tt
+
+  pub no_reader_says : {X : Type 0} (IsIt : X → Type 0) (halt : Halt) → Finds {X = X} (Err halt) IsIt (ByReader Never (read_by reader start.names)) → Says (Err halt) (Replays files book reader tree start)
+  no_reader_says IsIt halt h = not_found IsIt (ByReader Never (read_by reader start.names)) (Replays files book reader tree start) (λ p k. no_reader_then files book reader tree start p k) halt h
+
+module _ (files : Files) (run : RunFiles) (reader : Reader) (tree : CodeTree) where
+  pub start_says : (between : Files) (start : World) (answer : Result (String Global) Halt) → AllStay files between → HasFile (files run.world) world_limit (λ bytes. start_of bytes tree ≡ Ok start) → Says answer (Replays between run.book reader tree start) → Says answer (Starts files run reader tree)
+  start_says between start answer stay has h = says_map (Replays between run.book reader tree start) (Starts files run reader tree) (λ p k. start_then files run reader tree p start has (subst (λ (fs : Files). Replays fs run.book reader tree start p) (same_files files between stay) k)) answer h
+
+  pub no_start_says : (halt : Halt) → Finds {X = World} (Err halt) (λ start. HasFile (files run.world) world_limit (λ bytes. start_of bytes tree ≡ Ok start)) (WithFile (files run.world) run.world world_limit (NoStart tree)) → Says (Err halt) (Starts files run reader tree)
+  no_start_says halt h = not_found (λ start. HasFile (files run.world) world_limit (λ bytes. start_of bytes tree ≡ Ok start)) (WithFile (files run.world) run.world world_limit (NoStart tree)) (Starts files run reader tree) (λ p k. no_start_then files run reader tree p k) halt h
+
+module _ (files : Files) (program : Text) (run : RunFiles) (reader : Reader) (new : Files) where
+  pub program_gives : (between : Files) (tree : CodeTree) (answer : Result (String Global) Halt) → AllStay files between → AllStay files new → HasFile (files program) program_limit (λ bytes. IsCompiled bytes (Ok tree)) → Says answer (Starts between run reader tree) → Gives answer (WithFile (files program) program program_limit (Runs files run reader)) files new
+  program_gives between tree answer stay kept has h =
+      gives_of (WithFile (files program) program program_limit (Runs files run reader)) files new answer kept
+      (says_map (Starts between run reader tree) (WithFile (files program) program program_limit (Runs files run reader)) (λ p k. program_then (files program) program (Starts files run reader) p tree has (subst (λ (fs : Files). Starts fs run reader tree p) (same_files files between stay) k)) answer h)
+
+  pub no_program_gives : (halt : Halt) → AllStay files new → Finds {X = CodeTree} (Err halt) (λ tree. HasFile (files program) program_limit (λ bytes. IsCompiled bytes (Ok tree))) (WithFile (files program) program program_limit (Compiles Never)) → Gives (Err halt) (WithFile (files program) program program_limit (Runs files run reader)) files new
+  no_program_gives halt kept h =
+      gives_of (WithFile (files program) program program_limit (Runs files run reader)) files new (Err halt) kept
+      (not_found (λ tree. HasFile (files program) program_limit (λ bytes. IsCompiled bytes (Ok tree))) (WithFile (files program) program program_limit (Compiles Never)) (WithFile (files program) program program_limit (Runs files run reader)) (λ p k. no_program_then (files program) program (Starts files run reader) p k) halt h)
+
+-- ---- faults of the shelf
+
+later_rose : (a b c most : ℕ) → a ≤ b → min (b + 1) most ≤ c → min (a + 1) most ≤ c
+later_rose a b c most h k = omega arith
+
+-- a fault of a later reading
+pub failed_later : (answer : Result (String Global) Halt) (a b c : ℕ) → a ≤ b → IfErr answer (λ halt. halt ≡ ShelfFailed → Rose b c) → IfErr answer (λ halt. halt ≡ ShelfFailed → Rose a c)
+failed_later (Ok text) a b c h k = tt
+failed_later (Err halt) a b c h k = λ e. later_rose a b c (2 ^ 64 - 1) h (k e)

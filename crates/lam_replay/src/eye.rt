@@ -1,0 +1,40 @@
+//! Who reads of a run, with the observer's label read by the names of the start.
+
+ghost use Rattle.std.specs.Prelude.{◌≡◌, ◌≢◌, Ok, IfErr};
+ghost use Rattle.lam_plan.specs.Reading.{Never};
+ghost use Rattle.lam_plan.specs.Replays.{ByReader, read_by};
+ghost use Rattle.lam_commands.specs.Halts.{Finds};
+ghost use Rattle.lam_replay.specs.Asked.{reader_of, lines_for};
+
+use crate::Reader;
+use flow_labels::{Label, LabelFault, TagNames, parse_label};
+use lam_commands::{Halt, Refusal};
+
+/// The index of the word that is the observer's label.
+const OBSERVER_WORD: u64 = 4;
+
+/// Who reads of a run.
+#[derive(Drop)]
+pub(crate) enum Eye {
+    /// An observer at this label.
+    Observer(Label),
+    /// An auditor.
+    Auditor,
+}
+
+/// The reader, with the label that the observer's text spells.
+pub(crate) fn eye_of(reader: &Reader, names: &TagNames) -> Result<Eye, Halt>
+    ensures finds { Finds result (λ eye. read_by (reader_of reader.now) names.now ≡ Ok (lines_for eye names.now)) (ByReader Never (read_by (reader_of reader.now) names.now)) }
+    ensures no_fault { IfErr result (λ halt. halt ≢ Halt.ShelfFailed) }
+{
+    match reader {
+        Reader::Observer(text) => match parse_label(text.as_str(), names) {
+            Ok(label) => Ok(Eye::Observer(label)),
+            Err(LabelFault::BadLabel { at: _ } | LabelFault::NoTag { at: _ }) => {
+                Err(Halt::Refused(Refusal::Word(OBSERVER_WORD)))
+            }
+            Err(LabelFault::NoMemory) => Err(Halt::NoMemory),
+        },
+        Reader::Auditor => Ok(Eye::Auditor),
+    }
+}

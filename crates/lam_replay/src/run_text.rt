@@ -1,0 +1,115 @@
+//! The turns of a book, and the text of their run.
+
+ghost use Rattle.std.specs.Prelude.{◌≡◌, ◌≢◌, Ok, IfErr};
+ghost use Rattle.lam_bytecode.specs.Codes.{IsCode};
+ghost use Rattle.lam_worlds.specs.Turns.{moments};
+ghost use Rattle.lam_worlds.specs.Valid.{IsValid};
+ghost use Rattle.audit_log.specs.Log.{view_lines, audit_lines};
+ghost use Rattle.lam_run.specs.Stops.{stopped_at};
+ghost use Rattle.lam_plan.specs.Replays.{IsOfBook, IsOfTurns};
+ghost use Rattle.lam_commands.specs.Halts.{Says};
+ghost use Rattle.lam_replay.specs.Asked.{lines_for, halt_of_book, halt_of_run};
+
+use crate::eye::Eye;
+use audit_log::{audit_text, audits_are_read, view_text, views_are_read};
+use flow_labels::{Label, TagNames};
+use lam_bytecode::Code;
+use lam_commands::{BookBreak, Halt, Refusal};
+use lam_run::{RunFault, noted_in, seen_by};
+use lam_world::World;
+use std::alloc::Global;
+use turn_book::{BookFault, read_book};
+
+/// What the reader is shown of the run of a book, by its bytes.
+pub(crate) fn shown(
+    alloc: Global,
+    code: &Code,
+    start: World,
+    bytes: &[u8],
+    names: &TagNames,
+    eye: &Eye,
+) -> Result<String, Halt>
+    requires code { IsCode code.now }
+    requires valid { IsValid start }
+    ensures says { Says result (IsOfBook code.now start (lines_for eye.now names.now) bytes.now) }
+    ensures no_fault { IfErr result (λ halt. halt ≢ Halt.ShelfFailed) }
+{
+    match read_book(alloc, bytes) {
+        Ok(turns) => match eye {
+            Eye::Observer(label) => view(alloc, code, start, turns.as_slice(), names, label),
+            Eye::Auditor => audit(alloc, code, start, turns.as_slice(), names),
+        },
+        Err(fault) => Err(book_halt(fault)),
+    }
+}
+
+/// What an observer sees of turns.
+fn view(
+    alloc: Global,
+    code: &Code,
+    start: World,
+    turns: &[u32],
+    names: &TagNames,
+    label: &Label,
+) -> Result<String, Halt>
+    requires code { IsCode code.now }
+    requires valid { IsValid start }
+    ensures says { Says result (IsOfTurns code.now start (view_lines names.now label.now) turns.now) }
+    ensures no_fault { IfErr result (λ halt. halt ≢ Halt.ShelfFailed) }
+{
+    views_are_read();
+    match seen_by(alloc, code, start, turns, label) {
+        Ok(seen) => Ok(view_text(alloc, seen.as_slice(), names)?),
+        Err(fault) => Err(run_halt(fault)),
+    }
+}
+
+/// What an auditor notes of turns.
+fn audit(
+    alloc: Global,
+    code: &Code,
+    start: World,
+    turns: &[u32],
+    names: &TagNames,
+) -> Result<String, Halt>
+    requires code { IsCode code.now }
+    requires valid { IsValid start }
+    ensures says { Says result (IsOfTurns code.now start (audit_lines names.now) turns.now) }
+    ensures no_fault { IfErr result (λ halt. halt ≢ Halt.ShelfFailed) }
+{
+    audits_are_read();
+    match noted_in(alloc, code, start, turns) {
+        Ok(noted) => Ok(audit_text(alloc, noted.as_slice(), names)?),
+        Err(fault) => Err(run_halt(fault)),
+    }
+}
+
+/// What a fault of a book halts with.
+fn book_halt(fault: BookFault) -> Halt
+    ensures { result ≡ halt_of_book fault }
+{
+    match fault {
+        BookFault::BadHead => broken_line(BookBreak::Head, 1),
+        BookFault::BadLine { line } => broken_line(BookBreak::Line, line),
+        BookFault::SameThread { line } => broken_line(BookBreak::SameThread, line),
+        BookFault::TooMany { line } => broken_line(BookBreak::TooMany, line),
+        BookFault::NoMemory => Halt::NoMemory,
+    }
+}
+
+/// The refusal of a line of a book.
+fn broken_line(flaw: BookBreak, line: u64) -> Halt
+    ensures { result ≡ Halt.Refused (Refusal.Book flaw line) }
+{
+    Halt::Refused(Refusal::Book { flaw, line })
+}
+
+/// What a turn that can't be taken halts with.
+fn run_halt(fault: RunFault) -> Halt
+    ensures { result ≡ halt_of_run fault }
+{
+    match fault {
+        RunFault::NotReady { turn, thread } => Halt::Refused(Refusal::NotReady { turn, thread }),
+        RunFault::NoMemory => Halt::NoMemory,
+    }
+}
