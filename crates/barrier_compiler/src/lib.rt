@@ -4,6 +4,7 @@
 #![tactic(auto)]
 
 ghost use Rattle.std.specs.Prelude.{◌≡◌, ◌⊎◌, ℕ, Ok, Err, IfOk, IfErr};
+ghost use Rattle.lam_bytecode.specs.Codes.{IsCode};
 ghost use Rattle.region_check.specs.Seen.{checked_tree};
 ghost use Rattle.barrier_emit.specs.declared.CompileFault.TheVariants.{CodeTooLong, NoMemory as no_memory};
 ghost use Rattle.barrier_compiler.specs.Compiled.{IsCompiledTo, ActsAsProgram};
@@ -25,6 +26,7 @@ use std::alloc::Global;
 /// `CodeTooLong` with the number of the first unit that has more than 65,535 operations by the scheme; `NoMemory`.
 pub fn compile(alloc: Global, c: &Checked) -> Result<Code, CompileFault>
     ensures ok { IfOk result (λ code. IsCompiledTo (checked_tree c.now) (Ok code)) }
+    ensures sound { IfOk result (λ code. IsCode code) }
     ensures acts { ActsAsProgram (checked_tree c.now) }
     ensures long { IfErr result (λ f. (f ≡ no_memory) ⊎ ((unit : ℕ) × (f ≡ CodeTooLong unit) × IsCompiledTo (checked_tree c.now) (Err unit))) }
 {

@@ -8,6 +8,7 @@ ghost use Rattle.std.specs.Prelude.{◌≡◌, ◌<◌, ◌^◌, length, map, Ok
 ghost use Rattle.resolved_tree.specs.Tree.{types_tree, classes_tree, resolved_tree};
 ghost use Rattle.resolved_tree.specs.Slots.{SlotsDiffer};
 ghost use Rattle.resolved_tree.specs.Regions.{AreNumbered};
+ghost use Rattle.lam_bytecode.specs.Codes.{IsCode};
 ghost use Rattle.lam_meaning.specs.Means.{kind_of};
 ghost use Rattle.lam_scheme.specs.Long.{compiled};
 ghost use Rattle.barrier_emit.specs.Faults.{IsFaultOf};
@@ -66,6 +67,7 @@ pub fn emit(alloc: Global, program: &Resolved) -> Result<Code, CompileFault>
     requires slots { SlotsDiffer (resolved_tree program.now) }
     requires regions { AreNumbered (resolved_tree program.now) }
     ensures ok { IfOk result (λ code. compiled (resolved_tree program.now) ≡ Ok code) }
+    ensures sound { IfOk result (λ code. IsCode code) }
     ensures fault { IfErr result (λ f. IsFaultOf f (compiled (resolved_tree program.now))) }
 {
     let mut units = Units::new(alloc);

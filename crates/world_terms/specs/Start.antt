@@ -2,7 +2,8 @@
 --
 -- The members are looked at in the order `version`, `tags`, `tree`, `pipes`, `threads`, and the items of lists in their
 -- order; members with other names are not looked at.
-use Rattle.std.specs.Prelude.{◌≡◌, ℕ, nat_eq, [], length, Option, Some, None, Ok, Err, codes, option_and_then, refl}
+use Rattle.std.specs.Prelude.{◌≡◌, ℕ, nat_eq, if◌then◌else◌, [], length, Option, Some, None, Ok, Err, codes, option_and_then, refl}
+use Rattle.std.specs.Str.{is_utf8}
 use Rattle.std.specs.FinMap.{empty}
 use Rattle.serde_json.specs.Data.{Data, null, number, string, array, object, unsigned, no_items, Members, no_members, member}
 use Rattle.serde_json.specs.Find.{as_number, as_object, as_u64}
@@ -37,9 +38,13 @@ abbrev pub world_or : Option Data → CodeTree → Reading World
 world_or None code = Err NotJson
 world_or (Some d) code = world_of d code
 
+-- what is read of a text, which is UTF-8
+abbrev pub data_of : Text → Option Data
+data_of text = if is_utf8 text then read text else None
+
 -- of a text
 abbrev pub start_of : Text → CodeTree → Reading World
-start_of text code = world_or (read text) code
+start_of text code = world_or (data_of text) code
 
 -- ---- worked examples
 no_object : (code : CodeTree) → world_of (array no_items) code ≡ Err (BadMember (codes "version"))

@@ -1,0 +1,5 @@
+pub mod LabelLemmas
+pub mod ReadLemmas
+pub mod StoreLemmas
+pub mod EntryLemmas
+pub mod StartLemmas
