@@ -68,7 +68,7 @@ bad_label names text f is = subst (λ (r : Result Label LabelFault). ByReader Ne
 
 module _ (tree : CodeTree) (start : World) (shown : List Moment → Text) where
   -- a run, and its text
-  pub run_says : (turns : List ℕ) (text : String Global) → string_bytes text ≡ shown (moments tree turns start) → stopped_at tree turns start ≡ None → Says (Ok text) (IsOfTurns tree start shown turns)
+  pub run_says : (turns : List ℕ) (text : Text) → text ≡ shown (moments tree turns start) → stopped_at tree turns start ≡ None → IsOfTurns tree start shown turns (prints text)
   run_says turns text is whole = ap prints is ∙ sym (ap (λ (stop : Option NotReady). by_turns stop (shown (moments tree turns start))) whole)
 
   stopped_says : (turns : List ℕ) (f : RunFault) → IsStop f (stopped_at tree turns start) → Says (Err (halt_of_run f)) (IsOfTurns tree start shown turns)
@@ -106,19 +106,25 @@ no_shelf_run no_memory_of_run halt is e = cc
 
 -- ---- one part after another
 
-module _ (files : Files) (book : Text) (reader : Reader) (tree : CodeTree) (start : World) where
-  -- the book was read
-  pub reader_says : (shown : List Moment → Text) → read_by reader start.names ≡ Ok shown → (bytes : Vec ℕ Global) → IsRead (Ok bytes) (files book) book book_limit → (answer : Result (String Global) Halt) → Says answer (IsOfBook tree start shown bytes.items) → Says answer (Replays files book reader tree start)
-  reader_says shown is bytes read answer h = says_map (IsOfBook tree start shown bytes.items) (Replays files book reader tree start) (λ p k. reader_then files book reader tree start p shown is (of_file (record { bytes = bytes.items; there = read.0; short = read.1; follows = k }))) answer h
+module _ (found : Option Text) (name : Text) (limit : ℕ) (IsOf : Text → Plan → Type 0) where
+  -- a file was read
+  pub read_says : (bytes : Vec ℕ Global) (answer : Result (String Global) Halt) → IsRead (Ok bytes) found name limit → Says answer (IsOf bytes.items) → Says answer (WithFile found name limit IsOf)
+  read_says bytes answer read h = says_map (IsOf bytes.items) (WithFile found name limit IsOf) (λ p k. of_file (record { bytes = bytes.items; there = read.0; short = read.1; follows = k })) answer h
 
   -- it was not
-  pub unread_says : (shown : List Moment → Text) → read_by reader start.names ≡ Ok shown → (halt : Halt) → IsRead (Err halt) (files book) book book_limit → Says (Err halt) (Replays files book reader tree start)
-  unread_says shown is (Refused refusal) read = reader_then files book reader tree start (refuses refusal) shown is (unread read)
-  unread_says shown is NoMemory read = tt
-  unread_says shown is ShelfFailed read = tt
+  pub unread_says : (halt : Halt) → IsRead (Err halt) found name limit → Says (Err halt) (WithFile found name limit IsOf)
+  unread_says (Refused refusal) read = unread read
+  unread_says NoMemory read = tt
+  unread_says ShelfFailed read = tt
 
-  pub no_reader_says : {X : Type 0} (IsIt : X → Type 0) (halt : Halt) → Finds {X = X} (Err halt) IsIt (ByReader Never (read_by reader start.names)) → Says (Err halt) (Replays files book reader tree start)
-  no_reader_says IsIt halt h = not_found IsIt (ByReader Never (read_by reader start.names)) (Replays files book reader tree start) (λ p k. no_reader_then files book reader tree start p k) halt h
+module _ (files : Files) (book : Text) (reader : Reader) (tree : CodeTree) (start : World) (names : List Text) (same : names ≡ start.names) where
+  pub reader_says : (shown : List Moment → Text) (answer : Result (String Global) Halt) → read_by reader names ≡ Ok shown → Says answer (WithFile (files book) book book_limit (IsOfBook tree start shown)) → Says answer (Replays files book reader tree start)
+  reader_says shown answer is h = says_map (WithFile (files book) book book_limit (IsOfBook tree start shown)) (Replays files book reader tree start) (λ p k. reader_then files book reader tree start p shown (sym (ap (read_by reader) same) ∙ is) k) answer h
+
+  pub no_reader_says : {X : Type 0} (IsIt : X → Type 0) (halt : Halt) → Finds {X = X} (Err halt) IsIt (ByReader Never (read_by reader names)) → Says (Err halt) (Replays files book reader tree start)
+  no_reader_says IsIt halt h =
+      not_found IsIt (ByReader Never (read_by reader names)) (Replays files book reader tree start)
+      (λ p k. no_reader_then files book reader tree start p (subst (λ (ns : List Text). ByReader Never (read_by reader ns) p) same k)) halt h
 
 module _ (files : Files) (run : RunFiles) (reader : Reader) (tree : CodeTree) where
   pub start_says : (between : Files) (start : World) (answer : Result (String Global) Halt) → AllStay files between → HasFile (files run.world) world_limit (λ bytes. start_of bytes tree ≡ Ok start) → Says answer (Replays between run.book reader tree start) → Says answer (Starts files run reader tree)

@@ -2,7 +2,7 @@
 
 ghost use Rattle.std.specs.Prelude.{◌≡◌, ◌≢◌, Ok, IfErr};
 ghost use Rattle.lam_plan.specs.Reading.{Never};
-ghost use Rattle.lam_plan.specs.Replays.{ByReader, read_by};
+ghost use Rattle.lam_plan.specs.Replays.{an_observer, ByReader, read_by};
 ghost use Rattle.lam_commands.specs.Halts.{Finds};
 ghost use Rattle.lam_replay.specs.Asked.{reader_of, lines_for};
 
@@ -28,13 +28,21 @@ pub(crate) fn eye_of(reader: &Reader, names: &TagNames) -> Result<Eye, Halt>
     ensures no_fault { IfErr result (λ halt. halt ≢ Halt.ShelfFailed) }
 {
     match reader {
-        Reader::Observer(text) => match parse_label(text.as_str(), names) {
-            Ok(label) => Ok(Eye::Observer(label)),
-            Err(LabelFault::BadLabel { at: _ } | LabelFault::NoTag { at: _ }) => {
-                Err(Halt::Refused(Refusal::Word(OBSERVER_WORD)))
-            }
-            Err(LabelFault::NoMemory) => Err(Halt::NoMemory),
-        },
+        Reader::Observer(text) => observer(text.as_str(), names),
         Reader::Auditor => Ok(Eye::Auditor),
+    }
+}
+
+/// An observer at the label of a text.
+fn observer(text: &str, names: &TagNames) -> Result<Eye, Halt>
+    ensures finds { Finds result (λ eye. read_by (an_observer text.now) names.now ≡ Ok (lines_for eye names.now)) (ByReader Never (read_by (an_observer text.now) names.now)) }
+    ensures no_fault { IfErr result (λ halt. halt ≢ Halt.ShelfFailed) }
+{
+    match parse_label(text, names) {
+        Ok(label) => Ok(Eye::Observer(label)),
+        Err(LabelFault::BadLabel { at: _ } | LabelFault::NoTag { at: _ }) => {
+            Err(Halt::Refused(Refusal::Word(OBSERVER_WORD)))
+        }
+        Err(LabelFault::NoMemory) => Err(Halt::NoMemory),
     }
 }

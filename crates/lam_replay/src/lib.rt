@@ -15,19 +15,21 @@ ghost use Rattle.std.specs.Prelude.{◌≡◌, ◌≤◌, IsTrue, IfErr, string_
 ghost use Rattle.lam_io.specs.Outside.{Rose, AllStay};
 ghost use Rattle.lam_bytecode.specs.Codes.{IsCode};
 ghost use Rattle.lam_worlds.specs.Valid.{IsValid};
-ghost use Rattle.lam_plan.specs.Reading.{WithFile, program_limit};
-ghost use Rattle.lam_plan.specs.Replays.{Replays, Starts, Runs};
+ghost use Rattle.lam_plan.specs.Reading.{WithFile, program_limit, book_limit};
+ghost use Rattle.lam_plan.specs.Replays.{IsOfBook, Replays, Starts, Runs};
 ghost use Rattle.lam_commands.specs.Halts.{Says, Gives};
-ghost use Rattle.lam_replay.specs.Asked.{files_of, reader_of};
+ghost use Rattle.lam_replay.specs.Asked.{files_of, reader_of, lines_for};
 
 use crate::document::read_start;
-use crate::eye::eye_of;
+use crate::eye::{Eye, eye_of};
 use crate::run_text::shown;
+use flow_labels::TagNames;
 use lam_bytecode::Code;
 use lam_commands::{Halt, read_code, read_file};
 use lam_io::Shelf;
 use lam_world::World;
 use std::alloc::Global;
+use want_of_memory::NoMemory;
 
 /// The most bytes of a book.
 const BOOK_LIMIT: u64 = 16_777_216;
@@ -108,12 +110,32 @@ fn replay_from<H: Shelf>(
     ensures stay { IsTrue (H.tells shelf.old) → AllStay (H.files shelf.old) (H.files shelf.new) }
     ensures failed { IfErr result (λ halt. halt ≡ Halt.ShelfFailed → Rose (H.faults shelf.old) (H.faults shelf.new)) }
 {
-    let names = start.stores().names.copy()?;
+    let names = match start.stores().names.copy() {
+        Ok(names) => names,
+        Err(NoMemory) => return Err(Halt::NoMemory),
+    };
     match eye_of(reader, &names) {
-        Ok(eye) => {
-            let bytes = read_file(alloc, shelf, book, BOOK_LIMIT)?;
-            shown(alloc, code, start, bytes.as_slice(), &names, &eye)
-        }
+        Ok(eye) => replay_book(alloc, shelf, code, start, book, &names, &eye),
         Err(halt) => Err(halt),
     }
+}
+
+/// What a reader is shown of the run of a code from a world, in the order of the book in a file.
+fn replay_book<H: Shelf>(
+    alloc: Global,
+    shelf: &mut H,
+    code: &Code,
+    start: World,
+    book: String,
+    names: &TagNames,
+    eye: &Eye,
+) -> Result<String, Halt>
+    requires code { IsCode code.now }
+    requires valid { IsValid start }
+    ensures says { IsTrue (H.tells shelf.old) → Says result (WithFile (H.files shelf.old (string_bytes book)) (string_bytes book) book_limit (IsOfBook code.now start (lines_for eye.now names.now))) }
+    ensures stay { IsTrue (H.tells shelf.old) → AllStay (H.files shelf.old) (H.files shelf.new) }
+    ensures failed { IfErr result (λ halt. halt ≡ Halt.ShelfFailed → Rose (H.faults shelf.old) (H.faults shelf.new)) }
+{
+    let bytes = read_file(alloc, shelf, book, BOOK_LIMIT)?;
+    shown(alloc, code, start, bytes.as_slice(), names, eye)
 }
