@@ -1,5 +1,5 @@
 -- What is found, and what is shown, of the parts of a run.
-use Rattle.std.proofs.Common.{◌≡◌, ◌≤◌, ℕ, List, Option, Some, None, Result, Ok, Err, String, string_bytes, IfErr, refl, sym, ap, subst, ◌∙◌, ◌+◌, ◌-◌, ◌^◌, min, arith}
+use Rattle.std.proofs.Common.{◌≡◌, ◌≤◌, ℕ, List, Option, Some, None, Result, Ok, Err, String, string_bytes, IfOk, IfErr, refl, sym, ap, subst, ◌∙◌, ◌+◌, ◌-◌, ◌^◌, min, arith}
 use Rattle.std.specs.declared.alloc.Global.{Global}
 use Rattle.std.specs.Prelude.{Vec}
 use Rattle.flow_labels.specs.LabelText.{label_of}
@@ -67,9 +67,12 @@ bad_label names text f is = subst (λ (r : Result Label LabelFault). ByReader Ne
 -- ---- the turns
 
 module _ (tree : CodeTree) (start : World) (shown : List Moment → Text) where
-  -- a run, and its text
-  pub run_says : (turns : List ℕ) (text : Text) → text ≡ shown (moments tree turns start) → stopped_at tree turns start ≡ None → IsOfTurns tree start shown turns (prints text)
-  run_says turns text is whole = ap prints is ∙ sym (ap (λ (stop : Option NotReady). by_turns stop (shown (moments tree turns start))) whole)
+  -- the text of a run's lines
+  pub run_says : (turns : List ℕ) (lines : Text) (answer : Result (String Global) Halt) → IfOk answer (λ text. string_bytes text ≡ lines) → IfErr answer (λ halt. halt ≡ NoMemory) → lines ≡ shown (moments tree turns start) → stopped_at tree turns start ≡ None → Says answer (IsOfTurns tree start shown turns)
+  run_says turns lines (Ok text) h k is whole = ap prints (h ∙ is) ∙ sym (ap (λ (stop : Option NotReady). by_turns stop (shown (moments tree turns start))) whole)
+  run_says turns lines (Err (Refused refusal)) h k is whole = absurd (let no : ⊥ = cc in no)
+  run_says turns lines (Err NoMemory) h k is whole = tt
+  run_says turns lines (Err ShelfFailed) h k is whole = tt
 
   stopped_says : (turns : List ℕ) (f : RunFault) → IsStop f (stopped_at tree turns start) → Says (Err (halt_of_run f)) (IsOfTurns tree start shown turns)
   stopped_says turns (not_ready turn thread) h = sym (ap (λ (stop : Option NotReady). by_turns stop (shown (moments tree turns start))) h)

@@ -29,7 +29,6 @@ use lam_commands::{Halt, read_code, read_file};
 use lam_io::Shelf;
 use lam_world::World;
 use std::alloc::Global;
-use want_of_memory::NoMemory;
 
 /// The most bytes of a book.
 const BOOK_LIMIT: u64 = 16_777_216;
@@ -110,10 +109,7 @@ fn replay_from<H: Shelf>(
     ensures stay { IsTrue (H.tells shelf.old) → AllStay (H.files shelf.old) (H.files shelf.new) }
     ensures failed { IfErr result (λ halt. halt ≡ Halt.ShelfFailed → Rose (H.faults shelf.old) (H.faults shelf.new)) }
 {
-    let names = match start.stores().names.copy() {
-        Ok(names) => names,
-        Err(NoMemory) => return Err(Halt::NoMemory),
-    };
+    let names = start.stores().names.copy()?;
     match eye_of(reader, &names) {
         Ok(eye) => replay_book(alloc, shelf, code, start, book, &names, &eye),
         Err(halt) => Err(halt),

@@ -1,11 +1,9 @@
 //! The turns of a book, and the text of their run.
 
-ghost use Rattle.std.specs.Prelude.{◌≡◌, ◌≢◌, Ok, IfErr};
+ghost use Rattle.std.specs.Prelude.{◌≡◌, ◌≢◌, IfOk, IfErr, string_bytes};
 ghost use Rattle.lam_bytecode.specs.Codes.{IsCode};
-ghost use Rattle.lam_worlds.specs.Turns.{moments};
 ghost use Rattle.lam_worlds.specs.Valid.{IsValid};
-ghost use Rattle.audit_log.specs.Log.{view_lines, audit_lines};
-ghost use Rattle.lam_run.specs.Stops.{stopped_at};
+ghost use Rattle.audit_log.specs.Log.{seen_lines, view_lines, noted_lines, audit_lines};
 ghost use Rattle.lam_plan.specs.Replays.{IsOfBook, IsOfTurns};
 ghost use Rattle.lam_commands.specs.Halts.{Says};
 ghost use Rattle.lam_replay.specs.Asked.{lines_for, halt_of_book, halt_of_run};
@@ -17,7 +15,9 @@ use lam_bytecode::Code;
 use lam_commands::{BookBreak, Halt, Refusal};
 use lam_run::{RunFault, noted_in, seen_by};
 use lam_world::World;
+use run_notes::{Noted, Seen};
 use std::alloc::Global;
+use std::mem::forget;
 use turn_book::{BookFault, read_book};
 
 /// What the reader is shown of the run of a book, by its bytes.
@@ -59,7 +59,7 @@ fn view(
 {
     views_are_read();
     match seen_by(alloc, code, start, turns, label) {
-        Ok(seen) => Ok(view_text(alloc, seen.as_slice(), names)?),
+        Ok(seen) => seen_text(alloc, seen, names),
         Err(fault) => Err(run_halt(fault)),
     }
 }
@@ -79,9 +79,29 @@ fn audit(
 {
     audits_are_read();
     match noted_in(alloc, code, start, turns) {
-        Ok(noted) => Ok(audit_text(alloc, noted.as_slice(), names)?),
+        Ok(noted) => noted_text(alloc, noted, names),
         Err(fault) => Err(run_halt(fault)),
     }
+}
+
+/// The text of what was seen. The list is left to the end of the call's process, which prints one text.
+fn seen_text(alloc: Global, seen: Vec<Seen>, names: &TagNames) -> Result<String, Halt>
+    ensures ok { IfOk result (λ text. string_bytes text ≡ seen_lines names.now seen.items) }
+    ensures err { IfErr result (λ halt. halt ≡ Halt.NoMemory) }
+{
+    let text = view_text(alloc, seen.as_slice(), names);
+    forget(seen);
+    Ok(text?)
+}
+
+/// The text of what was noted. The list is left as that of what was seen.
+fn noted_text(alloc: Global, noted: Vec<Noted>, names: &TagNames) -> Result<String, Halt>
+    ensures ok { IfOk result (λ text. string_bytes text ≡ noted_lines names.now noted.items) }
+    ensures err { IfErr result (λ halt. halt ≡ Halt.NoMemory) }
+{
+    let text = audit_text(alloc, noted.as_slice(), names);
+    forget(noted);
+    Ok(text?)
 }
 
 /// What a fault of a book halts with.

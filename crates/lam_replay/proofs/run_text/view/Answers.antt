@@ -1,12 +1,13 @@
 use Rattle.std.proofs.Common.{◌∙◌, ap}
+use Rattle.lam_worlds.specs.Turns.{moments}
 use Rattle.audit_log.specs.Log.{seen_lines, view_lines}
 use Rattle.lam_replay.proofs.RunLemmas.{run_says, no_run_says, no_shelf_run}
 use Rattle.lam_replay.proofs.run_text.view.Goals as goal
 
-pub returns-in_ok-view_text-in-Ok-clause-says : goal.returns-in_ok-view_text-in-Ok-clause-says
-returns-in_ok-view_text-in-Ok-clause-says c =
-    run_says c.args.code.now c.args.start (view_lines c.args.names.now c.args.label.now) c.args.turns.now _
-    (c.in_ok-view_text-in-Ok.ensures ∙ ap (seen_lines c.args.names.now) (c.as_slice.ensures.value ∙ c.in-Ok.ensures.ok) ∙ c.views_are_read.ensures _ _ _) c.in-Ok.ensures.run
+pub returns-in-Ok-clause-says : goal.returns-in-Ok-clause-says
+returns-in-Ok-clause-says c =
+    run_says c.args.code.now c.args.start (view_lines c.args.names.now c.args.label.now) c.args.turns.now (seen_lines c.args.names.now c.in-Ok.seen.items) c.seen_text.result c.seen_text.ensures.ok c.seen_text.ensures.err
+    (ap (seen_lines c.args.names.now) c.in-Ok.ensures.ok ∙ c.views_are_read.ensures c.args.names.now c.args.label.now (moments c.args.code.now c.args.turns.now c.args.start)) c.in-Ok.ensures.run
 
 pub returns-in-Err-clause-says : goal.returns-in-Err-clause-says
 returns-in-Err-clause-says c = no_run_says c.args.code.now c.args.start (view_lines c.args.names.now c.args.label.now) c.args.turns.now c.in-Err.fault c.run_halt.result c.in-Err.ensures.stops c.run_halt.ensures
