@@ -1,7 +1,8 @@
 -- What is found, and what is shown, of the parts of a run.
-use Rattle.std.proofs.Common.{◌≡◌, ◌≤◌, ℕ, List, Option, Some, None, Result, Ok, Err, String, string_bytes, IfOk, IfErr, refl, sym, ap, subst, ◌∙◌, ◌+◌, ◌-◌, ◌^◌, min, arith}
+use Rattle.std.proofs.Common.{◌≡◌, ◌≤◌, ℕ, List, Option, Some, None, Result, Ok, Err, String, string_bytes, IfOk, IfErr, MatchResult, refl, sym, ap, subst, ◌∙◌, ◌+◌, ◌-◌, ◌^◌, min, arith}
 use Rattle.std.specs.declared.alloc.Global.{Global}
 use Rattle.std.specs.Prelude.{Vec}
+use Rattle.std.specs.Result.{IsErrAnd}
 use Rattle.flow_labels.specs.LabelText.{label_of}
 use Rattle.flow_labels.specs.declared.Label.{Label}
 use Rattle.flow_labels.specs.declared.texts.LabelFault.{LabelFault}
@@ -26,28 +27,41 @@ use Rattle.lam_plan.specs.Refusals.{Plan, prints, no_word, no_world, no_book}
 use Rattle.lam_plan.specs.Reading.{HasFile, WithFile, Never, Compiles, IsCompiled, program_limit, world_limit, book_limit, of_file, unread}
 use Rattle.lam_plan.specs.Replays.{Reader, an_observer, an_auditor, RunFiles, view_by, read_by, by_turns, by_list, by_book, IsOfTurns, IsOfBook, ByReader, ByWorld, NoStart, Replays, Starts, Runs}
 use Rattle.lam_plan.proofs.ReadLemmas.{same_files, program_then, no_program_then, start_then, no_start_then, reader_then, no_reader_then}
+use Rattle.lam_commands.specs.declared.halt.Refusal.TheVariants.{NotReady as not_ready_at}
 use Rattle.lam_commands.specs.declared.halt.Halt.{Halt}
 use Rattle.lam_commands.specs.declared.halt.Halt.TheVariants.{Refused, NoMemory, ShelfFailed}
 use Rattle.lam_commands.specs.Halts.{refuses, Finds, Says, Gives, IsRead}
 use Rattle.lam_commands.proofs.FileLemmas.{says_map, not_found, gives_of}
-use Rattle.lam_replay.specs.Asked.{halt_of_world, halt_of_book, halt_of_run}
+use Rattle.lam_replay.specs.Asked.{halt_of_world, halt_of_book, halt_of_run, HaltsAt}
 
 -- ---- the start
 
 by_break : (read : Reading World) (b : Break) → read ≡ Err b → ByWorld Never read (no_world b)
 by_break read b is = subst (λ (r : Reading World). ByWorld Never r (no_world b)) (sym is) refl
 
-broken_start : (tree : CodeTree) (bytes : Text) (f : WorldFault) → document_reading.Fails f (start_of bytes tree) → Finds {X = World} (Err (halt_of_world f)) (λ start. start_of bytes tree ≡ Ok start) (NoStart tree bytes)
-broken_start tree bytes NotJson h = by_break (start_of bytes tree) _ h.breaks
-broken_start tree bytes (NoMember name) h = by_break (start_of bytes tree) _ h.breaks
-broken_start tree bytes (BadMember name) h = by_break (start_of bytes tree) _ h.breaks
-broken_start tree bytes (NoTag name) h = by_break (start_of bytes tree) _ h.breaks
-broken_start tree bytes (BadPath index) h = by_break (start_of bytes tree) _ h.breaks
-broken_start tree bytes (PathTwice index) h = by_break (start_of bytes tree) _ h.breaks
-broken_start tree bytes no_memory_of_world h = tt
+module _ {X : Type 0} (IsIt : X → Type 0) (tree : CodeTree) (bytes : Text) where
+  broken_start : (f : WorldFault) → document_reading.Fails f (start_of bytes tree) → Finds {X = X} (Err (halt_of_world f)) IsIt (NoStart tree bytes)
+  broken_start NotJson h = by_break (start_of bytes tree) _ h.breaks
+  broken_start (NoMember name) h = by_break (start_of bytes tree) _ h.breaks
+  broken_start (BadMember name) h = by_break (start_of bytes tree) _ h.breaks
+  broken_start (NoTag name) h = by_break (start_of bytes tree) _ h.breaks
+  broken_start (BadPath index) h = by_break (start_of bytes tree) _ h.breaks
+  broken_start (PathTwice index) h = by_break (start_of bytes tree) _ h.breaks
+  broken_start no_memory_of_world h = tt
 
-pub no_start_found : (tree : CodeTree) (bytes : Text) (f : WorldFault) (halt : Halt) → document_reading.Fails f (start_of bytes tree) → halt ≡ halt_of_world f → Finds {X = World} (Err halt) (λ start. start_of bytes tree ≡ Ok start) (NoStart tree bytes)
-no_start_found tree bytes f halt h is = subst (λ (x : Halt). Finds {X = World} (Err x) (λ start. start_of bytes tree ≡ Ok start) (NoStart tree bytes)) (sym is) (broken_start tree bytes f h)
+  pub no_start_found : (f : WorldFault) (halt : Halt) → document_reading.Fails f (start_of bytes tree) → halt ≡ halt_of_world f → Finds {X = X} (Err halt) IsIt (NoStart tree bytes)
+  no_start_found f halt h is = subst (λ (x : Halt). Finds {X = X} (Err x) IsIt (NoStart tree bytes)) (sym is) (broken_start f h)
+
+-- what was found, in another place
+pub found_as : {X : Type 0} (Is : World → Type 0) (value : X → World) (P : Plan → Type 0) (start : World) (answer : Result X Halt) → IfOk answer (λ x. value x ≡ start) → IfErr answer (λ halt. halt ≡ NoMemory) → Is start → Finds answer (λ x. Is (value x)) P
+found_as Is value P start (Ok x) h k is = subst Is (sym h) is
+found_as Is value P start (Err (Refused refusal)) h k is = absurd (let no : ⊥ = cc in no)
+found_as Is value P start (Err NoMemory) h k is = tt
+found_as Is value P start (Err ShelfFailed) h k is = tt
+
+pub valid_as : {X : Type 0} (Is : World → Type 0) (value : X → World) (start : World) (answer : Result X Halt) → IfOk answer (λ x. value x ≡ start) → Is start → IfOk answer (λ x. Is (value x))
+valid_as Is value start (Ok x) h is = subst Is (sym h) is
+valid_as Is value start (Err halt) h is = tt
 
 -- no fault of a document is one of the shelf
 pub no_shelf_world : (f : WorldFault) (halt : Halt) → halt ≡ halt_of_world f → halt ≡ ShelfFailed → ⊥
@@ -74,12 +88,11 @@ module _ (tree : CodeTree) (start : World) (shown : List Moment → Text) where
   run_says turns lines (Err NoMemory) h k is whole = tt
   run_says turns lines (Err ShelfFailed) h k is whole = tt
 
-  stopped_says : (turns : List ℕ) (f : RunFault) → IsStop f (stopped_at tree turns start) → Says (Err (halt_of_run f)) (IsOfTurns tree start shown turns)
-  stopped_says turns (not_ready turn thread) h = sym (ap (λ (stop : Option NotReady). by_turns stop (shown (moments tree turns start))) h)
-  stopped_says turns no_memory_of_run h = tt
-
-  pub no_run_says : (turns : List ℕ) (f : RunFault) (halt : Halt) → IsStop f (stopped_at tree turns start) → halt ≡ halt_of_run f → Says (Err halt) (IsOfTurns tree start shown turns)
-  no_run_says turns f halt h is = subst (λ (x : Halt). Says (Err x) (IsOfTurns tree start shown turns)) (sym is) (stopped_says turns f h)
+  pub no_run_says : (turns : List ℕ) (halt : Halt) → HaltsAt halt (stopped_at tree turns start) → Says (Err halt) (IsOfTurns tree start shown turns)
+  no_run_says turns (Refused (not_ready_at turn thread)) h = sym (ap (λ (stop : Option NotReady). by_turns stop (shown (moments tree turns start))) h)
+  no_run_says turns (Refused refusal) h = absurd h
+  no_run_says turns NoMemory h = tt
+  no_run_says turns ShelfFailed h = tt
 
   -- ---- the book
 
@@ -103,9 +116,32 @@ no_shelf_book (SameThread number) halt is e = cc
 no_shelf_book (TooMany number) halt is e = cc
 no_shelf_book no_memory_of_book halt is e = cc
 
-pub no_shelf_run : (f : RunFault) (halt : Halt) → halt ≡ halt_of_run f → halt ≡ ShelfFailed → ⊥
-no_shelf_run (not_ready turn thread) halt is e = cc
-no_shelf_run no_memory_of_run halt is e = cc
+pub no_shelf_run : (halt : Halt) (stop : Option NotReady) → HaltsAt halt stop → halt ≡ ShelfFailed → ⊥
+no_shelf_run (Refused refusal) stop h e = cc
+no_shelf_run NoMemory stop h e = cc
+no_shelf_run ShelfFailed stop h e = h
+
+stop_halts : (f : RunFault) (stop : Option NotReady) → IsStop f stop → HaltsAt (halt_of_run f) stop
+stop_halts (not_ready turn thread) stop h = h
+stop_halts no_memory_of_run stop h = tt
+
+fault_halts : (f : RunFault) (halt : Halt) (stop : Option NotReady) → IsStop f stop → halt ≡ halt_of_run f → HaltsAt halt stop
+fault_halts f halt stop h is = subst (λ (x : Halt). HaltsAt x stop) (sym is) (stop_halts f stop h)
+
+-- what was found of turns, with its fault as a halt
+module _ {X : Type 0} where
+  abbrev Mapped : Result X RunFault → Result X Halt → Type 0
+  Mapped r answer = MatchResult r (λ x. answer ≡ Ok x) (λ f. IsErrAnd answer (λ halt. halt ≡ halt_of_run f))
+
+  pub mapped_ok : (r : Result X RunFault) (answer : Result X Halt) (Is : X → Type 0) → Mapped r answer → IfOk r Is → IfOk answer Is
+  mapped_ok (Ok x) answer Is h is = subst (λ (a : Result X Halt). IfOk a Is) (sym h) is
+  mapped_ok (Err f) (Ok y) Is h is = absurd h
+  mapped_ok (Err f) (Err halt) Is h is = tt
+
+  pub mapped_err : (r : Result X RunFault) (answer : Result X Halt) (stop : Option NotReady) → Mapped r answer → IfErr r (λ f. IsStop f stop) → IfErr answer (λ halt. HaltsAt halt stop)
+  mapped_err (Ok x) answer stop h is = subst (λ (a : Result X Halt). IfErr a (λ halt. HaltsAt halt stop)) (sym h) tt
+  mapped_err (Err f) (Ok y) stop h is = tt
+  mapped_err (Err f) (Err halt) stop h is = fault_halts f halt stop is h
 
 -- ---- one part after another
 
@@ -133,8 +169,8 @@ module _ (files : Files) (run : RunFiles) (reader : Reader) (tree : CodeTree) wh
   pub start_says : (between : Files) (start : World) (answer : Result (String Global) Halt) → AllStay files between → HasFile (files run.world) world_limit (λ bytes. start_of bytes tree ≡ Ok start) → Says answer (Replays between run.book reader tree start) → Says answer (Starts files run reader tree)
   start_says between start answer stay has h = says_map (Replays between run.book reader tree start) (Starts files run reader tree) (λ p k. start_then files run reader tree p start has (subst (λ (fs : Files). Replays fs run.book reader tree start p) (same_files files between stay) k)) answer h
 
-  pub no_start_says : (halt : Halt) → Finds {X = World} (Err halt) (λ start. HasFile (files run.world) world_limit (λ bytes. start_of bytes tree ≡ Ok start)) (WithFile (files run.world) run.world world_limit (NoStart tree)) → Says (Err halt) (Starts files run reader tree)
-  no_start_says halt h = not_found (λ start. HasFile (files run.world) world_limit (λ bytes. start_of bytes tree ≡ Ok start)) (WithFile (files run.world) run.world world_limit (NoStart tree)) (Starts files run reader tree) (λ p k. no_start_then files run reader tree p k) halt h
+  pub no_start_says : {X : Type 0} (IsIt : X → Type 0) (halt : Halt) → Finds {X = X} (Err halt) IsIt (WithFile (files run.world) run.world world_limit (NoStart tree)) → Says (Err halt) (Starts files run reader tree)
+  no_start_says IsIt halt h = not_found IsIt (WithFile (files run.world) run.world world_limit (NoStart tree)) (Starts files run reader tree) (λ p k. no_start_then files run reader tree p k) halt h
 
 module _ (files : Files) (program : Text) (run : RunFiles) (reader : Reader) (new : Files) where
   pub program_gives : (between : Files) (tree : CodeTree) (answer : Result (String Global) Halt) → AllStay files between → AllStay files new → HasFile (files program) program_limit (λ bytes. IsCompiled bytes (Ok tree)) → Says answer (Starts between run reader tree) → Gives answer (WithFile (files program) program program_limit (Runs files run reader)) files new

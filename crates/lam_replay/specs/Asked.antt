@@ -1,11 +1,12 @@
 -- What is asked of a run, and what the faults of the parts that are read halt with.
-use Rattle.std.specs.Prelude.{List, string_bytes}
+use Rattle.std.specs.Prelude.{◌≡◌, List, Option, Some, string_bytes}
 use Rattle.lam_worlds.specs.Turns.{Moment}
 use Rattle.audit_log.specs.Log.{view_lines, audit_lines}
 use Rattle.turn_book.specs.declared.BookFault.{BookFault}
 use Rattle.turn_book.specs.declared.BookFault.TheVariants as book
 use Rattle.world_reading.specs.declared.fault.WorldFault.{WorldFault}
 use Rattle.world_reading.specs.declared.fault.WorldFault.TheVariants as document
+use Rattle.lam_run.specs.Stops.{NotReady as NotReadyAt}
 use Rattle.lam_run.specs.declared.fault.RunFault.{RunFault}
 use Rattle.lam_run.specs.declared.fault.RunFault.TheVariants as run
 use Rattle.lam_words.specs.Words.{Text}
@@ -56,3 +57,9 @@ halt_of_book book.NoMemory = NoMemory
 abbrev pub halt_of_run : RunFault → Halt
 halt_of_run (run.NotReady turn thread) = Refused (NotReady turn thread)
 halt_of_run run.NoMemory = NoMemory
+
+-- turns halt at the first whose thread is not ready, or for want of memory
+abbrev pub HaltsAt : Halt → Option NotReadyAt → Type 0
+HaltsAt (Refused (NotReady turn thread)) stop = stop ≡ Some (record { turn = turn; thread = thread })
+HaltsAt NoMemory stop = Unit {0}
+HaltsAt halt stop = ⊥

@@ -99,13 +99,13 @@ fn replay_from<H: Shelf>(
     alloc: Global,
     shelf: &mut H,
     code: &Code,
-    start: World,
+    start: Box<World>,
     book: String,
     reader: &Reader,
 ) -> Result<String, Halt>
     requires code { IsCode code.now }
-    requires valid { IsValid start }
-    ensures says { IsTrue (H.tells shelf.old) → Says result (Replays (H.files shelf.old) (string_bytes book) (reader_of reader.now) code.now start) }
+    requires valid { IsValid start.value }
+    ensures says { IsTrue (H.tells shelf.old) → Says result (Replays (H.files shelf.old) (string_bytes book) (reader_of reader.now) code.now start.value) }
     ensures stay { IsTrue (H.tells shelf.old) → AllStay (H.files shelf.old) (H.files shelf.new) }
     ensures failed { IfErr result (λ halt. halt ≡ Halt.ShelfFailed → Rose (H.faults shelf.old) (H.faults shelf.new)) }
 {
@@ -121,14 +121,14 @@ fn replay_book<H: Shelf>(
     alloc: Global,
     shelf: &mut H,
     code: &Code,
-    start: World,
+    start: Box<World>,
     book: String,
     names: &TagNames,
     eye: &Eye,
 ) -> Result<String, Halt>
     requires code { IsCode code.now }
-    requires valid { IsValid start }
-    ensures says { IsTrue (H.tells shelf.old) → Says result (WithFile (H.files shelf.old (string_bytes book)) (string_bytes book) book_limit (IsOfBook code.now start (lines_for eye.now names.now))) }
+    requires valid { IsValid start.value }
+    ensures says { IsTrue (H.tells shelf.old) → Says result (WithFile (H.files shelf.old (string_bytes book)) (string_bytes book) book_limit (IsOfBook code.now start.value (lines_for eye.now names.now))) }
     ensures stay { IsTrue (H.tells shelf.old) → AllStay (H.files shelf.old) (H.files shelf.new) }
     ensures failed { IfErr result (λ halt. halt ≡ Halt.ShelfFailed → Rose (H.faults shelf.old) (H.faults shelf.new)) }
 {

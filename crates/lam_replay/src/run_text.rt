@@ -1,12 +1,15 @@
 //! The turns of a book, and the text of their run.
 
-ghost use Rattle.std.specs.Prelude.{◌≡◌, ◌≢◌, IfOk, IfErr, string_bytes};
+ghost use Rattle.std.specs.Prelude.{◌≡◌, ◌≢◌, None, IfOk, OnOk, IfErr, string_bytes};
 ghost use Rattle.lam_bytecode.specs.Codes.{IsCode};
+ghost use Rattle.lam_worlds.specs.Turns.{moments};
 ghost use Rattle.lam_worlds.specs.Valid.{IsValid};
+ghost use Rattle.run_notes.specs.Notes.{seen_by, noted_in};
+ghost use Rattle.lam_run.specs.Stops.{stopped_at};
 ghost use Rattle.audit_log.specs.Log.{seen_lines, view_lines, noted_lines, audit_lines};
 ghost use Rattle.lam_plan.specs.Replays.{IsOfBook, IsOfTurns};
 ghost use Rattle.lam_commands.specs.Halts.{Says};
-ghost use Rattle.lam_replay.specs.Asked.{lines_for, halt_of_book, halt_of_run};
+ghost use Rattle.lam_replay.specs.Asked.{lines_for, halt_of_book, halt_of_run, HaltsAt};
 
 use crate::eye::Eye;
 use audit_log::{audit_text, audits_are_read, view_text, views_are_read};
@@ -24,22 +27,46 @@ use turn_book::{BookFault, read_book};
 pub(crate) fn shown(
     alloc: Global,
     code: &Code,
-    start: World,
+    start: Box<World>,
     bytes: &[u8],
     names: &TagNames,
     eye: &Eye,
 ) -> Result<String, Halt>
     requires code { IsCode code.now }
-    requires valid { IsValid start }
-    ensures says { Says result (IsOfBook code.now start (lines_for eye.now names.now) bytes.now) }
+    requires valid { IsValid start.value }
+    ensures says { Says result (IsOfBook code.now start.value (lines_for eye.now names.now) bytes.now) }
     ensures no_fault { IfErr result (λ halt. halt ≢ Halt.ShelfFailed) }
 {
     match read_book(alloc, bytes) {
-        Ok(turns) => match eye {
-            Eye::Observer(label) => view(alloc, code, start, turns.as_slice(), names, label),
-            Eye::Auditor => audit(alloc, code, start, turns.as_slice(), names),
-        },
+        Ok(turns) => shown_turns(
+            alloc,
+            code,
+            Box::into_inner(start),
+            turns.as_slice(),
+            names,
+            eye,
+        ),
         Err(fault) => Err(book_halt(fault)),
+    }
+}
+
+/// What the reader is shown of turns.
+fn shown_turns(
+    alloc: Global,
+    code: &Code,
+    start: World,
+    turns: &[u32],
+    names: &TagNames,
+    eye: &Eye,
+) -> Result<String, Halt>
+    requires code { IsCode code.now }
+    requires valid { IsValid start }
+    ensures says { Says result (IsOfTurns code.now start (lines_for eye.now names.now) turns.now) }
+    ensures no_fault { IfErr result (λ halt. halt ≢ Halt.ShelfFailed) }
+{
+    match eye {
+        Eye::Observer(label) => view(alloc, code, start, turns, names, label),
+        Eye::Auditor => audit(alloc, code, start, turns, names),
     }
 }
 
@@ -58,9 +85,9 @@ fn view(
     ensures no_fault { IfErr result (λ halt. halt ≢ Halt.ShelfFailed) }
 {
     views_are_read();
-    match seen_by(alloc, code, start, turns, label) {
+    match seen_in(alloc, code, start, turns, label) {
         Ok(seen) => seen_text(alloc, seen, names),
-        Err(fault) => Err(run_halt(fault)),
+        Err(halt) => Err(halt),
     }
 }
 
@@ -78,10 +105,38 @@ fn audit(
     ensures no_fault { IfErr result (λ halt. halt ≢ Halt.ShelfFailed) }
 {
     audits_are_read();
-    match noted_in(alloc, code, start, turns) {
+    match notes_of(alloc, code, start, turns) {
         Ok(noted) => noted_text(alloc, noted, names),
-        Err(fault) => Err(run_halt(fault)),
+        Err(halt) => Err(halt),
     }
+}
+
+/// What an observer sees of turns, which are a run.
+fn seen_in(
+    alloc: Global,
+    code: &Code,
+    start: World,
+    turns: &[u32],
+    label: &Label,
+) -> Result<Vec<Seen>, Halt>
+    requires code { IsCode code.now }
+    requires valid { IsValid start }
+    ensures ok { IfOk result (λ s. s.items ≡ seen_by label.now (moments code.now turns.now start)) }
+    ensures run { OnOk result (stopped_at code.now turns.now start ≡ None) }
+    ensures stops { IfErr result (λ halt. HaltsAt halt (stopped_at code.now turns.now start)) }
+{
+    seen_by(alloc, code, start, turns, label).map_err(run_halt)
+}
+
+/// What an auditor notes of turns, which are a run.
+fn notes_of(alloc: Global, code: &Code, start: World, turns: &[u32]) -> Result<Vec<Noted>, Halt>
+    requires code { IsCode code.now }
+    requires valid { IsValid start }
+    ensures ok { IfOk result (λ n. n.items ≡ noted_in (moments code.now turns.now start)) }
+    ensures run { OnOk result (stopped_at code.now turns.now start ≡ None) }
+    ensures stops { IfErr result (λ halt. HaltsAt halt (stopped_at code.now turns.now start)) }
+{
+    noted_in(alloc, code, start, turns).map_err(run_halt)
 }
 
 /// The text of what was seen. The list is left to the end of the call's process, which prints one text.
