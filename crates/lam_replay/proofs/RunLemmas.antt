@@ -52,17 +52,6 @@ module _ {X : Type 0} (IsIt : X → Type 0) (tree : CodeTree) (bytes : Text) whe
   pub no_start_found : (f : WorldFault) (halt : Halt) → document_reading.Fails f (start_of bytes tree) → halt ≡ halt_of_world f → Finds {X = X} (Err halt) IsIt (NoStart tree bytes)
   no_start_found f halt h is = subst (λ (x : Halt). Finds {X = X} (Err x) IsIt (NoStart tree bytes)) (sym is) (broken_start f h)
 
--- what was found, in another place
-pub found_as : {X : Type 0} (Is : World → Type 0) (value : X → World) (P : Plan → Type 0) (start : World) (answer : Result X Halt) → IfOk answer (λ x. value x ≡ start) → IfErr answer (λ halt. halt ≡ NoMemory) → Is start → Finds answer (λ x. Is (value x)) P
-found_as Is value P start (Ok x) h k is = subst Is (sym h) is
-found_as Is value P start (Err (Refused refusal)) h k is = absurd (let no : ⊥ = cc in no)
-found_as Is value P start (Err NoMemory) h k is = tt
-found_as Is value P start (Err ShelfFailed) h k is = tt
-
-pub valid_as : {X : Type 0} (Is : World → Type 0) (value : X → World) (start : World) (answer : Result X Halt) → IfOk answer (λ x. value x ≡ start) → Is start → IfOk answer (λ x. Is (value x))
-valid_as Is value start (Ok x) h is = subst Is (sym h) is
-valid_as Is value start (Err halt) h is = tt
-
 -- no fault of a document is one of the shelf
 pub no_shelf_world : (f : WorldFault) (halt : Halt) → halt ≡ halt_of_world f → halt ≡ ShelfFailed → ⊥
 no_shelf_world NotJson halt is e = cc

@@ -27,9 +27,9 @@ pub(crate) fn read_start<H: Shelf>(
     shelf: &mut H,
     code: &Code,
     world: String,
-) -> Result<Box<World>, Halt>
-    ensures finds { IsTrue (H.tells shelf.old) → Finds result (λ start. HasFile (H.files shelf.old (string_bytes world)) world_limit (λ bytes. start_of bytes code.now ≡ Ok start.value)) (WithFile (H.files shelf.old (string_bytes world)) (string_bytes world) world_limit (NoStart code.now)) }
-    ensures valid { IfOk result (λ start. IsValid start.value) }
+) -> Result<World, Halt>
+    ensures finds { IsTrue (H.tells shelf.old) → Finds result (λ start. HasFile (H.files shelf.old (string_bytes world)) world_limit (λ bytes. start_of bytes code.now ≡ Ok start)) (WithFile (H.files shelf.old (string_bytes world)) (string_bytes world) world_limit (NoStart code.now)) }
+    ensures valid { IfOk result IsValid }
     ensures stay { IsTrue (H.tells shelf.old) → AllStay (H.files shelf.old) (H.files shelf.new) }
     ensures tells_on { IsTrue (H.tells shelf.old) → IsTrue (H.tells shelf.new) }
     ensures later { H.faults shelf.old ≤ H.faults shelf.new }
@@ -40,28 +40,20 @@ pub(crate) fn read_start<H: Shelf>(
 }
 
 /// The world of the document in a file's bytes. It is a valid one.
-fn start_in(alloc: Global, code: &Code, bytes: &[u8]) -> Result<Box<World>, Halt>
-    ensures finds { Finds result (λ start. start_of bytes.now code.now ≡ Ok start.value) (NoStart code.now bytes.now) }
-    ensures valid { IfOk result (λ start. IsValid start.value) }
+fn start_in(alloc: Global, code: &Code, bytes: &[u8]) -> Result<World, Halt>
+    ensures finds { Finds result (λ start. start_of bytes.now code.now ≡ Ok start) (NoStart code.now bytes.now) }
+    ensures valid { IfOk result IsValid }
     ensures no_fault { IfErr result (λ halt. halt ≢ Halt.ShelfFailed) }
 {
     texts_start();
     match start(alloc, bytes, code) {
-        Ok(start) => boxed(alloc, start),
+        Ok(start) => Ok(start),
         Err(fault) => Err(world_halt(fault)),
     }
 }
 
-/// A world behind a pointer.
-fn boxed(alloc: Global, world: World) -> Result<Box<World>, Halt>
-    ensures ok { IfOk result (λ start. start.value ≡ world) }
-    ensures err { IfErr result (λ halt. halt ≡ Halt.NoMemory) }
-{
-    match Box::new(alloc, world) {
-        Ok(start) => Ok(start),
-        Err(_) => Err(Halt::NoMemory),
-    }
-}
+/// Lets a world go. Where a world is dropped costs much to prove, so this is the one place.
+pub(crate) fn let_go(_world: World) {}
 
 /// What a fault of a document halts with.
 fn world_halt(fault: WorldFault) -> Halt

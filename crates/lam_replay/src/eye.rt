@@ -1,6 +1,6 @@
 //! Who reads of a run, with the observer's label read by the names of the start.
 
-ghost use Rattle.std.specs.Prelude.{◌≡◌, ◌≢◌, Ok, IfErr};
+ghost use Rattle.std.specs.Prelude.{◌≡◌, ◌≢◌, Ok, IfOk, IfErr};
 ghost use Rattle.lam_plan.specs.Reading.{Never};
 ghost use Rattle.lam_plan.specs.Replays.{an_observer, ByReader, read_by};
 ghost use Rattle.lam_commands.specs.Halts.{Finds};
@@ -9,6 +9,7 @@ ghost use Rattle.lam_replay.specs.Asked.{reader_of, lines_for};
 use crate::Reader;
 use flow_labels::{Label, LabelFault, TagNames, parse_label};
 use lam_commands::{Halt, Refusal};
+use lam_stores::Stores;
 
 /// The index of the word that is the observer's label.
 const OBSERVER_WORD: u64 = 4;
@@ -22,8 +23,30 @@ pub(crate) enum Eye {
     Auditor,
 }
 
+/// Who reads of a run, with the names of the tags of its start.
+#[derive(Drop)]
+pub(crate) struct Viewer {
+    pub(crate) names: TagNames,
+    pub(crate) eye: Eye,
+}
+
+/// The reader of a run from these stores.
+pub(crate) fn viewer_of(reader: &Reader, stores: &Stores) -> Result<Viewer, Halt>
+    ensures names { IfOk result (λ viewer. viewer.names ≡ stores.now.names) }
+    ensures finds { Finds result (λ viewer. read_by (reader_of reader.now) stores.now.names ≡ Ok (lines_for viewer.eye viewer.names)) (ByReader Never (read_by (reader_of reader.now) stores.now.names)) }
+    ensures no_fault { IfErr result (λ halt. halt ≢ Halt.ShelfFailed) }
+{
+    match eye_of(reader, &stores.names) {
+        Ok(eye) => {
+            let names = stores.names.copy()?;
+            Ok(Viewer { names, eye })
+        }
+        Err(halt) => Err(halt),
+    }
+}
+
 /// The reader, with the label that the observer's text spells.
-pub(crate) fn eye_of(reader: &Reader, names: &TagNames) -> Result<Eye, Halt>
+fn eye_of(reader: &Reader, names: &TagNames) -> Result<Eye, Halt>
     ensures finds { Finds result (λ eye. read_by (reader_of reader.now) names.now ≡ Ok (lines_for eye names.now)) (ByReader Never (read_by (reader_of reader.now) names.now)) }
     ensures no_fault { IfErr result (λ halt. halt ≢ Halt.ShelfFailed) }
 {

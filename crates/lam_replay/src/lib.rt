@@ -20,10 +20,9 @@ ghost use Rattle.lam_plan.specs.Replays.{IsOfBook, Replays, Starts, Runs};
 ghost use Rattle.lam_commands.specs.Halts.{Says, Gives};
 ghost use Rattle.lam_replay.specs.Asked.{files_of, reader_of, lines_for};
 
-use crate::document::read_start;
-use crate::eye::{Eye, eye_of};
+use crate::document::{let_go, read_start};
+use crate::eye::{Viewer, viewer_of};
 use crate::run_text::shown;
-use flow_labels::TagNames;
 use lam_bytecode::Code;
 use lam_commands::{Halt, read_code, read_file};
 use lam_io::Shelf;
@@ -99,20 +98,22 @@ fn replay_from<H: Shelf>(
     alloc: Global,
     shelf: &mut H,
     code: &Code,
-    start: Box<World>,
+    start: World,
     book: String,
     reader: &Reader,
 ) -> Result<String, Halt>
     requires code { IsCode code.now }
-    requires valid { IsValid start.value }
-    ensures says { IsTrue (H.tells shelf.old) → Says result (Replays (H.files shelf.old) (string_bytes book) (reader_of reader.now) code.now start.value) }
+    requires valid { IsValid start }
+    ensures says { IsTrue (H.tells shelf.old) → Says result (Replays (H.files shelf.old) (string_bytes book) (reader_of reader.now) code.now start) }
     ensures stay { IsTrue (H.tells shelf.old) → AllStay (H.files shelf.old) (H.files shelf.new) }
     ensures failed { IfErr result (λ halt. halt ≡ Halt.ShelfFailed → Rose (H.faults shelf.old) (H.faults shelf.new)) }
 {
-    let names = start.stores().names.copy()?;
-    match eye_of(reader, &names) {
-        Ok(eye) => replay_book(alloc, shelf, code, start, book, &names, &eye),
-        Err(halt) => Err(halt),
+    match viewer_of(reader, start.stores()) {
+        Ok(viewer) => replay_book(alloc, shelf, code, start, book, &viewer),
+        Err(halt) => {
+            let_go(start);
+            Err(halt)
+        }
     }
 }
 
@@ -121,17 +122,21 @@ fn replay_book<H: Shelf>(
     alloc: Global,
     shelf: &mut H,
     code: &Code,
-    start: Box<World>,
+    start: World,
     book: String,
-    names: &TagNames,
-    eye: &Eye,
+    viewer: &Viewer,
 ) -> Result<String, Halt>
     requires code { IsCode code.now }
-    requires valid { IsValid start.value }
-    ensures says { IsTrue (H.tells shelf.old) → Says result (WithFile (H.files shelf.old (string_bytes book)) (string_bytes book) book_limit (IsOfBook code.now start.value (lines_for eye.now names.now))) }
+    requires valid { IsValid start }
+    ensures says { IsTrue (H.tells shelf.old) → Says result (WithFile (H.files shelf.old (string_bytes book)) (string_bytes book) book_limit (IsOfBook code.now start (lines_for viewer.now.eye viewer.now.names))) }
     ensures stay { IsTrue (H.tells shelf.old) → AllStay (H.files shelf.old) (H.files shelf.new) }
     ensures failed { IfErr result (λ halt. halt ≡ Halt.ShelfFailed → Rose (H.faults shelf.old) (H.faults shelf.new)) }
 {
-    let bytes = read_file(alloc, shelf, book, BOOK_LIMIT)?;
-    shown(alloc, code, start, bytes.as_slice(), names, eye)
+    match read_file(alloc, shelf, book, BOOK_LIMIT) {
+        Ok(bytes) => shown(alloc, code, start, bytes.as_slice(), viewer),
+        Err(halt) => {
+            let_go(start);
+            Err(halt)
+        }
+    }
 }

@@ -11,7 +11,8 @@ ghost use Rattle.lam_plan.specs.Replays.{IsOfBook, IsOfTurns};
 ghost use Rattle.lam_commands.specs.Halts.{Says};
 ghost use Rattle.lam_replay.specs.Asked.{lines_for, halt_of_book, halt_of_run, HaltsAt};
 
-use crate::eye::Eye;
+use crate::document::let_go;
+use crate::eye::{Eye, Viewer};
 use audit_log::{audit_text, audits_are_read, view_text, views_are_read};
 use flow_labels::{Label, TagNames};
 use lam_bytecode::Code;
@@ -27,26 +28,21 @@ use turn_book::{BookFault, read_book};
 pub(crate) fn shown(
     alloc: Global,
     code: &Code,
-    start: Box<World>,
+    start: World,
     bytes: &[u8],
-    names: &TagNames,
-    eye: &Eye,
+    viewer: &Viewer,
 ) -> Result<String, Halt>
     requires code { IsCode code.now }
-    requires valid { IsValid start.value }
-    ensures says { Says result (IsOfBook code.now start.value (lines_for eye.now names.now) bytes.now) }
+    requires valid { IsValid start }
+    ensures says { Says result (IsOfBook code.now start (lines_for viewer.now.eye viewer.now.names) bytes.now) }
     ensures no_fault { IfErr result (λ halt. halt ≢ Halt.ShelfFailed) }
 {
     match read_book(alloc, bytes) {
-        Ok(turns) => shown_turns(
-            alloc,
-            code,
-            Box::into_inner(start),
-            turns.as_slice(),
-            names,
-            eye,
-        ),
-        Err(fault) => Err(book_halt(fault)),
+        Ok(turns) => shown_turns(alloc, code, start, turns.as_slice(), viewer),
+        Err(fault) => {
+            let_go(start);
+            Err(book_halt(fault))
+        }
     }
 }
 
@@ -56,17 +52,16 @@ fn shown_turns(
     code: &Code,
     start: World,
     turns: &[u32],
-    names: &TagNames,
-    eye: &Eye,
+    viewer: &Viewer,
 ) -> Result<String, Halt>
     requires code { IsCode code.now }
     requires valid { IsValid start }
-    ensures says { Says result (IsOfTurns code.now start (lines_for eye.now names.now) turns.now) }
+    ensures says { Says result (IsOfTurns code.now start (lines_for viewer.now.eye viewer.now.names) turns.now) }
     ensures no_fault { IfErr result (λ halt. halt ≢ Halt.ShelfFailed) }
 {
-    match eye {
-        Eye::Observer(label) => view(alloc, code, start, turns, names, label),
-        Eye::Auditor => audit(alloc, code, start, turns, names),
+    match &viewer.eye {
+        Eye::Observer(label) => view(alloc, code, start, turns, &viewer.names, label),
+        Eye::Auditor => audit(alloc, code, start, turns, &viewer.names),
     }
 }
 

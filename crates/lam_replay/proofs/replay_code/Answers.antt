@@ -1,5 +1,4 @@
-use Rattle.std.proofs.Common.{◌≡◌, Ok, Box, string_bytes}
-use Rattle.std.specs.declared.alloc.Global.{Global}
+use Rattle.std.proofs.Common.{◌≡◌, Ok, string_bytes}
 use Rattle.lam_worlds.specs.Worlds.{World}
 use Rattle.world_terms.specs.Start.{start_of}
 use Rattle.lam_plan.specs.Reading.{HasFile, world_limit}
@@ -10,7 +9,7 @@ use Rattle.lam_replay.proofs.replay_code.Goals as goal
 
 pub returns-in-Ok-clause-says : goal.returns-in-Ok-clause-says
 returns-in-Ok-clause-says g c = λ told.
-    start_says (g.H.Shelf.files c.args.shelf.now) (files_of c.args.files) (reader_of c.args.reader.now) c.args.code.now (g.H.Shelf.files c.read_start.new.shelf) c.in-Ok.start.value c.replay_from.result (c.in-Ok.ensures.stay told) (c.in-Ok.ensures.finds told) (c.replay_from.ensures.says (c.in-Ok.ensures.tells_on told))
+    start_says (g.H.Shelf.files c.args.shelf.now) (files_of c.args.files) (reader_of c.args.reader.now) c.args.code.now (g.H.Shelf.files c.read_start.new.shelf) c.in-Ok.start c.replay_from.result (c.in-Ok.ensures.stay told) (c.in-Ok.ensures.finds told) (c.replay_from.ensures.says (c.in-Ok.ensures.tells_on told))
 
 pub returns-in-Ok-clause-stay : goal.returns-in-Ok-clause-stay
 returns-in-Ok-clause-stay g c = λ told.
@@ -21,4 +20,4 @@ returns-in-Ok-clause-failed g c = failed_later c.replay_from.result (g.H.Shelf.f
 
 pub returns-in-Err-clause-says : goal.returns-in-Err-clause-says
 returns-in-Err-clause-says g c = λ told.
-    no_start_says (g.H.Shelf.files c.args.shelf.now) (files_of c.args.files) (reader_of c.args.reader.now) c.args.code.now (λ (b : Box World Global). HasFile (g.H.Shelf.files c.args.shelf.now (string_bytes c.args.files.world)) world_limit (λ bytes. start_of bytes c.args.code.now ≡ Ok b.value)) c.in-Err.halt (c.in-Err.ensures.finds told)
+    no_start_says (g.H.Shelf.files c.args.shelf.now) (files_of c.args.files) (reader_of c.args.reader.now) c.args.code.now (λ (b : World). HasFile (g.H.Shelf.files c.args.shelf.now (string_bytes c.args.files.world)) world_limit (λ bytes. start_of bytes c.args.code.now ≡ Ok b)) c.in-Err.halt (c.in-Err.ensures.finds told)
