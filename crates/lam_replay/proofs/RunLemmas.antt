@@ -19,7 +19,8 @@ use Rattle.turn_book.specs.declared.BookFault.TheVariants.{BadHead, BadLine, Sam
 use Rattle.world_reading.specs.Meaning as document_reading
 use Rattle.world_reading.specs.declared.fault.WorldFault.{WorldFault}
 use Rattle.world_reading.specs.declared.fault.WorldFault.TheVariants.{NotJson, NoMember, BadMember, NoTag, BadPath, PathTwice, NoMemory as no_memory_of_world}
-use Rattle.lam_run.specs.Stops.{NotReady, stopped_at, IsStop}
+use Rattle.run_stops.specs.Stops.{NotReady, stopped_at}
+use Rattle.lam_run.specs.Stops.{IsStop}
 use Rattle.lam_run.specs.declared.fault.RunFault.{RunFault}
 use Rattle.lam_run.specs.declared.fault.RunFault.TheVariants.{NotReady as not_ready, NoMemory as no_memory_of_run}
 use Rattle.lam_words.specs.Words.{Text}

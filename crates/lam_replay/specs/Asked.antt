@@ -6,7 +6,7 @@ use Rattle.turn_book.specs.declared.BookFault.{BookFault}
 use Rattle.turn_book.specs.declared.BookFault.TheVariants as book
 use Rattle.world_reading.specs.declared.fault.WorldFault.{WorldFault}
 use Rattle.world_reading.specs.declared.fault.WorldFault.TheVariants as document
-use Rattle.lam_run.specs.Stops.{NotReady as NotReadyAt}
+use Rattle.run_stops.specs.Stops.{NotReady as NotReadyAt}
 use Rattle.lam_run.specs.declared.fault.RunFault.{RunFault}
 use Rattle.lam_run.specs.declared.fault.RunFault.TheVariants as run
 use Rattle.lam_words.specs.Words.{Text}

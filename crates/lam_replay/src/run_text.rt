@@ -5,7 +5,7 @@ ghost use Rattle.lam_bytecode.specs.Codes.{IsCode};
 ghost use Rattle.lam_worlds.specs.Turns.{moments};
 ghost use Rattle.lam_worlds.specs.Valid.{IsValid};
 ghost use Rattle.run_notes.specs.Notes.{seen_by, noted_in};
-ghost use Rattle.lam_run.specs.Stops.{stopped_at};
+ghost use Rattle.run_stops.specs.Stops.{stopped_at};
 ghost use Rattle.audit_log.specs.Log.{seen_lines, view_lines, noted_lines, audit_lines};
 ghost use Rattle.lam_plan.specs.Replays.{IsOfBook, IsOfTurns};
 ghost use Rattle.lam_commands.specs.Halts.{Says};

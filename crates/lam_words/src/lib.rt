@@ -62,12 +62,7 @@ impl Form {
                 Kind::File,
                 Kind::Observer,
             ],
-            Form::Audit => &[
-                Kind::Name(Form::Audit),
-                Kind::File,
-                Kind::File,
-                Kind::File,
-            ],
+            Form::Audit => &[Kind::Name(Form::Audit), Kind::File, Kind::File, Kind::File],
             Form::Help => &[Kind::Name(Form::Help)],
         }
     }
@@ -114,13 +109,22 @@ fn forms() -> &'static [Form]
 #[derive(Drop)]
 pub enum Command {
     /// `play FILE OBS`: the steps of a script as an observer sees them.
-    Play { file: String, obs: String },
+    Play {
+        file: String,
+        obs: String,
+    },
     /// `check P`: whether a program keeps the type rules and the region rules, and has code.
-    Check { program: String },
+    Check {
+        program: String,
+    },
     /// `format P`: a program in canonical text.
-    Format { program: String },
+    Format {
+        program: String,
+    },
     /// `code P`: the listing of a program's code.
-    Code { program: String },
+    Code {
+        program: String,
+    },
     /// `replay P W BOOK OBS`: what an observer sees of the run of a program, from the world of a document, in the
     /// order of a book.
     Replay {
