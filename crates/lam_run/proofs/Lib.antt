@@ -1,0 +1,3 @@
+mod ProductLemmas
+mod TurnLemmas
+mod RunLemmas

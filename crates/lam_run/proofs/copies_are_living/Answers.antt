@@ -1,0 +1,5 @@
+use Rattle.lam_run.proofs.ProductLemmas.{copies_live}
+use Rattle.lam_run.proofs.copies_are_living.Goals as goal
+
+pub returns : goal.returns
+returns c = copies_live

@@ -1,0 +1,4 @@
+pub mod Stops
+pub mod Told
+pub mod Turns
+pub mod Laws
