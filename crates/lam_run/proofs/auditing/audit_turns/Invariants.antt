@@ -8,5 +8,5 @@ abbrev pub invariant-loop-turn : goal.invariant-loop-turn
 invariant-loop-turn l =
     record {
       left : Left l.code l.initial.world l.turns l.turn l.world;
-      noted : l.all.items ++ noted_from l.turn (moments l.code (drop l.turn l.turns) l.world) ≡ l.initial.all.items ++ noted_in (moments l.code l.turns l.initial.world)
+      noted : l.all.items ++ noted_from l.turn (moments l.code (drop l.turn l.turns) l.world) ≡ l.initial.all.items ++ noted_in (moments l.code l.turns l.initial.world);
     }

@@ -8,5 +8,5 @@ abbrev pub invariant-loop-turn : goal.invariant-loop-turn
 invariant-loop-turn l =
     record {
       left : Left l.code l.initial.world l.turns l.turn l.world;
-      seen : l.all.items ++ seen_by l.observer (moments l.code (drop l.turn l.turns) l.world) ≡ l.initial.all.items ++ seen_by l.observer (moments l.code l.turns l.initial.world)
+      seen : l.all.items ++ seen_by l.observer (moments l.code (drop l.turn l.turns) l.world) ≡ l.initial.all.items ++ seen_by l.observer (moments l.code l.turns l.initial.world);
     }
