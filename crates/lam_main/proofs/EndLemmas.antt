@@ -6,14 +6,17 @@ use Rattle.lam_io.specs.declared.SinkFault.{SinkFault as Failure}
 use Rattle.lam_words.specs.Words.{Text, Request}
 use Rattle.lam_plan.specs.declared.Status.{Status}
 use Rattle.lam_plan.specs.declared.Status.TheVariants.{Done, NoMemory, ShelfFault, SinkFault}
-use Rattle.lam_plan.specs.Plan.{Plan, no_word}
+use Rattle.lam_plan.specs.Refusals.{Plan, no_word, no_world}
 use Rattle.lam_plan.specs.Answer.{outside, IsPrinted, whole, front, AsPlanned, IsPlanned, by_plan, without_memory, without_shelf}
 use Rattle.lam_plan.proofs.AnswerLemmas.{no_file_written}
-use Rattle.lam_main.specs.declared.halt.Refusal.{Refusal}
-use Rattle.lam_main.specs.declared.halt.Refusal.TheVariants.{Word, Script, NotUtf8, Flawed, CodeTooLong, Absent, TooLong}
-use Rattle.lam_main.specs.declared.halt.Halt.{Halt}
-use Rattle.lam_main.specs.declared.halt.Halt.TheVariants.{Refused, NoMemory as no_memory, ShelfFailed}
-use Rattle.lam_main.specs.Halts.{refuses, Gives, Ends}
+use Rattle.lam_commands.specs.declared.halt.Refusal.{Refusal}
+use Rattle.lam_commands.specs.declared.halt.Refusal.TheVariants.{Word, Script, NotUtf8, Flawed, CodeTooLong, World, Book, NotReady, Absent, TooLong}
+use Rattle.lam_commands.specs.declared.halt.Halt.{Halt}
+use Rattle.lam_commands.specs.declared.halt.Halt.TheVariants.{Refused, NoMemory as no_memory, ShelfFailed}
+use Rattle.lam_commands.specs.declared.halt.WorldBreak.{WorldBreak}
+use Rattle.lam_commands.specs.declared.halt.WorldBreak.TheVariants.{NotJson, NoMember, BadMember, NoTag, BadPath, PathTwice}
+use Rattle.lam_commands.specs.Halts.{break_of, refuses, Gives}
+use Rattle.lam_main.specs.Ends.{Ends}
 use Rattle.lam_main.specs.Lines.{Prints, ended}
 
 -- the statuses that no plan has
@@ -30,12 +33,23 @@ pub record IsRefusal (plan : Plan) : Type 0 where
   pub plain : IsPlain plan.status
   pub no_file : plan.writes ≡ None
 
+breaks : (breach : WorldBreak) → IsRefusal (no_world (break_of breach))
+breaks NotJson = record { plain = record { memory = λ e. cc; shelf = λ e. cc; sink = λ e. cc }; no_file = refl }
+breaks (NoMember name) = record { plain = record { memory = λ e. cc; shelf = λ e. cc; sink = λ e. cc }; no_file = refl }
+breaks (BadMember name) = record { plain = record { memory = λ e. cc; shelf = λ e. cc; sink = λ e. cc }; no_file = refl }
+breaks (NoTag name) = record { plain = record { memory = λ e. cc; shelf = λ e. cc; sink = λ e. cc }; no_file = refl }
+breaks (BadPath index) = record { plain = record { memory = λ e. cc; shelf = λ e. cc; sink = λ e. cc }; no_file = refl }
+breaks (PathTwice index) = record { plain = record { memory = λ e. cc; shelf = λ e. cc; sink = λ e. cc }; no_file = refl }
+
 pub refusals : (refusal : Refusal) → IsRefusal (refuses refusal)
 refusals (Word index) = record { plain = record { memory = λ e. cc; shelf = λ e. cc; sink = λ e. cc }; no_file = refl }
 refusals (Script number) = record { plain = record { memory = λ e. cc; shelf = λ e. cc; sink = λ e. cc }; no_file = refl }
 refusals NotUtf8 = record { plain = record { memory = λ e. cc; shelf = λ e. cc; sink = λ e. cc }; no_file = refl }
 refusals (Flawed flaw at) = record { plain = record { memory = λ e. cc; shelf = λ e. cc; sink = λ e. cc }; no_file = refl }
 refusals (CodeTooLong unit) = record { plain = record { memory = λ e. cc; shelf = λ e. cc; sink = λ e. cc }; no_file = refl }
+refusals (World breach) = breaks breach
+refusals (Book flaw number) = record { plain = record { memory = λ e. cc; shelf = λ e. cc; sink = λ e. cc }; no_file = refl }
+refusals (NotReady turn thread) = record { plain = record { memory = λ e. cc; shelf = λ e. cc; sink = λ e. cc }; no_file = refl }
 refusals (Absent name) = record { plain = record { memory = λ e. cc; shelf = λ e. cc; sink = λ e. cc }; no_file = refl }
 refusals (TooLong name) = record { plain = record { memory = λ e. cc; shelf = λ e. cc; sink = λ e. cc }; no_file = refl }
 

@@ -1,3 +1,3 @@
 pub mod PrintLemmas
 pub mod EndLemmas
-pub mod FileLemmas
+pub mod WordLemmas

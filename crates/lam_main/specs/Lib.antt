@@ -1,2 +1,2 @@
-pub mod Halts
+pub mod Ends
 pub mod Lines

@@ -6,7 +6,7 @@ use Rattle.lam_io.specs.declared.SinkFault.{SinkFault as Failure}
 use Rattle.lam_words.specs.Words.{Text}
 use Rattle.lam_plan.specs.declared.Status.{Status}
 use Rattle.lam_plan.specs.declared.Status.TheVariants.{SinkFault}
-use Rattle.lam_plan.specs.Plan.{Plan}
+use Rattle.lam_plan.specs.Refusals.{Plan}
 
 -- the texts of parts, and all of them as one
 abbrev pub texts : List (Bor Text) → List Text

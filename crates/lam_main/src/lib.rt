@@ -4,35 +4,34 @@
 //! Its contract is the tool's. The *plan* of the words and the files (`lam_plan`) says what is printed, which file is
 //! written and how the call ends where nothing fails; the call answers to it, unless memory runs out or the file
 //! store or the output fails, which is answered only where its count of faults rose in the call. `lam_words` tells
-//! which command is asked, `files` reads the files that it names, a module for each command makes its text, and
-//! `print` prints that or the line of a refusal. The program `lam` calls it with the current folder and standard
-//! output, and tests with a store and a stream in memory (`lam_io`).
+//! which command is asked, `lam_commands` and `lam_replay` read the files that it names and make its text, and `print`
+//! prints that or the line of a refusal. The program `lam` calls it with the current folder and standard output, and
+//! tests with a store and a stream in memory (`lam_io`).
 #![tactic(auto)]
 
-mod files;
-mod halt;
-mod play;
 mod print;
-mod program;
 
 ghost use Rattle.std.specs.Prelude.{◌≡◌, ◌≢◌, false, [], Err, IsErr, IfErr, OnErr, map, string_bytes, IsTrue};
 ghost use Rattle.lam_io.specs.Outside.{Rose, AllStay, Took};
 ghost use Rattle.lam_words.specs.Words.{request_of};
-ghost use Rattle.lam_plan.specs.Plan.{Plan, IsPlan, no_word, starts_threads, written_by, PlaysIsolated, FormatIsSteady};
+ghost use Rattle.lam_plan.specs.Refusals.{Plan, no_word};
+ghost use Rattle.lam_plan.specs.Plan.{IsPlan, starts_threads, written_by, PlaysIsolated, FormatIsSteady};
 ghost use Rattle.lam_plan.specs.Answer.{outside, AsPlanned, IsAnswer, IsPlanned, OthersKept};
-ghost use Rattle.lam_main.specs.Halts.{Gives, Ends};
+ghost use Rattle.replay_laws.specs.Calls.{ReplaysAreIsolated, AuditsArePrinted};
+ghost use Rattle.lam_commands.specs.Halts.{Gives};
+ghost use Rattle.lam_main.specs.Ends.{Ends};
 ghost use Rattle.lam_main.specs.Lines.{ended};
 
-use crate::halt::{Halt, Refusal};
-use crate::play::play;
 use crate::print::{print_refusal, print_text};
-use crate::program::{check, code, format};
+use lam_commands::{Halt, Refusal, check, code, format, play};
 use lam_io::{Gate, Shelf, Sink, SinkFault};
 pub use lam_plan::Status;
+use lam_replay::{Reader, RunFiles, replay};
 use lam_round_trip::laws::{canonical_text_is_read_as_the_tree, canonical_text_is_steady};
 use lam_spelt::laws::canonical_text_is_lexed;
 pub use lam_words::{Command, WordFault, help_text, read_words};
 use play_run::scripts_are_isolated;
+use replay_laws::{audits_are_printed, replays_are_isolated};
 use std::alloc::Global;
 use std::sync::Wait;
 use std::thread::Threads;
@@ -65,10 +64,18 @@ pub fn lam<R: Threads + Wait + Sync, H: Shelf, O: Sink, G: Gate + Sync>(
     // What is printed of a script tells its observer nothing of what it does not see.
     ensures isolated { PlaysIsolated (map string_bytes words.now) (H.files shelf.old) }
 
+    // What is printed of a run tells its observer nothing of what it does not see, but for the releases past it.
+    ensures replays_isolated { ReplaysAreIsolated (map string_bytes words.now) (H.files shelf.old) }
+
+    // An audit tells of every release past any observer, with the capabilities that it took.
+    ensures audited { AuditsArePrinted (map string_bytes words.now) (H.files shelf.old) }
+
     // What is printed of a program is read as that program.
     ensures steady { FormatIsSteady (map string_bytes words.now) (H.files shelf.old) }
 {
     scripts_are_isolated();
+    replays_are_isolated();
+    audits_are_printed();
     canonical_text_is_lexed();
     canonical_text_is_read_as_the_tree();
     canonical_text_is_steady();
@@ -89,6 +96,33 @@ fn answer_of<H: Shelf>(alloc: Global, words: &[String], shelf: &mut H) -> Result
         Ok(Command::Check { program }) => check(alloc, shelf, program),
         Ok(Command::Format { program }) => format(alloc, shelf, program),
         Ok(Command::Code { program }) => code(alloc, shelf, program),
+        Ok(
+            Command::Replay {
+                program,
+                world,
+                book,
+                obs,
+            },
+        ) => replay(
+            alloc,
+            shelf,
+            program,
+            RunFiles { world, book },
+            &Reader::Observer(obs),
+        ),
+        Ok(
+            Command::Audit {
+                program,
+                world,
+                book,
+            },
+        ) => replay(
+            alloc,
+            shelf,
+            program,
+            RunFiles { world, book },
+            &Reader::Auditor,
+        ),
         Ok(Command::Help) => Ok(help_text(alloc)?),
         Err(WordFault::Word { at }) => Err(Halt::Refused(Refusal::Word(at))),
         Err(WordFault::NoMemory) => Err(Halt::NoMemory),

@@ -2,12 +2,12 @@
 
 ghost use Rattle.std.specs.Prelude.{◌≡◌, ◌≤◌, ◌++◌, ◌∷◌, [], OnErr, take};
 ghost use Rattle.lam_io.specs.Outside.{Rose, Took};
-ghost use Rattle.lam_plan.specs.Plan.{prints, refused};
+ghost use Rattle.lam_plan.specs.Refusals.{prints, refused, no_world, no_turn};
 ghost use Rattle.lam_main.specs.Lines.{texts, joined, Goes, Prints};
-ghost use Rattle.lam_main.specs.Halts.{refuses};
+ghost use Rattle.lam_commands.specs.Halts.{break_of, words_of, refuses};
 
-use crate::halt::Refusal;
 use itoa::Buffer;
+use lam_commands::{BookBreak, Refusal, WorldBreak};
 use lam_io::{Sink, SinkFault, write_all};
 use lam_plan::Status;
 
@@ -48,6 +48,12 @@ pub(crate) fn print_refusal<O: Sink>(out: &mut O, refusal: &Refusal) -> Result<S
             let unit = digits.format(*unit).as_bytes();
             print_line(out, Status::Program, &[b"CodeTooLong ".as_slice(), unit])
         }
+        Refusal::World(breach) => print_break(out, breach),
+        Refusal::Book { flaw, line } => {
+            let line = digits.format(*line).as_bytes();
+            print_line(out, Status::Book, &[line_words(*flaw).as_bytes(), line])
+        }
+        Refusal::NotReady { turn, thread } => print_turn(out, *turn, *thread),
         Refusal::Absent(name) => {
             print_line(
                 out,
@@ -62,6 +68,75 @@ pub(crate) fn print_refusal<O: Sink>(out: &mut O, refusal: &Refusal) -> Result<S
                 &[b"TooLong ".as_slice(), name.as_bytes()],
             )
         }
+    }
+}
+
+/// Prints the line of a document that is broken.
+fn print_break<O: Sink>(out: &mut O, breach: &WorldBreak) -> Result<Status, SinkFault>
+    ensures printed { Prints result (no_world (break_of breach.now)) (O.taken out.old) (O.taken out.new) }
+    ensures failed { OnErr result (Rose (O.faults out.old) (O.faults out.new)) }
+{
+    let mut digits = Buffer::new();
+    match breach {
+        WorldBreak::NotJson => print_line(out, Status::World, &[b"NotJson".as_slice()]),
+        WorldBreak::NoMember(name) => {
+            print_line(
+                out,
+                Status::World,
+                &[b"NoMember ".as_slice(), name.as_bytes()],
+            )
+        }
+        WorldBreak::BadMember(name) => {
+            print_line(
+                out,
+                Status::World,
+                &[b"BadMember ".as_slice(), name.as_bytes()],
+            )
+        }
+        WorldBreak::NoTag(name) => {
+            print_line(out, Status::World, &[b"NoTag ".as_slice(), name.as_bytes()])
+        }
+        WorldBreak::BadPath(index) => {
+            let index = digits.format(*index).as_bytes();
+            print_line(out, Status::World, &[b"BadPath ".as_slice(), index])
+        }
+        WorldBreak::PathTwice(index) => {
+            let index = digits.format(*index).as_bytes();
+            print_line(out, Status::World, &[b"PathTwice ".as_slice(), index])
+        }
+    }
+}
+
+/// Prints the line of a turn whose thread is not ready.
+fn print_turn<O: Sink>(out: &mut O, turn: u64, thread: u32) -> Result<Status, SinkFault>
+    ensures printed { Prints result (no_turn (record { turn = turn; thread = thread })) (O.taken out.old) (O.taken out.new) }
+    ensures failed { OnErr result (Rose (O.faults out.old) (O.faults out.new)) }
+{
+    let mut turn_digits = Buffer::new();
+    let mut thread_digits = Buffer::new();
+    let turn = turn_digits.format(turn).as_bytes();
+    let thread = thread_digits.format(thread).as_bytes();
+    print_line(
+        out,
+        Status::Book,
+        &[
+            b"NotReady turn ".as_slice(),
+            turn,
+            b" thread ".as_slice(),
+            thread,
+        ],
+    )
+}
+
+/// What is broken in a line of a book, as it is printed before the line's number.
+fn line_words(flaw: BookBreak) -> &'static str
+    ensures { result.now ≡ words_of flaw }
+{
+    match flaw {
+        BookBreak::Head => "BadHead line ",
+        BookBreak::Line => "BadLine line ",
+        BookBreak::SameThread => "SameThread line ",
+        BookBreak::TooMany => "TooMany line ",
     }
 }
 

@@ -4,7 +4,7 @@ use Rattle.lam_io.specs.Outside.{Files, AllStay, Took}
 use Rattle.lam_words.specs.Words.{Text}
 use Rattle.lam_plan.specs.declared.Status.{Status}
 use Rattle.lam_plan.specs.declared.Status.TheVariants.{NoMemory, ShelfFault, SinkFault}
-use Rattle.lam_plan.specs.Plan.{Plan}
+use Rattle.lam_plan.specs.Refusals.{Plan}
 use Rattle.lam_plan.specs.Answer.{Outside, IsPrinted, whole, front, IsWritten, OthersKept, written, AsPlanned, IsAnswer, as_planned, out_of_memory, shelf_failed, IsPlanned, by_plan, without_memory, without_shelf}
 
 -- where no file changed, no other did

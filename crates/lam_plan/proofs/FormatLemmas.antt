@@ -6,7 +6,9 @@ use Rattle.lam_print.specs.Canon.{canon}
 use Rattle.lam_spelt.specs.Law.{ReadAgain}
 use Rattle.lam_round_trip.specs.Law.{WayRound, Steady}
 use Rattle.lam_words.specs.Words.{Text, Request}
-use Rattle.lam_plan.specs.Plan.{IsPlan, IsPlanOf, of_file, canonical, prints, IsFormatted, IsReadAgain, FormatIsSteady}
+use Rattle.lam_plan.specs.Refusals.{prints}
+use Rattle.lam_plan.specs.Reading.{of_file}
+use Rattle.lam_plan.specs.Plan.{IsPlan, IsPlanOf, canonical, IsFormatted, IsReadAgain, FormatIsSteady}
 
 planned : (ws : List Text) (files : Files) (p : ProgramTree) → IsFormatted ws files p → IsPlan ws files (prints (canon p))
 planned ws files p f =

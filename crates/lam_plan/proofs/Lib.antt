@@ -1,4 +1,5 @@
 pub mod PlanLemmas
+pub mod ReadLemmas
 pub mod PlayLemmas
 pub mod FormatLemmas
 pub mod AnswerLemmas

@@ -6,7 +6,9 @@ use Rattle.play_script.specs.Script.{Play}
 use Rattle.play_run.specs.Isolation.{IsolatedScripts}
 use Rattle.play_run.specs.Lines.{play_lines}
 use Rattle.lam_words.specs.Words.{Text, Request}
-use Rattle.lam_plan.specs.Plan.{PlaysScript, PlaysIsolated, IsPlan, IsPlanOf, of_file, played, seen_by, prints}
+use Rattle.lam_plan.specs.Refusals.{prints}
+use Rattle.lam_plan.specs.Reading.{of_file}
+use Rattle.lam_plan.specs.Plan.{PlaysScript, PlaysIsolated, IsPlan, IsPlanOf, played, seen_by}
 
 printed_of : (ws : List Text) (files : Files) (script : Play) (observer : Label) → PlaysScript ws files script observer → IsPlan ws files (prints (play_lines script observer))
 printed_of ws files script observer p =

@@ -5,7 +5,7 @@ use Rattle.lam_io.specs.Outside.{Files, AllStay, OthersStay, Took, TookFront}
 use Rattle.lam_words.specs.Words.{Text}
 use Rattle.lam_plan.specs.declared.Status.{Status}
 use Rattle.lam_plan.specs.declared.Status.TheVariants.{NoMemory, ShelfFault, SinkFault}
-use Rattle.lam_plan.specs.Plan.{Plan}
+use Rattle.lam_plan.specs.Refusals.{Plan}
 
 -- the files, and what the sink took, where it is told
 pub record Outside : Type 0 where

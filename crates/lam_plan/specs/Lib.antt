@@ -1,3 +1,6 @@
 pub mod Codes
+pub mod Refusals
+pub mod Reading
+pub mod Replays
 pub mod Plan
 pub mod Answer

@@ -1,5 +1,5 @@
 -- What a call of given words does with given files, and how it ends, where nothing fails.
-use Rattle.std.specs.Prelude.{◌≡◌, ◌<◌, ◌≤◌, ℕ, ◌+◌, Bool, false, List, [], ◌∷◌, ◌++◌, length, Option, Some, None, Result, Ok, Err, chars, codes, decimal, refl}
+use Rattle.std.specs.Prelude.{◌≡◌, ◌≤◌, ℕ, Bool, false, List, [], ◌∷◌, length, Option, Some, None, Result, Ok, Err, chars, codes, refl}
 use Rattle.flow_labels.specs.LabelText.{label_of}
 use Rattle.flow_labels.specs.declared.Label.{Label}
 use Rattle.flow_labels.specs.declared.texts.LabelFault.{LabelFault}
@@ -15,76 +15,12 @@ use Rattle.lam_grammar.specs.Program.{SpellsProgram}
 use Rattle.lam_round_trip.specs.Law.{NoneTooDeep}
 use Rattle.lam_print.specs.Canon.{canon}
 use Rattle.lam_front.specs.declared.fault.ProgramFault.{ProgramFault}
-use Rattle.lam_front.specs.declared.fault.ProgramFault.TheVariants.{NotUtf8, At, NoMemory as no_memory}
-use Rattle.lam_front.specs.Faults.{flaw_name}
-use Rattle.lam_front.specs.Programs.{IsSpelt, IsMisspelt, IsFine, IsBroken}
-use Rattle.lam_bytecode.specs.Codes.{CodeTree}
+use Rattle.lam_front.specs.Programs.{IsSpelt, IsMisspelt}
 use Rattle.lam_bytecode.specs.Listing.{listing_text}
-use Rattle.barrier_compiler.specs.Compiled.{IsCompiledTo}
-use Rattle.lam_plan.specs.declared.Status.{Status}
-use Rattle.lam_plan.specs.declared.Status.TheVariants.{Done, NoMemory, Words, Program, Missing}
-use Rattle.lam_plan.specs.Codes.{code_of}
-use Rattle.lam_words.specs.Words.{Text, Request, play, check, format, code, help, request_of, forms, help_lines}
-
--- how a call ends, what it prints, and the file that it writes, if any, by its name and its bytes
-pub record Plan : Type 0 where
-  pub status : Status
-  pub text : Text
-  pub writes : Option (Text × Text)
-
--- a text, and no file
-abbrev pub prints : Text → Plan
-prints text = record { status = Done; text = text; writes = None }
-
--- a line from its parts
-abbrev pub line : List Text → Text
-line [] = 10 ∷ []
-line (part ∷ parts) = part ++ line parts
-
--- a refusal: a line of its status's number, which is one digit, and its parts
-abbrev pub refused : Status → List Text → Plan
-refused status parts = record { status = status; text = line (codes "lam: " ∷ ((48 + code_of status) ∷ 32 ∷ []) ∷ parts); writes = None }
-
-abbrev pub no_word : ℕ → Plan
-no_word index = refused Words (codes "word " ∷ decimal index ∷ [])
-
-abbrev pub no_script : ℕ → Plan
-no_script number = refused Program (codes "Script line " ∷ decimal number ∷ [])
-
--- the first fault of a program; want of memory is no fault of it, and prints nothing
-abbrev pub no_program : ProgramFault → Plan
-no_program NotUtf8 = refused Program (codes "NotUtf8" ∷ [])
-no_program (At flaw at) = refused Program (flaw_name flaw ∷ codes " at " ∷ decimal at ∷ [])
-no_program no_memory = record { status = NoMemory; text = []; writes = None }
-
-abbrev pub absent : Text → Plan
-absent name = refused Missing (codes "Absent " ∷ name ∷ [])
-
-abbrev pub too_long : Text → Plan
-too_long name = refused Missing (codes "TooLong " ∷ name ∷ [])
-
--- the most bytes of a script, and of a program
-abbrev pub script_limit : ℕ
-script_limit = 1048576
-
-abbrev pub program_limit : ℕ
-program_limit = 1048576
-
--- the plan where a file that is read next, of a name and with a limit, is not there or too long
-abbrev pub IsUnread : Option Text → Text → ℕ → Plan → Type 0
-IsUnread None name limit plan = plan ≡ absent name
-IsUnread (Some bytes) name limit plan = (limit < length bytes) × (plan ≡ too_long name)
-
--- the plan of its bytes, where it is there and not too long
-pub record IsOfFile (found : Option Text) (limit : ℕ) (IsOf : Text → Plan → Type 0) (plan : Plan) : Type 0 where
-  pub bytes : Text
-  pub there : found ≡ Some bytes
-  pub short : length bytes ≤ limit
-  pub follows : IsOf bytes plan
-
-pub data WithFile (found : Option Text) (name : Text) (limit : ℕ) (IsOf : Text → Plan → Type 0) (plan : Plan) : Type 0 where
-  unread : IsUnread found name limit plan → WithFile found name limit IsOf plan
-  of_file : IsOfFile found limit IsOf plan → WithFile found name limit IsOf plan
+use Rattle.lam_words.specs.Words.{Text, Request, play, check, format, code, replay, audit, help, request_of, forms, help_lines}
+use Rattle.lam_plan.specs.Refusals.{Plan, prints, no_word, no_script, no_program, absent}
+use Rattle.lam_plan.specs.Reading.{WithFile, unread, script_limit, program_limit, Compiles}
+use Rattle.lam_plan.specs.Replays.{an_observer, an_auditor, Runs}
 
 -- ---- `play`
 
@@ -109,34 +45,13 @@ pub data Formats (bytes : Text) (plan : Plan) : Type 0 where
 
 -- ---- `check` and `code`
 
--- the bytes spell a program that keeps the type rules and the region rules, and this is what it is compiled to: its
--- code, or the number of its first unit that is too long
-pub record IsCompiled (bytes : Text) (made : Result CodeTree ℕ) : Type 0 where
-  pub program : ProgramTree
-  pub fine : IsFine bytes program
-  pub makes : IsCompiledTo program made
-
--- a unit that is too long
-abbrev pub no_code : ℕ → Plan
-no_code unit = refused Program (codes "CodeTooLong " ∷ decimal unit ∷ [])
-
--- the plan of what a program is compiled to
-abbrev pub by_code : Result CodeTree ℕ → (CodeTree → Text) → Plan
-by_code (Ok tree) shown = prints (shown tree)
-by_code (Err unit) shown = no_code unit
-
--- a text of the code of the program that the bytes spell, its first unit that is too long, or the bytes' first fault
-pub data Compiles (shown : CodeTree → Text) (bytes : Text) (plan : Plan) : Type 0 where
-  fine : (made : Result CodeTree ℕ) → IsCompiled bytes made → plan ≡ by_code made shown → Compiles shown bytes plan
-  broken : (f : ProgramFault) → IsBroken bytes f → plan ≡ no_program f → Compiles shown bytes plan
-
 -- `ok`, where there is code
 abbrev pub Checks : Text → Plan → Type 0
-Checks bytes plan = Compiles (λ tree. codes "ok\n") bytes plan
+Checks bytes plan = Compiles (λ tree p. p ≡ prints (codes "ok\n")) bytes plan
 
 -- the listing of the code
 abbrev pub Lists : Text → Plan → Type 0
-Lists bytes plan = Compiles listing_text bytes plan
+Lists bytes plan = Compiles (λ tree p. p ≡ prints (listing_text tree)) bytes plan
 
 -- ---- every command
 
@@ -146,6 +61,8 @@ IsPlanOf (Ok (play file observer)) files plan = WithFile (files file) file scrip
 IsPlanOf (Ok (check file)) files plan = WithFile (files file) file program_limit Checks plan
 IsPlanOf (Ok (format file)) files plan = WithFile (files file) file program_limit Formats plan
 IsPlanOf (Ok (code file)) files plan = WithFile (files file) file program_limit Lists plan
+IsPlanOf (Ok (replay program world book label)) files plan = WithFile (files program) program program_limit (Runs files (record { world = world; book = book }) (an_observer label)) plan
+IsPlanOf (Ok (audit program world book)) files plan = WithFile (files program) program program_limit (Runs files (record { world = world; book = book }) an_auditor) plan
 IsPlanOf (Ok help) files plan = plan ≡ prints (help_lines forms)
 
 -- the plan of words and files, in the order of reading: words, file, and then what the file is read for
@@ -199,13 +116,6 @@ pub record IsReadAgain (text : Text) (p : ProgramTree) : Type 0 where
 -- what `format` prints is read as the same program
 abbrev pub FormatIsSteady : List Text → Files → Type 0
 FormatIsSteady ws files = (p : ProgramTree) → IsFormatted ws files p → IsPlan ws files (prints (canon p)) × IsReadAgain (canon p) p
-
--- the lines of refusals
-text_line : (no_program NotUtf8).text ≡ codes "lam: 3 NotUtf8\n"
-text_line = refl
-
-absent_line : (absent (codes "none")).text ≡ codes "lam: 6 Absent none\n"
-absent_line = refl
 
 -- a file that is not there, and a script whose second line is broken
 not_there : IsPlan (codes "play" ∷ codes "none" ∷ codes "{}/{}" ∷ []) (λ name. None) (absent (codes "none"))

@@ -21,9 +21,9 @@ pub enum Status {
     Words,
     /// The script is broken, or the program has a fault.
     Program,
-    /// The document of a world is refused. No command of now reads one.
+    /// The document of a world is refused.
     World,
-    /// The book of a schedule is refused. No command of now reads one.
+    /// The book of a schedule is refused, or one of its turns is of a thread that is not ready.
     Book,
     /// A file is not there, or is too long.
     Missing,

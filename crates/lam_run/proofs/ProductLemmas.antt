@@ -1,5 +1,5 @@
 -- What a turn made is told by its event and the world after it, and what it copies lives.
-use Rattle.std.proofs.Common.{◌≡◌, ℕ, zero, suc, true, false, List, [], ◌∷◌, Some, None, refl, sym, ap, subst}
+use Rattle.std.proofs.Common.{◌≡◌, ℕ, zero, suc, ◌+◌, true, false, List, [], ◌∷◌, Option, Some, None, refl, sym, ap, ◌∙◌, subst}
 use Rattle.std.proofs.Math.Bool.{true≢false}
 use Rattle.std.specs.Prelude.{is_some, unwrap_or, slice_get, slice_set}
 use Rattle.flow_labels.specs.declared.Label.{Label}

@@ -14,10 +14,11 @@ use Rattle.lam_run_laws.specs.Runs.{StopsAt}
 use Rattle.lam_run_laws.proofs.RunLemmas.{stopped_runs}
 use Rattle.lam_turn_parts.specs.Turned.{IsTurn}
 use Rattle.lam_valid_steps.proofs.WholeLemmas.{stay_valid}
-use Rattle.run_notes.specs.Notes.{seen_by, noted_from}
+use Rattle.run_notes.specs.Notes.{seen_by, noted_at, noted_from}
 use Rattle.run_notes.specs.declared.Seen.{Seen}
 use Rattle.run_notes.specs.declared.Noted.{Noted}
-use Rattle.lam_run.specs.Stops.{NotReady, stopped_at, RunsAreWhole}
+use Rattle.run_stops.specs.Stops.{NotReady, stopped_at}
+use Rattle.lam_run.specs.Stops.{RunsAreWhole}
 use Rattle.lam_run.specs.Turns.{seen_of, noted_of, Takes}
 use Rattle.lam_run.proofs.ProductLemmas.{products_told}
 use Rattle.lam_run.proofs.TurnLemmas.{seen_one, seen_by-append, noted_one}

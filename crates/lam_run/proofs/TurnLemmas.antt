@@ -1,5 +1,5 @@
 -- What is seen and what is noted of one moment, by its event and its world.
-use Rattle.std.proofs.Common.{◌≡◌, ℕ, Bool, true, false, cond, List, [], ◌∷◌, ◌++◌, Option, Some, None, refl, sym, ap, ◌∙◌}
+use Rattle.std.proofs.Common.{◌≡◌, ℕ, ◌+◌, Bool, true, false, cond, List, [], ◌∷◌, ◌++◌, Option, Some, None, refl, sym, ap, ◌∙◌}
 use Rattle.std.specs.Prelude.{not, ◌&&◌, ◌||◌, map}
 use Rattle.std.specs.List.{flat_map}
 use Rattle.std.specs.Option.{option_to_list}
@@ -17,9 +17,9 @@ use Rattle.lam_asks.specs.declared.answer.What.TheVariants.{Private, Asked}
 use Rattle.lam_asks.specs.declared.answer.Event.{Event}
 use Rattle.lam_bytecode.specs.Codes.{CodeTree}
 use Rattle.lam_worlds.specs.Turns.{Moment}
-use Rattle.lam_worlds.specs.Views.{event, release, is_release, shows, release_of, used_by, is_noted, noted, entry_of, trace}
+use Rattle.lam_worlds.specs.Views.{event, release, is_release, is_past, shows, release_of, used_by, is_noted, noted, entry_of, trace}
 use Rattle.lam_isolation.proofs.DownLemmas.{two_release}
-use Rattle.run_notes.specs.Notes.{released, asked, shown, seen_by, refusal_of, refused, noted_at}
+use Rattle.run_notes.specs.Notes.{content_in, released, asked, shown, seen_by, refusal_of, refused, noted_at}
 use Rattle.run_notes.specs.declared.Content.{Content}
 use Rattle.run_notes.specs.declared.Seen.{Seen}
 use Rattle.run_notes.specs.declared.Seen.TheVariants as seen_as

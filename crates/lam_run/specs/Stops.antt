@@ -1,20 +1,11 @@
--- Where turns stop to be a run.
-use Rattle.std.specs.Prelude.{◌≡◌, ◌↔◌, ℕ, List, length, Option, Some, None, slice_get}
-use Rattle.std.specs.Option.{option_map}
+-- Why turns are no run.
+use Rattle.std.specs.Prelude.{◌≡◌, ◌↔◌, ℕ, List, Option, Some, None}
 use Rattle.lam_bytecode.specs.Codes.{CodeTree}
 use Rattle.lam_worlds.specs.Worlds.{World}
-use Rattle.lam_worlds.specs.Turns.{moments, IsRun}
+use Rattle.lam_worlds.specs.Turns.{IsRun}
+use Rattle.run_stops.specs.Stops.{NotReady, stopped_at}
 use Rattle.lam_run.specs.declared.fault.RunFault.{RunFault}
 use Rattle.lam_run.specs.declared.fault.RunFault.TheVariants as fault
-
--- the first of the turns whose thread is not ready
-pub record NotReady : Type 0 where
-  pub turn : ℕ
-  pub thread : ℕ
-
--- turns are counted from 0
-abbrev pub stopped_at : CodeTree → List ℕ → World → Option NotReady
-stopped_at code turns w = option_map (λ t. record { turn = length (moments code turns w); thread = t }) (slice_get turns (length (moments code turns w)))
 
 -- a fault is the turn at which they stop, or want of memory
 abbrev pub IsStop : RunFault → Option NotReady → Type 0

@@ -7,7 +7,8 @@ ghost use Rattle.lam_worlds.specs.Turns.{moments};
 ghost use Rattle.lam_worlds.specs.Valid.{IsValid};
 ghost use Rattle.run_notes.specs.Notes.{noted_in, refusal_of};
 ghost use Rattle.lam_machine.specs.Machine.{CopiesLive};
-ghost use Rattle.lam_run.specs.Stops.{stopped_at, IsStop};
+ghost use Rattle.run_stops.specs.Stops.{stopped_at};
+ghost use Rattle.lam_run.specs.Stops.{IsStop};
 ghost use Rattle.lam_run.specs.Turns.{taken, note, noted_of, Takes};
 
 use crate::fault::RunFault;

@@ -7,7 +7,8 @@ ghost use Rattle.lam_worlds.specs.Turns.{moments};
 ghost use Rattle.lam_worlds.specs.Valid.{IsValid};
 ghost use Rattle.run_notes.specs.Notes.{seen_by};
 ghost use Rattle.lam_machine.specs.Machine.{CopiesLive};
-ghost use Rattle.lam_run.specs.Stops.{stopped_at, IsStop};
+ghost use Rattle.run_stops.specs.Stops.{stopped_at};
+ghost use Rattle.lam_run.specs.Stops.{IsStop};
 ghost use Rattle.lam_run.specs.Turns.{is_private, own_turn, told, past, seen_of, Takes};
 
 use crate::fault::RunFault;

@@ -69,7 +69,7 @@ module _ (r : ResolvedTree) (typed : IsTypedTree r) (numbered : AreNumbered r) (
         asks_all = all_asked;
       }
 
-by_scheme : (r : ResolvedTree) (code : CodeTree) → compiled r ≡ Ok code → scheme r ≡ code
+pub by_scheme : (r : ResolvedTree) (code : CodeTree) → compiled r ≡ Ok code → scheme r ≡ code
 by_scheme r code e = by (first_long_unit r) e
   where
     by : (o : Option ℕ) → unless_long o (scheme r) ≡ Ok code → scheme r ≡ code

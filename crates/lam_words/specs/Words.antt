@@ -7,9 +7,9 @@ use Rattle.flow_labels.specs.declared.two_lists.Form.TheVariants.{Label}
 use Rattle.lam_words.specs.declared.Kind.{Kind}
 use Rattle.lam_words.specs.declared.Kind.TheVariants.{Name, File, Observer}
 use Rattle.lam_words.specs.declared.Form.{Form}
-use Rattle.lam_words.specs.declared.Form.TheVariants.{Play as play_form, Check as check_form, Format as format_form, Code as code_form, Help as help_form}
+use Rattle.lam_words.specs.declared.Form.TheVariants.{Play as play_form, Check as check_form, Format as format_form, Code as code_form, Replay as replay_form, Audit as audit_form, Help as help_form}
 use Rattle.lam_words.specs.declared.Command.{Command}
-use Rattle.lam_words.specs.declared.Command.TheVariants.{Play, Check, Format, Code, Help}
+use Rattle.lam_words.specs.declared.Command.TheVariants.{Play, Check, Format, Code, Replay, Audit, Help}
 use Rattle.lam_words.specs.declared.WordFault.{WordFault}
 use Rattle.lam_words.specs.declared.WordFault.TheVariants.{Word, NoMemory}
 
@@ -22,6 +22,8 @@ name play_form = codes "play"
 name check_form = codes "check"
 name format_form = codes "format"
 name code_form = codes "code"
+name replay_form = codes "replay"
+name audit_form = codes "audit"
 name help_form = codes "help"
 
 -- a form as a reader of the help text sees it
@@ -30,6 +32,8 @@ shown play_form = codes "play FILE OBS"
 shown check_form = codes "check P"
 shown format_form = codes "format P"
 shown code_form = codes "code P"
+shown replay_form = codes "replay P W BOOK OBS"
+shown audit_form = codes "audit P W BOOK"
 shown help_form = codes "help"
 
 -- a line for each form
@@ -49,10 +53,12 @@ kinds play_form = Name play_form ∷ File ∷ Observer ∷ []
 kinds check_form = Name check_form ∷ File ∷ []
 kinds format_form = Name format_form ∷ File ∷ []
 kinds code_form = Name code_form ∷ File ∷ []
+kinds replay_form = Name replay_form ∷ File ∷ File ∷ File ∷ Observer ∷ []
+kinds audit_form = Name audit_form ∷ File ∷ File ∷ File ∷ []
 kinds help_form = Name help_form ∷ []
 
 abbrev pub forms : List Form
-forms = play_form ∷ check_form ∷ format_form ∷ code_form ∷ help_form ∷ []
+forms = play_form ∷ check_form ∷ format_form ∷ code_form ∷ replay_form ∷ audit_form ∷ help_form ∷ []
 
 -- with how many first words the words of a form agree
 abbrev pub agreed : List Kind → List Text → ℕ
@@ -74,6 +80,8 @@ pub data Request : Type 0 where
   check : (program : Text) → Request
   format : (program : Text) → Request
   code : (program : Text) → Request
+  replay : (program world book observer : Text) → Request
+  audit : (program world book : Text) → Request
   help : Request
 
 abbrev pub word : List Text → ℕ → Text
@@ -84,6 +92,8 @@ requested ws play_form = play (word ws 1) (word ws 2)
 requested ws check_form = check (word ws 1)
 requested ws format_form = format (word ws 1)
 requested ws code_form = code (word ws 1)
+requested ws replay_form = replay (word ws 1) (word ws 2) (word ws 3) (word ws 4)
+requested ws audit_form = audit (word ws 1) (word ws 2) (word ws 3)
 requested ws help_form = help
 
 abbrev pub request_in : List Text → Option Form → Result Request ℕ
@@ -100,6 +110,8 @@ asked (Play file observer) = play (string_bytes file) (string_bytes observer)
 asked (Check program) = check (string_bytes program)
 asked (Format program) = format (string_bytes program)
 asked (Code program) = code (string_bytes program)
+asked (Replay program world book observer) = replay (string_bytes program) (string_bytes world) (string_bytes book) (string_bytes observer)
+asked (Audit program world book) = audit (string_bytes program) (string_bytes world) (string_bytes book)
 asked Help = help
 
 -- What reading words answers: a command that asks what they ask, or the index at which they are in no form.
@@ -128,11 +140,20 @@ words_of_check = refl
 word_too_many_of_format : request_of (codes "format" ∷ codes "p" ∷ codes "x" ∷ []) ≡ Err 2
 word_too_many_of_format = refl
 
+words_of_replay : request_of (codes "replay" ∷ codes "p" ∷ codes "w" ∷ codes "b" ∷ codes "{}/{}" ∷ []) ≡ Ok (replay (codes "p") (codes "w") (codes "b") (codes "{}/{}"))
+words_of_replay = refl
+
+no_label_of_replay : request_of (codes "replay" ∷ codes "p" ∷ codes "w" ∷ codes "b" ∷ codes "{}" ∷ []) ≡ Err 4
+no_label_of_replay = refl
+
+words_of_audit : request_of (codes "audit" ∷ codes "p" ∷ codes "w" ∷ codes "b" ∷ []) ≡ Ok (audit (codes "p") (codes "w") (codes "b"))
+words_of_audit = refl
+
 word_too_many_of_help : request_of (codes "help" ∷ codes "me" ∷ []) ≡ Err 1
 word_too_many_of_help = refl
 
 -- the help text
-text_of_help : help_lines forms ≡ codes "lam play FILE OBS\nlam check P\nlam format P\nlam code P\nlam help\n"
+text_of_help : help_lines forms ≡ codes "lam play FILE OBS\nlam check P\nlam format P\nlam code P\nlam replay P W BOOK OBS\nlam audit P W BOOK\nlam help\n"
 text_of_help = refl
 
 -- an empty word fits nothing

@@ -23,6 +23,10 @@ enum Form {
     Format,
     /// `code P`
     Code,
+    /// `replay P W BOOK OBS`
+    Replay,
+    /// `audit P W BOOK`
+    Audit,
     /// `help`
     Help,
 }
@@ -37,6 +41,8 @@ impl Form {
             Form::Check => "check",
             Form::Format => "format",
             Form::Code => "code",
+            Form::Replay => "replay",
+            Form::Audit => "audit",
             Form::Help => "help",
         }
     }
@@ -49,6 +55,14 @@ impl Form {
             Form::Check => &[Kind::Name(Form::Check), Kind::File],
             Form::Format => &[Kind::Name(Form::Format), Kind::File],
             Form::Code => &[Kind::Name(Form::Code), Kind::File],
+            Form::Replay => &[
+                Kind::Name(Form::Replay),
+                Kind::File,
+                Kind::File,
+                Kind::File,
+                Kind::Observer,
+            ],
+            Form::Audit => &[Kind::Name(Form::Audit), Kind::File, Kind::File, Kind::File],
             Form::Help => &[Kind::Name(Form::Help)],
         }
     }
@@ -85,6 +99,8 @@ fn forms() -> &'static [Form]
         Form::Check,
         Form::Format,
         Form::Code,
+        Form::Replay,
+        Form::Audit,
         Form::Help,
     ]
 }
@@ -93,13 +109,36 @@ fn forms() -> &'static [Form]
 #[derive(Drop)]
 pub enum Command {
     /// `play FILE OBS`: the steps of a script as an observer sees them.
-    Play { file: String, obs: String },
+    Play {
+        file: String,
+        obs: String,
+    },
     /// `check P`: whether a program keeps the type rules and the region rules, and has code.
-    Check { program: String },
+    Check {
+        program: String,
+    },
     /// `format P`: a program in canonical text.
-    Format { program: String },
+    Format {
+        program: String,
+    },
     /// `code P`: the listing of a program's code.
-    Code { program: String },
+    Code {
+        program: String,
+    },
+    /// `replay P W BOOK OBS`: what an observer sees of the run of a program, from the world of a document, in the
+    /// order of a book.
+    Replay {
+        program: String,
+        world: String,
+        book: String,
+        obs: String,
+    },
+    /// `audit P W BOOK`: the releases and the refusals of such a run.
+    Audit {
+        program: String,
+        world: String,
+        book: String,
+    },
     /// `help`: the forms of the words.
     Help,
 }
@@ -163,6 +202,17 @@ pub fn read_words(alloc: Global, words: &[String]) -> Result<Command, WordFault>
         Form::Code => Ok(Command::Code {
             program: String::from_str(alloc, word_at(words, 1))?,
         }),
+        Form::Replay => Ok(Command::Replay {
+            program: String::from_str(alloc, word_at(words, 1))?,
+            world: String::from_str(alloc, word_at(words, 2))?,
+            book: String::from_str(alloc, word_at(words, 3))?,
+            obs: String::from_str(alloc, word_at(words, 4))?,
+        }),
+        Form::Audit => Ok(Command::Audit {
+            program: String::from_str(alloc, word_at(words, 1))?,
+            world: String::from_str(alloc, word_at(words, 2))?,
+            book: String::from_str(alloc, word_at(words, 3))?,
+        }),
         Form::Help => Ok(Command::Help),
     }
 }
@@ -177,7 +227,7 @@ pub fn help_text(alloc: Global) -> Result<String, NoMemory>
 {
     Ok(String::from_str(
         alloc,
-        "lam play FILE OBS\nlam check P\nlam format P\nlam code P\nlam help\n",
+        "lam play FILE OBS\nlam check P\nlam format P\nlam code P\nlam replay P W BOOK OBS\nlam audit P W BOOK\nlam help\n",
     )?)
 }
 

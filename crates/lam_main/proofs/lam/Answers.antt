@@ -40,3 +40,9 @@ returns-clause-words_first g c =
     words_first c.end_with.result (g.H.Shelf.files c.args.shelf.now) (g.H.Shelf.files c.answer_of-answer.new.shelf) (g.O.Sink.taken c.args.out.now) (g.O.Sink.taken c.end_with.new.out) (request_of (map string_bytes c.args.words.now)) c.answer_of-answer.result c.answer_of-answer.ensures.words_first
     (λ bad name. ap (λ shelf. g.H.Shelf.files shelf name) (c.answer_of-answer.ensures.untouched bad))
     c.end_with.ensures.ends
+
+pub returns-clause-replays_isolated : goal.returns-clause-replays_isolated
+returns-clause-replays_isolated g c = c.replays_are_isolated.ensures (map string_bytes c.args.words.now) (g.H.Shelf.files c.args.shelf.now)
+
+pub returns-clause-audited : goal.returns-clause-audited
+returns-clause-audited g c = c.audits_are_printed.ensures (map string_bytes c.args.words.now) (g.H.Shelf.files c.args.shelf.now)

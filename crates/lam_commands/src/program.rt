@@ -1,0 +1,101 @@
+//! The commands on a program alone, `format`, `check` and `code`, and the code of a program in a file.
+
+ghost use Rattle.std.specs.Prelude.{◌≡◌, ◌≢◌, ◌≤◌, Ok, IsTrue, IfOk, IfErr, string_bytes};
+ghost use Rattle.lam_io.specs.Outside.{Rose, AllStay};
+ghost use Rattle.lam_bytecode.specs.Codes.{IsCode};
+ghost use Rattle.lam_plan.specs.Reading.{HasFile, WithFile, Never, IsCompiled, Compiles, program_limit};
+ghost use Rattle.lam_plan.specs.Plan.{Formats, Checks, Lists};
+ghost use Rattle.lam_commands.specs.Halts.{Says, Finds, Gives};
+
+use crate::files::read_file;
+use crate::halt::Halt;
+use barrier_compiler::compile;
+use lam_bytecode::{Code, listing};
+use lam_front::{check_program, read_program};
+use lam_io::Shelf;
+use lam_print::print;
+use std::alloc::Global;
+
+/// The most bytes of a program.
+const PROGRAM_LIMIT: u64 = 1_048_576;
+
+/// The canonical text of the program in a file.
+///
+/// # Errors
+///
+/// A refusal where the file can't be read, or with the first fault of its bytes.
+pub fn format<H: Shelf>(alloc: Global, shelf: &mut H, program: String) -> Result<String, Halt>
+    ensures gives { IsTrue (H.tells shelf.old) → Gives result (WithFile (H.files shelf.old (string_bytes program)) (string_bytes program) program_limit Formats) (H.files shelf.old) (H.files shelf.new) }
+    ensures stay { IsTrue (H.tells shelf.old) → AllStay (H.files shelf.old) (H.files shelf.new) }
+    ensures failed { IfErr result (λ halt. halt ≡ Halt.ShelfFailed → Rose (H.faults shelf.old) (H.faults shelf.new)) }
+{
+    let bytes = read_file(alloc, shelf, program, PROGRAM_LIMIT)?;
+    format_bytes(alloc, bytes.as_slice())
+}
+
+/// `ok`, where the program in a file keeps the type rules and the region rules.
+///
+/// # Errors
+///
+/// As [`read_code`].
+pub fn check<H: Shelf>(alloc: Global, shelf: &mut H, program: String) -> Result<String, Halt>
+    ensures gives { IsTrue (H.tells shelf.old) → Gives result (WithFile (H.files shelf.old (string_bytes program)) (string_bytes program) program_limit Checks) (H.files shelf.old) (H.files shelf.new) }
+    ensures stay { IsTrue (H.tells shelf.old) → AllStay (H.files shelf.old) (H.files shelf.new) }
+    ensures failed { IfErr result (λ halt. halt ≡ Halt.ShelfFailed → Rose (H.faults shelf.old) (H.faults shelf.new)) }
+{
+    match read_code(alloc, shelf, program) {
+        Ok(_code) => Ok(String::from_str(alloc, "ok\n")?),
+        Err(halt) => Err(halt),
+    }
+}
+
+/// The listing of the code of the program in a file.
+///
+/// # Errors
+///
+/// As [`read_code`].
+pub fn code<H: Shelf>(alloc: Global, shelf: &mut H, program: String) -> Result<String, Halt>
+    ensures gives { IsTrue (H.tells shelf.old) → Gives result (WithFile (H.files shelf.old (string_bytes program)) (string_bytes program) program_limit Lists) (H.files shelf.old) (H.files shelf.new) }
+    ensures stay { IsTrue (H.tells shelf.old) → AllStay (H.files shelf.old) (H.files shelf.new) }
+    ensures failed { IfErr result (λ halt. halt ≡ Halt.ShelfFailed → Rose (H.faults shelf.old) (H.faults shelf.new)) }
+{
+    match read_code(alloc, shelf, program) {
+        Ok(code) => Ok(listing(alloc, &code)?),
+        Err(halt) => Err(halt),
+    }
+}
+
+/// The code of the program in a file.
+///
+/// # Errors
+///
+/// A refusal where the file can't be read, with the first fault of its bytes, or with its first unit that is too long.
+pub fn read_code<H: Shelf>(alloc: Global, shelf: &mut H, program: String) -> Result<Code, Halt>
+    ensures finds { IsTrue (H.tells shelf.old) → Finds result (λ code. HasFile (H.files shelf.old (string_bytes program)) program_limit (λ bytes. IsCompiled bytes (Ok code))) (WithFile (H.files shelf.old (string_bytes program)) (string_bytes program) program_limit (Compiles Never)) }
+    ensures sound { IfOk result (λ code. IsCode code) }
+    ensures stay { IsTrue (H.tells shelf.old) → AllStay (H.files shelf.old) (H.files shelf.new) }
+    ensures tells_on { IsTrue (H.tells shelf.old) → IsTrue (H.tells shelf.new) }
+    ensures later { H.faults shelf.old ≤ H.faults shelf.new }
+    ensures failed { IfErr result (λ halt. halt ≡ Halt.ShelfFailed → Rose (H.faults shelf.old) (H.faults shelf.new)) }
+{
+    let bytes = read_file(alloc, shelf, program, PROGRAM_LIMIT)?;
+    compiled(alloc, bytes.as_slice())
+}
+
+fn format_bytes(alloc: Global, bytes: &[u8]) -> Result<String, Halt>
+    ensures says { Says result (Formats bytes.now) }
+    ensures no_fault { IfErr result (λ halt. halt ≢ Halt.ShelfFailed) }
+{
+    let program = read_program(alloc, bytes)?;
+    Ok(print(&program)?)
+}
+
+/// The code of the program that the bytes spell.
+fn compiled(alloc: Global, bytes: &[u8]) -> Result<Code, Halt>
+    ensures finds { Finds result (λ code. IsCompiled bytes.now (Ok code)) (Compiles Never bytes.now) }
+    ensures sound { IfOk result (λ code. IsCode code) }
+    ensures no_fault { IfErr result (λ halt. halt ≢ Halt.ShelfFailed) }
+{
+    let checked = check_program(alloc, bytes)?;
+    Ok(compile(alloc, &checked)?)
+}
