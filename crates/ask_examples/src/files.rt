@@ -238,7 +238,8 @@ t4 {}/{} cut file<{}/{v}|{}/{v}|1> 0 = refused WriteI v
 t4 {}/{} end Denied = done
 ";
 
-const CONTENTS_SEEN: &str = "t0 {}/{} make_file dir<{}/{}|{}/{}|0> \"open\" {}/{} = file<{}/{}|{}/{}|1>
+const CONTENTS_SEEN: &str =
+    "t0 {}/{} make_file dir<{}/{}|{}/{}|0> \"open\" {}/{} = file<{}/{}|{}/{}|1>
 t0 {}/{} open_dir dir<{}/{}|{}/{}|0> \"vetted\" = dir<{}/{v}|{}/{v}|0>
 t0 {}/{} enter {}/{v} caps +{}-{} region 0 (file<{}/{}|{}/{}|1>) = entered
 t0 {}/{v} read_file file<{}/{}|{}/{}|1> 0 9 = refused ReadI v
@@ -289,7 +290,8 @@ const ENTRIES_WORLD: &str = "{\"version\":1,\"tags\":[\"a\",\"v\"],\"tree\":[
 ]}
 ";
 
-const ENTRIES_PROGRAM: &str = "fn twice(): int { make_file(root(), \"vetted\", my_label()); return 0; }
+const ENTRIES_PROGRAM: &str =
+    "fn twice(): int { make_file(root(), \"vetted\", my_label()); return 0; }
 fn slash(): int { make_file(root(), \"a/b\", my_label()); return 0; }
 fn dots(): int { make_dir(root(), \"..\", my_label()); return 0; }
 fn empty(): int { make_dir(root(), \"\", my_label()); return 0; }
@@ -305,7 +307,8 @@ const ENTRIES: Given<'static> = Given {
     book: "lam book 1\n0 5\n1 5\n2 5\n3 5\n4 4\n5 4\n6 4\n7 4\n",
 };
 
-const PLACES_WORLD: &str = "{\"version\":1,\"tags\":[\"a\",\"v\"],\"tree\":[],\"pipes\":[],\"threads\":[
+const PLACES_WORLD: &str =
+    "{\"version\":1,\"tags\":[\"a\",\"v\"],\"tree\":[],\"pipes\":[],\"threads\":[
 {\"run\":\"before\",\"args\":[],\"caps\":{\"plus\":[],\"minus\":[]}},
 {\"run\":\"too_much\",\"args\":[],\"caps\":{\"plus\":[],\"minus\":[]}},
 {\"run\":\"negative\",\"args\":[],\"caps\":{\"plus\":[],\"minus\":[]}},
@@ -314,7 +317,8 @@ const PLACES_WORLD: &str = "{\"version\":1,\"tags\":[\"a\",\"v\"],\"tree\":[],\"
 ]}
 ";
 
-const PLACES_PROGRAM: &str = "fn before(): int { return size(read(make_file(root(), \"f\", my_label()), -1, 65537)); }
+const PLACES_PROGRAM: &str =
+    "fn before(): int { return size(read(make_file(root(), \"f\", my_label()), -1, 65537)); }
 fn too_much(): int { return size(read(open_file(root(), \"f\"), 0, 65537)); }
 fn negative(): int { return size(read(open_file(root(), \"f\"), 0, -1)); }
 fn cut_before(): int { cut(open_file(root(), \"f\"), -1); return 0; }
@@ -327,7 +331,8 @@ const PLACES: Given<'static> = Given {
     book: "lam book 1\n0 9\n1 7\n2 8\n3 7\n4 6\n",
 };
 
-const REMOVED_WORLD: &str = "{\"version\":1,\"tags\":[\"a\",\"v\"],\"tree\":[],\"pipes\":[],\"threads\":[
+const REMOVED_WORLD: &str =
+    "{\"version\":1,\"tags\":[\"a\",\"v\"],\"tree\":[],\"pipes\":[],\"threads\":[
 {\"run\":\"main\",\"args\":[],\"caps\":{\"plus\":[],\"minus\":[]}}
 ]}
 ";

@@ -3,7 +3,8 @@
 use crate::run::{Given, notes, sees};
 use std::test::Fail;
 
-const BARRED_WORLD: &str = "{\"version\":1,\"tags\":[\"a\",\"v\"],\"tree\":[],\"pipes\":[],\"threads\":[
+const BARRED_WORLD: &str =
+    "{\"version\":1,\"tags\":[\"a\",\"v\"],\"tree\":[],\"pipes\":[],\"threads\":[
 {\"run\":\"main\",\"args\":[{\"tag\":\"a\"},{\"tag\":\"v\"}],\"caps\":{\"plus\":[\"a\",\"v\"],\"minus\":[]}}
 ]}
 ";
@@ -45,7 +46,8 @@ t0 {}/{} barred ReadS a = done
 t0 {}/{} end Denied = done
 ";
 
-const BARRED_SEEN_BY_VETTED: &str = "release t0 enter {}/{v} caps +{}-{} depth 1 region 1 (obj<{}/{}|{}/{}|0>) by +{v}-{}
+const BARRED_SEEN_BY_VETTED: &str =
+    "release t0 enter {}/{v} caps +{}-{} depth 1 region 1 (obj<{}/{}|{}/{}|0>) by +{v}-{}
 t0 {}/{v} barred ReadI v = done
 t0 {}/{v} caught Denied = done
 t0 {}/{v} leave = done
@@ -69,7 +71,8 @@ fn accesses_are_barred(rt: HostRuntime) -> Result<(), Fail> {
     notes(&rt, BARRED, BARRED_NOTED)
 }
 
-const SECRECY_WORLD: &str = "{\"version\":1,\"tags\":[\"a\",\"v\"],\"tree\":[],\"pipes\":[],\"threads\":[
+const SECRECY_WORLD: &str =
+    "{\"version\":1,\"tags\":[\"a\",\"v\"],\"tree\":[],\"pipes\":[],\"threads\":[
 {\"run\":\"main\",\"args\":[{\"tag\":\"a\"}],\"caps\":{\"plus\":[\"a\"],\"minus\":[]}}
 ]}
 ";
@@ -91,7 +94,8 @@ const SECRECY: Given<'static> = Given {
     book: "lam book 1\n0 42\n",
 };
 
-const INTEGRITY_WORLD: &str = "{\"version\":1,\"tags\":[\"a\",\"v\"],\"tree\":[],\"pipes\":[],\"threads\":[
+const INTEGRITY_WORLD: &str =
+    "{\"version\":1,\"tags\":[\"a\",\"v\"],\"tree\":[],\"pipes\":[],\"threads\":[
 {\"run\":\"main\",\"args\":[{\"tag\":\"v\"}],\"caps\":{\"plus\":[\"v\"],\"minus\":[]}}
 ]}
 ";

@@ -129,7 +129,8 @@ const MESSAGES_WORLD: &str = "{\"version\":1,\"tags\":[\"a\",\"v\"],\"tree\":[],
 ]}
 ";
 
-const MESSAGES_PROGRAM: &str = "fn give(p: pipe, a: tag): int { send_caps(p, caps{a+, a-}); send(p, \"last\"); return 0; }
+const MESSAGES_PROGRAM: &str =
+    "fn give(p: pipe, a: tag): int { send_caps(p, caps{a+, a-}); send(p, \"last\"); return 0; }
 fn take(p: pipe, a: tag): int {
   receive(p);
   receive_caps(p);
@@ -219,7 +220,8 @@ t1 {}/{} receive pipe<{}/{}|{}/{}|0> = null
 t1 {}/{} end value 0 = done
 ";
 
-const FULL_SEEN: &str = "t0 {}/{} enter {a}/{} caps +{}-{a} region 0 (pipe<{a}/{}|{a}/{}|0>) = entered
+const FULL_SEEN: &str =
+    "t0 {}/{} enter {a}/{} caps +{}-{a} region 0 (pipe<{a}/{}|{a}/{}|0>) = entered
 release t0 enter {}/{} caps +{}-{} depth 2 region 1 (1025,\"1023\") by +{}-{a}
 t0 {}/{} leave = done
 t0 {}/{} end value 0 = done

@@ -3,7 +3,8 @@
 use crate::run::{Given, notes, sees};
 use std::test::Fail;
 
-const ENTERED_WORLD: &str = "{\"version\":1,\"tags\":[\"a\",\"v\"],\"tree\":[],\"pipes\":[],\"threads\":[
+const ENTERED_WORLD: &str =
+    "{\"version\":1,\"tags\":[\"a\",\"v\"],\"tree\":[],\"pipes\":[],\"threads\":[
 {\"run\":\"add\",\"args\":[{\"tag\":\"a\"},{\"tag\":\"v\"}],\"caps\":{\"plus\":[],\"minus\":[]}},
 {\"run\":\"vouch\",\"args\":[{\"tag\":\"v\"}],\"caps\":{\"plus\":[],\"minus\":[\"v\"]}},
 {\"run\":\"ask_plus\",\"args\":[{\"tag\":\"a\"}],\"caps\":{\"plus\":[],\"minus\":[\"a\"]}},
@@ -11,7 +12,8 @@ const ENTERED_WORLD: &str = "{\"version\":1,\"tags\":[\"a\",\"v\"],\"tree\":[],\
 ]}
 ";
 
-const ENTERED_PROGRAM: &str = "fn add(a: tag, v: tag): int { region (label{a; v}, caps{}) [] { } catch (e) { } return 0; }
+const ENTERED_PROGRAM: &str =
+    "fn add(a: tag, v: tag): int { region (label{a; v}, caps{}) [] { } catch (e) { } return 0; }
 fn vouch(v: tag): int { region (label{; v}, caps{}) [] { } catch (e) { } return 0; }
 fn ask_plus(a: tag): int { region (label{;}, caps{a+}) [] { } catch (e) { } return 0; }
 fn ask_minus(a: tag): int { region (label{;}, caps{a+, a-}) [] { } catch (e) { } return 0; }
@@ -23,7 +25,8 @@ const ENTERED: Given<'static> = Given {
     book: "lam book 1\n0 6\n1 5\n2 6\n3 8\n",
 };
 
-const LEFT_WORLD: &str = "{\"version\":1,\"tags\":[\"a\",\"v\"],\"tree\":[],\"pipes\":[],\"threads\":[
+const LEFT_WORLD: &str =
+    "{\"version\":1,\"tags\":[\"a\",\"v\"],\"tree\":[],\"pipes\":[],\"threads\":[
 {\"run\":\"drop\",\"args\":[{\"tag\":\"a\"}],\"caps\":{\"plus\":[\"a\"],\"minus\":[\"a\"]}},
 {\"run\":\"forget\",\"args\":[{\"tag\":\"v\"}],\"caps\":{\"plus\":[\"v\"],\"minus\":[\"v\"]}}
 ]}
@@ -68,7 +71,8 @@ t1 {}/{v} suppressed Thrown -1 = done
 t1 {}/{} end value 0 = done
 ";
 
-const LEFT_SEEN_BY_VETTED: &str = "release t1 enter {}/{v} caps +{v}-{} depth 1 region 2 () by +{v}-{}
+const LEFT_SEEN_BY_VETTED: &str =
+    "release t1 enter {}/{v} caps +{v}-{} depth 1 region 2 () by +{v}-{}
 t1 {}/{v} enter {}/{} caps +{}-{} region 3 () = refused DropI v
 t1 {}/{v} caught Denied = done
 t1 {}/{v} suppressed Thrown -1 = done
@@ -127,7 +131,8 @@ const FRAMES: Given<'static> = Given {
     book: "lam book 1\n0 6644\n",
 };
 
-const DEPTH_WORLD: &str = "{\"version\":1,\"tags\":[\"a\",\"v\"],\"tree\":[],\"pipes\":[],\"threads\":[
+const DEPTH_WORLD: &str =
+    "{\"version\":1,\"tags\":[\"a\",\"v\"],\"tree\":[],\"pipes\":[],\"threads\":[
 {\"run\":\"main\",\"args\":[{\"tag\":\"a\"}],\"caps\":{\"plus\":[\"a\"],\"minus\":[\"a\"]}}
 ]}
 ";
@@ -206,7 +211,8 @@ fn faults_are_caught(rt: HostRuntime) -> Result<(), Fail> {
     sees(&rt, DEPTH, "{}/{}", DEPTH_SEEN)
 }
 
-const MINTED_WORLD: &str = "{\"version\":1,\"tags\":[\"a\",\"v\"],\"tree\":[],\"pipes\":[],\"threads\":[
+const MINTED_WORLD: &str =
+    "{\"version\":1,\"tags\":[\"a\",\"v\"],\"tree\":[],\"pipes\":[],\"threads\":[
 {\"run\":\"main\",\"args\":[],\"caps\":{\"plus\":[],\"minus\":[]}}
 ]}
 ";
@@ -229,7 +235,8 @@ const MINTED: Given<'static> = Given {
     book: "lam book 1\n0 26\n",
 };
 
-const UNMINTED_WORLD: &str = "{\"version\":1,\"tags\":[\"a\",\"v\"],\"tree\":[],\"pipes\":[],\"threads\":[
+const UNMINTED_WORLD: &str =
+    "{\"version\":1,\"tags\":[\"a\",\"v\"],\"tree\":[],\"pipes\":[],\"threads\":[
 {\"run\":\"main\",\"args\":[{\"tag\":\"a\"},{\"tag\":\"v\"}],\"caps\":{\"plus\":[\"a\",\"v\"],\"minus\":[]}}
 ]}
 ";

@@ -59,7 +59,8 @@ fn locks_and_joins_wait(rt: HostRuntime) -> Result<(), Fail> {
     sees(&rt, TURNS, "{}/{}", TURNS_SEEN)
 }
 
-const SPAWNED_WORLD: &str = "{\"version\":1,\"tags\":[\"a\",\"v\"],\"tree\":[],\"pipes\":[],\"threads\":[
+const SPAWNED_WORLD: &str =
+    "{\"version\":1,\"tags\":[\"a\",\"v\"],\"tree\":[],\"pipes\":[],\"threads\":[
 {\"run\":\"main\",\"args\":[{\"tag\":\"a\"},{\"tag\":\"v\"}],\"caps\":{\"plus\":[\"a\",\"v\"],\"minus\":[]}}
 ]}
 ";
@@ -195,7 +196,8 @@ t0 {}/{} join t1 = 7
 t0 {}/{} end value 7 = done
 ";
 
-const JOINS_SEEN_BY_VETTED: &str = "release t0 enter {}/{v} caps +{}-{} depth 1 region 1 (t1) by +{v}-{}
+const JOINS_SEEN_BY_VETTED: &str =
+    "release t0 enter {}/{v} caps +{}-{} depth 1 region 1 (t1) by +{v}-{}
 t0 {}/{v} join t1 = refused ReadI v
 t0 {}/{v} caught Denied = done
 t0 {}/{v} leave = done
