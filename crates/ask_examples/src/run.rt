@@ -1,6 +1,6 @@
 //! One call of the tool over a program, a world and a book.
 
-use lam_io::{MemShelf, MemSink, OpenGate};
+use lam_io::{MemShelf, MemSink, OpenGate, Shelf};
 use lam_main::{Status, lam};
 use std::alloc::{AllocError, Global};
 use std::process::Abort;
@@ -51,7 +51,7 @@ fn run<R: Tested>(
     printed: &str,
 ) -> Result<(), Fail> {
     let alloc = rt.alloc();
-    let mut shelf = shelf_of(alloc, given)?;
+    let mut shelf = shelf_of(rt, given);
     let mut sink = MemSink::new(alloc, 65_536, Vec::new(alloc))?;
     let words = texts_of(alloc, words)?;
     let ended = lam(
@@ -68,19 +68,13 @@ fn run<R: Tested>(
     Ok(())
 }
 
-fn shelf_of(alloc: Global, given: Given<'_>) -> Result<MemShelf, AllocError> {
-    let mut files = Vec::new(alloc);
-    files.push(file_of(alloc, "P", given.program)?)?;
-    files.push(file_of(alloc, "W", given.world)?)?;
-    files.push(file_of(alloc, "B", given.book)?)?;
-    Ok(MemShelf::new(files, Vec::new(alloc)))
-}
-
-fn file_of(alloc: Global, name: &str, text: &str) -> Result<(String, Vec<u8>), AllocError> {
-    Ok((
-        String::from_str(alloc, name)?,
-        Vec::from_slice(alloc, text.as_bytes())?,
-    ))
+fn shelf_of<R: Tested>(rt: &R, given: Given<'_>) -> MemShelf {
+    let alloc = rt.alloc();
+    let mut shelf = MemShelf::new(Vec::new(alloc), Vec::new(alloc));
+    for (name, text) in [("P", given.program), ("W", given.world), ("B", given.book)] {
+        assert_eq!(rt; shelf.write(name, text.as_bytes()), Ok(()), "file {name}");
+    }
+    shelf
 }
 
 fn texts_of(alloc: Global, words: &[&str]) -> Result<Vec<String>, AllocError> {
