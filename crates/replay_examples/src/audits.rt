@@ -61,6 +61,6 @@ fn a_refusal_is_seen_and_noted(rt: HostRuntime) -> Result<(), Fail> {
         REFUSED,
         &["audit", "P", "W", "B"],
         Status::Done,
-        "12 t0 {a}/{} refused DropS a\n",
+        "10 t0 {a}/{} refused DropS a\n",
     )
 }
