@@ -1,0 +1,35 @@
+-- What a worker does to a run in one visit under the lock.
+use Rattle.std.specs.Prelude.{◌≡◌, ◌<◌, ◌≤◌, ℕ, true, List, length}
+use Rattle.std.specs.List.{filter, range_with_len}
+use Rattle.lam_bytecode.specs.Codes.{CodeTree}
+use Rattle.lam_worlds.specs.Worlds.{World}
+use Rattle.lam_worlds.specs.Turns as turns
+use Rattle.run_ends.specs.declared.How.{How}
+use Rattle.run_ends.specs.Ends.{SomeReady, HasEnded}
+use Rattle.machine_run.specs.Runs.{Ran, with_turn}
+use Rattle.thread_host.specs.declared.visits.Visit.{Visit}
+use Rattle.thread_host.specs.declared.visits.Visit.TheVariants.{Took, Ended}
+
+-- the ready threads, in increasing order
+abbrev pub ready_threads : CodeTree → World → List ℕ
+ready_threads code w = filter (turns.ready code w) (range_with_len 0 (length w.threads))
+
+-- some thread is ready, and the budget leaves a turn
+pub record GoesOn (budget : ℕ) (r : Ran) : Type 0 where
+  pub some : SomeReady r.code r.world
+  pub left : length r.turns < budget
+
+-- a run that has kept to its budget has ended in this way
+abbrev pub EndsAs : ℕ → Ran → How → Type 0
+EndsAs budget r how = length r.turns ≤ budget → HasEnded r.code r.world (length r.turns) budget how
+
+-- a thread was ready and took a turn, within the budget
+pub record TookTurn (budget : ℕ) (r s : Ran) (t : ℕ) : Type 0 where
+  pub ready : turns.ready r.code r.world t ≡ true
+  pub left : length r.turns < budget
+  pub after : s ≡ with_turn r t s.world
+
+-- a turn was taken, or the run had ended and is as it was
+abbrev pub Visits : ℕ → Ran → Ran → Visit → Type 0
+Visits budget r s (Took t) = TookTurn budget r s t
+Visits budget r s (Ended how) = (s ≡ r) × EndsAs budget r how

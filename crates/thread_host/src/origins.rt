@@ -1,0 +1,67 @@
+//! What a run begins from, and whether a run began from it.
+
+ghost use Rattle.std.specs.Prelude.{◌≡◌, ◌≤◌, length, IfOk};
+ghost use Rattle.lam_bytecode.specs.Codes.{IsCode};
+ghost use Rattle.lam_worlds.specs.Valid.{IsValid};
+
+use code_copies::copy_code;
+use lam_bytecode::Code;
+use lam_world::World;
+use machine_run::{Run, RunParts};
+use std::alloc::Global;
+use want_of_memory::NoMemory;
+
+/// A code and the world that a run of it starts in.
+#[derive(Drop)]
+pub struct Origin {
+    pub code: Code,
+    pub start: World,
+}
+
+/// Copies of a code and a start.
+pub fn copied(alloc: Global, code: &Code, start: &World) -> Result<Origin, NoMemory>
+    requires { IsCode code.now }
+    ensures { IfOk result (λ o. (o.code ≡ code.now) × (o.start ≡ start.now)) }
+{
+    let start = start.copy()?;
+    match copy_code(alloc, code) {
+        Ok(code) => Ok(Origin { code, start }),
+        Err(error) => {
+            let_go_start(start);
+            Err(error)
+        }
+    }
+}
+
+/// The run, where it is one of this origin within the budget; else a new one of the origin.
+pub fn own_run(alloc: Global, run: Run, origin: Origin, budget: u64) -> Result<Run, NoMemory>
+    requires code { IsCode origin.code }
+    requires valid { IsValid origin.start }
+    ensures from { IfOk result (λ r. (r.code ≡ origin.code) × (r.start ≡ origin.start)) }
+    ensures within { IfOk result (λ r. length r.turns ≤ budget) }
+{
+    if run.same_start(&origin.code, &origin.start) && run.turns().len() as u64 <= budget {
+        let_go_origin(origin);
+        return Ok(run);
+    }
+    let_go_run(run);
+    let Origin { code, start } = origin;
+    Run::new(alloc, code, start)
+}
+
+/// Lets an origin go.
+pub fn let_go_origin(origin: Origin) {
+    let Origin { code, start } = origin;
+    let_go_start(start);
+    let_go_code(code);
+}
+
+/// Lets a run go.
+pub fn let_go_run(run: Run) {
+    let RunParts { code, start, .. } = run.into_parts();
+    let_go_origin(Origin { code, start });
+}
+
+fn let_go_start(_start: World) {}
+
+fn let_go_code(_code: Code) {}

@@ -1,0 +1,98 @@
+//! A run on workers, to its end.
+
+ghost use Rattle.std.specs.Prelude.{◌≡◌, ◌<◌, ◌≤◌, length, IfOk};
+ghost use Rattle.lam_bytecode.specs.Codes.{IsCode};
+ghost use Rattle.lam_worlds.specs.Valid.{IsValid};
+ghost use Rattle.run_ends.specs.Ends.{HasEnded};
+
+use crate::origins::{Origin, copied, let_go_origin, let_go_run, own_run};
+use crate::visits::go_on;
+use crate::workers::by_workers;
+use lam_bytecode::Code;
+use lam_io::Gate;
+use lam_world::World;
+use machine_run::Run;
+use run_ends::How;
+use std::alloc::Global;
+use std::sync::Wait;
+use std::thread::Threads;
+use want_of_memory::NoMemory;
+
+/// A run, and how it ended.
+#[derive(Drop)]
+pub struct Finished {
+    pub run: Run,
+    pub how: How,
+}
+
+/// The run of a code from a start by so many workers at once, with at most so many turns, and how it ended: every thread
+/// has ended, else no thread is ready, else the turns are used up.
+///
+/// The hook is asked before each turn, under the lock, with the number of turns so far and the ready threads in
+/// increasing order; its answer is taken modulo their number. After a turn it is called outside the lock. Once the workers
+/// have stopped, the caller goes on as worker 0, where something is left. A turn takes no memory for its list of ready
+/// threads unless there are more threads than before.
+///
+/// # Errors
+///
+/// `NoMemory` where memory is refused, once every worker has stopped.
+pub fn run_on<R: Threads + Wait + Sync, G: Gate + Sync>(
+    rt: &R,
+    alloc: Global,
+    code: Code,
+    start: World,
+    workers: u64,
+    turns: u64,
+    gate: &G,
+) -> Result<Finished, NoMemory>
+    requires code { IsCode code }
+    requires valid { IsValid start }
+    requires workers { (0 < workers) × (workers ≤ 16) }
+    requires turns { (0 < turns) × (turns ≤ 1000000) }
+    ensures start { IfOk result (λ f. (f.run.code ≡ code) × (f.run.start ≡ start)) }
+    ensures budget { IfOk result (λ f. length f.run.turns ≤ turns) }
+    ensures how { IfOk result (λ f. HasEnded f.run.code f.run.world (length f.run.turns) turns f.how) }
+{
+    let origin = match copied(alloc, &code, &start) {
+        Ok(origin) => origin,
+        Err(error) => {
+            let_go_origin(Origin { code, start });
+            return Err(error);
+        }
+    };
+    let run = match Run::new(alloc, code, start) {
+        Ok(run) => run,
+        Err(error) => {
+            let_go_origin(origin);
+            return Err(error);
+        }
+    };
+    let run = match by_workers(rt, alloc, run, workers, turns, gate) {
+        Ok(run) => run,
+        Err(error) => {
+            let_go_origin(origin);
+            return Err(error);
+        }
+    };
+    let run = own_run(alloc, run, origin, turns)?;
+    finish(alloc, run, turns, gate)
+}
+
+/// The run with the turns that are left to take.
+fn finish<G: Gate>(alloc: Global, run: Run, turns: u64, gate: &G) -> Result<Finished, NoMemory>
+    requires few { turns ≤ 1000000 }
+    requires within { length run.turns ≤ turns }
+    ensures start { IfOk result (λ f. (f.run.code ≡ run.code) × (f.run.start ≡ run.start)) }
+    ensures budget { IfOk result (λ f. length f.run.turns ≤ turns) }
+    ensures how { IfOk result (λ f. HasEnded f.run.code f.run.world (length f.run.turns) turns f.how) }
+{
+    let mut run = run;
+    let mut list = Vec::new(alloc);
+    match go_on(&mut run, &mut list, turns, gate) {
+        Ok(how) => Ok(Finished { run, how }),
+        Err(error) => {
+            let_go_run(run);
+            Err(error)
+        }
+    }
+}

@@ -1,0 +1,2 @@
+pub mod ThreadParts
+pub mod WorldParts

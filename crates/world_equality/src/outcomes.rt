@@ -1,0 +1,36 @@
+//! Whether two faults are equal, and whether two threads ended alike.
+
+ghost use Rattle.std.specs.Prelude.{◌≡◌, ◌↔◌, IsTrue};
+ghost use Rattle.std.specs.Option.{option_copied};
+
+use lam_asks::{Fault, Outcome};
+use lam_value::same_value;
+
+/// Whether the same fault is there, or none on either side.
+pub(crate) fn same_fault(a: Option<Fault>, b: Option<Fault>) -> bool
+    ensures { IsTrue result ↔ (a ≡ b) }
+{
+    a == b
+}
+
+/// Whether two threads ended alike, or neither has ended.
+pub(crate) fn same_result(a: Option<&Outcome>, b: Option<&Outcome>) -> bool
+    ensures { IsTrue result ↔ (option_copied a.entry ≡ option_copied b.entry) }
+{
+    match a {
+        None => b.is_none(),
+        Some(x) => match b {
+            None => false,
+            Some(y) => same_outcome(x, y),
+        },
+    }
+}
+
+fn same_outcome(a: &Outcome, b: &Outcome) -> bool
+    ensures { IsTrue result ↔ (a.now ≡ b.now) }
+{
+    match a {
+        Outcome::Value(x) => matches!(b, Outcome::Value(y) if same_value(x, y)),
+        Outcome::Failed(x) => matches!(b, Outcome::Failed(y) if *x == *y),
+    }
+}
