@@ -12,13 +12,16 @@ use Rattle.lam_words.specs.Words.{Text}
 use Rattle.lam_plan.specs.declared.Status.TheVariants.{Done, Book as book_status}
 use Rattle.lam_plan.specs.Refusals.{Plan, prints, refused, no_word, no_script, no_program, no_code, no_world, no_book, no_turn, absent, too_long}
 use Rattle.lam_plan.specs.Reading.{IsUnread}
+use Rattle.lam_plan.specs.Threads.{status_of}
 use Rattle.lam_plan.specs.Answer.{IsWritten}
+use Rattle.run_ends.specs.declared.How.TheVariants.{Done as all_ended}
 use Rattle.lam_commands.specs.declared.halt.WorldBreak.{WorldBreak}
 use Rattle.lam_commands.specs.declared.halt.WorldBreak.TheVariants.{NotJson, NoMember, BadMember, NoTag, BadPath, PathTwice}
 use Rattle.lam_commands.specs.declared.halt.BookBreak.{BookBreak}
 use Rattle.lam_commands.specs.declared.halt.BookBreak.TheVariants.{Head, Line, SameThread, TooMany}
 use Rattle.lam_commands.specs.declared.halt.Refusal.{Refusal}
 use Rattle.lam_commands.specs.declared.halt.Refusal.TheVariants.{Word, Script, NotUtf8, Flawed, CodeTooLong, World, Book, NotReady, Absent, TooLong}
+use Rattle.lam_commands.specs.declared.report.Report.{Report}
 use Rattle.lam_commands.specs.declared.halt.Halt.{Halt}
 use Rattle.lam_commands.specs.declared.halt.Halt.TheVariants.{Refused, NoMemory, ShelfFailed}
 
@@ -83,6 +86,18 @@ Gives (Ok text) IsPlan old new = (writes : Option (Text × Text)) × IsPlan (rec
 Gives (Err (Refused refusal)) IsPlan old new = IsPlan (refuses refusal) × AllStay old new
 Gives (Err NoMemory) IsPlan old new = Unit {0}
 Gives (Err ShelfFailed) IsPlan old new = Unit {0}
+
+-- a report of a command that starts no thread
+abbrev pub done : Result (String Global) Halt → Result Report Halt
+done (Ok text) = Ok (record { how = all_ended; text = text })
+done (Err halt) = Err halt
+
+-- a report or a refusal that is planned, and what became of the files
+abbrev pub Reports : Result Report Halt → (Plan → Type 0) → Files → Files → Type 0
+Reports (Ok report) IsPlan old new = (writes : Option (Text × Text)) × IsPlan (record { status = status_of report.how; text = string_bytes report.text; writes = writes }) × IsWritten writes old new
+Reports (Err (Refused refusal)) IsPlan old new = IsPlan (refuses refusal) × AllStay old new
+Reports (Err NoMemory) IsPlan old new = Unit {0}
+Reports (Err ShelfFailed) IsPlan old new = Unit {0}
 
 -- the bytes of a file of a name and with a limit, or that it is not there or too long
 abbrev pub IsRead : Result (Vec ℕ Global) Halt → Option Text → Text → ℕ → Type 0

@@ -8,9 +8,11 @@
 mod files;
 mod halt;
 mod program;
+mod report;
 mod script;
 
 pub use files::read_file;
 pub use halt::{BookBreak, Halt, Refusal, WorldBreak};
-pub use program::{check, code, format, read_code};
+pub use program::{check, code, compiled, format, read_code};
+pub use report::{Report, done};
 pub use script::play;

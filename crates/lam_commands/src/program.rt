@@ -91,7 +91,11 @@ fn format_bytes(alloc: Global, bytes: &[u8]) -> Result<String, Halt>
 }
 
 /// The code of the program that the bytes spell.
-fn compiled(alloc: Global, bytes: &[u8]) -> Result<Code, Halt>
+///
+/// # Errors
+///
+/// A refusal with the first fault of the bytes, or with the first unit that is too long; `NoMemory`.
+pub fn compiled(alloc: Global, bytes: &[u8]) -> Result<Code, Halt>
     ensures finds { Finds result (λ code. IsCompiled bytes.now (Ok code)) (Compiles Never bytes.now) }
     ensures sound { IfOk result (λ code. IsCode code) }
     ensures no_fault { IfErr result (λ halt. halt ≢ Halt.ShelfFailed) }

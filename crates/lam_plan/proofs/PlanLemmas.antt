@@ -1,5 +1,5 @@
 -- Words and files have at most one plan.
-use Rattle.std.proofs.Common.{◌≡◌, ◌<◌, ◌≤◌, ℕ, List, length, Option, Some, None, Result, Ok, Err, codes, sym, ap, subst, ◌∙◌, arith}
+use Rattle.std.proofs.Common.{◌≡◌, ◌<◌, ◌≤◌, ℕ, Bool, false, List, length, Option, Some, None, Result, Ok, Err, codes, sym, ap, subst, ◌∙◌, arith}
 use Rattle.lam_io.specs.Outside.{Files}
 use Rattle.lam_print.specs.Canon.{canon}
 use Rattle.lam_front.proofs.Once.{one_spelt, spelt_or_misspelt, one_misspelt, fine_or_broken, one_broken}
@@ -13,17 +13,17 @@ use Rattle.lam_worlds.specs.Turns.{Moment}
 use Rattle.world_terms.specs.Breaks.{Reading}
 use Rattle.world_terms.specs.Start.{start_of}
 use Rattle.lam_front.specs.Programs.{IsFine}
-use Rattle.lam_words.specs.Words.{Text, Request, play, check, format, code, replay, audit, help, request_of}
+use Rattle.lam_words.specs.Words.{Text, Request, play, check, format, code, replay, run, audit, make, help, request_of}
 use Rattle.lam_plan.specs.Refusals.{Plan, prints, no_program}
 use Rattle.lam_plan.specs.Reading.{IsUnread, HasFile, WithFile, unread, of_file, script_limit, program_limit, world_limit, book_limit, IsCompiled, ByCode, Compiles, fine, broken}
 use Rattle.lam_plan.specs.Replays.{Reader, an_observer, an_auditor, RunFiles, read_by, IsOfBook, ByReader, ByWorld, Replays, Starts, Runs}
-use Rattle.lam_plan.specs.Plan.{Plays, Formats, canonical, misspelt, Checks, Lists, IsPlanOf, PlansAreOne}
+use Rattle.lam_plan.specs.Plan.{Plays, Formats, canonical, misspelt, Checks, Lists, IsPlanOf, starts_threads, PlansAreOne}
 
 one_unread : (found : Option Text) (name : Text) (limit : ℕ) (p q : Plan) → IsUnread found name limit p → IsUnread found name limit q → p ≡ q
 one_unread None name limit p q h k = h ∙ sym k
 one_unread (Some bytes) name limit p q h k = h.1 ∙ sym k.1
 
-one_bytes : {bs cs : Text} → Some bs ≡ Some cs → bs ≡ cs
+pub one_bytes : {bs cs : Text} → Some bs ≡ Some cs → bs ≡ cs
 one_bytes e = cc
 
 none_there : {bs : Text} → ◌≡◌ {A = Option Text} None (Some bs) → ⊥
@@ -32,7 +32,7 @@ none_there e = cc
 longer : (bs cs : Text) (limit : ℕ) → Some bs ≡ Some cs → limit < length bs → length cs ≤ limit → ⊥
 longer bs cs limit e h k = let l : length bs ≡ length cs = ap length (one_bytes e) in omega (arith, h, k, l)
 
-unread_or_of_file : (found : Option Text) (name : Text) (limit : ℕ) (IsOf : Text → Plan → Type 0) (p q : Plan) → IsUnread found name limit p → HasFile found limit (λ bytes. IsOf bytes q) → ⊥
+pub unread_or_of_file : (found : Option Text) (name : Text) (limit : ℕ) (IsOf : Text → Plan → Type 0) (p q : Plan) → IsUnread found name limit p → HasFile found limit (λ bytes. IsOf bytes q) → ⊥
 unread_or_of_file None name limit IsOf p q h k = none_there k.there
 unread_or_of_file (Some bytes) name limit IsOf p q h k = longer bytes k.bytes limit k.there h.0 k.short
 
@@ -57,7 +57,7 @@ one_formats bytes p q (misspelt f m e) (misspelt g n d) = e ∙ ap no_program (o
 one_fine : (bytes : Text) (p q : ProgramTree) → IsFine bytes p → IsFine bytes q → p ≡ q
 one_fine bytes p q h k = one_spelt bytes p q h.spelt k.spelt
 
-one_made : (bytes : Text) (m n : Result CodeTree ℕ) → IsCompiled bytes m → IsCompiled bytes n → m ≡ n
+pub one_made : (bytes : Text) (m n : Result CodeTree ℕ) → IsCompiled bytes m → IsCompiled bytes n → m ≡ n
 one_made bytes m n h k = one_compiled k.program m n (subst (λ p. IsCompiledTo p m) (one_fine bytes h.program k.program h.fine k.fine) h.makes) k.makes
 
 one_equal : (it p q : Plan) → p ≡ it → q ≡ it → p ≡ q
@@ -90,25 +90,27 @@ module _ (files : Files) where
   one_replays : (book : Text) (reader : Reader) (tree : CodeTree) (start : World) (p q : Plan) → Replays files book reader tree start p → Replays files book reader tree start q → p ≡ q
   one_replays book reader tree start p q h k = one_by_reader (λ shown. WithFile (files book) book book_limit (IsOfBook tree start shown)) (one_of_book book tree start) (read_by reader start.names) p q h k
 
-  one_starts : (run : RunFiles) (reader : Reader) (tree : CodeTree) (p q : Plan) → Starts files run reader tree p → Starts files run reader tree q → p ≡ q
-  one_starts run reader tree p q h k =
-      one_with_file (files run.world) run.world world_limit (λ bytes. ByWorld (Replays files run.book reader tree) (start_of bytes tree))
-      (λ bytes. one_by_world (Replays files run.book reader tree) (one_replays run.book reader tree) (start_of bytes tree)) p q h k
+  one_starts : (asked : RunFiles) (reader : Reader) (tree : CodeTree) (p q : Plan) → Starts files asked reader tree p → Starts files asked reader tree q → p ≡ q
+  one_starts asked reader tree p q h k =
+      one_with_file (files asked.world) asked.world world_limit (λ bytes. ByWorld (Replays files asked.book reader tree) (start_of bytes tree))
+      (λ bytes. one_by_world (Replays files asked.book reader tree) (one_replays asked.book reader tree) (start_of bytes tree)) p q h k
 
-  one_runs : (run : RunFiles) (reader : Reader) (bytes : Text) (p q : Plan) → Runs files run reader bytes p → Runs files run reader bytes q → p ≡ q
-  one_runs run reader bytes p q h k = one_compiles (Starts files run reader) (one_starts run reader) bytes p q h k
+  one_runs : (asked : RunFiles) (reader : Reader) (bytes : Text) (p q : Plan) → Runs files asked reader bytes p → Runs files asked reader bytes q → p ≡ q
+  one_runs asked reader bytes p q h k = one_compiles (Starts files asked reader) (one_starts asked reader) bytes p q h k
 
 -- ---- every command
 
-one_plan_of : (r : Result Request ℕ) (files : Files) (p q : Plan) → IsPlanOf r files p → IsPlanOf r files q → p ≡ q
-one_plan_of (Err index) files p q h k = h ∙ sym k
-one_plan_of (Ok (play file observer)) files p q h k = one_with_file (files file) file script_limit (Plays observer) (one_plays observer) p q h k
-one_plan_of (Ok (check file)) files p q h k = one_with_file (files file) file program_limit Checks (one_compiles (λ tree p. p ≡ prints (codes "ok\n")) (λ tree. one_equal (prints (codes "ok\n")))) p q h k
-one_plan_of (Ok (format file)) files p q h k = one_with_file (files file) file program_limit Formats one_formats p q h k
-one_plan_of (Ok (code file)) files p q h k = one_with_file (files file) file program_limit Lists (one_compiles (λ tree p. p ≡ prints (listing_text tree)) (λ tree. one_equal (prints (listing_text tree)))) p q h k
-one_plan_of (Ok (replay program world book label)) files p q h k = one_with_file (files program) program program_limit (Runs files (record { world = world; book = book }) (an_observer label)) (one_runs files (record { world = world; book = book }) (an_observer label)) p q h k
-one_plan_of (Ok (audit program world book)) files p q h k = one_with_file (files program) program program_limit (Runs files (record { world = world; book = book }) an_auditor) (one_runs files (record { world = world; book = book }) an_auditor) p q h k
-one_plan_of (Ok help) files p q h k = h ∙ sym k
+one_plan_of : (r : Result Request ℕ) (files : Files) (p q : Plan) → starts_threads r ≡ false → IsPlanOf r files p → IsPlanOf r files q → p ≡ q
+one_plan_of (Err index) files p q none h k = h ∙ sym k
+one_plan_of (Ok (play file observer)) files p q none h k = one_with_file (files file) file script_limit (Plays observer) (one_plays observer) p q h k
+one_plan_of (Ok (check file)) files p q none h k = one_with_file (files file) file program_limit Checks (one_compiles (λ tree p. p ≡ prints (codes "ok\n")) (λ tree. one_equal (prints (codes "ok\n")))) p q h k
+one_plan_of (Ok (format file)) files p q none h k = one_with_file (files file) file program_limit Formats one_formats p q h k
+one_plan_of (Ok (code file)) files p q none h k = one_with_file (files file) file program_limit Lists (one_compiles (λ tree p. p ≡ prints (listing_text tree)) (λ tree. one_equal (prints (listing_text tree)))) p q h k
+one_plan_of (Ok (replay program world book label)) files p q none h k = one_with_file (files program) program program_limit (Runs files (record { world = world; book = book }) (an_observer 4 label)) (one_runs files (record { world = world; book = book }) (an_observer 4 label)) p q h k
+one_plan_of (Ok (run program world label out workers budget)) files p q none h k = absurd (let no : ⊥ = cc in no)
+one_plan_of (Ok (audit program world book)) files p q none h k = one_with_file (files program) program program_limit (Runs files (record { world = world; book = book }) an_auditor) (one_runs files (record { world = world; book = book }) an_auditor) p q h k
+one_plan_of (Ok (make seed threads out)) files p q none h k = absurd (let no : ⊥ = cc in no)
+one_plan_of (Ok help) files p q none h k = h ∙ sym k
 
 pub plans_are_one : PlansAreOne
-plans_are_one ws files p q none h k = one_plan_of (request_of ws) files p q h k
+plans_are_one ws files p q none h k = one_plan_of (request_of ws) files p q none h k

@@ -45,11 +45,11 @@ module _ (found : Option Text) (name : Text) (IsOf : CodeTree → Plan → Type 
 
 -- ---- the start
 
-by_no_world : (IsOf : World → Plan → Type 0) (read : Reading World) (p : Plan) → ByWorld Never read p → ByWorld IsOf read p
+pub by_no_world : (IsOf : World → Plan → Type 0) (read : Reading World) (p : Plan) → ByWorld Never read p → ByWorld IsOf read p
 by_no_world IsOf (Ok start) p h = absurd h
 by_no_world IsOf (Err breach) p h = h
 
-by_this_world : (IsOf : World → Plan → Type 0) (read : Reading World) (start : World) (p : Plan) → read ≡ Ok start → IsOf start p → ByWorld IsOf read p
+pub by_this_world : (IsOf : World → Plan → Type 0) (read : Reading World) (start : World) (p : Plan) → read ≡ Ok start → IsOf start p → ByWorld IsOf read p
 by_this_world IsOf read start p is h = subst (λ (r : Reading World). ByWorld IsOf r p) (sym is) h
 
 module _ (files : Files) (run : RunFiles) (reader : Reader) (tree : CodeTree) (p : Plan) where
@@ -61,11 +61,11 @@ module _ (files : Files) (run : RunFiles) (reader : Reader) (tree : CodeTree) (p
 
 -- ---- who reads, and the book
 
-by_no_reader : (IsOf : (List Moment → Text) → Plan → Type 0) (read : Result (List Moment → Text) ℕ) (p : Plan) → ByReader Never read p → ByReader IsOf read p
+pub by_no_reader : (IsOf : (List Moment → Text) → Plan → Type 0) (read : Result (List Moment → Text) ℕ) (p : Plan) → ByReader Never read p → ByReader IsOf read p
 by_no_reader IsOf (Ok shown) p h = absurd h
 by_no_reader IsOf (Err index) p h = h
 
-by_this_reader : (IsOf : (List Moment → Text) → Plan → Type 0) (read : Result (List Moment → Text) ℕ) (shown : List Moment → Text) (p : Plan) → read ≡ Ok shown → IsOf shown p → ByReader IsOf read p
+pub by_this_reader : (IsOf : (List Moment → Text) → Plan → Type 0) (read : Result (List Moment → Text) ℕ) (shown : List Moment → Text) (p : Plan) → read ≡ Ok shown → IsOf shown p → ByReader IsOf read p
 by_this_reader IsOf read shown p is h = subst (λ (r : Result (List Moment → Text) ℕ). ByReader IsOf r p) (sym is) h
 
 module _ (files : Files) (book : Text) (reader : Reader) (tree : CodeTree) (start : World) (p : Plan) where

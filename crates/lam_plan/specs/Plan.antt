@@ -1,5 +1,5 @@
 -- What a call of given words does with given files, and how it ends, where nothing fails.
-use Rattle.std.specs.Prelude.{◌≡◌, ◌≤◌, ℕ, Bool, false, List, [], ◌∷◌, length, Option, Some, None, Result, Ok, Err, chars, codes, refl}
+use Rattle.std.specs.Prelude.{◌≡◌, ◌≤◌, ℕ, Bool, true, false, List, [], ◌∷◌, length, Option, Some, None, Result, Ok, Err, chars, codes, refl}
 use Rattle.flow_labels.specs.LabelText.{label_of}
 use Rattle.flow_labels.specs.declared.Label.{Label}
 use Rattle.flow_labels.specs.declared.texts.LabelFault.{LabelFault}
@@ -17,10 +17,11 @@ use Rattle.lam_print.specs.Canon.{canon}
 use Rattle.lam_front.specs.declared.fault.ProgramFault.{ProgramFault}
 use Rattle.lam_front.specs.Programs.{IsSpelt, IsMisspelt}
 use Rattle.lam_bytecode.specs.Listing.{listing_text}
-use Rattle.lam_words.specs.Words.{Text, Request, play, check, format, code, replay, audit, help, request_of, forms, help_lines}
+use Rattle.lam_words.specs.Words.{Text, Request, play, check, format, code, replay, run, audit, make, help, request_of, commands, help_lines}
 use Rattle.lam_plan.specs.Refusals.{Plan, prints, no_word, no_script, no_program, absent}
 use Rattle.lam_plan.specs.Reading.{WithFile, unread, script_limit, program_limit, Compiles}
 use Rattle.lam_plan.specs.Replays.{an_observer, an_auditor, Runs}
+use Rattle.lam_plan.specs.Threads.{RunsThreads, Makes}
 
 -- ---- `play`
 
@@ -61,20 +62,26 @@ IsPlanOf (Ok (play file observer)) files plan = WithFile (files file) file scrip
 IsPlanOf (Ok (check file)) files plan = WithFile (files file) file program_limit Checks plan
 IsPlanOf (Ok (format file)) files plan = WithFile (files file) file program_limit Formats plan
 IsPlanOf (Ok (code file)) files plan = WithFile (files file) file program_limit Lists plan
-IsPlanOf (Ok (replay program world book label)) files plan = WithFile (files program) program program_limit (Runs files (record { world = world; book = book }) (an_observer label)) plan
+IsPlanOf (Ok (replay program world book label)) files plan = WithFile (files program) program program_limit (Runs files (record { world = world; book = book }) (an_observer 4 label)) plan
+IsPlanOf (Ok (run program world label out workers budget)) files plan = WithFile (files program) program program_limit (RunsThreads files (record { world = world; out = out }) budget (an_observer 3 label)) plan
 IsPlanOf (Ok (audit program world book)) files plan = WithFile (files program) program program_limit (Runs files (record { world = world; book = book }) an_auditor) plan
-IsPlanOf (Ok help) files plan = plan ≡ prints (help_lines forms)
+IsPlanOf (Ok (make seed threads out)) files plan = Makes seed threads out plan
+IsPlanOf (Ok help) files plan = plan ≡ prints (help_lines commands)
 
 -- the plan of words and files, in the order of reading: words, file, and then what the file is read for
 abbrev pub IsPlan : List Text → Files → Plan → Type 0
 IsPlan ws files plan = IsPlanOf (request_of ws) files plan
 
--- whether what is asked starts threads, whose turns words and files do not tell; no command of now does
+-- whether what is asked starts threads, whose turns words and files do not tell
 abbrev pub starts_threads : Result Request ℕ → Bool
+starts_threads (Ok (run program world label out workers budget)) = true
+starts_threads (Ok (make seed threads out)) = true
 starts_threads request = false
 
--- the name of the file that is asked to be written; no command of now writes one
+-- the name of the file that is asked to be written
 abbrev pub written_by : Result Request ℕ → Option Text
+written_by (Ok (run program world label out workers budget)) = Some out
+written_by (Ok (make seed threads out)) = Some out
 written_by request = None
 
 -- there is at most one plan where no thread is started

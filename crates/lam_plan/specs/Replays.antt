@@ -18,9 +18,9 @@ use Rattle.lam_words.specs.Words.{Text}
 use Rattle.lam_plan.specs.Refusals.{Plan, prints, no_word, no_world, no_book, no_turn}
 use Rattle.lam_plan.specs.Reading.{WithFile, Never, Compiles, world_limit, book_limit}
 
--- who reads of a run: an observer at the label of a text, or an auditor
+-- who reads of a run: an observer at the label of a text, which is the word of an index, or an auditor
 pub data Reader : Type 0 where
-  an_observer : (label : Text) → Reader
+  an_observer : (index : ℕ) (label : Text) → Reader
   an_auditor : Reader
 
 -- the files of a run, but for its program: the document of its start, and its book
@@ -28,13 +28,13 @@ pub record RunFiles : Type 0 where
   pub world : Text
   pub book : Text
 
--- what an observer reads; its label is the word of index 4, and names the tags of the start
-abbrev pub view_by : List Text → Result Label LabelFault → Result (List Moment → Text) ℕ
-view_by names (Ok o) = Ok (view_lines names o)
-view_by names (Err fault) = Err 4
+-- what an observer reads; its label names the tags of the start
+abbrev pub view_by : ℕ → List Text → Result Label LabelFault → Result (List Moment → Text) ℕ
+view_by index names (Ok o) = Ok (view_lines names o)
+view_by index names (Err fault) = Err index
 
 abbrev pub read_by : Reader → List Text → Result (List Moment → Text) ℕ
-read_by (an_observer label) names = view_by names (label_of names label)
+read_by (an_observer index label) names = view_by index names (label_of names label)
 read_by an_auditor names = Ok (audit_lines names)
 
 -- a text of a run, where the thread of each turn is ready

@@ -31,9 +31,9 @@ pub enum Status {
     ShelfFault,
     /// The output failed, after a front of what the call prints.
     SinkFault,
-    /// A run took all its turns. No command of now runs threads.
+    /// A run took all its turns, and some thread is ready.
     Budget,
-    /// A run's living threads all wait. No command of now runs threads.
+    /// A run's living threads all wait.
     AllWait,
 }
 

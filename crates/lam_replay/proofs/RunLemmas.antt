@@ -65,8 +65,8 @@ no_shelf_world no_memory_of_world halt is e = cc
 
 -- ---- who reads
 
-pub bad_label : (names : List Text) (text : Text) (f : LabelFault) → label_of names text ≡ Err f → ByReader Never (read_by (an_observer text) names) (no_word 4)
-bad_label names text f is = subst (λ (r : Result Label LabelFault). ByReader Never (view_by names r) (no_word 4)) (sym is) refl
+pub bad_label : (index : ℕ) (names : List Text) (text : Text) (f : LabelFault) → label_of names text ≡ Err f → ByReader Never (read_by (an_observer index text) names) (no_word index)
+bad_label index names text f is = subst (λ (r : Result Label LabelFault). ByReader Never (view_by index names r) (no_word index)) (sym is) refl
 
 -- ---- the turns
 

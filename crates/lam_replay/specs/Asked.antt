@@ -26,7 +26,7 @@ abbrev pub files_of : RunFiles → PlainFiles
 files_of files = record { world = string_bytes files.world; book = string_bytes files.book }
 
 abbrev pub reader_of : Reader → Plain
-reader_of (reader.Observer text) = an_observer (string_bytes text)
+reader_of (reader.Observer index label) = an_observer index (string_bytes label)
 reader_of reader.Auditor = an_auditor
 
 -- ---- who reads

@@ -21,8 +21,13 @@ use world_reading::WorldFault;
 /// The most bytes of the document of a world.
 const WORLD_LIMIT: u64 = 16_777_216;
 
-/// The world of the document in a file, from which a code starts.
-pub(crate) fn read_start<H: Shelf>(
+/// The world of the document in a file, from which a code starts. It is a valid one.
+///
+/// # Errors
+///
+/// A refusal where the file can't be read, or with the first break of the document; `NoMemory`; `ShelfFailed` only where
+/// the shelf counted a fault.
+pub fn read_start<H: Shelf>(
     alloc: Global,
     shelf: &mut H,
     code: &Code,
@@ -40,7 +45,11 @@ pub(crate) fn read_start<H: Shelf>(
 }
 
 /// The world of the document in a file's bytes. It is a valid one.
-fn start_in(alloc: Global, code: &Code, bytes: &[u8]) -> Result<World, Halt>
+///
+/// # Errors
+///
+/// A refusal with the first break of the document; `NoMemory`.
+pub fn start_in(alloc: Global, code: &Code, bytes: &[u8]) -> Result<World, Halt>
     ensures finds { Finds result (λ start. start_of bytes.now code.now ≡ Ok start) (NoStart code.now bytes.now) }
     ensures valid { IfOk result IsValid }
     ensures no_fault { IfErr result (λ halt. halt ≢ Halt.ShelfFailed) }
@@ -53,7 +62,7 @@ fn start_in(alloc: Global, code: &Code, bytes: &[u8]) -> Result<World, Halt>
 }
 
 /// Lets a world go. Where a world is dropped costs much to prove, so this is the one place.
-pub(crate) fn let_go(_world: World) {}
+pub fn let_go(_world: World) {}
 
 /// What a fault of a document halts with.
 fn world_halt(fault: WorldFault) -> Halt

@@ -11,12 +11,9 @@ use flow_labels::{Label, LabelFault, TagNames, parse_label};
 use lam_commands::{Halt, Refusal};
 use lam_stores::Stores;
 
-/// The index of the word that is the observer's label.
-const OBSERVER_WORD: u64 = 4;
-
 /// Who reads of a run.
 #[derive(Drop)]
-pub(crate) enum Eye {
+pub enum Eye {
     /// An observer at this label.
     Observer(Label),
     /// An auditor.
@@ -25,13 +22,19 @@ pub(crate) enum Eye {
 
 /// Who reads of a run, with the names of the tags of its start.
 #[derive(Drop)]
-pub(crate) struct Viewer {
-    pub(crate) names: TagNames,
-    pub(crate) eye: Eye,
+pub struct Viewer {
+    /// The names of the tags of the start.
+    pub names: TagNames,
+    /// Who reads.
+    pub eye: Eye,
 }
 
 /// The reader of a run from these stores.
-pub(crate) fn viewer_of(reader: &Reader, stores: &Stores) -> Result<Viewer, Halt>
+///
+/// # Errors
+///
+/// A refusal with the index of the observer's word, where its text is no label of the tags of the stores; `NoMemory`.
+pub fn viewer_of(reader: &Reader, stores: &Stores) -> Result<Viewer, Halt>
     ensures names { IfOk result (λ viewer. viewer.names ≡ stores.now.names) }
     ensures finds { Finds result (λ viewer. read_by (reader_of reader.now) stores.now.names ≡ Ok (lines_for viewer.eye viewer.names)) (ByReader Never (read_by (reader_of reader.now) stores.now.names)) }
     ensures no_fault { IfErr result (λ halt. halt ≢ Halt.ShelfFailed) }
@@ -51,20 +54,20 @@ fn eye_of(reader: &Reader, names: &TagNames) -> Result<Eye, Halt>
     ensures no_fault { IfErr result (λ halt. halt ≢ Halt.ShelfFailed) }
 {
     match reader {
-        Reader::Observer(text) => observer(text.as_str(), names),
+        Reader::Observer { index, label } => observer(*index, label.as_str(), names),
         Reader::Auditor => Ok(Eye::Auditor),
     }
 }
 
 /// An observer at the label of a text.
-fn observer(text: &str, names: &TagNames) -> Result<Eye, Halt>
-    ensures finds { Finds result (λ eye. read_by (an_observer text.now) names.now ≡ Ok (lines_for eye names.now)) (ByReader Never (read_by (an_observer text.now) names.now)) }
+fn observer(index: u64, text: &str, names: &TagNames) -> Result<Eye, Halt>
+    ensures finds { Finds result (λ eye. read_by (an_observer index text.now) names.now ≡ Ok (lines_for eye names.now)) (ByReader Never (read_by (an_observer index text.now) names.now)) }
     ensures no_fault { IfErr result (λ halt. halt ≢ Halt.ShelfFailed) }
 {
     match parse_label(text, names) {
         Ok(label) => Ok(Eye::Observer(label)),
         Err(LabelFault::BadLabel { at: _ } | LabelFault::NoTag { at: _ }) => {
-            Err(Halt::Refused(Refusal::Word(OBSERVER_WORD)))
+            Err(Halt::Refused(Refusal::Word(index)))
         }
         Err(LabelFault::NoMemory) => Err(Halt::NoMemory),
     }

@@ -4,7 +4,7 @@
 //! (`lam_commands`); the document of the world that the run starts from (`world_doc`); then the observer's label, whose
 //! tags that world names; and the book, which says whose turn comes when (`turn_book`). The turns are taken on the machine
 //! (`lam_run`), and what is seen of them, or noted, is printed (`audit_log`). What a call answers is what the plan of these
-//! files says (`lam_plan`).
+//! files says (`lam_plan`). The command `run` reads its files by the same calls.
 #![tactic(auto)]
 
 mod document;
@@ -20,9 +20,10 @@ ghost use Rattle.lam_plan.specs.Replays.{IsOfBook, Replays, Starts, Runs};
 ghost use Rattle.lam_commands.specs.Halts.{Says, Gives};
 ghost use Rattle.lam_replay.specs.Asked.{files_of, reader_of, lines_for};
 
-use crate::document::{let_go, read_start};
-use crate::eye::{Viewer, viewer_of};
+pub use crate::document::{let_go, read_start, start_in};
+pub use crate::eye::{Eye, Viewer, viewer_of};
 use crate::run_text::shown;
+pub use crate::run_text::shown_turns;
 use lam_bytecode::Code;
 use lam_commands::{Halt, read_code, read_file};
 use lam_io::Shelf;
@@ -35,8 +36,8 @@ const BOOK_LIMIT: u64 = 16_777_216;
 /// Who reads of a run.
 #[derive(Drop)]
 pub enum Reader {
-    /// An observer at the label of this text.
-    Observer(String),
+    /// An observer at the label of a text, which is the word of this index.
+    Observer { index: u64, label: String },
     /// An auditor.
     Auditor,
 }

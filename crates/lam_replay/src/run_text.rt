@@ -47,7 +47,11 @@ pub(crate) fn shown(
 }
 
 /// What the reader is shown of turns.
-fn shown_turns(
+///
+/// # Errors
+///
+/// A refusal with the first turn whose thread is not ready; `NoMemory`.
+pub fn shown_turns(
     alloc: Global,
     code: &Code,
     start: World,

@@ -56,7 +56,7 @@ module _ (files : Files) (run : RunFiles) (reader : Reader) (tree : CodeTree) (s
 view_printed : (ws : List Text) (files : Files) (tree : CodeTree) (start : World) (o : Label) (turns : List ℕ) → RunsStop tree → ReplaysRun ws files tree start o turns → IsPlan ws files (prints (view_lines start.names o (moments tree turns start)))
 view_printed ws files tree start o turns law r =
     subst (λ (request : Result Request ℕ). IsPlanOf request files (prints (view_lines start.names o (moments tree turns start)))) (sym r.asks)
-    (run_printed files (record { world = r.world; book = r.book }) (an_observer r.label) tree start turns (view_lines start.names o) r.program law (ap (view_by start.names) r.observes) r.holds)
+    (run_printed files (record { world = r.world; book = r.book }) (an_observer 4 r.label) tree start turns (view_lines start.names o) r.program law (ap (view_by 4 start.names) r.observes) r.holds)
 
 flat_split : (f : Entry → Text) (n : ℕ) (es : List Entry) → flat_map f es ≡ flat_map f (take n es) ++ flat_map f (drop n es)
 flat_split f zero es = refl

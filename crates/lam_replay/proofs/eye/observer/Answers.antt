@@ -4,4 +4,4 @@ use Rattle.lam_replay.proofs.RunLemmas.{bad_label}
 use Rattle.lam_replay.proofs.eye.observer.Goals as goal
 
 pub returns-in-Ok-clause-finds : goal.returns-in-Ok-clause-finds
-returns-in-Ok-clause-finds c = ap (view_by c.args.names.now) c.in-Ok.ensures
+returns-in-Ok-clause-finds c = ap (view_by c.args.index c.args.names.now) c.in-Ok.ensures

@@ -1,0 +1,19 @@
+use Rattle.std.proofs.Common.{◌≡◌, Ok, Err, subst}
+use Rattle.lam_worlds.specs.Worlds.{World}
+use Rattle.world_terms.specs.Start.{start_of}
+use Rattle.lam_words.specs.Words.{Text}
+use Rattle.run_summary.specs.Sums.{summary_lines}
+use Rattle.lam_plan.specs.Replays.{NoStart}
+use Rattle.lam_commands.specs.Halts.{Finds}
+use Rattle.lam_plan.specs.Threads.{IsOfThreads, made_budget}
+use Rattle.thread_commands.proofs.TakenLemmas.{world_offers, no_world_offers}
+use Rattle.thread_commands.proofs.making.made_code.Goals as goal
+
+pub returns-in_ok-made_run-in-Ok-clause-offers : goal.returns-in_ok-made_run-in-Ok-clause-offers
+returns-in_ok-made_run-in-Ok-clause-offers g c =
+    world_offers (λ out start. IsOfThreads c.args.code start out made_budget (summary_lines c.args.seed c.args.threads)) (start_of c.args.world.now c.args.code) c.in-Ok.start c.in_ok-made_run-in-Ok.field-0 (subst (λ (b : Text). start_of b c.args.code ≡ Ok c.in-Ok.start) c.as_bytes.ensures.value c.in-Ok.ensures.finds) c.in_ok-made_run-in-Ok.ensures
+
+pub returns-in-Err-clause-offers : goal.returns-in-Err-clause-offers
+returns-in-Err-clause-offers g c =
+    no_world_offers (λ out start. IsOfThreads c.args.code start out made_budget (summary_lines c.args.seed c.args.threads)) (start_of c.args.world.now c.args.code) (λ (start : World). start_of c.args.world.now c.args.code ≡ Ok start) c.in-Err.halt
+    (subst (λ (b : Text). Finds {X = World} (Err c.in-Err.halt) (λ (start : World). start_of b c.args.code ≡ Ok start) (NoStart c.args.code b)) c.as_bytes.ensures.value c.in-Err.ensures.finds)
