@@ -1,11 +1,13 @@
 -- From the answer of a command to how the call ended.
-use Rattle.std.proofs.Common.{◌≡◌, ℕ, [], Option, None, Result, Ok, Err, IsErr, IfErr, String, string_bytes, refl, sym, subst, ◌∙◌}
-use Rattle.std.specs.declared.alloc.Global.{Global}
+use Rattle.std.proofs.Common.{◌≡◌, ℕ, [], Option, None, Result, Ok, Err, IsErr, IfErr, string_bytes, refl, sym, subst, ◌∙◌}
+use Rattle.run_ends.specs.declared.How.{How}
+use Rattle.run_ends.specs.declared.How.TheVariants as how
 use Rattle.lam_io.specs.Outside.{Files, AllStay, Took}
 use Rattle.lam_io.specs.declared.SinkFault.{SinkFault as Failure}
 use Rattle.lam_words.specs.Words.{Text, Request}
 use Rattle.lam_plan.specs.declared.Status.{Status}
-use Rattle.lam_plan.specs.declared.Status.TheVariants.{Done, NoMemory, ShelfFault, SinkFault}
+use Rattle.lam_plan.specs.declared.Status.TheVariants.{NoMemory, ShelfFault, SinkFault}
+use Rattle.lam_plan.specs.Threads.{status_of}
 use Rattle.lam_plan.specs.Refusals.{Plan, no_word, no_world}
 use Rattle.lam_plan.specs.Answer.{outside, IsPrinted, whole, front, AsPlanned, IsPlanned, by_plan, without_memory, without_shelf}
 use Rattle.lam_plan.proofs.AnswerLemmas.{no_file_written}
@@ -15,7 +17,8 @@ use Rattle.lam_commands.specs.declared.halt.Halt.{Halt}
 use Rattle.lam_commands.specs.declared.halt.Halt.TheVariants.{Refused, NoMemory as no_memory, ShelfFailed}
 use Rattle.lam_commands.specs.declared.halt.WorldBreak.{WorldBreak}
 use Rattle.lam_commands.specs.declared.halt.WorldBreak.TheVariants.{NotJson, NoMember, BadMember, NoTag, BadPath, PathTwice}
-use Rattle.lam_commands.specs.Halts.{break_of, refuses, Gives}
+use Rattle.lam_commands.specs.declared.report.Report.{Report}
+use Rattle.lam_commands.specs.Halts.{break_of, refuses, Reports}
 use Rattle.lam_main.specs.Ends.{Ends}
 use Rattle.lam_main.specs.Lines.{Prints, ended}
 
@@ -25,8 +28,10 @@ pub record IsPlain (status : Status) : Type 0 where
   pub shelf : status ≡ ShelfFault → ⊥
   pub sink : status ≡ SinkFault → ⊥
 
-pub plain_done : IsPlain Done
-plain_done = record { memory = λ e. cc; shelf = λ e. cc; sink = λ e. cc }
+pub plain_end : (ended : How) → IsPlain (status_of ended)
+plain_end how.Done = record { memory = λ e. cc; shelf = λ e. cc; sink = λ e. cc }
+plain_end how.AllWait = record { memory = λ e. cc; shelf = λ e. cc; sink = λ e. cc }
+plain_end how.Budget = record { memory = λ e. cc; shelf = λ e. cc; sink = λ e. cc }
 
 -- a refusal has a status of its own, and writes no file
 pub record IsRefusal (plan : Plan) : Type 0 where
@@ -75,37 +80,37 @@ no_shelf_printed status planned text old new plain (front e t) is = let clash : 
 -- ---- how the call ended
 
 module _ (status : Status) (old new : Option Text) where
-  pub silent_memory : (answer : Result (String Global) Halt) → Ends status answer old new → status ≡ NoMemory → Took old new []
-  silent_memory (Ok text) h is = absurd (no_memory_printed status Done (string_bytes text) old new plain_done h is)
+  pub silent_memory : (answer : Result Report Halt) → Ends status answer old new → status ≡ NoMemory → Took old new []
+  silent_memory (Ok report) h is = absurd (no_memory_printed status (status_of report.how) (string_bytes report.text) old new (plain_end report.how) h is)
   silent_memory (Err (Refused refusal)) h is = absurd (no_memory_printed status (refuses refusal).status (refuses refusal).text old new (refusals refusal).plain h is)
   silent_memory (Err no_memory) h is = h.1
   silent_memory (Err ShelfFailed) h is = h.1
 
-  pub silent_shelf : (answer : Result (String Global) Halt) → Ends status answer old new → status ≡ ShelfFault → Took old new []
-  silent_shelf (Ok text) h is = absurd (no_shelf_printed status Done (string_bytes text) old new plain_done h is)
+  pub silent_shelf : (answer : Result Report Halt) → Ends status answer old new → status ≡ ShelfFault → Took old new []
+  silent_shelf (Ok report) h is = absurd (no_shelf_printed status (status_of report.how) (string_bytes report.text) old new (plain_end report.how) h is)
   silent_shelf (Err (Refused refusal)) h is = absurd (no_shelf_printed status (refuses refusal).status (refuses refusal).text old new (refusals refusal).plain h is)
   silent_shelf (Err no_memory) h is = h.1
   silent_shelf (Err ShelfFailed) h is = h.1
 
   -- the shelf failed only where reading said so
-  pub shelf_failed_as : {P : Type 0} (answer : Result (String Global) Halt) → Ends status answer old new → IfErr answer (λ halt. halt ≡ ShelfFailed → P) → status ≡ ShelfFault → P
-  shelf_failed_as (Ok text) h f is = absurd (no_shelf_printed status Done (string_bytes text) old new plain_done h is)
+  pub shelf_failed_as : {P : Type 0} (answer : Result Report Halt) → Ends status answer old new → IfErr answer (λ halt. halt ≡ ShelfFailed → P) → status ≡ ShelfFault → P
+  shelf_failed_as (Ok report) h f is = absurd (no_shelf_printed status (status_of report.how) (string_bytes report.text) old new (plain_end report.how) h is)
   shelf_failed_as (Err (Refused refusal)) h f is = absurd (no_shelf_printed status (refuses refusal).status (refuses refusal).text old new (refusals refusal).plain h is)
   shelf_failed_as (Err no_memory) h f is = let clash : NoMemory ≡ ShelfFault = sym h.0 ∙ is in absurd (let no : ⊥ = cc in no)
   shelf_failed_as (Err ShelfFailed) h f is = f refl
 
   module _ (IsPlan : Plan → Type 0) (before after : Files) where
-    pub planned_of : (answer : Result (String Global) Halt) → Gives answer IsPlan before after → Ends status answer old new → IsPlanned status IsPlan (outside before old) (outside after new)
-    planned_of (Ok text) g h = by_plan (record { status = Done; text = string_bytes text; writes = g.0 }) g.1 (record { printed = h; files = g.2 })
+    pub planned_of : (answer : Result Report Halt) → Reports answer IsPlan before after → Ends status answer old new → IsPlanned status IsPlan (outside before old) (outside after new)
+    planned_of (Ok report) g h = by_plan (record { status = status_of report.how; text = string_bytes report.text; writes = g.0 }) g.1 (record { printed = h; files = g.2 })
     planned_of (Err (Refused refusal)) g h = by_plan (refuses refusal) g.0 (record { printed = h; files = no_file_written (refuses refusal).writes before after (refusals refusal).no_file g.1 })
     planned_of (Err no_memory) g h = without_memory h.0
     planned_of (Err ShelfFailed) g h = without_shelf h.0
 
 -- ---- words that are in no form
 
-refused_word : (status : Status) (before after : Files) (old new : Option Text) (at : ℕ) (answer : Result (String Global) Halt) → answer ≡ Err (Refused (Word at)) → AllStay before after → Ends status answer old new → AsPlanned status (no_word at) (outside before old) (outside after new)
-refused_word status before after old new at answer is stay h = record { printed = subst (λ (a : Result (String Global) Halt). Ends status a old new) is h; files = stay }
+refused_word : (status : Status) (before after : Files) (old new : Option Text) (at : ℕ) (answer : Result Report Halt) → answer ≡ Err (Refused (Word at)) → AllStay before after → Ends status answer old new → AsPlanned status (no_word at) (outside before old) (outside after new)
+refused_word status before after old new at answer is stay h = record { printed = subst (λ (a : Result Report Halt). Ends status a old new) is h; files = stay }
 
-pub words_first : (status : Status) (before after : Files) (old new : Option Text) (request : Result Request ℕ) (answer : Result (String Global) Halt) → IfErr request (λ at. answer ≡ Err (Refused (Word at))) → (IsErr request → AllStay before after) → Ends status answer old new → IfErr request (λ at. AsPlanned status (no_word at) (outside before old) (outside after new))
+pub words_first : (status : Status) (before after : Files) (old new : Option Text) (request : Result Request ℕ) (answer : Result Report Halt) → IfErr request (λ at. answer ≡ Err (Refused (Word at))) → (IsErr request → AllStay before after) → Ends status answer old new → IfErr request (λ at. AsPlanned status (no_word at) (outside before old) (outside after new))
 words_first status before after old new (Ok r) answer first stay h = tt
 words_first status before after old new (Err at) answer first stay h = refused_word status before after old new at answer first (stay refl) h

@@ -4,46 +4,61 @@
 //! Its contract is the tool's. The *plan* of the words and the files (`lam_plan`) says what is printed, which file is
 //! written and how the call ends where nothing fails; the call answers to it, unless memory runs out or the file
 //! store or the output fails, which is answered only where its count of faults rose in the call. `lam_words` tells
-//! which command is asked, `lam_commands` and `lam_replay` read the files that it names and make its text, and `print`
-//! prints that or the line of a refusal. The program `lam` calls it with the current folder and standard output, and
+//! which command is asked, `lam_commands`, `lam_replay` and `thread_commands` read the files that it names, run its threads and
+//! make its text, and `print` prints that or the line of a refusal. The program `lam` calls it with the current folder and standard output, and
 //! tests with a store and a stream in memory (`lam_io`).
 #![tactic(auto)]
 
 mod print;
 
-ghost use Rattle.std.specs.Prelude.{◌≡◌, ◌≢◌, false, [], Err, IsErr, IfErr, OnErr, map, string_bytes, IsTrue};
+ghost use Rattle.std.specs.Prelude.{◌≡◌, ◌≢◌, false, [], Ok, Err, IsErr, IfErr, OnErr, map, string_bytes, IsTrue};
 ghost use Rattle.lam_io.specs.Outside.{Rose, AllStay, Took};
-ghost use Rattle.lam_words.specs.Words.{request_of};
-ghost use Rattle.lam_plan.specs.Refusals.{Plan, no_word};
-ghost use Rattle.lam_plan.specs.Plan.{IsPlan, starts_threads, written_by, PlaysIsolated, FormatIsSteady};
+ghost use Rattle.lam_words.specs.Words.{request_of, asked, InRange, help_lines, commands};
+ghost use Rattle.lam_plan.specs.Refusals.{Plan, prints, no_word};
+ghost use Rattle.lam_plan.specs.Replays.{an_observer};
+ghost use Rattle.lam_plan.specs.Plan.{IsPlanOf, IsPlan, starts_threads, written_by, PlaysIsolated, FormatIsSteady};
 ghost use Rattle.lam_plan.specs.Answer.{outside, AsPlanned, IsAnswer, IsPlanned, OthersKept};
 ghost use Rattle.replay_laws.specs.Calls.{ReplaysAreIsolated, AuditsArePrinted};
-ghost use Rattle.lam_commands.specs.Halts.{Gives};
+ghost use Rattle.run_laws.specs.Headline.{Headline, BreaksOff, EndsInOrder, RunsAreComplete, GeneratedRuns};
+ghost use Rattle.meaning_laws.specs.Meant.{CallsRunAsMeant};
+ghost use Rattle.lam_commands.specs.Halts.{Says, Reports};
+ghost use Rattle.lam_replay.specs.Asked.{reader_of};
 ghost use Rattle.lam_main.specs.Ends.{Ends};
 ghost use Rattle.lam_main.specs.Lines.{ended};
 
 use crate::print::{print_refusal, print_text};
-use lam_commands::{Halt, Refusal, check, code, format, play};
+use lam_commands::{Halt, Refusal, Report, check, code, done, format, play};
 use lam_io::{Gate, Shelf, Sink, SinkFault};
 pub use lam_plan::Status;
 use lam_replay::{Reader, RunFiles, replay};
 use lam_round_trip::laws::{canonical_text_is_read_as_the_tree, canonical_text_is_steady};
 use lam_spelt::laws::canonical_text_is_lexed;
 pub use lam_words::{Command, WordFault, help_text, read_words};
+use meaning_laws::calls_run_as_meant;
 use play_run::scripts_are_isolated;
 use replay_laws::{audits_are_printed, replays_are_isolated};
+use run_laws::{
+    broken_runs_are_recorded, generated_runs_are_recorded, runs_are_complete, runs_are_recorded,
+    runs_end_in_order,
+};
 use std::alloc::Global;
 use std::sync::Wait;
 use std::thread::Threads;
+use thread_commands::{Bounds, ThreadFiles, make, run};
+
+/// The indices of the words that are the observer's label.
+const REPLAY_OBSERVER: u64 = 4;
+
+const RUN_OBSERVER: u64 = 3;
 
 /// Runs the command of the words, which are those after the program's name.
 pub fn lam<R: Threads + Wait + Sync, H: Shelf, O: Sink, G: Gate + Sync>(
-    _rt: &R,
+    rt: &R,
     alloc: Global,
     words: &[String],
     shelf: &mut H,
     out: &mut O,
-    _gate: &G,
+    gate: &G,
 ) -> Status
     // Of the words and the files that the shelf tells: how it ended, what was printed and what became of the files.
     ensures answer { IsTrue (H.tells shelf.old) → starts_threads (request_of (map string_bytes words.now)) ≡ false → (plan : Plan) → IsPlan (map string_bytes words.now) (H.files shelf.old) plan → IsAnswer result plan (outside (H.files shelf.old) (O.taken out.old)) (outside (H.files shelf.new) (O.taken out.new)) }
@@ -67,6 +82,23 @@ pub fn lam<R: Threads + Wait + Sync, H: Shelf, O: Sink, G: Gate + Sync>(
     // What is printed of a run tells its observer nothing of what it does not see, but for the releases past it.
     ensures replays_isolated { ReplaysAreIsolated (map string_bytes words.now) (H.files shelf.old) }
 
+    // The headline: what `run` printed for its observer is exactly the visible events of the run that the written book
+    // records, and any other run that agrees below the observer's label, with the same visible turns and the same
+    // releases past it, has the same. Where the output broke off, the book stands.
+    ensures headline { IsTrue (H.tells shelf.old) → Headline (map string_bytes words.now) result (outside (H.files shelf.old) (O.taken out.old)) (outside (H.files shelf.new) (O.taken out.new)) }
+    ensures broken_off { IsTrue (H.tells shelf.old) → BreaksOff (map string_bytes words.now) result (outside (H.files shelf.old) (O.taken out.old)) (outside (H.files shelf.new) (O.taken out.new)) }
+
+    // A run that was taken had its program, its world and its observer in order, and where these are no refusal is planned.
+    ensures in_order { IsTrue (H.tells shelf.old) → EndsInOrder (map string_bytes words.now) result (outside (H.files shelf.old) (O.taken out.old)) }
+    ensures complete { RunsAreComplete (map string_bytes words.now) (H.files shelf.old) }
+
+    // The same of the run of what `make` makes: its book is written, and its summary printed.
+    ensures generated { IsTrue (H.tells shelf.old) → GeneratedRuns (map string_bytes words.now) result (outside (H.files shelf.old) (O.taken out.old)) (outside (H.files shelf.new) (O.taken out.new)) }
+
+    // Runs mean what the source means: in every run of `replay`, `audit` and `run` no thread is ever stuck, and each asks
+    // what the source of its function asks.
+    ensures meant { CallsRunAsMeant (map string_bytes words.now) (H.files shelf.old) }
+
     // An audit tells of every release past any observer, with the capabilities that it took.
     ensures audited { AuditsArePrinted (map string_bytes words.now) (H.files shelf.old) }
 
@@ -76,66 +108,120 @@ pub fn lam<R: Threads + Wait + Sync, H: Shelf, O: Sink, G: Gate + Sync>(
     scripts_are_isolated();
     replays_are_isolated();
     audits_are_printed();
+    runs_are_recorded();
+    broken_runs_are_recorded();
+    runs_end_in_order();
+    runs_are_complete();
+    generated_runs_are_recorded();
+    calls_run_as_meant();
     canonical_text_is_lexed();
     canonical_text_is_read_as_the_tree();
     canonical_text_is_steady();
-    let answer = answer_of(alloc, words, shelf);
+    let answer = answer_of(rt, alloc, words, shelf, gate);
     end_with(out, &answer)
 }
 
-/// The text that the words ask, or why there is none.
-fn answer_of<H: Shelf>(alloc: Global, words: &[String], shelf: &mut H) -> Result<String, Halt>
-    ensures gives { IsTrue (H.tells shelf.old) → Gives result (IsPlan (map string_bytes words.now) (H.files shelf.old)) (H.files shelf.old) (H.files shelf.new) }
-    ensures stay { IsTrue (H.tells shelf.old) → AllStay (H.files shelf.old) (H.files shelf.new) }
+/// What the words ask, or why there is none.
+fn answer_of<R: Threads + Wait + Sync, H: Shelf, G: Gate + Sync>(
+    rt: &R,
+    alloc: Global,
+    words: &[String],
+    shelf: &mut H,
+    gate: &G,
+) -> Result<Report, Halt>
+    ensures gives { IsTrue (H.tells shelf.old) → Reports result (IsPlan (map string_bytes words.now) (H.files shelf.old)) (H.files shelf.old) (H.files shelf.new) }
+    ensures kept { IsTrue (H.tells shelf.old) → OthersKept (written_by (request_of (map string_bytes words.now))) (H.files shelf.old) (H.files shelf.new) }
     ensures failed { IfErr result (λ halt. halt ≡ Halt.ShelfFailed → Rose (H.faults shelf.old) (H.faults shelf.new)) }
     ensures words_first { IfErr (request_of (map string_bytes words.now)) (λ at. result ≡ Err (Halt.Refused (Refusal.Word at))) }
     ensures untouched { IsErr (request_of (map string_bytes words.now)) → shelf.new ≡ shelf.old }
 {
     match read_words(alloc, words) {
-        Ok(Command::Play { file, obs }) => play(alloc, shelf, file, obs.as_str()),
-        Ok(Command::Check { program }) => check(alloc, shelf, program),
-        Ok(Command::Format { program }) => format(alloc, shelf, program),
-        Ok(Command::Code { program }) => code(alloc, shelf, program),
-        Ok(
-            Command::Replay {
-                program,
-                world,
-                book,
-                obs,
-            },
-        ) => replay(
-            alloc,
-            shelf,
-            program,
-            RunFiles { world, book },
-            &Reader::Observer(obs),
-        ),
-        Ok(
-            Command::Audit {
-                program,
-                world,
-                book,
-            },
-        ) => replay(
-            alloc,
-            shelf,
-            program,
-            RunFiles { world, book },
-            &Reader::Auditor,
-        ),
-        Ok(Command::Help) => Ok(help_text(alloc)?),
+        Ok(command) => command_answer(rt, alloc, command, shelf, gate),
         Err(WordFault::Word { at }) => Err(Halt::Refused(Refusal::Word(at))),
         Err(WordFault::NoMemory) => Err(Halt::NoMemory),
     }
 }
 
+/// What a command answers.
+fn command_answer<R: Threads + Wait + Sync, H: Shelf, G: Gate + Sync>(
+    rt: &R,
+    alloc: Global,
+    command: Command,
+    shelf: &mut H,
+    gate: &G,
+) -> Result<Report, Halt>
+    requires ranges { InRange (asked command) }
+    ensures gives { IsTrue (H.tells shelf.old) → Reports result (IsPlanOf (Ok (asked command)) (H.files shelf.old)) (H.files shelf.old) (H.files shelf.new) }
+    ensures kept { IsTrue (H.tells shelf.old) → OthersKept (written_by (Ok (asked command))) (H.files shelf.old) (H.files shelf.new) }
+    ensures failed { IfErr result (λ halt. halt ≡ Halt.ShelfFailed → Rose (H.faults shelf.old) (H.faults shelf.new)) }
+{
+    match command {
+        Command::Play { file, obs } => done(play(alloc, shelf, file, obs.as_str())),
+        Command::Check { program } => done(check(alloc, shelf, program)),
+        Command::Format { program } => done(format(alloc, shelf, program)),
+        Command::Code { program } => done(code(alloc, shelf, program)),
+        Command::Replay {
+            program,
+            world,
+            book,
+            obs,
+        } => {
+            let files = RunFiles { world, book };
+            let reader = observer(REPLAY_OBSERVER, obs);
+            done(replay(alloc, shelf, program, files, &reader))
+        }
+        Command::Run {
+            program,
+            world,
+            obs,
+            book_out,
+            workers,
+            turns,
+        } => {
+            let files = ThreadFiles { world, book_out };
+            let reader = observer(RUN_OBSERVER, obs);
+            let bounds = Bounds { workers, turns };
+            run(rt, alloc, shelf, program, files, &reader, bounds, gate)
+        }
+        Command::Audit {
+            program,
+            world,
+            book,
+        } => {
+            let files = RunFiles { world, book };
+            done(replay(alloc, shelf, program, files, &Reader::Auditor))
+        }
+        Command::Make {
+            seed,
+            threads,
+            book_out,
+        } => make(rt, alloc, shelf, seed, threads, book_out, gate),
+        Command::Help => done(help(alloc)),
+    }
+}
+
+/// The observer at the label of a text, which is the word of an index.
+fn observer(index: u64, label: String) -> Reader
+    ensures { reader_of result ≡ an_observer index (string_bytes label) }
+{
+    Reader::Observer { index, label }
+}
+
+/// The forms of the words.
+fn help(alloc: Global) -> Result<String, Halt>
+    ensures says { Says result (λ plan. plan ≡ prints (help_lines commands)) }
+    ensures no_fault { IfErr result (λ halt. halt ≢ Halt.ShelfFailed) }
+{
+    Ok(help_text(alloc)?)
+}
+
 /// Prints an answer, and says how the call ends.
-fn end_with<O: Sink>(out: &mut O, answer: &Result<String, Halt>) -> Status
+fn end_with<O: Sink>(out: &mut O, answer: &Result<Report, Halt>) -> Status
     ensures ends { Ends result answer.now (O.taken out.old) (O.taken out.new) }
     ensures rose { result ≡ Status.SinkFault → Rose (O.faults out.old) (O.faults out.new) }
 {
     match answer {
-        Ok(text) => ended(print_text(out, text.as_bytes())),
+        Ok(report) => ended(print_text(out, report.how, report.text.as_bytes())),
         Err(Halt::Refused(refusal)) => ended(print_refusal(out, refusal)),
         Err(Halt::NoMemory) => Status::NoMemory,
         Err(Halt::ShelfFailed) => Status::ShelfFault,

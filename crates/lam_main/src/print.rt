@@ -1,8 +1,9 @@
 //! What goes to the sink: the text of a command, or the line of a refusal. It takes no memory.
 
-ghost use Rattle.std.specs.Prelude.{◌≡◌, ◌≤◌, ◌++◌, ◌∷◌, [], OnErr, take};
+ghost use Rattle.std.specs.Prelude.{◌≡◌, ◌≤◌, ◌++◌, ◌∷◌, [], None, OnErr, take};
 ghost use Rattle.lam_io.specs.Outside.{Rose, Took};
-ghost use Rattle.lam_plan.specs.Refusals.{prints, refused, no_world, no_turn};
+ghost use Rattle.lam_plan.specs.Refusals.{refused, no_world, no_turn};
+ghost use Rattle.lam_plan.specs.Threads.{status_of};
 ghost use Rattle.lam_main.specs.Lines.{texts, joined, Goes, Prints};
 ghost use Rattle.lam_commands.specs.Halts.{break_of, words_of, refuses};
 
@@ -10,14 +11,26 @@ use itoa::Buffer;
 use lam_commands::{BookBreak, Refusal, WorldBreak};
 use lam_io::{Sink, SinkFault, write_all};
 use lam_plan::Status;
+use run_ends::How;
 
-/// Prints a command's text.
-pub(crate) fn print_text<O: Sink>(out: &mut O, text: &[u8]) -> Result<Status, SinkFault>
-    ensures printed { Prints result (prints text.now) (O.taken out.old) (O.taken out.new) }
+/// Prints a command's text, whose run ended so.
+pub(crate) fn print_text<O: Sink>(out: &mut O, how: How, text: &[u8]) -> Result<Status, SinkFault>
+    ensures printed { Prints result (record { status = status_of how; text = text.now; writes = None }) (O.taken out.old) (O.taken out.new) }
     ensures failed { OnErr result (Rose (O.faults out.old) (O.faults out.new)) }
 {
     write_all(out, text)?;
-    Ok(Status::Done)
+    Ok(status_of(how))
+}
+
+/// The status of a call whose run ended so.
+fn status_of(how: How) -> Status
+    ensures { result ≡ status_of how }
+{
+    match how {
+        How::Done => Status::Done,
+        How::AllWait => Status::AllWait,
+        How::Budget => Status::Budget,
+    }
 }
 
 /// Prints the line of a refusal, and gives its status.

@@ -2,7 +2,7 @@ use Rattle.std.proofs.Common.{map, string_bytes, ap}
 use Rattle.lam_words.specs.Words.{request_of}
 use Rattle.lam_plan.specs.Answer.{outside}
 use Rattle.lam_plan.specs.Plan.{IsPlan}
-use Rattle.lam_plan.proofs.AnswerLemmas.{answers_to, status_of}
+use Rattle.lam_plan.proofs.AnswerLemmas.{answers_to, all_stay, status_of}
 use Rattle.lam_plan.proofs.PlanLemmas.{plans_are_one}
 use Rattle.lam_plan.proofs.FormatLemmas.{steady_of}
 use Rattle.lam_main.proofs.EndLemmas.{planned_of, silent_memory, silent_shelf, shelf_failed_as, words_first}
@@ -22,7 +22,7 @@ returns-clause-answer g c = λ told none plan is.
     answers_to c.end_with.result (IsPlan ws files) old new plan (λ p given. plans_are_one ws files p plan none given is)
     (silent_memory c.end_with.result old.taken new.taken c.answer_of-answer.result c.end_with.ensures.ends)
     (silent_shelf c.end_with.result old.taken new.taken c.answer_of-answer.result c.end_with.ensures.ends)
-    (c.answer_of-answer.ensures.stay told)
+    (all_stay (request_of ws) files new.files none (c.answer_of-answer.ensures.kept told))
     (returns-clause-planned g c told)
 
 pub returns-clause-no_fault : goal.returns-clause-no_fault
@@ -46,3 +46,25 @@ returns-clause-replays_isolated g c = c.replays_are_isolated.ensures (map string
 
 pub returns-clause-audited : goal.returns-clause-audited
 returns-clause-audited g c = c.audits_are_printed.ensures (map string_bytes c.args.words.now) (g.H.Shelf.files c.args.shelf.now)
+
+pub returns-clause-headline : goal.returns-clause-headline
+returns-clause-headline g c = λ told.
+    c.runs_are_recorded.ensures (map string_bytes c.args.words.now) c.end_with.result (outside (g.H.Shelf.files c.args.shelf.now) (g.O.Sink.taken c.args.out.now)) (outside (g.H.Shelf.files c.answer_of-answer.new.shelf) (g.O.Sink.taken c.end_with.new.out)) (returns-clause-planned g c told)
+
+pub returns-clause-broken_off : goal.returns-clause-broken_off
+returns-clause-broken_off g c = λ told.
+    c.broken_runs_are_recorded.ensures (map string_bytes c.args.words.now) c.end_with.result (outside (g.H.Shelf.files c.args.shelf.now) (g.O.Sink.taken c.args.out.now)) (outside (g.H.Shelf.files c.answer_of-answer.new.shelf) (g.O.Sink.taken c.end_with.new.out)) (returns-clause-planned g c told)
+
+pub returns-clause-in_order : goal.returns-clause-in_order
+returns-clause-in_order g c = λ told.
+    c.runs_end_in_order.ensures (map string_bytes c.args.words.now) c.end_with.result (outside (g.H.Shelf.files c.args.shelf.now) (g.O.Sink.taken c.args.out.now)) (outside (g.H.Shelf.files c.answer_of-answer.new.shelf) (g.O.Sink.taken c.end_with.new.out)) (returns-clause-planned g c told)
+
+pub returns-clause-complete : goal.returns-clause-complete
+returns-clause-complete g c = c.runs_are_complete.ensures (map string_bytes c.args.words.now) (g.H.Shelf.files c.args.shelf.now)
+
+pub returns-clause-generated : goal.returns-clause-generated
+returns-clause-generated g c = λ told.
+    c.generated_runs_are_recorded.ensures (map string_bytes c.args.words.now) c.end_with.result (outside (g.H.Shelf.files c.args.shelf.now) (g.O.Sink.taken c.args.out.now)) (outside (g.H.Shelf.files c.answer_of-answer.new.shelf) (g.O.Sink.taken c.end_with.new.out)) (returns-clause-planned g c told)
+
+pub returns-clause-meant : goal.returns-clause-meant
+returns-clause-meant g c = c.calls_run_as_meant.ensures (map string_bytes c.args.words.now) (g.H.Shelf.files c.args.shelf.now)
