@@ -1,0 +1,37 @@
+//! Calls of the outside that fail.
+
+use crate::given::{ENTERS, ENTRY_SEEN, ONE_WORKER};
+use crate::run::{Tested, has_book, shelf_of, tell};
+use lam_io::OpenGate;
+use lam_main::Status;
+use std::test::Fail;
+
+const BOOK: &str = "lam book 1\n0 8\n";
+
+/// Each call of the store fails in turn, the last of which writes the book, and then nothing is printed. Where the output
+/// fails, the book stands.
+#[test]
+fn shelf_and_sink_fail_in_turn(rt: HostRuntime) -> Result<(), Fail> {
+    for failing in [3, 4, 5] {
+        let mut shelf = shelf_of(&rt, ENTERS, [failing].to_vec(rt.alloc())?);
+        let told = tell(&rt, &mut shelf, &ONE_WORKER, &[], &OpenGate)?;
+        assert_eq!(rt; told.text.as_str(), "", "call {failing}");
+        assert_eq!(rt; told.status, Status::ShelfFault, "call {failing}");
+    }
+    book_stands(&rt, &[1], Status::SinkFault, "")?;
+    book_stands(&rt, &[], Status::Done, ENTRY_SEEN)
+}
+
+/// A call whose output fails at these of its calls ends so, prints this, and writes the book.
+fn book_stands<R: Tested>(
+    rt: &R,
+    failing: &[u64],
+    status: Status,
+    printed: &str,
+) -> Result<(), Fail> {
+    let mut shelf = shelf_of(rt, ENTERS, Vec::new(rt.alloc()));
+    let told = tell(rt, &mut shelf, &ONE_WORKER, failing, &OpenGate)?;
+    assert_eq!(rt; told.text.as_str(), printed);
+    assert_eq!(rt; told.status, status);
+    has_book(rt, &mut shelf, BOOK)
+}

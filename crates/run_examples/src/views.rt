@@ -1,0 +1,90 @@
+//! What an observer sees of runs that handle secrets.
+
+use crate::given::{ONE_WORKER, THREE, ZERO};
+use crate::run::{Given, Wanted, prints, run, shelf_of, tell};
+use lam_io::OpenGate;
+use lam_main::Status;
+use std::test::Fail;
+
+const LOOP_SEEN: &str =
+    "t0 {}/{} enter {a}/{} caps +{}-{} region 0 () = entered\nt0 {}/{} new class 0 = obj<{}/{}|{}/{}|0>\nt0 {}/{} end value 0 = done\n";
+
+/// Two worlds whose secrets differ look the same, though one run has more turns.
+#[test]
+fn two_secrets_one_output(rt: HostRuntime) -> Result<(), Fail> {
+    let short = Wanted {
+        status: Status::Done,
+        printed: LOOP_SEEN,
+        book: "lam book 1\n0 21\n",
+    };
+    run(&rt, ZERO, &ONE_WORKER, short)?;
+    let long = Wanted {
+        status: Status::Done,
+        printed: LOOP_SEEN,
+        book: "lam book 1\n0 54\n",
+    };
+    run(&rt, THREE, &ONE_WORKER, long)
+}
+
+/// Two people give a scheduler their capabilities, and it tells a third one the first hour at which both are free.
+const CALENDAR: Given<'static> = Given {
+    program: "fn give(t: tag, p: pipe): int { send_caps(p, caps{t-}); return 0; }
+fn sched(a: tag, b: tag, p: pipe, q: pipe, out: pipe): int {
+  while (receive_caps(p) == null) { }
+  while (receive_caps(q) == null) { }
+  region (label{a, b;}, caps{a-, b-}) [out] {
+    let d: dir = open_dir(root(), \"cal\");
+    let x: bytes = read(open_file(d, \"alice\"), 0, 24);
+    let y: bytes = read(open_file(d, \"bob\"), 0, 24);
+    let i: int = 0;
+    while (byte(x, i) != 49 || byte(y, i) != 49) { i = i + 1; }
+    region (label{;}, caps{}) [i, out] { send(out, text(i)); } catch (e) { }
+  } catch (f) { }
+  return 0;
+}
+fn show(out: pipe): int {
+  let m: bytes = receive(out);
+  while (m == null) { m = receive(out); }
+  say(m);
+  return 0;
+}
+",
+    world: "{\"version\":1,\"tags\":[\"a\",\"b\"],
+\"tree\":[{\"path\":\"cal\",\"label\":\"{}/{}\",\"dir\":true},{\"path\":\"cal/alice\",\"label\":\"{a}/{}\",\"text\":\"0110\"},{\"path\":\"cal/bob\",\"label\":\"{b}/{}\",\"text\":\"0011\"}],
+\"pipes\":[{\"name\":\"p\",\"label\":\"{}/{}\"},{\"name\":\"q\",\"label\":\"{}/{}\"},{\"name\":\"out\",\"label\":\"{}/{}\"}],
+\"threads\":[{\"run\":\"give\",\"args\":[{\"tag\":\"a\"},{\"pipe\":\"p\"}],\"caps\":{\"plus\":[\"a\"],\"minus\":[\"a\"]}},
+{\"run\":\"give\",\"args\":[{\"tag\":\"b\"},{\"pipe\":\"q\"}],\"caps\":{\"plus\":[\"b\"],\"minus\":[\"b\"]}},
+{\"run\":\"sched\",\"args\":[{\"tag\":\"a\"},{\"tag\":\"b\"},{\"pipe\":\"p\"},{\"pipe\":\"q\"},{\"pipe\":\"out\"}],\"caps\":{\"plus\":[\"a\",\"b\"],\"minus\":[]}},
+{\"run\":\"show\",\"args\":[{\"pipe\":\"out\"}],\"caps\":{\"plus\":[],\"minus\":[]}}]}",
+};
+
+const HOUR_RELEASED: &str =
+    "release t2 enter {}/{} caps +{}-{} depth 2 region 1 (2,pipe<{}/{}|{}/{}|2>) by +{}-{a,b}";
+
+const HOUR_SAID: &str = "t3 {}/{} say \"2\" = done";
+
+/// Only the hour leaves the two calendars, by one release; and the book shows the same run again.
+#[test]
+fn calendar(rt: HostRuntime) -> Result<(), Fail> {
+    let mut shelf = shelf_of(&rt, CALENDAR, Vec::new(rt.alloc()));
+    let words = ["run", "P", "W", "{}/{}", "B"];
+    let told = tell(&rt, &mut shelf, &words, &[], &OpenGate)?;
+    assert_eq!(rt; told.status, Status::Done);
+    let seen = told.text.as_str();
+    assert_eq!(rt; beginning(seen, "release "), 1, "of {seen}");
+    assert_eq!(rt; beginning(seen, HOUR_RELEASED), 1, "of {seen}");
+    assert_eq!(rt; beginning(seen, HOUR_SAID), 1, "of {seen}");
+    let words = ["replay", "P", "W", "B", "{}/{}"];
+    prints(&rt, &mut shelf, &words, &OpenGate, Status::Done, seen)
+}
+
+/// How many lines of a text begin so.
+fn beginning(text: &str, front: &str) -> u64 {
+    let mut count = 0u64;
+    for line in text.split('\n') {
+        if line.starts_with(front) {
+            count = count.saturating_add(1);
+        }
+    }
+    count
+}
