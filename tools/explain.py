@@ -38,6 +38,15 @@ def forms_alike(program, words):
     return [form for form in forms if same_words(words, form) == best] if best else forms
 
 
+def is_whole(words, form):
+    """Returns whether the words are as many as those of a form, with or without its options, which stand in brackets."""
+    required = [word for word in form if not word.startswith("[") and not word.endswith("]")]
+    options = [word[1:] for word in form if word.startswith("[")]
+    rest = words[len(required) :]
+    named = [option for option in options if option in rest[::2]]
+    return same_words(words, required) == len(required) and len(rest) % 2 == 0 and named == rest[::2]
+
+
 def of_words(program, index, words):
     """Explains that the words are in no form, or that one of them names an unknown tag."""
     given = ["lam", *words]
@@ -45,7 +54,7 @@ def of_words(program, index, words):
     width = len(words[index]) if index < len(words) else 1
     shown = [marked(" ".join(given), start, width)]
     forms = forms_alike(program, words)
-    if any(len(form) == len(words) and same_words(words, form) == len(words) for form in forms):
+    if any(is_whole(words, form) and form[index : index + 1] == ["OBS"] for form in forms):
         shown.append("the label names a tag that is not declared, or is no label: {a,b}/{c}")
     else:
         shown.append("the forms are:" if len(forms) > 1 else "the form is:")

@@ -1,0 +1,1 @@
+autocmd BufRead,BufNewFile *.lam setfiletype lam | setlocal commentstring=//\ %s
