@@ -1,3 +1,4 @@
 pub mod Seats
 pub mod AskLemmas
 pub mod AdvanceLemmas
+pub mod PrivateLemmas

@@ -1,3 +1,4 @@
 mod ProductLemmas
 mod TurnLemmas
 mod RunLemmas
+mod PrivateLemmas

@@ -17,7 +17,7 @@ use capabilities::Caps;
 use flow_labels::flows;
 use lam_asks::Event;
 use lam_bytecode::Code;
-use lam_machine::step;
+use lam_machine::{step, step_privately};
 use lam_world::World;
 use letting_go::let_go_event;
 use run_notes::{Noted, refusal_of};
@@ -77,8 +77,28 @@ fn audit_turns(
     Ok(())
 }
 
-/// Takes a turn of this number, with what is noted of it; `false` where the thread is not ready.
+/// Takes a turn of this number, with what is noted of it, which is nothing where it is private; `false` where the thread
+/// is not ready.
+#[tactic(auto, using(crate::proofs::PrivateLemmas::nothing_noted))]
 fn audit_turn(
+    alloc: Global,
+    all: &mut Vec<Noted>,
+    world: &mut World,
+    code: &Code,
+    turn: u64,
+    thread: u32,
+) -> Result<bool, NoMemory>
+    requires { CopiesLive code.now world.old thread }
+    ensures { IfOk result (λ taken. Takes code.now thread (λ e after. noted_of turn e) world.old all.old.items taken world.new all.new.items) }
+{
+    if step_privately(world, code, thread)? {
+        return Ok(true);
+    }
+    audit_step(alloc, all, world, code, turn, thread)
+}
+
+/// Takes a turn of this number, and makes its event; `false` where the thread is not ready.
+fn audit_step(
     alloc: Global,
     all: &mut Vec<Noted>,
     world: &mut World,

@@ -17,7 +17,7 @@ use capabilities::Caps;
 use flow_labels::{Label, seen};
 use lam_asks::{Event, What};
 use lam_bytecode::Code;
-use lam_machine::step;
+use lam_machine::{step, step_privately};
 use lam_world::World;
 use letting_go::let_go_event;
 use run_notes::{Content, Seen};
@@ -77,8 +77,28 @@ fn view_turns(
     Ok(())
 }
 
-/// Takes a turn, with what an observer sees of it; `false` where the thread is not ready.
+/// Takes a turn, with what an observer sees of it, which is nothing where it is private; `false` where the thread is not
+/// ready.
+#[tactic(auto, using(crate::proofs::PrivateLemmas::nothing_seen))]
 fn view_turn(
+    alloc: Global,
+    all: &mut Vec<Seen>,
+    world: &mut World,
+    code: &Code,
+    thread: u32,
+    observer: &Label,
+) -> Result<bool, NoMemory>
+    requires { CopiesLive code.now world.old thread }
+    ensures { IfOk result (λ taken. Takes code.now thread (seen_of observer.now) world.old all.old.items taken world.new all.new.items) }
+{
+    if step_privately(world, code, thread)? {
+        return Ok(true);
+    }
+    view_step(alloc, all, world, code, thread, observer)
+}
+
+/// Takes a turn, and makes its event; `false` where the thread is not ready.
+fn view_step(
     alloc: Global,
     all: &mut Vec<Seen>,
     world: &mut World,

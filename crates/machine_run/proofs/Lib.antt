@@ -1,3 +1,4 @@
 mod SeekLemmas
 mod CopyLemmas
 mod RunLemmas
+mod PrivateLemmas

@@ -1,7 +1,8 @@
 //! Runs: a code, a start, the turns in order, and the world that they leave.
 //!
 //! A [`Run`] begins with no turn, and each [`Run::turn`] is one of a thread that is ready. So whoever drives it, one caller
-//! or many workers under one lock, has a run at each moment, and can only make it longer.
+//! or many workers under one lock, has a run at each moment, and can only make it longer. [`Run::go`] is such a turn for
+//! whoever does not ask what it was.
 //!
 //! `run` has the type, `taking` one turn of it, `seeking` looks for a thread that is ready or lives, and `parting` takes a
 //! run apart.

@@ -8,11 +8,11 @@ ghost use Rattle.lam_worlds.specs.Turns.{IsDone, AllWait, is_living};
 ghost use Rattle.lam_worlds.specs.Valid.{IsValid};
 ghost use Rattle.run_ends.specs.Ends.{NoneReady};
 ghost use Rattle.lam_turn_parts.specs.Turned.{IsTurn};
-ghost use Rattle.machine_run.specs.Runs.{IsWhole, opened, with_turn};
+ghost use Rattle.machine_run.specs.Runs.{IsWhole, HasTurn, opened, with_turn};
 
 use crate::parting::{let_go_parts, let_go_world};
 use crate::seeking::{count_of, living_in, ready_in};
-use crate::taking::take_turn;
+use crate::taking::{go_turn, take_turn};
 use code_copies::same_code;
 use lam_asks::Event;
 use lam_bytecode::Code;
@@ -180,6 +180,21 @@ impl Run {
     {
         let event = take_turn(&mut self.turns, &mut self.world, &self.code, thread)?;
         Ok(event)
+    }
+
+    /// One turn of a thread that is ready, as [`Run::turn`], where nobody asks for the event: whether the turn was private.
+    ///
+    /// # Errors
+    ///
+    /// `NoMemory` where memory is refused; the run is then as it was.
+    pub fn go(&mut self, thread: u32) -> Result<bool, NoMemory>
+        requires ready { turns.ready self.old.code self.old.world thread ≡ true }
+        requires room { length self.old.turns < 1000000 }
+        ensures ok { IfOk result (λ private. HasTurn self.old.code thread self.old.world private self.new.world × (self.new ≡ with_turn self.old thread self.new.world)) }
+        ensures err { OnErr result (self.new ≡ self.old) }
+    {
+        let private = go_turn(&mut self.turns, &mut self.world, &self.code, thread)?;
+        Ok(private)
     }
 
     /// The code, the start and the turns. The world that they leave is let go.

@@ -1,14 +1,17 @@
-//! One turn of a run.
+//! One turn of a run, with its event, or with no more than whether it was private.
 
 ghost use Rattle.std.specs.Prelude.{◌≡◌, true, ◌++◌, ◌∷◌, [], IfOk, OnOk, OnErr};
 ghost use Rattle.lam_worlds.specs.Turns.{ready};
 ghost use Rattle.lam_turn_parts.specs.Turned.{IsTurn};
 ghost use Rattle.lam_machine.specs.Machine.{CopiesLive};
+ghost use Rattle.machine_run.specs.Runs.{HasTurn, is_private};
 
-use lam_asks::Event;
+use lam_asks::{Event, What};
 use lam_bytecode::Code;
-use lam_machine::step;
+use lam_machine::{step, step_privately};
 use lam_world::World;
+use letting_go::let_go_event;
+use std::alloc::Global;
 use want_of_memory::NoMemory;
 
 /// A thread that is ready takes a turn in a world, and is put behind the turns so far. The room for it is taken first, so
@@ -35,4 +38,51 @@ pub fn take_turn(
             Ok(event)
         }
     }
+}
+
+/// As [`take_turn`], where nobody asks for the event: whether the turn was private.
+pub fn go_turn(
+    turns: &mut Vec<u32>,
+    world: &mut World,
+    code: &Code,
+    thread: u32,
+) -> Result<bool, NoMemory>
+    requires ready { ready code.now world.old thread ≡ true }
+    requires living { CopiesLive code.now world.old thread }
+    ensures turn { IfOk result (λ private. HasTurn code.now thread world.old private world.new) }
+    ensures turns { OnOk result (turns.new.items ≡ turns.old.items ++ thread ∷ []) }
+    ensures same_world { OnErr result (world.new ≡ world.old) }
+    ensures same_turns { OnErr result (turns.new.items ≡ turns.old.items) }
+{
+    turns.reserve(1)?;
+    let alloc = *turns.allocator();
+    let private = go_step(alloc, world, code, thread)?;
+    turns.push_reserved(thread);
+    Ok(private)
+}
+
+/// A thread that is ready takes a turn: whether it was private.
+fn go_step(alloc: Global, world: &mut World, code: &Code, thread: u32) -> Result<bool, NoMemory>
+    requires ready { ready code.now world.old thread ≡ true }
+    requires living { CopiesLive code.now world.old thread }
+    ensures turn { IfOk result (λ private. HasTurn code.now thread world.old private world.new) }
+    ensures same_world { OnErr result (world.new ≡ world.old) }
+{
+    if step_privately(world, code, thread)? {
+        return Ok(true);
+    }
+    match step(alloc, world, code, thread)? {
+        None => unreachable!(),
+        Some(event) => {
+            let private = is_private(&event.what);
+            let_go_event(event);
+            Ok(private)
+        }
+    }
+}
+
+fn is_private(what: &What) -> bool
+    ensures { result ≡ is_private what.now }
+{
+    matches!(what, What::Private)
 }

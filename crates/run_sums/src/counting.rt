@@ -12,7 +12,7 @@ ghost use Rattle.run_sums.specs.Turns.{AreBelow, CountsTurn};
 
 use crate::events::with_turn;
 use lam_bytecode::Code;
-use lam_machine::step;
+use lam_machine::{step, step_privately};
 use lam_run::{RunFault, copies_are_living, products_are_told};
 use lam_world::World;
 use letting_go::let_go_event;
@@ -69,8 +69,27 @@ fn count_turns(
     Ok(sums)
 }
 
-/// Takes a turn, and counts what it is; `false` where the thread is not ready.
+/// Takes a turn, and counts what it is, which is nothing where it is private; `false` where the thread is not ready.
+#[tactic(auto, using(crate::proofs::PrivateLemmas::nothing_counted))]
 fn count_turn(
+    alloc: Global,
+    sums: &mut Sums,
+    world: &mut World,
+    code: &Code,
+    thread: u32,
+) -> Result<bool, NoMemory>
+    requires living { CopiesLive code.now world.old thread }
+    requires room { AreBelow sums.old (2 ^ 64 - 1) }
+    ensures { IfOk result (λ taken. CountsTurn code.now thread world.old sums.old taken world.new sums.new) }
+{
+    if step_privately(world, code, thread)? {
+        return Ok(true);
+    }
+    count_step(alloc, sums, world, code, thread)
+}
+
+/// Takes a turn, and makes its event; `false` where the thread is not ready.
+fn count_step(
     alloc: Global,
     sums: &mut Sums,
     world: &mut World,

@@ -7,12 +7,11 @@ use Rattle.lam_asks.specs.declared.ask.Ask.{Ask}
 use Rattle.lam_asks.specs.declared.ask.Ask.TheVariants as ask
 use Rattle.lam_asks.specs.declared.answer.Outcome.TheVariants as outcome
 use Rattle.lam_bytecode.specs.Codes.{CodeTree}
-use Rattle.thread_steps.specs.Threads.{Frame, Inside, Phase, Bottom, Body, Catch, Context}
+use Rattle.thread_steps.specs.Threads.{Frame, Inside, Phase, Bottom, Body, Catch, Context, Thread}
 use Rattle.thread_steps.specs.Ops.{sets, returns, on_any}
-use Rattle.thread_steps.specs.Next.{Next, goes, asks, stuck, stands, is_shared, is_private, is_stuck, raised, returned, ending, leaving, next_by, next_of, standing_in, with_inside}
-use Rattle.thread_core.specs.declared.turn.Turn.{Turn}
+use Rattle.thread_steps.specs.Next.{Next, goes, asks, stuck, stands, is_shared, is_private, is_stuck, is_ended, raised, returned, ending, leaving, next_by, next_of, standing_in, with_inside}
 use Rattle.thread_core.specs.declared.turn.Turn.TheVariants as turn
-use Rattle.thread_core.specs.Turning.{turned, moved, turn_in, asked, asked_in, awaited, nobody}
+use Rattle.thread_core.specs.Turning.{turned, moved, turn_in, stepped_in, stepped, asked, asked_in, awaited, nobody}
 use Rattle.thread_core.specs.Moves.{raised_ask, is_bottom, with_result, caller_with}
 
 -- ---- a fault that was raised
@@ -26,11 +25,6 @@ pub raised_asked : (ph : Phase) (i : Inside) (f : Fault) → asked (raised ph i 
 raised_asked Bottom i f = refl
 raised_asked (Body at) i f = refl
 raised_asked Catch i f = refl
-
-pub raised_turned : (ph : Phase) (i : Inside) (f : Fault) → turned (raised ph i f) ≡ turn.Asks (raised_ask ph f)
-raised_turned Bottom i f = refl
-raised_turned (Body at) i f = refl
-raised_turned Catch i f = refl
 
 pub raised_moved : (c : Context) (ph : Phase) (i : Inside) (f : Fault) → moved c (raised ph i f) ≡ c
 raised_moved c Bottom i f = refl
@@ -110,11 +104,6 @@ leaving_asked Bottom i = refl
 leaving_asked (Body at) i = refl
 leaving_asked Catch i = refl
 
-pub leaving_turned : (ph : Phase) (i : Inside) → turned (leaving ph i) ≡ cond (is_bottom ph) turn.Stuck (turn.Asks ask.Leave)
-leaving_turned Bottom i = refl
-leaving_turned (Body at) i = refl
-leaving_turned Catch i = refl
-
 pub leaving_moved : (c : Context) (ph : Phase) (i : Inside) → moved c (leaving ph i) ≡ c
 leaving_moved c Bottom i = refl
 leaving_moved c (Body at) i = refl
@@ -138,20 +127,20 @@ ending_moved c (Body at) i v = refl
 ending_moved c Catch i v = refl
 
 -- the only call of a context returns
-pub ended_turned : (code : CodeTree) (ph : Phase) (i : Inside) (v : Value) (s : List Value) → slice_get s 0 ≡ Some v → i.callers ≡ [] → turned (next_by code ph i (on_any s (λ v s. returns v))) ≡ turned (ending ph i v)
-ended_turned code ph i v [] e f = cc
-ended_turned code ph i v (w ∷ s) e f = let k : w ≡ v = cc in ap (λ fs. turned (returned ph i w fs)) f ∙ ap (λ x. turned (ending ph i x)) k
+pub ended_stands : (code : CodeTree) (ph : Phase) (i : Inside) (v : Value) (s : List Value) → slice_get s 0 ≡ Some v → i.callers ≡ [] → stands (next_by code ph i (on_any s (λ v s. returns v))) ≡ cond (is_bottom ph) is_shared is_stuck
+ended_stands code ph i v [] e f = cc
+ended_stands code ph i v (w ∷ s) e f = ap (λ fs. stands (returned ph i w fs)) f ∙ ending_stands ph i w
 
 pub ended_moved : (code : CodeTree) (c : Context) (v : Value) (s : List Value) → slice_get s 0 ≡ Some v → c.inside.callers ≡ [] → moved c (next_by code c.phase c.inside (on_any s (λ v s. returns v))) ≡ c
 ended_moved code c v [] e f = cc
 ended_moved code c v (w ∷ s) e f = ap (λ fs. moved c (returned c.phase c.inside w fs)) f ∙ ending_moved c c.phase c.inside w
 
 -- a call returns to the one that waits for it
-pub back_turned : (code : CodeTree) (c : Context) (v : Value) (f : Frame) (fs : List Frame) (s : List Value) → slice_get s 0 ≡ Some v → c.inside.callers ≡ fs → Some f ≡ caller_with v fs
-    → turned (next_by code c.phase c.inside (on_any s (λ v s. returns v))) ≡ turn.Private
-back_turned code c v f fs [] e g h = cc
-back_turned code c v f [] (w ∷ s) e g h = cc
-back_turned code c v f (k ∷ ks) (w ∷ s) e g h = ap (λ l. turned (returned c.phase c.inside w l)) g
+pub back_stands : (code : CodeTree) (c : Context) (v : Value) (f : Frame) (fs : List Frame) (s : List Value) → slice_get s 0 ≡ Some v → c.inside.callers ≡ fs → Some f ≡ caller_with v fs
+    → stands (next_by code c.phase c.inside (on_any s (λ v s. returns v))) ≡ is_private
+back_stands code c v f fs [] e g h = cc
+back_stands code c v f [] (w ∷ s) e g h = cc
+back_stands code c v f (k ∷ ks) (w ∷ s) e g h = ap (λ l. stands (returned c.phase c.inside w l)) g
 
 pub back_moved : (code : CodeTree) (c : Context) (v : Value) (f : Frame) (fs : List Frame) (s : List Value) → slice_get s 0 ≡ Some v → c.inside.callers ≡ fs → Some f ≡ caller_with v fs
     → moved c (next_by code c.phase c.inside (on_any s (λ v s. returns v))) ≡ with_inside c (record { frame = f; callers = drop 1 fs; fault = None })
@@ -174,13 +163,53 @@ pub shared_asks : (code : CodeTree) (cs : List Context) → standing_in code cs 
 shared_asks code [] e f = cc
 shared_asks code (c ∷ cs) e f = next_asks (next_of code c) e f
 
--- ---- the turn of a thread that stands private
+-- ---- the turn of a thread, by how it stands
 
-next_private : (n : Next) (t : Turn) → stands n ≡ is_private → t ≡ turned n → t ≡ turn.Private
-next_private (goes i) t e f = f
-next_private (asks a i) t e f = cc
-next_private stuck t e f = cc
+turned_private : (n : Next) → stands n ≡ is_private → turned n ≡ turn.Private
+turned_private (goes i) e = refl
+turned_private (asks a i) e = cc
+turned_private stuck e = cc
 
-pub private_turn : (code : CodeTree) (cs : List Context) (t : Turn) → standing_in code cs ≡ is_private → t ≡ turn_in code cs → t ≡ turn.Private
-private_turn code [] t e f = cc
-private_turn code (c ∷ cs) t e f = next_private (next_of code c) t e f
+turned_stuck : (n : Next) → stands n ≡ is_stuck → turned n ≡ turn.Stuck
+turned_stuck (goes i) e = cc
+turned_stuck (asks a i) e = cc
+turned_stuck stuck e = refl
+
+stands_there : (n : Next) → stands n ≡ is_ended → ⊥
+stands_there (goes i) e = cc
+stands_there (asks a i) e = cc
+stands_there stuck e = cc
+
+turned_asked : (n : Next) (a : Ask) → asked n ≡ Some a → turned n ≡ turn.Asks a
+turned_asked (goes i) a e = cc
+turned_asked (asks b i) a e = let f : b ≡ a = cc in ap turn.Asks f
+turned_asked stuck a e = cc
+
+moved_shared : (c : Context) (n : Next) → stands n ≡ is_shared → moved c n ≡ c
+moved_shared c (goes i) e = cc
+moved_shared c (asks a i) e = refl
+moved_shared c stuck e = cc
+
+pub turn_private : (code : CodeTree) (cs : List Context) → standing_in code cs ≡ is_private → turn_in code cs ≡ turn.Private
+turn_private code [] e = cc
+turn_private code (c ∷ cs) e = turned_private (next_of code c) e
+
+pub turn_stuck : (code : CodeTree) (cs : List Context) → standing_in code cs ≡ is_stuck → turn_in code cs ≡ turn.Stuck
+turn_stuck code [] e = cc
+turn_stuck code (c ∷ cs) e = turned_stuck (next_of code c) e
+
+pub turn_ended : (code : CodeTree) (cs : List Context) → standing_in code cs ≡ is_ended → turn_in code cs ≡ turn.Ended
+turn_ended code [] e = refl
+turn_ended code (c ∷ cs) e = absurd (stands_there (next_of code c) e)
+
+pub turn_shared : (code : CodeTree) (cs : List Context) (a : Ask) → asked_in code cs ≡ Some a → turn_in code cs ≡ turn.Asks a
+turn_shared code [] a e = cc
+turn_shared code (c ∷ cs) a e = turned_asked (next_of code c) a e
+
+-- a thread that asks is as it was
+stays_in : (code : CodeTree) (cs : List Context) → standing_in code cs ≡ is_shared → stepped_in code cs ≡ cs
+stays_in code [] e = cc
+stays_in code (c ∷ cs) e = ap (λ x. x ∷ cs) (moved_shared c (next_of code c) e)
+
+pub shared_stays : (code : CodeTree) (th : Thread) → standing_in code th.contexts ≡ is_shared → stepped code th ≡ th
+shared_stays code th e = ap (λ cs. record { contexts = cs; result = th.result }) (stays_in code th.contexts e)

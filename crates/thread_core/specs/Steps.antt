@@ -1,17 +1,17 @@
--- What a step that was made ready is as a turn, and what it leaves of its context.
+-- How a context stands by a step that was made ready, and what the step leaves of it.
 use Rattle.std.specs.Prelude.{◌+◌, ◌<◌, ◌^◌}
 use Rattle.lam_bytecode.specs.Codes.{CodeTree}
 use Rattle.thread_steps.specs.Threads.{Context}
 use Rattle.thread_sights.specs.declared.acted.Sight.TheVariants as sight
 use Rattle.thread_core.specs.declared.coming.Coming.TheVariants.{Sees}
-use Rattle.thread_core.specs.declared.turn.Turn.{Turn}
-use Rattle.thread_core.specs.declared.turn.Turn.TheVariants as turn
+use Rattle.thread_steps.specs.Next as next
+use Rattle.thread_steps.specs.Next.{stands}
 use Rattle.thread_core.specs.declared.step.Change.{Change}
 use Rattle.thread_core.specs.declared.step.Change.TheVariants as change
 use Rattle.thread_core.specs.declared.step.Step.{Step}
 use Rattle.thread_core.specs.declared.step.Step.TheVariants as step
 use Rattle.thread_core.specs.Coming.{next_from}
-use Rattle.thread_core.specs.Turning.{turned, moved}
+use Rattle.thread_core.specs.Turning.{standing_of, moved}
 use Rattle.thread_core.specs.Moves.{dropped, put, jumped, called_with, failed}
 
 abbrev pub changed : CodeTree → Context → Change → Context
@@ -21,19 +21,17 @@ changed code c (change.Jumps to takes) = jumped c to takes
 changed code c (change.Calls unit count) = called_with code c unit count
 changed code c (change.Fails f) = failed c f
 
-abbrev pub turn_by : CodeTree → Context → Step → Turn
-turn_by code c (step.Changes d) = turn.Private
-turn_by code c (step.Sets local) = turned (next_from code c (Sees (sight.Sets local)))
-turn_by code c step.Returns = turned (next_from code c (Sees sight.Returns))
-turn_by code c (step.Asks a) = turn.Asks a
-turn_by code c step.Breaks = turn.Stuck
+abbrev pub stands_by : CodeTree → Context → Step → next.Standing
+stands_by code c (step.Changes d) = next.is_private
+stands_by code c (step.Sets local) = stands (next_from code c (Sees (sight.Sets local)))
+stands_by code c step.Returns = stands (next_from code c (Sees sight.Returns))
+stands_by code c (step.Keeps s) = standing_of s
 
 abbrev pub moved_by : CodeTree → Context → Step → Context
 moved_by code c (step.Changes d) = changed code c d
 moved_by code c (step.Sets local) = moved c (next_from code c (Sees (sight.Sets local)))
 moved_by code c step.Returns = moved c (next_from code c (Sees sight.Returns))
-moved_by code c (step.Asks a) = c
-moved_by code c step.Breaks = c
+moved_by code c (step.Keeps s) = c
 
 -- a change and a store go on at the next address
 abbrev pub HasNext : Context → Step → Type 0

@@ -1,6 +1,7 @@
-//! What a context does in its next turn, with its value or its ask made.
+//! What a context does in its next turn where this is private, with its value made.
 
-use lam_asks::{Ask, Fault};
+use crate::turn::Standing;
+use lam_asks::Fault;
 use lam_value::Value;
 
 /// How a private turn changes a context, whatever its operands are.
@@ -26,7 +27,6 @@ pub enum Step {
     Sets { local: usize },
     /// The top operand is the result of the call.
     Returns,
-    Asks(Ask),
-    /// Nothing: it is stuck.
-    Breaks,
+    /// Nothing: the turn is not private, and this is how the context stands.
+    Keeps(Standing),
 }

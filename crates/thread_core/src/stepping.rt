@@ -2,19 +2,18 @@
 
 ghost use Rattle.std.specs.Prelude.{◌≡◌, ◌<◌, ◌+◌, ◌^◌, ◌∷◌, [], Some, if◌then◌else◌, reverse, length, drop, slice_get, vec_len, vec_capacity, IfSome, IfOk, OnOk, OnErr, MatchOption};
 ghost use Rattle.lam_bytecode.specs.Codes.{CodeTree};
-ghost use Rattle.thread_steps.specs.Threads.{Inside, Context as Plain};
-ghost use Rattle.thread_steps.specs.Next.{next_of, next_by, stands, ending, leaving};
-ghost use Rattle.thread_steps.specs.Ops.{on_any, returns};
+ghost use Rattle.thread_steps.specs.Threads.{Inside};
+ghost use Rattle.thread_steps.specs.Next.{next_of, stands, leaving, is_shared, is_stuck};
 ghost use Rattle.lam_threads.specs.Seen.{phase_of};
 ghost use Rattle.thread_sights.specs.Acting.{ask_of};
-ghost use Rattle.thread_core.specs.Turning.{turned, moved, standing_of, asked, awaited, awaited_by, monitor_in};
+ghost use Rattle.thread_core.specs.Turning.{moved, standing_of, asked, awaited, awaited_by, monitor_in};
 ghost use Rattle.thread_core.specs.Coming.{next_from};
-ghost use Rattle.thread_core.specs.Steps.{changed, turn_by, moved_by, HasNext};
+ghost use Rattle.thread_core.specs.Steps.{changed, stands_by, moved_by, HasNext};
 ghost use Rattle.thread_core.specs.Moves.{dropped, put, jumped, called_with, failed, raised_ask, is_bottom, with_result, caller_with, acting};
 
 use crate::coming::{Coming, next};
 use crate::step::{Change, Step};
-use crate::turn::{Standing, Turn, Waits};
+use crate::turn::{Standing, Waits};
 use lam_asks::{Ask, Fault, Outcome};
 use lam_bytecode::Code;
 use lam_threads::{Context, Frame, Operands, Phase, locals_of};
@@ -44,18 +43,18 @@ fn puts(c: &mut Context, takes: usize, value: Value) -> Result<(), NoMemory>
 }
 
 /// The top operand goes into a local.
-fn sets(c: &mut Context, local: usize) -> Turn
+fn sets(c: &mut Context, local: usize) -> Standing
     requires { c.old.inside.frame.at + 1 < 2 ^ 64 }
-    ensures turn { (code : CodeTree) → result ≡ turned (next_from code c.old (Coming.Sees (Sight.Sets local))) }
+    ensures stands { (code : CodeTree) → standing_of result ≡ stands (next_from code c.old (Coming.Sees (Sight.Sets local))) }
     ensures new { (code : CodeTree) → c.new ≡ moved c.old (next_from code c.old (Coming.Sees (Sight.Sets local))) }
 {
     let Some(value) = c.stack.pop() else {
-        return Turn::Stuck;
+        return Standing::Stuck;
     };
     let _ = c.locals.set(local as u64, value);
     c.at += 1;
     c.fault = None;
-    Turn::Private
+    Standing::Private
 }
 
 fn jumps(c: &mut Context, to: usize, takes: usize)
@@ -119,17 +118,6 @@ fn calls(c: &mut Context, code: &Code, unit: usize, count: usize) -> Result<(), 
     Ok(())
 }
 
-/// The result of a context's only call.
-fn end(phase: Phase, value: Value) -> Turn
-    ensures { (i : Inside) → result ≡ turned (ending (phase_of phase) i value) }
-{
-    match phase {
-        Phase::Bottom => Turn::Asks(Ask::End(Outcome::Value(value))),
-        Phase::Body { .. } => Turn::Stuck,
-        Phase::Catch => Turn::Stuck,
-    }
-}
-
 /// A copy of the top operand, where there is one.
 fn top_copy(stack: &Operands) -> Result<Option<Value>, NoMemory>
     ensures { IfOk result (λ o. o ≡ slice_get stack.now 0) }
@@ -183,43 +171,46 @@ fn acts(c: &mut Context, frame: Frame)
 }
 
 /// The acting call, which another one waits for, returns.
-#[tactic(auto, using(crate::proofs::Cases::back_turned, crate::proofs::Cases::back_moved))]
-fn goes_back(c: &mut Context, value: Value) -> Result<Turn, NoMemory>
+#[tactic(auto, using(crate::proofs::Cases::back_stands, crate::proofs::Cases::back_moved))]
+fn goes_back(c: &mut Context, value: Value) -> Result<Standing, NoMemory>
     requires waits { 0 < length c.old.inside.callers }
     requires top { slice_get c.old.inside.frame.stack 0 ≡ Some value }
-    ensures turn { IfOk result (λ t. (code : CodeTree) → t ≡ turned (next_from code c.old (Coming.Sees Sight.Returns))) }
+    ensures stands { IfOk result (λ s. (code : CodeTree) → standing_of s ≡ stands (next_from code c.old (Coming.Sees Sight.Returns))) }
     ensures new { OnOk result ((code : CodeTree) → c.new ≡ moved c.old (next_from code c.old (Coming.Sees Sight.Returns))) }
     ensures err { OnErr result (c.new ≡ c.old) }
 {
     match take_back(&mut c.callers, value)? {
-        None => Ok(Turn::Stuck),
+        None => Ok(Standing::Stuck),
         Some(frame) => {
             acts(c, frame);
-            Ok(Turn::Private)
+            Ok(Standing::Private)
         }
     }
 }
 
-/// The top operand is the result of the only call of a context.
-#[tactic(auto, using(crate::proofs::Cases::ended_turned))]
-fn ends(phase: Phase, value: Value) -> Turn
-    ensures { (code : CodeTree) (i : Inside) → slice_get i.frame.stack 0 ≡ Some value → i.callers ≡ [] → result ≡ turned (next_by code (phase_of phase) i (on_any i.frame.stack (λ v s. returns v))) }
+/// How a context stands that has the result of its only call.
+fn ends(phase: Phase) -> Standing
+    ensures { standing_of result ≡ (if is_bottom (phase_of phase) then is_shared else is_stuck) }
 {
-    end(phase, value)
+    match phase {
+        Phase::Bottom => Standing::Shared,
+        Phase::Body { .. } => Standing::Stuck,
+        Phase::Catch => Standing::Stuck,
+    }
 }
 
 /// The top operand is the result of the call.
-#[tactic(auto, using(crate::proofs::Cases::ended_moved, crate::proofs::Tops::first_none))]
-fn returns(c: &mut Context) -> Result<Turn, NoMemory>
-    ensures turn { IfOk result (λ t. (code : CodeTree) → t ≡ turned (next_from code c.old (Coming.Sees Sight.Returns))) }
+#[tactic(auto, using(crate::proofs::Cases::ended_stands, crate::proofs::Cases::ended_moved, crate::proofs::Tops::first_none))]
+fn returns(c: &mut Context) -> Result<Standing, NoMemory>
+    ensures stands { IfOk result (λ s. (code : CodeTree) → standing_of s ≡ stands (next_from code c.old (Coming.Sees Sight.Returns))) }
     ensures new { OnOk result ((code : CodeTree) → c.new ≡ moved c.old (next_from code c.old (Coming.Sees Sight.Returns))) }
     ensures err { OnErr result (c.new ≡ c.old) }
 {
     match top_copy(&c.stack)? {
-        None => Ok(Turn::Stuck),
+        None => Ok(Standing::Stuck),
         Some(value) => {
             if c.callers.is_empty() {
-                Ok(ends(c.phase, value))
+                Ok(ends(c.phase))
             } else {
                 goes_back(c, value)
             }
@@ -244,28 +235,27 @@ fn is_bottom(phase: Phase) -> bool
     matches!(phase, Phase::Bottom)
 }
 
-fn leaving(phase: Phase) -> Step
-    ensures turn { (code : CodeTree) (c : Plain) → turn_by code c result ≡ turned (leaving (phase_of phase) c.inside) }
-    ensures new { (code : CodeTree) (c : Plain) → moved_by code c result ≡ moved c (leaving (phase_of phase) c.inside) }
-    ensures place { (c : Plain) → HasNext c result }
+/// How a context stands that is to leave its region.
+fn leaves(phase: Phase) -> Standing
+    ensures { (i : Inside) → standing_of result ≡ stands (leaving (phase_of phase) i) }
 {
     match phase {
-        Phase::Bottom => Step::Breaks,
-        Phase::Body { .. } => Step::Asks(Ask::Leave),
-        Phase::Catch => Step::Asks(Ask::Leave),
+        Phase::Bottom => Standing::Stuck,
+        Phase::Body { .. } => Standing::Shared,
+        Phase::Catch => Standing::Shared,
     }
 }
 
-/// What a context does in its next turn, with its value or its ask made.
-#[tactic(auto, using(crate::proofs::Cases::raised_turned, crate::proofs::Cases::raised_moved))]
+/// What a context does in its next turn where this is private, with its value made.
+#[tactic(auto, using(crate::proofs::Cases::raised_stands, crate::proofs::Cases::raised_moved, crate::proofs::Cases::leaving_moved))]
 fn step_of(c: &Context, code: &Code) -> Result<Step, NoMemory>
-    ensures turn { IfOk result (λ s. turn_by code.now c.now s ≡ turned (next_of code.now c.now)) }
+    ensures stands { IfOk result (λ s. stands_by code.now c.now s ≡ stands (next_of code.now c.now)) }
     ensures new { IfOk result (λ s. moved_by code.now c.now s ≡ moved c.now (next_of code.now c.now)) }
     ensures place { IfOk result (λ s. HasNext c.now s) }
 {
     match next(c, code) {
-        Coming::Nothing => Ok(Step::Breaks),
-        Coming::Handles(fault) => Ok(Step::Asks(handling(c.phase, fault))),
+        Coming::Nothing => Ok(Step::Keeps(Standing::Stuck)),
+        Coming::Handles(_) => Ok(Step::Keeps(Standing::Shared)),
         Coming::Sees(sight) => match sight {
             Sight::Drops { takes } => Ok(Step::Changes(Change::Drops { takes })),
             Sight::Puts { takes, worth } => {
@@ -277,9 +267,9 @@ fn step_of(c: &Context, code: &Code) -> Result<Step, NoMemory>
             Sight::Calls { unit, count } => Ok(Step::Changes(Change::Calls { unit, count })),
             Sight::Returns => Ok(Step::Returns),
             Sight::Fails(fault) => Ok(Step::Changes(Change::Fails(fault))),
-            Sight::Asks { ask, .. } => Ok(Step::Asks(ask_from(c.stack.allocator(), &ask)?)),
-            Sight::Leaves => Ok(leaving(c.phase)),
-            Sight::Breaks => Ok(Step::Breaks),
+            Sight::Asks { .. } => Ok(Step::Keeps(Standing::Shared)),
+            Sight::Leaves => Ok(Step::Keeps(leaves(c.phase))),
+            Sight::Breaks => Ok(Step::Keeps(Standing::Stuck)),
         },
     }
 }
@@ -308,31 +298,30 @@ fn changes(c: &mut Context, code: &Code, change: Change) -> Result<(), NoMemory>
 }
 
 /// A step that was made ready is taken.
-fn take_step(c: &mut Context, code: &Code, step: Step) -> Result<Turn, NoMemory>
+fn take_step(c: &mut Context, code: &Code, step: Step) -> Result<Standing, NoMemory>
     requires { HasNext c.old step }
-    ensures turn { IfOk result (λ t. t ≡ turn_by code.now c.old step) }
+    ensures stands { IfOk result (λ s. standing_of s ≡ stands_by code.now c.old step) }
     ensures new { OnOk result (c.new ≡ moved_by code.now c.old step) }
     ensures err { OnErr result (c.new ≡ c.old) }
 {
     match step {
         Step::Changes(change) => match changes(c, code, change) {
-            Ok(()) => Ok(Turn::Private),
+            Ok(()) => Ok(Standing::Private),
             Err(_) => Err(NoMemory),
         },
         Step::Sets { local } => Ok(sets(c, local)),
         Step::Returns => returns(c),
-        Step::Asks(ask) => Ok(Turn::Asks(ask)),
-        Step::Breaks => Ok(Turn::Stuck),
+        Step::Keeps(standing) => Ok(standing),
     }
 }
 
-/// One turn of a context: a private one is taken, and an ask is handed out.
+/// Takes the next turn of a context where it is private, and says how the context stood before it.
 ///
 /// # Errors
 ///
 /// `NoMemory` where memory is refused; the context is then as it was.
-pub fn advance_context(c: &mut Context, code: &Code) -> Result<Turn, NoMemory>
-    ensures turn { IfOk result (λ t. t ≡ turned (next_of code.now c.old)) }
+pub fn go_on_in(c: &mut Context, code: &Code) -> Result<Standing, NoMemory>
+    ensures stands { IfOk result (λ s. standing_of s ≡ stands (next_of code.now c.old)) }
     ensures new { OnOk result (c.new ≡ moved c.old (next_of code.now c.old)) }
     ensures err { OnErr result (c.new ≡ c.old) }
 {

@@ -1,10 +1,10 @@
 //! Threads: how one stands, what it asks, and its private turns.
 
 ghost use Rattle.std.specs.Prelude.{◌≡◌, Some, None, reverse, IfOk, OnOk, OnErr};
-ghost use Rattle.thread_steps.specs.Next.{standing, is_private, is_shared};
-ghost use Rattle.thread_core.specs.Turning.{turn_of, turn_in, stepped, stepped_in, standing_of, ask_of, awaited, awaited_by};
+ghost use Rattle.thread_steps.specs.Next.{standing, standing_in, is_private, is_shared};
+ghost use Rattle.thread_core.specs.Turning.{turn_of, stepped, stepped_in, standing_of, ask_of, awaited, awaited_by};
 
-use crate::stepping::{advance_context, context_ask, context_stands, context_waits};
+use crate::stepping::{context_ask, context_stands, context_waits, go_on_in};
 use crate::turn::{Standing, Turn, Waits};
 use lam_asks::Ask;
 use lam_bytecode::Code;
@@ -56,18 +56,31 @@ pub fn ask(thread: &LamThread, code: &Code) -> Result<Ask, NoMemory>
     }
 }
 
-#[tactic(auto, using(crate::proofs::Tops::turn_top, crate::proofs::Tops::stepped_top, crate::proofs::Tops::kept_top))]
-fn advance_last(contexts: &mut Vec<Context>, code: &Code) -> Result<Turn, NoMemory>
-    ensures turn { IfOk result (λ t. t ≡ turn_in code.now (reverse contexts.old.items)) }
+#[tactic(auto, using(crate::proofs::Tops::standing_top, crate::proofs::Tops::stepped_top, crate::proofs::Tops::kept_top))]
+fn go_on_last(contexts: &mut Vec<Context>, code: &Code) -> Result<Standing, NoMemory>
+    ensures stands { IfOk result (λ s. standing_of s ≡ standing_in code.now (reverse contexts.old.items)) }
     ensures new { OnOk result (reverse contexts.new.items ≡ stepped_in code.now (reverse contexts.old.items)) }
     ensures err { OnErr result (contexts.new.items ≡ contexts.old.items) }
 {
     if contexts.is_empty() {
-        return Ok(Turn::Ended);
+        return Ok(Standing::Ended);
     }
     let last = contexts.len() - 1;
-    let turn = advance_context(&mut contexts[last], code)?;
-    Ok(turn)
+    let standing = go_on_in(&mut contexts[last], code)?;
+    Ok(standing)
+}
+
+/// Takes the next turn of a thread where it is private, and says how the thread stood before it.
+///
+/// # Errors
+///
+/// `NoMemory` where memory is refused; the thread is then as it was.
+pub fn go_on(thread: &mut LamThread, code: &Code) -> Result<Standing, NoMemory>
+    ensures stands { IfOk result (λ s. standing_of s ≡ standing code.now thread.old) }
+    ensures ok { OnOk result (thread.new ≡ stepped code.now thread.old) }
+    ensures err { OnErr result (thread.new ≡ thread.old) }
+{
+    go_on_last(&mut thread.contexts, code)
 }
 
 /// The next turn of a thread: a private one is taken, and an ask is handed out.
@@ -75,12 +88,18 @@ fn advance_last(contexts: &mut Vec<Context>, code: &Code) -> Result<Turn, NoMemo
 /// # Errors
 ///
 /// `NoMemory` where memory is refused; the thread is then as it was.
+#[tactic(auto, using(crate::proofs::Cases::turn_private, crate::proofs::Cases::turn_shared, crate::proofs::Cases::turn_stuck, crate::proofs::Cases::turn_ended, crate::proofs::Cases::shared_stays))]
 pub fn advance(thread: &mut LamThread, code: &Code) -> Result<Turn, NoMemory>
     ensures turn { IfOk result (λ t. t ≡ turn_of code.now thread.old) }
     ensures ok { OnOk result (thread.new ≡ stepped code.now thread.old) }
     ensures err { OnErr result (thread.new ≡ thread.old) }
 {
-    advance_last(&mut thread.contexts, code)
+    match go_on(thread, code)? {
+        Standing::Private => Ok(Turn::Private),
+        Standing::Shared => Ok(Turn::Asks(ask(thread, code)?)),
+        Standing::Stuck => Ok(Turn::Stuck),
+        Standing::Ended => Ok(Turn::Ended),
+    }
 }
 
 /// A private turn.
@@ -88,16 +107,11 @@ pub fn advance(thread: &mut LamThread, code: &Code) -> Result<Turn, NoMemory>
 /// # Errors
 ///
 /// `NoMemory` where memory is refused; the thread is then as it was.
-#[tactic(auto, using(crate::proofs::Cases::private_turn))]
 pub fn private_step(thread: &mut LamThread, code: &Code) -> Result<(), NoMemory>
     requires { standing code.now thread.old ≡ is_private }
     ensures ok { OnOk result (thread.new ≡ stepped code.now thread.old) }
     ensures err { OnErr result (thread.new ≡ thread.old) }
 {
-    match advance(thread, code)? {
-        Turn::Private => Ok(()),
-        Turn::Asks(_ask) => unreachable!(),
-        Turn::Stuck => unreachable!(),
-        Turn::Ended => unreachable!(),
-    }
+    let _ = go_on(thread, code)?;
+    Ok(())
 }

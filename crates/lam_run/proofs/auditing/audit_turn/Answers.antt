@@ -1,7 +1,16 @@
-use Rattle.std.proofs.Common.{subst}
-use Rattle.lam_machine.specs.Machine.{IsStep}
+use Rattle.std.proofs.Common.{IfOk, subst, sym}
+use Rattle.lam_worlds.specs.Worlds.{World}
+use Rattle.lam_machine.specs.Machine.{CopiesLive}
+use Rattle.lam_run.specs.Turns.{noted_of, Takes}
+use Rattle.lam_run.proofs.PrivateLemmas.{was_not}
 use Rattle.lam_run.proofs.auditing.audit_turn.Goals as goal
 
-pub returns-in_ok-push_noted-in-Some : goal.returns-in_ok-push_noted-in-Some
-returns-in_ok-push_noted-in-Some c =
-    (c.in-Some.event, subst (λ o. IsStep c.args.code.now c.args.thread c.args.world.now o c.step.new.world) c.in-Some.is c.in_ok-step.ensures.ok, c.in_ok-push_noted-in-Some.ensures)
+pub audit_step-requires : goal.audit_step-requires
+audit_step-requires c =
+    let same = was_not c.args.code.now c.args.thread c.args.world.now c.in_ok-step_privately.field-0 c.step_privately.new.world c.in_ok-step_privately.ensures.ok c.if-branch.false in
+    subst (λ (w : World). CopiesLive c.args.code.now w c.args.thread) (sym same) c.requires
+
+pub returns : goal.returns
+returns c =
+    let same = was_not c.args.code.now c.args.thread c.args.world.now c.in_ok-step_privately.field-0 c.step_privately.new.world c.in_ok-step_privately.ensures.ok c.if-branch.false in
+    rw same at c.audit_step.ensures

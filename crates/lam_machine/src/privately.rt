@@ -1,0 +1,52 @@
+//! Private turns, of which there is no event to tell.
+
+ghost use Rattle.std.specs.Prelude.{◌≡◌, length, IfOk, OnErr};
+ghost use Rattle.lam_stores.specs.declared.Stores.{Stores};
+ghost use Rattle.lam_stores.specs.Parts.{world_of};
+ghost use Rattle.thread_core.specs.Turning.{standing_of};
+ghost use Rattle.lam_machine.specs.Privately.{IsPrivateStep, is_private_standing};
+
+use lam_bytecode::Code;
+use lam_threads::LamThread;
+use lam_world::World;
+use thread_core::{Standing, go_on};
+use want_of_memory::NoMemory;
+
+/// Takes the turn of a thread where it is private: whether it was. Else the world stays as it is, and
+/// [`step`](crate::step) tells what the turn is. A private turn shows nobody anything, and here costs no event.
+///
+/// # Errors
+///
+/// `NoMemory` where memory is refused; the world is then as it was.
+pub fn step_privately(world: &mut World, code: &Code, thread: u32) -> Result<bool, NoMemory>
+    ensures ok { IfOk result (λ taken. IsPrivateStep code.now thread world.old taken world.new) }
+    ensures err { OnErr result (world.new ≡ world.old) }
+{
+    go_on_at(&mut world.threads, code, thread)
+}
+
+/// A private turn of a thread of many. A thread that is not there has none.
+#[tactic(auto, using(crate::proofs::PrivateLemmas::goes_on, crate::proofs::PrivateLemmas::absent, crate::proofs::AdvanceLemmas::kept_at))]
+fn go_on_at(threads: &mut Vec<LamThread>, code: &Code, thread: u32) -> Result<bool, NoMemory>
+    ensures ok { IfOk result (λ taken. (s : Stores) → IsPrivateStep code.now thread (world_of s threads.old.items) taken (world_of s threads.new.items)) }
+    ensures few { length threads.new.items ≡ length threads.old.items }
+    ensures err { OnErr result (threads.new.items ≡ threads.old.items) }
+{
+    let at = thread as usize;
+    if at >= threads.len() {
+        return Ok(false);
+    }
+    let standing = go_on(&mut threads[at], code)?;
+    Ok(was_private(standing))
+}
+
+fn was_private(standing: Standing) -> bool
+    ensures { result ≡ is_private_standing (standing_of standing) }
+{
+    match standing {
+        Standing::Private => true,
+        Standing::Shared => false,
+        Standing::Stuck => false,
+        Standing::Ended => false,
+    }
+}
