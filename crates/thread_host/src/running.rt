@@ -6,7 +6,7 @@ ghost use Rattle.lam_worlds.specs.Valid.{IsValid};
 ghost use Rattle.run_ends.specs.Ends.{HasEnded};
 
 use crate::origins::{Origin, copied, let_go_origin, let_go_run, own_run};
-use crate::visits::go_on;
+use crate::seats::{Seated, go_on};
 use crate::workers::by_workers;
 use lam_bytecode::Code;
 use lam_io::Gate;
@@ -31,7 +31,7 @@ pub struct Finished {
 /// The hook is asked before each turn, under the lock, with the number of turns so far and the ready threads in
 /// increasing order; its answer is taken modulo their number. After a turn it is called outside the lock. Once the workers
 /// have stopped, the caller goes on as worker 0, where something is left. A turn takes no memory for its list of ready
-/// threads unless there are more threads than before.
+/// threads.
 ///
 /// # Errors
 ///
@@ -86,12 +86,14 @@ fn finish<G: Gate>(alloc: Global, run: Run, turns: u64, gate: &G) -> Result<Fini
     ensures budget { IfOk result (λ f. length f.run.turns ≤ turns) }
     ensures how { IfOk result (λ f. HasEnded f.run.code f.run.world (length f.run.turns) turns f.how) }
 {
-    let mut run = run;
-    let mut list = Vec::new(alloc);
-    match go_on(&mut run, &mut list, turns, gate) {
-        Ok(how) => Ok(Finished { run, how }),
+    let mut seated = Seated::new(alloc, run)?;
+    match go_on(&mut seated, turns, gate) {
+        Ok(how) => Ok(Finished {
+            run: seated.into_run(),
+            how,
+        }),
         Err(error) => {
-            let_go_run(run);
+            let_go_run(seated.into_run());
             Err(error)
         }
     }

@@ -3,7 +3,8 @@
 ghost use Rattle.std.specs.Prelude.{◌≡◌, ◌<◌, ◌≤◌, IfOk, vec_len};
 
 use crate::origins::let_go_run;
-use crate::visits::{Visit, take_turn};
+use crate::seats::Seated;
+use crate::visits::Visit;
 use lam_io::Gate;
 use machine_run::Run;
 use std::alloc::Global;
@@ -12,18 +13,17 @@ use std::thread;
 use std::thread::Threads;
 use want_of_memory::NoMemory;
 
-/// A worker: its number, a list for the threads that it finds ready, and whether it met want of memory.
+/// A worker: its number, and whether it met want of memory.
 #[derive(Drop)]
 pub struct Worker {
     pub number: u64,
-    pub list: Vec<u32>,
     pub refused: bool,
 }
 
 /// Takes turns of the shared run until it has ended.
 pub fn work<R: Wait, G: Gate>(
     rt: &R,
-    shared: &Mutex<Run>,
+    shared: &Mutex<Seated>,
     worker: &mut Worker,
     budget: u64,
     gate: &G,
@@ -32,7 +32,7 @@ pub fn work<R: Wait, G: Gate>(
 {
     let number = worker.number;
     for _ in rt.forever() {
-        let visited = take_turn(&mut shared.lock(rt), &mut worker.list, number, budget, gate)?;
+        let visited = shared.lock(rt).visit(number, budget, gate)?;
         match visited {
             Visit::Took(thread) => gate.between(number, thread),
             Visit::Ended(_) => return Ok(()),
@@ -48,7 +48,6 @@ fn new_workers(alloc: Global, count: u64) -> Result<Vec<Worker>, NoMemory>
     for number in 0..count {
         workers.push(Worker {
             number,
-            list: Vec::new(alloc),
             refused: false,
         })?;
     }
@@ -79,7 +78,7 @@ pub fn by_workers<R: Threads + Wait + Sync, G: Gate + Sync>(
             return Err(error);
         }
     };
-    let shared = Mutex::new(run);
+    let shared = Mutex::new(Seated::new(alloc, run)?);
     let lock = &shared;
     thread::for_each_mut(
         rt,
@@ -89,7 +88,7 @@ pub fn by_workers<R: Threads + Wait + Sync, G: Gate + Sync>(
             requires { budget ≤ 1000000 }
         { worker.refused = work(rt, lock, worker, budget, gate).is_err() },
     );
-    let run = shared.into_inner();
+    let run = shared.into_inner().into_run();
     if workers.iter().any(|worker| worker.refused) {
         let_go_run(run);
         return Err(NoMemory);

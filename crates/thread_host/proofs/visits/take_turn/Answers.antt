@@ -3,4 +3,4 @@ use Rattle.thread_host.proofs.Ready.{some_listed}
 use Rattle.thread_host.proofs.visits.take_turn.Goals as goal
 
 pub picked-thread-requires-clause-some : goal.picked-thread-requires-clause-some
-picked-thread-requires-clause-some g c = some_listed _ _ c.as_slice-2.result.now (c.as_slice-2.ensures.value ∙ c.in_ok-list_ready.ensures) c.in_default.ensures.some
+picked-thread-requires-clause-some g c = some_listed _ _ c.as_slice-2.result.now (c.as_slice-2.ensures.value ∙ c.requires.list) c.in_default.ensures.some

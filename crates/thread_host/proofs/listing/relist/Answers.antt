@@ -2,8 +2,8 @@ use Rattle.std.proofs.Common.{ℕ, List, ◌++◌, [], ◌∷◌, ap, sym, ◌�
 use Rattle.std.specs.Prelude.{vec_len, vec_capacity}
 use Rattle.lam_worlds.specs.Turns.{ready}
 use Rattle.thread_host.proofs.Ready.{taken, left_out}
-use Rattle.thread_host.proofs.visits.list_ready.Goals.{then-ready, else-ready}
-use Rattle.thread_host.proofs.visits.list_ready.Goals as goal
+use Rattle.thread_host.proofs.listing.relist.Goals.{then-ready, else-ready}
+use Rattle.thread_host.proofs.listing.relist.Goals as goal
 
 pub loop-thread-preserved : goal.loop-thread-preserved
 loop-thread-preserved c =
