@@ -20,6 +20,7 @@ ghost use Rattle.lam_plan.specs.Plan.{IsPlanOf, IsPlan, starts_threads, written_
 ghost use Rattle.lam_plan.specs.Answer.{outside, AsPlanned, IsAnswer, IsPlanned, OthersKept};
 ghost use Rattle.replay_laws.specs.Calls.{ReplaysAreIsolated, AuditsArePrinted};
 ghost use Rattle.run_laws.specs.Headline.{Headline, BreaksOff, EndsInOrder, RunsAreComplete, GeneratedRuns};
+ghost use Rattle.make_laws.specs.Complete.{MakesAreComplete};
 ghost use Rattle.meaning_laws.specs.Meant.{CallsRunAsMeant};
 ghost use Rattle.lam_commands.specs.Halts.{Says, Reports};
 ghost use Rattle.lam_replay.specs.Asked.{reader_of};
@@ -34,6 +35,7 @@ use lam_replay::{Reader, RunFiles, replay};
 use lam_round_trip::laws::{canonical_text_is_read_as_the_tree, canonical_text_is_steady};
 use lam_spelt::laws::canonical_text_is_lexed;
 pub use lam_words::{Command, WordFault, help_text, read_words};
+use make_laws::makes_are_complete;
 use meaning_laws::calls_run_as_meant;
 use play_run::scripts_are_isolated;
 use replay_laws::{audits_are_printed, replays_are_isolated};
@@ -92,8 +94,10 @@ pub fn lam<R: Threads + Wait + Sync, H: Shelf, O: Sink, G: Gate + Sync>(
     ensures in_order { IsTrue (H.tells shelf.old) → EndsInOrder (map string_bytes words.now) result (outside (H.files shelf.old) (O.taken out.old)) }
     ensures complete { RunsAreComplete (map string_bytes words.now) (H.files shelf.old) }
 
-    // The same of the run of what `make` makes: its book is written, and its summary printed.
+    // The same of the run of what `make` makes: its book is written, and its summary printed. What it makes is always in
+    // order.
     ensures generated { IsTrue (H.tells shelf.old) → GeneratedRuns (map string_bytes words.now) result (outside (H.files shelf.old) (O.taken out.old)) (outside (H.files shelf.new) (O.taken out.new)) }
+    ensures makes_complete { MakesAreComplete (map string_bytes words.now) (H.files shelf.old) }
 
     // Runs mean what the source means: in every run of `replay`, `audit` and `run` no thread is ever stuck, and each asks
     // what the source of its function asks.
@@ -113,6 +117,7 @@ pub fn lam<R: Threads + Wait + Sync, H: Shelf, O: Sink, G: Gate + Sync>(
     runs_end_in_order();
     runs_are_complete();
     generated_runs_are_recorded();
+    makes_are_complete();
     calls_run_as_meant();
     canonical_text_is_lexed();
     canonical_text_is_read_as_the_tree();

@@ -1,14 +1,16 @@
 //! What goes to the sink: the text of a command, or the line of a refusal. It takes no memory.
 
-ghost use Rattle.std.specs.Prelude.{◌≡◌, ◌≤◌, ◌++◌, ◌∷◌, [], None, OnErr, take};
+ghost use Rattle.std.specs.Prelude.{◌≡◌, ◌≤◌, ◌++◌, ◌∷◌, [], None, OnErr, take, decimal};
+ghost use Rattle.lam_front.specs.declared.fault.ProgramFault.TheVariants.{At};
 ghost use Rattle.lam_io.specs.Outside.{Rose, Took};
-ghost use Rattle.lam_plan.specs.Refusals.{refused, no_world, no_turn};
+ghost use Rattle.lam_plan.specs.Refusals.{refused, no_program, no_world, no_turn};
 ghost use Rattle.lam_plan.specs.Threads.{status_of};
 ghost use Rattle.lam_main.specs.Lines.{texts, joined, Goes, Prints};
 ghost use Rattle.lam_commands.specs.Halts.{break_of, words_of, refuses};
 
 use itoa::Buffer;
 use lam_commands::{BookBreak, Refusal, WorldBreak};
+use lam_front::Flaw;
 use lam_io::{Sink, SinkFault, write_all};
 use lam_plan::Status;
 use run_ends::How;
@@ -38,50 +40,33 @@ pub(crate) fn print_refusal<O: Sink>(out: &mut O, refusal: &Refusal) -> Result<S
     ensures printed { Prints result (refuses refusal.now) (O.taken out.old) (O.taken out.new) }
     ensures failed { OnErr result (Rose (O.faults out.old) (O.faults out.new)) }
 {
-    let mut digits = Buffer::new();
     match refusal {
-        Refusal::Word(index) => {
-            let index = digits.format(*index).as_bytes();
-            print_line(out, Status::Words, &[b"word ".as_slice(), index])
-        }
-        Refusal::Script(line) => {
-            let line = digits.format(*line).as_bytes();
-            print_line(out, Status::Program, &[b"Script line ".as_slice(), line])
-        }
+        Refusal::Word(index) => print_numbered(out, Status::Words, b"word ", *index),
+        Refusal::Script(line) => print_numbered(out, Status::Program, b"Script line ", *line),
         Refusal::NotUtf8 => print_line(out, Status::Program, &[b"NotUtf8".as_slice()]),
-        Refusal::Flawed { flaw, at } => {
-            let at = digits.format(*at).as_bytes();
-            print_line(
-                out,
-                Status::Program,
-                &[flaw.name().as_bytes(), b" at ".as_slice(), at],
-            )
-        }
+        Refusal::Flawed { flaw, at } => print_flaw(out, *flaw, *at),
         Refusal::CodeTooLong(unit) => {
-            let unit = digits.format(*unit).as_bytes();
-            print_line(out, Status::Program, &[b"CodeTooLong ".as_slice(), unit])
+            print_numbered(out, Status::Program, b"CodeTooLong ", *unit as u64)
         }
         Refusal::World(breach) => print_break(out, breach),
         Refusal::Book { flaw, line } => {
-            let line = digits.format(*line).as_bytes();
-            print_line(out, Status::Book, &[line_words(*flaw).as_bytes(), line])
+            print_numbered(out, Status::Book, line_words(*flaw).as_bytes(), *line)
         }
         Refusal::NotReady { turn, thread } => print_turn(out, *turn, *thread),
-        Refusal::Absent(name) => {
-            print_line(
-                out,
-                Status::Missing,
-                &[b"Absent ".as_slice(), name.as_bytes()],
-            )
-        }
-        Refusal::TooLong(name) => {
-            print_line(
-                out,
-                Status::Missing,
-                &[b"TooLong ".as_slice(), name.as_bytes()],
-            )
-        }
+        Refusal::Absent(name) => print_named(out, Status::Missing, b"Absent ", name.as_bytes()),
+        Refusal::TooLong(name) => print_named(out, Status::Missing, b"TooLong ", name.as_bytes()),
     }
+}
+
+/// Prints the line of a program that is flawed.
+fn print_flaw<O: Sink>(out: &mut O, flaw: Flaw, at: u64) -> Result<Status, SinkFault>
+    ensures printed { Prints result (no_program (At flaw at)) (O.taken out.old) (O.taken out.new) }
+    ensures failed { OnErr result (Rose (O.faults out.old) (O.faults out.new)) }
+{
+    let mut digits = Buffer::new();
+    let at = digits.format(at).as_bytes();
+    let parts = [flaw.name().as_bytes(), b" at ".as_slice(), at];
+    print_line(out, Status::Program, &parts)
 }
 
 /// Prints the line of a document that is broken.
@@ -89,33 +74,18 @@ fn print_break<O: Sink>(out: &mut O, breach: &WorldBreak) -> Result<Status, Sink
     ensures printed { Prints result (no_world (break_of breach.now)) (O.taken out.old) (O.taken out.new) }
     ensures failed { OnErr result (Rose (O.faults out.old) (O.faults out.new)) }
 {
-    let mut digits = Buffer::new();
     match breach {
         WorldBreak::NotJson => print_line(out, Status::World, &[b"NotJson".as_slice()]),
         WorldBreak::NoMember(name) => {
-            print_line(
-                out,
-                Status::World,
-                &[b"NoMember ".as_slice(), name.as_bytes()],
-            )
+            print_named(out, Status::World, b"NoMember ", name.as_bytes())
         }
         WorldBreak::BadMember(name) => {
-            print_line(
-                out,
-                Status::World,
-                &[b"BadMember ".as_slice(), name.as_bytes()],
-            )
+            print_named(out, Status::World, b"BadMember ", name.as_bytes())
         }
-        WorldBreak::NoTag(name) => {
-            print_line(out, Status::World, &[b"NoTag ".as_slice(), name.as_bytes()])
-        }
-        WorldBreak::BadPath(index) => {
-            let index = digits.format(*index).as_bytes();
-            print_line(out, Status::World, &[b"BadPath ".as_slice(), index])
-        }
+        WorldBreak::NoTag(name) => print_named(out, Status::World, b"NoTag ", name.as_bytes()),
+        WorldBreak::BadPath(index) => print_numbered(out, Status::World, b"BadPath ", *index),
         WorldBreak::PathTwice(index) => {
-            let index = digits.format(*index).as_bytes();
-            print_line(out, Status::World, &[b"PathTwice ".as_slice(), index])
+            print_numbered(out, Status::World, b"PathTwice ", *index)
         }
     }
 }
@@ -151,6 +121,34 @@ fn line_words(flaw: BookBreak) -> &'static str
         BookBreak::SameThread => "SameThread line ",
         BookBreak::TooMany => "TooMany line ",
     }
+}
+
+/// Prints the line of a refusal that is words and a number.
+fn print_numbered<O: Sink>(
+    out: &mut O,
+    status: Status,
+    words: &[u8],
+    number: u64,
+) -> Result<Status, SinkFault>
+    ensures printed { Prints result (refused status (words.now ∷ decimal number ∷ [])) (O.taken out.old) (O.taken out.new) }
+    ensures failed { OnErr result (Rose (O.faults out.old) (O.faults out.new)) }
+{
+    let mut digits = Buffer::new();
+    let number = digits.format(number).as_bytes();
+    print_line(out, status, &[words, number])
+}
+
+/// Prints the line of a refusal that is words and a name.
+fn print_named<O: Sink>(
+    out: &mut O,
+    status: Status,
+    words: &[u8],
+    name: &[u8],
+) -> Result<Status, SinkFault>
+    ensures printed { Prints result (refused status (words.now ∷ name.now ∷ [])) (O.taken out.old) (O.taken out.new) }
+    ensures failed { OnErr result (Rose (O.faults out.old) (O.faults out.new)) }
+{
+    print_line(out, status, &[words, name])
 }
 
 /// Prints the line of a refusal from its parts, behind the number of its status, and gives the status.

@@ -1,0 +1,10 @@
+pub mod Given
+pub mod Lexing
+pub mod Parsing
+pub mod Program
+pub mod MadeCode
+pub mod Lists
+pub mod Document
+pub mod MadeStart
+pub mod Words
+pub mod Plans
