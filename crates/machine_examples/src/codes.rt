@@ -1,0 +1,205 @@
+//! Code that is written by hand.
+
+ghost use Rattle.std.specs.Prelude.{◌≡◌, ◌<◌, ◌^◌, true, length, IfOk};
+ghost use Rattle.std.specs.List.{All};
+ghost use Rattle.lam_bytecode.specs.Codes.{given, IsUnit, IsConstant, IsCode, AreCounted, region_numbers};
+
+use lam_bytecode::{ArgKind, ArgKinds, Code, CodeUnit, FunctionName, Kinds, Op, Ops, UnitKind};
+use lam_value::{ByteText, Kind, Value, Values};
+use std::alloc::Global;
+use std::test::Fail;
+
+/// What a unit is the code of. Each function gives a number, and the regions are numbered as they come.
+#[derive(Clone, Copy)]
+pub enum Head<'a> {
+    Function { name: &'a str, takes: &'a [ArgKind] },
+    Region { captures: u32, catch_at: u32 },
+}
+
+/// A function or a region.
+#[derive(Clone, Copy)]
+pub struct Unit<'a> {
+    pub head: Head<'a>,
+    pub locals: u32,
+    pub ops: &'a [Op],
+}
+
+/// A constant.
+#[derive(Clone, Copy)]
+pub enum Constant<'a> {
+    Int(i64),
+    Bytes(&'a str),
+    Nothing,
+}
+
+/// A code, as it is written down: its units, its constants and the kinds of each class's fields.
+#[derive(Clone, Copy)]
+pub struct Written<'a> {
+    pub units: &'a [Unit<'a>],
+    pub constants: &'a [Constant<'a>],
+    pub classes: &'a [&'a [Kind]],
+}
+
+/// The code that is written down.
+///
+/// # Errors
+///
+/// Where it is not what every code is, or memory is refused.
+pub fn code_of(alloc: Global, written: Written<'_>) -> Result<Code, Fail>
+    ensures { IfOk result IsCode }
+{
+    let units = units_of(alloc, written.units)?;
+    let constants = constants_of(alloc, written.constants)?;
+    let classes = classes_of(alloc, written.classes)?;
+    tested_code(units, constants, classes)
+}
+
+/// The code of these parts, where they are what every code is of.
+fn tested_code(units: Vec<CodeUnit>, constants: Values, classes: Vec<Kinds>) -> Result<Code, Fail>
+    ensures { IfOk result IsCode }
+{
+    if can_count(units.len())
+        && can_count(constants.as_slice().len())
+        && can_count(classes.len())
+        && are_units(&units)
+        && are_constants(constants.as_slice())
+        && are_counted(&units)
+    {
+        return Ok(Code::new(units, constants, classes));
+    }
+    Err(Fail::new("no code"))
+}
+
+/// Whether code can count so many things.
+fn can_count(len: usize) -> bool
+    ensures { result ≡ true → len < 2 ^ 32 }
+{
+    len <= u32::MAX as usize
+}
+
+fn are_units(units: &[CodeUnit]) -> bool
+    ensures { result ≡ true → All IsUnit units.now }
+{
+    for unit in units {
+        if !is_unit(unit) {
+            return false;
+        }
+    }
+    true
+}
+
+/// Whether a unit has a local for all that it is given, and not too many operations.
+fn is_unit(unit: &CodeUnit) -> bool
+    ensures { result ≡ true → IsUnit unit.now }
+{
+    given(&unit.kind) <= unit.locals as usize && can_count(unit.ops.as_slice().len())
+}
+
+fn given(kind: &UnitKind) -> usize
+    ensures { result ≡ given kind.now }
+{
+    match kind {
+        UnitKind::Function { takes, .. } => takes.as_slice().len(),
+        UnitKind::Region { captures, .. } => *captures as usize,
+    }
+}
+
+fn are_constants(values: &[Value]) -> bool
+    ensures { result ≡ true → All IsConstant values.now }
+{
+    for value in values {
+        if !is_constant(value) {
+            return false;
+        }
+    }
+    true
+}
+
+fn is_constant(value: &Value) -> bool
+    ensures { result ≡ true → IsConstant value.now }
+{
+    matches!(
+        value,
+        Value::Int(_) | Value::Bool(_) | Value::Bytes(_) | Value::Nothing
+    )
+}
+
+/// Whether the regions are numbered from 0 in their order.
+fn are_counted(units: &[CodeUnit]) -> bool
+    ensures { result ≡ true → AreCounted 0 (region_numbers units.now) }
+{
+    let mut next = 0u64;
+    for at in 0..units.len() {
+        if let UnitKind::Region { region, .. } = &units[at].kind {
+            if *region as u64 != next {
+                return false;
+            }
+            next = *region as u64 + 1;
+        }
+    }
+    true
+}
+
+fn units_of(alloc: Global, written: &[Unit<'_>]) -> Result<Vec<CodeUnit>, Fail> {
+    let mut units = Vec::new(alloc);
+    let mut regions = 0u32;
+    for unit in written {
+        units.push(unit_of(alloc, unit, regions)?)?;
+        if let Head::Region { .. } = unit.head {
+            regions = regions.saturating_add(1);
+        }
+    }
+    Ok(units)
+}
+
+fn unit_of(alloc: Global, unit: &Unit<'_>, regions: u32) -> Result<CodeUnit, Fail> {
+    let kind = kind_of(alloc, unit.head, regions)?;
+    let ops = Ops::from_vec(unit.ops.to_vec(alloc)?);
+    Ok(CodeUnit {
+        kind,
+        locals: unit.locals,
+        ops,
+    })
+}
+
+fn kind_of(alloc: Global, head: Head<'_>, regions: u32) -> Result<UnitKind, Fail> {
+    match head {
+        Head::Function { name, takes } => {
+            let name = FunctionName::from_string(String::from_str(alloc, name)?);
+            Ok(UnitKind::Function {
+                name,
+                takes: ArgKinds::from_vec(takes.to_vec(alloc)?),
+                gives_int: true,
+            })
+        }
+        Head::Region { captures, catch_at } => Ok(UnitKind::Region {
+            region: regions,
+            captures,
+            catch_at,
+        }),
+    }
+}
+
+fn constants_of(alloc: Global, written: &[Constant<'_>]) -> Result<Values, Fail> {
+    let mut values = Vec::new(alloc);
+    for constant in written {
+        values.push(constant_of(alloc, *constant)?)?;
+    }
+    Ok(Values::from_vec(values))
+}
+
+fn constant_of(alloc: Global, constant: Constant<'_>) -> Result<Value, Fail> {
+    match constant {
+        Constant::Int(n) => Ok(Value::Int(n)),
+        Constant::Bytes(text) => Ok(Value::Bytes(ByteText::from_slice(alloc, text.as_bytes())?)),
+        Constant::Nothing => Ok(Value::Nothing),
+    }
+}
+
+fn classes_of(alloc: Global, written: &[&[Kind]]) -> Result<Vec<Kinds>, Fail> {
+    let mut classes = Vec::new(alloc);
+    for kinds in written {
+        classes.push(Kinds::from_vec(kinds.to_vec(alloc)?))?;
+    }
+    Ok(classes)
+}

@@ -1,0 +1,134 @@
+//! One run of code from the document of a world.
+
+ghost use Rattle.std.specs.Prelude.{IfOk};
+ghost use Rattle.lam_worlds.specs.Valid.{IsValid};
+
+use crate::codes::{Written, code_of};
+use audit_log::view_text;
+use decimal_text::push_number;
+use flow_labels::parse_label;
+use lam_bytecode::Code;
+use lam_run::seen_by;
+use lam_world::World;
+use letting_go::let_go_event;
+use machine_run::{Run, TURN_LIMIT};
+use std::alloc::Global;
+use std::mem::forget;
+use std::process::Abort;
+use std::test::Fail;
+use world_doc::start;
+use world_laws::texts_start;
+
+/// A code, the document of the world that it starts from, and whose turns come: so many of each thread, one after another.
+#[derive(Clone, Copy)]
+pub struct Given<'a> {
+    pub code: Written<'a>,
+    pub world: &'a str,
+    pub turns: &'a [(u32, u32)],
+}
+
+/// Compares the lines that an observer sees of a run, and the last line, which says how the run stands after its turns:
+/// `done`, `all wait`, or `ready` with the numbers of the threads that are.
+pub fn shows<R: Abort + AllocGlobal>(
+    rt: &R,
+    given: Given<'_>,
+    observer: &str,
+    lines: &str,
+) -> Result<(), Fail> {
+    let text = text_of(rt.alloc(), given, observer)?;
+    assert_eq!(rt; text.as_str(), lines, "seen by {observer}");
+    Ok(())
+}
+
+/// Compares the last of these lines, for the observer who sees what is public.
+pub fn ends<R: Abort + AllocGlobal>(rt: &R, given: Given<'_>, lines: &str) -> Result<(), Fail> {
+    let text = text_of(rt.alloc(), given, "{}/{}")?;
+    assert!(rt; text.as_str().ends_with(lines), "it ends otherwise");
+    Ok(())
+}
+
+/// Takes the turns of a run, one by one, and gives its text.
+fn text_of(alloc: Global, given: Given<'_>, observer: &str) -> Result<String, Fail> {
+    let mut run = opened(alloc, given.code, given.world)?;
+    let text = text_after(alloc, &mut run, given.turns, observer);
+    forget(run);
+    text
+}
+
+/// The run with no turns.
+fn opened(alloc: Global, code: Written<'_>, world: &str) -> Result<Run, Fail> {
+    let code = code_of(alloc, code)?;
+    let start = start_of(alloc, &code, world)?;
+    Ok(Run::new(alloc, code, start)?)
+}
+
+/// The world of a document. It is a valid one.
+fn start_of(alloc: Global, code: &Code, world: &str) -> Result<World, Fail>
+    ensures { IfOk result IsValid }
+{
+    texts_start();
+    match start(alloc, world.as_bytes(), code) {
+        Ok(start) => Ok(start),
+        Err(_) => Err(Fail::new("no world")),
+    }
+}
+
+fn text_after(
+    alloc: Global,
+    run: &mut Run,
+    turns: &[(u32, u32)],
+    observer: &str,
+) -> Result<String, Fail> {
+    take_turns(run, turns)?;
+    let mut text = lines_of(alloc, run, observer)?;
+    push_standing(&mut text, run)?;
+    Ok(text)
+}
+
+fn take_turns(run: &mut Run, turns: &[(u32, u32)]) -> Result<(), Fail> {
+    for (thread, count) in turns {
+        for _ in 0..*count {
+            take_turn(run, *thread)?;
+        }
+    }
+    Ok(())
+}
+
+fn take_turn(run: &mut Run, thread: u32) -> Result<(), Fail> {
+    if run.turns().len() as u64 >= TURN_LIMIT || !run.ready(thread) {
+        return Err(Fail::new("not ready"));
+    }
+    let event = run.turn(thread)?;
+    let_go_event(event);
+    Ok(())
+}
+
+/// What an observer sees of the turns of a run, which are taken once more from a copy of its start.
+fn lines_of(alloc: Global, run: &Run, observer: &str) -> Result<String, Fail> {
+    let names = &run.start().stores().names;
+    let label = parse_label(observer, names)?;
+    let turns = run.turns();
+    let start = run.start().copy()?;
+    let seen = seen_by(alloc, run.code(), start, turns, &label)?;
+    let text = view_text(alloc, seen.as_slice(), names);
+    forget(seen);
+    Ok(text?)
+}
+
+/// Writes how a run stands.
+fn push_standing(text: &mut String, run: &Run) -> Result<(), Fail> {
+    if run.is_done() {
+        return Ok(text.push_str("done\n")?);
+    }
+    if run.all_wait() {
+        return Ok(text.push_str("all wait\n")?);
+    }
+    text.push_str("ready")?;
+    for thread in 0..run.thread_count() {
+        if run.ready(thread) {
+            text.push(' ')?;
+            push_number(text, thread as u64)?;
+        }
+    }
+    Ok(text.push('\n')?)
+}
