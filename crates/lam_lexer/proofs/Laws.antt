@@ -1,5 +1,5 @@
 -- A text has one list of tokens or one first fault.
-use Rattle.std.proofs.Common.{◌≡◌, ℕ, ◌+◌, ◌^◌, ◌<◌, ◌≤◌, ◌⊎◌, inl, inr, Bool, true, false, List, [], ◌∷◌, ◌++◌, Result, Ok, Err, MatchResult, Vec, Global, length, refl, sym, ap, ◌∙◌, subst, arith}
+use Rattle.std.proofs.Common.{◌≡◌, ℕ, ◌+◌, ◌<◌, ◌≤◌, ◌⊎◌, inl, inr, List, [], ◌∷◌, ◌++◌, Result, Ok, Err, MatchResult, Vec, Global, length, refl, sym, ap, ◌∙◌, subst, arith}
 use Rattle.std.proofs.lemmas.Bool.{both_ways}
 use Rattle.lam_lexer.specs.declared.token.Token.{Token}
 use Rattle.lam_lexer.specs.declared.start.Start.{Start}
@@ -8,7 +8,7 @@ use Rattle.lam_lexer.specs.declared.fault.LexFault.TheVariants.{BadChar, BadNumb
 use Rattle.lam_lexer.specs.Text.{Part, part, end_quote, means, bad_escape, no_end, room, Means, ends, goes_on, TextFault, bad, open_end, too_long}
 use Rattle.lam_lexer.specs.Text as text
 use Rattle.lam_lexer.specs.declared.token.TokenKind.TheVariants as Kind
-use Rattle.lam_lexer.specs.Lexed.{start, token, Reads, a_space, a_comment, a_name, a_number, a_text, a_mark, a_long_mark, Wrong, strange, great, joined, in_text, LexedAt, at_end, then_on, FaultAt, here, later, Lexed, FirstFault}
+use Rattle.lam_lexer.specs.Lexed.{token, Reads, a_space, a_comment, a_name, a_number, a_text, a_mark, a_long_mark, Wrong, strange, great, joined, in_text, LexedAt, at_end, then_on, FaultAt, here, later, Lexed, FirstFault}
 use Rattle.lam_lexer.specs.Reading.{IsFault}
 
 -- ---- texts

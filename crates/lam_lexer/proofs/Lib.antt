@@ -3,3 +3,4 @@ pub mod TextRuns
 pub mod Steps
 pub mod Whole
 pub mod Laws
+pub mod Letters

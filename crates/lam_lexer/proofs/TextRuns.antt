@@ -1,91 +1,122 @@
 -- What the loop over a text keeps.
-use Rattle.std.proofs.Common.{◌≡◌, ℕ, ◌+◌, ◌-◌, ◌^◌, ◌<◌, ◌≤◌, List, [], ◌∷◌, ◌++◌, length, drop, refl, sym, ap, ◌∙◌, subst, arith, append_assoc, length-append, encode_utf8}
-use Rattle.std.proofs.lemmas.List.{append-nil, drop-drop, length-drop}
-use Rattle.std.proofs.lemmas.Str.{length-encode}
+use Rattle.std.proofs.Common.{◌≡◌, ℕ, ◌+◌, ◌<◌, ◌≤◌, Bool, true, false, ◌==◌, if◌then◌else◌, Option, Some, None, List, [], ◌∷◌, ◌++◌, length, sym, ap, ◌∙◌, subst, arith, append_assoc, length-append, encode_utf8}
+use Rattle.std.proofs.lemmas.List.{append-nil}
+use Rattle.std.proofs.lemmas.Str.{length-encode, len_utf8_bounds}
 use Rattle.std.specs.Char.{len_utf8}
 use Rattle.lam_lexer.specs.declared.fault.LexFault.{LexFault}
-use Rattle.lam_lexer.specs.declared.fault.LexFault.TheVariants.{BadEscape, OpenText}
-use Rattle.lam_lexer.specs.Text.{Part, part, end_quote, means, bad_escape, no_end, room, Means, ends, goes_on, TextFault, bad, open_end, too_long, later}
+use Rattle.lam_lexer.specs.declared.fault.LexFault.TheVariants.{OpenText}
+use Rattle.lam_lexer.specs.Text.{Part, part, end_quote, means, bad_escape, no_end, after_backslash, after_x, letter, letter_part, hex_value, hex_part, room, Means, ends, goes_on, TextFault, too_long, later}
 use Rattle.lam_lexer.specs.Reading.{size, IsText}
-use Rattle.lam_lexer.proofs.Runs.{size_drop, size-cons}
+use Rattle.lam_lexer.proofs.Runs.{one_byte, size-cons}
 
-pub record TextSoFar (quote : ℕ) (cs bytes : List ℕ) (used to : ℕ) : Type 0 where
+-- ---- how many bytes a part is
+
+abbrev pub Fits : ℕ → Part → Type 0
+Fits k (end_quote rest) = 1 + size rest ≤ k
+Fits k (means bytes n rest) = (0 < n) × (n + size rest ≤ k)
+Fits k bad_escape = Unit {0}
+Fits k no_end = Unit {0}
+
+fits_if : (b : Bool) (k : ℕ) (p q : Part) → Fits k p → Fits k q → Fits k (if b then p else q)
+fits_if true k p q g h = g
+fits_if false k p q g h = h
+
+fits_letter : (o : Option ℕ) (k : ℕ) (rest : List ℕ) → 2 + size rest ≤ k → Fits k (letter_part o rest)
+fits_letter (Some b) k rest h = (omega arith, h)
+fits_letter None k rest h = tt
+
+fits_hex : (o p : Option ℕ) (k : ℕ) (rest : List ℕ) → 4 + size rest ≤ k → Fits k (hex_part o p rest)
+fits_hex (Some x) (Some y) k rest h = (omega arith, h)
+fits_hex (Some x) None k rest h = tt
+fits_hex None p k rest h = tt
+
+fits_x : (k : ℕ) (cs : List ℕ) → 2 + size cs ≤ k → Fits k (after_x cs)
+fits_x k [] h = tt
+fits_x k (c ∷ []) h = tt
+fits_x k (c ∷ d ∷ cs) h =
+    fits_hex (hex_value c) (hex_value d) k cs (omega (arith, h, one_byte c (d ∷ cs), one_byte d cs))
+
+fits_backslash : (k : ℕ) (cs : List ℕ) → 1 + size cs ≤ k → Fits k (after_backslash cs)
+fits_backslash k [] h = tt
+fits_backslash k (c ∷ cs) h =
+    let l : 2 + size cs ≤ k = omega (arith, h, one_byte c cs) in
+    fits_if (c == 120) k (after_x cs) (letter_part (letter c) cs) (fits_x k cs l) (fits_letter (letter c) k cs l)
+
+pub part_fits : (cs : List ℕ) → Fits (size cs) (part cs)
+part_fits [] = tt
+part_fits (c ∷ cs) =
+    let k = size (c ∷ cs) in
+    let itself = means (encode_utf8 c) (len_utf8 c) cs in
+    let char : Fits k itself = (omega (arith, (len_utf8_bounds c).0), omega (arith, size-cons c cs)) in
+    let line : Fits k (if c == 10 then no_end else itself) = fits_if (c == 10) k no_end itself tt char in
+    let more = fits_if (c == 92) k (after_backslash cs) (if c == 10 then no_end else itself) (fits_backslash k cs (one_byte c cs)) line in
+    fits_if (c == 34) k (end_quote cs) (if c == 92 then after_backslash cs else (if c == 10 then no_end else itself)) (one_byte c cs) more
+
+pub end_fits : (cs rest : List ℕ) → part cs ≡ end_quote rest → 1 + size rest ≤ size cs
+end_fits cs rest e = subst (Fits (size cs)) e (part_fits cs)
+
+pub bytes_fit : (cs bytes rest : List ℕ) (n : ℕ) → part cs ≡ means bytes n rest → (0 < n) × (n + size rest ≤ size cs)
+bytes_fit cs bytes rest n e = subst (Fits (size cs)) e (part_fits cs)
+
+-- ---- the loop
+
+pub record TextSoFar (quote : ℕ) (cs bytes rest : List ℕ) (to : ℕ) : Type 0 where
   pub count : ℕ
   pub position : to ≡ quote + 1 + count
-  pub reads : (more : List ℕ) (n : ℕ) (rest : List ℕ) → Means (length bytes) (drop used cs) more n rest → Means 0 cs (bytes ++ more) (count + n) rest
-  pub faults : (f : LexFault) → TextFault quote (length bytes) to (drop used cs) f → TextFault quote 0 (quote + 1) cs f
-  pub inside : used ≤ length cs
+  pub reads : (more : List ℕ) (n : ℕ) (left : List ℕ) → Means (length bytes) rest more n left → Means 0 cs (bytes ++ more) (count + n) left
+  pub faults : (f : LexFault) → TextFault quote (length bytes) to rest f → TextFault quote 0 (quote + 1) cs f
   pub full : length bytes ≤ room
-  pub place : to + size (drop used cs) ≤ quote + 1 + size cs
+  pub place : to + size rest ≤ quote + 1 + size cs
 
-pub text_first : (quote : ℕ) (cs bytes : List ℕ) (to : ℕ) → bytes ≡ [] → to ≡ quote + 1 → TextSoFar quote cs bytes 0 to
+pub text_first : (quote : ℕ) (cs bytes : List ℕ) (to : ℕ) → bytes ≡ [] → to ≡ quote + 1 → TextSoFar quote cs bytes cs to
 text_first quote cs bytes to e q =
-    let start : TextSoFar quote cs [] 0 (quote + 1) = record {
+    let start : TextSoFar quote cs [] cs (quote + 1) = record {
       count = 0;
       position = omega arith;
-      reads = λ more n rest h. subst (λ (n : ℕ). Means 0 cs more n rest) (omega arith) h;
+      reads = λ more n left h. subst (λ (n : ℕ). Means 0 cs more n left) (omega arith) h;
       faults = λ f h. h;
-      inside = omega arith;
       full = omega arith;
       place = omega arith;
     } in
-    subst (λ (to : ℕ). TextSoFar quote cs bytes 0 to) (sym q) (subst (λ (bytes : List ℕ). TextSoFar quote cs bytes 0 (quote + 1)) (sym e) start)
+    subst (λ (to : ℕ). TextSoFar quote cs bytes cs to) (sym q) (subst (λ (bytes : List ℕ). TextSoFar quote cs bytes cs (quote + 1)) (sym e) start)
 
 -- some bytes more
-pub text_on : {quote : ℕ} {cs bytes next : List ℕ} {used to : ℕ} (between : List ℕ) (n k : ℕ) → part (drop used cs) ≡ means between n (drop k (drop used cs)) → length bytes + length between ≤ room → next ≡ bytes ++ between → used + k ≤ length cs → n + size (drop k (drop used cs)) ≤ size (drop used cs) → TextSoFar quote cs bytes used to → TextSoFar quote cs next (used + k) (to + n)
-text_on {quote} {cs} {bytes} {next} {used} {to} between n k p small e inside place g =
+pub text_on : {quote : ℕ} {cs bytes next rest after : List ℕ} {to : ℕ} (between : List ℕ) (n : ℕ) → part rest ≡ means between n after → length bytes + length between ≤ room → next ≡ bytes ++ between → TextSoFar quote cs bytes rest to → TextSoFar quote cs next after (to + n)
+text_on {quote} {cs} {bytes} {next} {rest} {after} {to} between n p small e g =
     let l : length next ≡ length bytes + length between = ap length e ∙ length-append bytes between in
-    let d : drop k (drop used cs) ≡ drop (used + k) cs = drop-drop k used cs in
     record {
       count = g.count + n;
       position = omega (arith, g.position);
-      reads = λ more m rest h.
-          let h1 = subst (λ (i : ℕ). Means i (drop (used + k) cs) more m rest) l h in
-          let h2 = subst (λ (x : List ℕ). Means (length bytes + length between) x more m rest) (sym d) h1 in
-          let r = g.reads (between ++ more) (n + m) rest (goes_on p small h2) in
-          let r1 = subst (λ (x : List ℕ). Means 0 cs x (g.count + (n + m)) rest) (sym (append_assoc bytes between more) ∙ ap (λ (x : List ℕ). x ++ more) (sym e)) r in
-          subst (λ (m : ℕ). Means 0 cs (next ++ more) m rest) (omega arith) r1;
+      reads = λ more m left h.
+          let h1 = subst (λ (i : ℕ). Means i after more m left) l h in
+          let r = g.reads (between ++ more) (n + m) left (goes_on p small h1) in
+          let r1 = subst (λ (x : List ℕ). Means 0 cs x (g.count + (n + m)) left) (sym (append_assoc bytes between more) ∙ ap (λ (x : List ℕ). x ++ more) (sym e)) r in
+          subst (λ (m : ℕ). Means 0 cs (next ++ more) m left) (omega arith) r1;
       faults = λ f h.
-          let h1 = subst (λ (i : ℕ). TextFault quote i (to + n) (drop (used + k) cs) f) l h in
-          let h2 = subst (λ (x : List ℕ). TextFault quote (length bytes + length between) (to + n) x f) (sym d) h1 in
-          g.faults f (later p small h2);
-      inside = inside;
+          let h1 = subst (λ (i : ℕ). TextFault quote i (to + n) after f) l h in
+          g.faults f (later p small h1);
       full = omega (arith, l);
-      place = omega (arith, g.place, ap size d);
+      place = omega (arith, g.place, (bytes_fit rest between after n p).1);
     }
 
-pub text_end : {quote : ℕ} {cs bytes : List ℕ} {used to : ℕ} → part (drop used cs) ≡ end_quote (drop 1 (drop used cs)) → 1 ≤ length (drop used cs) → used + 1 ≤ length cs → TextSoFar quote cs bytes used to → IsText cs quote bytes (used + 1) (to + 1)
-text_end {quote} {cs} {bytes} {used} {to} p h inside g =
-    let d : drop 1 (drop used cs) ≡ drop (used + 1) cs = drop-drop 1 used cs in
-    let r = g.reads [] 1 (drop 1 (drop used cs)) (ends p) in
-    let r1 = subst (λ (x : List ℕ). Means 0 cs x (g.count + 1) (drop 1 (drop used cs))) (append-nil bytes) r in
-    record {
-      count = g.count + 1;
-      read = subst (λ (x : List ℕ). Means 0 cs bytes (g.count + 1) x) d r1;
-      position = omega (arith, g.position);
-      inside = inside;
-      place = omega (arith, g.place, size_drop 1 (drop used cs) h, ap size d);
-    }
-
-inside_more : (cs : List ℕ) (used k : ℕ) → 0 < k → k ≤ length (drop used cs) → used + k ≤ length cs
-inside_more cs used k p h = omega (arith, length-drop used cs)
+pub text_closed : {quote : ℕ} {cs bytes rest after : List ℕ} {to : ℕ} → part rest ≡ end_quote after → TextSoFar quote cs bytes rest to → IsText cs quote bytes after (to + 1)
+text_closed {quote} {cs} {bytes} {rest} {after} {to} p g = record {
+  count = g.count + 1;
+  read = subst (λ (x : List ℕ). Means 0 cs x (g.count + 1) after) (append-nil bytes) (g.reads [] 1 after (ends p));
+  position = omega (arith, g.position);
+  place = omega (arith, g.place, end_fits rest after p);
+}
 
 -- a character that means itself
-pub text_char : {quote : ℕ} {cs bytes next : List ℕ} {used to : ℕ} (c n : ℕ) → n ≡ len_utf8 c → length bytes + n ≤ room → next ≡ bytes ++ encode_utf8 c → (part (drop used cs) ≡ means (encode_utf8 c) (len_utf8 c) (drop 1 (drop used cs))) × (drop used cs ≡ c ∷ drop 1 (drop used cs)) → TextSoFar quote cs bytes used to → TextSoFar quote cs next (used + 1) (to + n)
-text_char {quote} {cs} {bytes} {next} {used} {to} c n e small more p g =
-    let d = drop used cs in
-    let l = ap length p.1 in
-    text_on (encode_utf8 c) n 1 (p.0 ∙ ap (λ (n : ℕ). means (encode_utf8 c) n (drop 1 d)) (sym e)) (omega (arith, length-encode c)) more (inside_more cs used 1 (omega arith) (omega (arith, l))) (omega (arith, ap size p.1, size-cons c (drop 1 d))) g
+pub text_char : {quote : ℕ} {cs bytes next rest after : List ℕ} {to : ℕ} (c n : ℕ) → n ≡ len_utf8 c → length bytes + n ≤ room → next ≡ bytes ++ encode_utf8 c → part rest ≡ means (encode_utf8 c) (len_utf8 c) after → TextSoFar quote cs bytes rest to → TextSoFar quote cs next after (to + n)
+text_char {after = after} c n e small more p g =
+    text_on (encode_utf8 c) n (p ∙ ap (λ (n : ℕ). means (encode_utf8 c) n after) (sym e)) (omega (arith, length-encode c)) more g
 
-pub text_byte : {quote : ℕ} {cs bytes next : List ℕ} {used to : ℕ} (b n : ℕ) → length bytes < room → next ≡ bytes ++ b ∷ [] → (part (drop used cs) ≡ means (b ∷ []) n (drop n (drop used cs))) × (n ≤ length (drop used cs)) × (0 < n) → TextSoFar quote cs bytes used to → TextSoFar quote cs next (used + n) (to + n)
-text_byte {quote} {cs} {bytes} {next} {used} {to} b n small more p g =
-    text_on (b ∷ []) n n p.0 (omega arith) more (inside_more cs used n p.2 p.1) (size_drop n (drop used cs) p.1) g
+pub text_byte : {quote : ℕ} {cs bytes next rest after : List ℕ} {to : ℕ} (b n : ℕ) → length bytes < room → next ≡ bytes ++ b ∷ [] → part rest ≡ means (b ∷ []) n after → TextSoFar quote cs bytes rest to → TextSoFar quote cs next after (to + n)
+text_byte b n small more p g = text_on (b ∷ []) n p (omega arith) more g
 
-pub text_closed : {quote : ℕ} {cs bytes : List ℕ} {used to : ℕ} → (part (drop used cs) ≡ end_quote (drop 1 (drop used cs))) × (1 ≤ length (drop used cs)) → TextSoFar quote cs bytes used to → IsText cs quote bytes (used + 1) (to + 1)
-text_closed {quote} {cs} {bytes} {used} {to} p g = text_end p.0 p.1 (inside_more cs used 1 (omega arith) p.1) g
+pub long_char : {quote : ℕ} {cs bytes rest after : List ℕ} {to : ℕ} (c n : ℕ) → n ≡ len_utf8 c → room < length bytes + n → part rest ≡ means (encode_utf8 c) (len_utf8 c) after → TextSoFar quote cs bytes rest to → TextFault quote 0 (quote + 1) cs (OpenText quote)
+long_char {quote} c n e h p g = g.faults (OpenText quote) (too_long p (omega (arith, length-encode c)))
 
-pub long_char : {quote : ℕ} {cs bytes : List ℕ} {used to : ℕ} (c n : ℕ) → n ≡ len_utf8 c → room < length bytes + n → (part (drop used cs) ≡ means (encode_utf8 c) (len_utf8 c) (drop 1 (drop used cs))) × (drop used cs ≡ c ∷ drop 1 (drop used cs)) → TextSoFar quote cs bytes used to → TextFault quote 0 (quote + 1) cs (OpenText quote)
-long_char {quote} c n e h p g = g.faults (OpenText quote) (too_long p.0 (omega (arith, length-encode c)))
-
-pub long_byte : {quote : ℕ} {cs bytes : List ℕ} {used to : ℕ} (b n : ℕ) → length bytes ≡ room → (part (drop used cs) ≡ means (b ∷ []) n (drop n (drop used cs))) × (n ≤ length (drop used cs)) × (0 < n) → TextSoFar quote cs bytes used to → TextFault quote 0 (quote + 1) cs (OpenText quote)
-long_byte {quote} b n h p g = g.faults (OpenText quote) (too_long p.0 (omega arith))
+pub long_byte : {quote : ℕ} {cs bytes rest after : List ℕ} {to : ℕ} (b n : ℕ) → length bytes ≡ room → part rest ≡ means (b ∷ []) n after → TextSoFar quote cs bytes rest to → TextFault quote 0 (quote + 1) cs (OpenText quote)
+long_byte {quote} b n h p g = g.faults (OpenText quote) (too_long p (omega arith))

@@ -1,6 +1,5 @@
 -- What the loop over a whole text keeps.
-use Rattle.std.proofs.Common.{◌≡◌, ℕ, ◌+◌, ◌^◌, ◌<◌, ◌≤◌, List, [], ◌∷◌, ◌++◌, length, drop, refl, sym, ap, ◌∙◌, subst, arith, append_assoc}
-use Rattle.std.proofs.lemmas.List.{append-nil}
+use Rattle.std.proofs.Common.{◌≡◌, ℕ, ◌+◌, ◌^◌, ◌<◌, List, [], ◌∷◌, ◌++◌, chars, sym, ap, ◌∙◌, subst, arith, append_assoc}
 use Rattle.lam_lexer.specs.declared.token.Token.{Token}
 use Rattle.lam_lexer.specs.declared.token.TokenKind.TheVariants as Kind
 use Rattle.lam_lexer.specs.declared.lexer.Taken.{Taken}
@@ -20,7 +19,7 @@ lexed_first cs front e h =
     let start : LexedSoFar cs [] cs 0 = record { tokens = λ ts l. l; faults = λ f l. l; place = omega (arith, h) } in
     subst (λ (front : List Token). LexedSoFar cs front cs 0) (sym e) start
 
-pub lexed_on : {cs after : List ℕ} {front next : List Token} {at : ℕ} (c : ℕ) (t : Taken) → next ≡ front ++ tokens_of t.token → IsTaken at (start c (first after)) c after t → LexedSoFar cs front (c ∷ after) at → LexedSoFar cs next (drop t.used after) t.to
+pub lexed_on : {cs after : List ℕ} {front next : List Token} {at : ℕ} (c : ℕ) (t : Taken) → next ≡ front ++ tokens_of t.token → IsTaken at (start c (first after)) c after t → LexedSoFar cs front (c ∷ after) at → LexedSoFar cs next (chars t.rest.now) t.to
 lexed_on {cs} {after} {front} {next} {at} c t e r g = record {
   tokens = λ ts l. subst (λ (x : List Token). LexedAt 0 cs x) (sym (append_assoc front (tokens_of t.token) ts) ∙ ap (λ (x : List Token). x ++ ts) (sym e)) (g.tokens (tokens_of t.token ++ ts) (then_on r.read l));
   faults = λ f l. g.faults f (later r.read l);
@@ -38,9 +37,9 @@ lexed_wrong c g (BadNumber m) h = g.faults (BadNumber m) (here h)
 lexed_wrong c g (BadEscape m) h = g.faults (BadEscape m) (here h)
 lexed_wrong c g (OpenText m) h = g.faults (OpenText m) (here h)
 
-pub lexed_step : {cs rest after left : List ℕ} {front next : List Token} {at : ℕ} (c : ℕ) (t : Taken) → rest ≡ c ∷ after → next ≡ front ++ tokens_of t.token → left ≡ drop t.used after → IsTaken at (start c (first after)) c after t → LexedSoFar cs front rest at → LexedSoFar cs next left t.to
-lexed_step {cs} {rest} {after} {left} {front} {next} {at} c t e n l r g =
-    subst (λ (left : List ℕ). LexedSoFar cs next left t.to) (sym l) (lexed_on c t n r (subst (λ (rest : List ℕ). LexedSoFar cs front rest at) e g))
+pub lexed_step : {cs rest after : List ℕ} {front next : List Token} {at : ℕ} (c : ℕ) (t : Taken) → rest ≡ c ∷ after → next ≡ front ++ tokens_of t.token → IsTaken at (start c (first after)) c after t → LexedSoFar cs front rest at → LexedSoFar cs next (chars t.rest.now) t.to
+lexed_step {cs} {rest} {after} {front} {next} {at} c t e n r g =
+    lexed_on c t n r (subst (λ (rest : List ℕ). LexedSoFar cs front rest at) e g)
 
 pub step_wrong : {cs rest after : List ℕ} {front : List Token} {at : ℕ} (c : ℕ) → rest ≡ c ∷ after → LexedSoFar cs front rest at → (f : LexFault) → OrNoMemory (Wrong at (start c (first after)) c after) f → IsFault cs f
 step_wrong {cs} {rest} {after} {front} {at} c e g f h = lexed_wrong c (subst (λ (rest : List ℕ). LexedSoFar cs front rest at) e g) f h

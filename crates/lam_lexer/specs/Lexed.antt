@@ -1,10 +1,9 @@
 -- The tokens of a text, or its first fault, by rules over its characters. Positions count bytes of UTF-8.
-use Rattle.std.specs.Prelude.{◌≡◌, ℕ, ◌+◌, ◌^◌, ◌<◌, ◌≤◌, ◌==◌, ◌&&◌, Bool, true, false, if◌then◌else◌, List, [], ◌∷◌, ◌++◌, Option, Some, None, length, codes, bytes_eq, encode_utf8_all, pos}
+use Rattle.std.specs.Prelude.{◌≡◌, ℕ, ◌+◌, ◌^◌, ◌<◌, ◌≤◌, ◌==◌, ◌&&◌, true, false, if◌then◌else◌, List, [], ◌∷◌, ◌++◌, Option, Some, None, length, codes, bytes_eq, encode_utf8_all, pos}
 use Rattle.lam_lexer.specs.declared.token.Token.{Token}
 use Rattle.lam_lexer.specs.declared.token.TokenKind.{TokenKind}
 use Rattle.lam_lexer.specs.declared.token.TokenKind.TheVariants as Kind
 use Rattle.lam_lexer.specs.declared.start.Start.{Start}
-use Rattle.lam_lexer.specs.declared.start.Start.TheVariants as Start
 use Rattle.lam_lexer.specs.declared.fault.LexFault.{LexFault}
 use Rattle.lam_lexer.specs.declared.fault.LexFault.TheVariants.{BadChar, BadNumber}
 use Rattle.lam_lexer.specs.Characters.{is_space, is_digit, starts_name, continues_name, stays_on_line, run, past, first, goes_on, number}

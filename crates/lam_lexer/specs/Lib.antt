@@ -1,4 +1,5 @@
 pub mod Characters
 pub mod Text
 pub mod Lexed
+pub mod Letters
 pub mod Reading

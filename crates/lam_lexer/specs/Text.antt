@@ -1,5 +1,5 @@
 -- What a text between quotes means.
-use Rattle.std.specs.Prelude.{◌≡◌, ℕ, ◌+◌, ◌-◌, ◌*◌, ◌<◌, ◌≤◌, ◌==◌, ◌&&◌, nat_le, Bool, true, false, if◌then◌else◌, List, [], ◌∷◌, ◌++◌, Option, Some, None, length}
+use Rattle.std.specs.Prelude.{◌≡◌, ℕ, ◌+◌, ◌-◌, ◌*◌, ◌<◌, ◌≤◌, ◌==◌, ◌&&◌, nat_le, if◌then◌else◌, List, [], ◌∷◌, ◌++◌, Option, Some, None, length}
 use Rattle.std.specs.Char.{len_utf8, encode_utf8}
 use Rattle.lam_lexer.specs.Characters.{is_digit}
 use Rattle.lam_lexer.specs.declared.fault.LexFault.{LexFault}

@@ -1,113 +1,81 @@
 //! The reading of a whole text.
 
-ghost use Rattle.std.specs.Prelude.{◌≡◌, ◌<◌, ◌≤◌, ◌+◌, ◌-◌, ◌*◌, ◌^◌, ◌⊎◌, ◌∷◌, [], ◌++◌, ℕ, true, List, Option, length, drop, slice_get, Some, None, Ok, IfOk, IfSome, MatchResult, chars, encode_utf8_all, string_bytes};
+ghost use Rattle.std.specs.Prelude.{◌≡◌, ◌<◌, ◌+◌, ◌-◌, ◌*◌, ◌^◌, ◌⊎◌, ◌∷◌, ◌++◌, ℕ, true, List, length, IfSome, MatchResult, IsUtf8, chars, encode_utf8_all};
 ghost use Rattle.lam_lexer.specs.Characters as spec;
-ghost use Rattle.lam_lexer.specs.Lexed.{Lexed, FirstFault, reserved, word_kind, start, Wrong};
-ghost use Rattle.lam_lexer.specs.Reading.{size, OrNoMemory, IsFault, IsValue, Begins, IsTaken, tokens_of};
+ghost use Rattle.lam_lexer.specs.Lexed.{Lexed, FirstFault, word_kind, Wrong};
+ghost use Rattle.lam_lexer.specs.Reading.{size, HasEnd, OrNoMemory, IsFault, IsValue, Begins, IsTaken, tokens_of};
 ghost use Rattle.lam_lexer.specs.declared.token.Token.{Token};
 ghost use Rattle.lam_lexer.specs.declared.fault.LexFault.{LexFault};
 ghost use Rattle.lam_lexer.specs.declared.fault.LexFault.TheVariants.{NoMemory as no_memory};
 
 use crate::fault::LexFault;
+use crate::rest::{behind_first, first_char, split_first};
 use crate::start::{Start, continues_name, is_digit, start_of};
-use crate::text::{char_at, skip, text_run};
+use crate::text::text_run;
 use crate::token::{Identifier, Literal, Token, TokenKind};
-use std::alloc::{AllocError, Global};
+use crate::words::reserved;
+use std::alloc::Global;
 
-/// What was read behind a character: a token or none, of how many further characters, and the position behind them.
+/// What was read from a character on: a token or none, what is left behind it, and the position there.
 #[derive(Drop)]
-pub struct Taken {
-    pub token: Option<Token>,
-    pub used: usize,
+pub struct Taken<'a> {
+    pub token: Option<Token<'a>>,
+    pub rest: &'a str,
     pub to: u64,
 }
 
-fn reserved(name: &str) -> Option<TokenKind>
-    ensures { result ≡ reserved name.now }
+fn word_kind(name: &str) -> TokenKind<'_>
+    ensures { result ≡ word_kind name.now }
 {
-    match name {
-        "class" => Some(TokenKind::Class),
-        "fn" => Some(TokenKind::Fn),
-        "let" => Some(TokenKind::Let),
-        "if" => Some(TokenKind::If),
-        "else" => Some(TokenKind::Else),
-        "while" => Some(TokenKind::While),
-        "return" => Some(TokenKind::Return),
-        "throw" => Some(TokenKind::Throw),
-        "sync" => Some(TokenKind::Sync),
-        "region" => Some(TokenKind::Region),
-        "catch" => Some(TokenKind::Catch),
-        "new" => Some(TokenKind::New),
-        "spawn" => Some(TokenKind::Spawn),
-        "true" => Some(TokenKind::True),
-        "false" => Some(TokenKind::False),
-        "null" => Some(TokenKind::Null),
-        "int" => Some(TokenKind::Int),
-        "bool" => Some(TokenKind::Bool),
-        "bytes" => Some(TokenKind::Bytes),
-        "tag" => Some(TokenKind::Tag),
-        "label" => Some(TokenKind::Label),
-        "caps" => Some(TokenKind::Caps),
-        "file" => Some(TokenKind::File),
-        "dir" => Some(TokenKind::Dir),
-        "pipe" => Some(TokenKind::Pipe),
-        "thread" => Some(TokenKind::Thread),
-        _ => None,
-    }
-}
-
-fn word_kind(name: String) -> TokenKind
-    ensures { result ≡ word_kind (string_bytes name) }
-{
-    match reserved(name.as_str()) {
+    match reserved(name) {
         Some(kind) => kind,
         None => TokenKind::Id(Identifier::new(name)),
     }
 }
 
-fn first_letter(alloc: Global, c: char) -> Result<String, AllocError>
-    ensures { IfOk result (λ s. string_bytes s ≡ encode_utf8_all (c ∷ [])) }
+/// The front of a text before what is left of it.
+fn before<'a>(text: &'a str, rest: &str) -> &'a str
+    requires { HasEnd (chars text.now) (chars rest.now) }
+    ensures { (front : List ℕ) → chars text.now ≡ front ++ chars rest.now → result.now ≡ encode_utf8_all front }
 {
-    let mut s = String::new(alloc);
-    s.push(c)?;
-    Ok(s)
+    let (front, _) = text.split_at(text.len() - rest.len());
+    front
 }
 
-/// An identifier, from its first character on, and how many characters follow that.
-fn name_run(alloc: Global, first: char, cs: &[char]) -> Result<(String, usize), AllocError>
-    ensures bytes { IfOk result (λ x. string_bytes x.0 ≡ encode_utf8_all (first ∷ spec.run spec.continues_name cs.now)) }
-    ensures rest { IfOk result (λ x. drop x.1 cs.now ≡ spec.past spec.continues_name cs.now) }
-    ensures inside { IfOk result (λ x. x.1 ≤ length cs.now) }
+/// The identifier that a text begins with, and what is left behind it.
+fn name_run<'a>(text: &'a str, first: char, after: &'a str) -> (&'a str, &'a str)
+    requires { chars text.now ≡ first ∷ chars after.now }
+    ensures bytes { result.0.now ≡ encode_utf8_all (first ∷ spec.run spec.continues_name (chars after.now)) }
+    ensures rest { chars result.1.now ≡ spec.past spec.continues_name (chars after.now) }
+    ensures utf8 { IsUtf8 result.1.now }
 {
-    let mut name = first_letter(alloc, first)?;
-    let mut j = 0;
-    while let Some(c) = char_at(cs, j) {
+    let mut rest = after;
+    while let Some((c, behind)) = split_first(rest) {
         if !continues_name(c) {
             break;
         }
-        name.push(c)?;
-        j += 1;
+        rest = behind;
     }
-    Ok((name, j))
+    (before(text, rest), rest)
 }
 
-/// The rest of a line: how many characters, and the position behind them.
-fn line_run(cs: &[char], at: u64) -> (usize, u64)
-    requires { at + size cs.now < 2 ^ 64 }
-    ensures rest { drop result.0 cs.now ≡ spec.past spec.stays_on_line cs.now }
-    ensures inside { result.0 ≤ length cs.now }
-    ensures position { result.1 ≡ at + size (spec.run spec.stays_on_line cs.now) }
+/// What is left behind a line, and the position there.
+fn line_run(text: &str, at: u64) -> (&str, u64)
+    requires { at + size (chars text.now) < 2 ^ 64 }
+    ensures rest { chars result.0.now ≡ spec.past spec.stays_on_line (chars text.now) }
+    ensures position { result.1 ≡ at + size (spec.run spec.stays_on_line (chars text.now)) }
+    ensures utf8 { IsUtf8 result.0.now }
 {
-    let mut j = 0;
+    let mut rest = text;
     let mut to = at;
-    while let Some(c) = char_at(cs, j) {
+    while let Some((c, behind)) = split_first(rest) {
         if c == '\n' {
             break;
         }
         to += c.len_utf8() as u64;
-        j += 1;
+        rest = behind;
     }
-    (j, to)
+    (rest, to)
 }
 
 const MAX: u64 = 9223372036854775807;
@@ -130,60 +98,64 @@ fn with_digit(value: Option<u64>, c: char) -> Option<u64>
     }
 }
 
-/// The value of a digit and those that follow, if that is small enough, and how many follow.
-fn digits_run(first: char, cs: &[char]) -> (Option<u64>, usize)
-    requires { spec.is_digit first ≡ true }
-    ensures value { IsValue (spec.number (first ∷ spec.run spec.is_digit cs.now)) result.0 }
-    ensures rest { drop result.1 cs.now ≡ spec.past spec.is_digit cs.now }
-    ensures inside { result.1 ≤ length cs.now }
-    ensures count { result.1 ≡ length (spec.run spec.is_digit cs.now) }
+/// The value of a digit and those that follow, if that is small enough, how many follow, and what is left behind them.
+fn digits_run(first: char, after: &str) -> (Option<u64>, u64, &str)
+    requires digit { spec.is_digit first ≡ true }
+    requires short { size (chars after.now) < 2 ^ 64 }
+    ensures value { IsValue (spec.number (first ∷ spec.run spec.is_digit (chars after.now))) result.0 }
+    ensures count { result.1 ≡ length (spec.run spec.is_digit (chars after.now)) }
+    ensures rest { chars result.2.now ≡ spec.past spec.is_digit (chars after.now) }
+    ensures utf8 { IsUtf8 result.2.now }
 {
     let mut value = Some(u64::from(first as u32 - '0' as u32));
-    let mut j = 0;
-    while let Some(c) = char_at(cs, j) {
+    let mut count = 0;
+    let mut rest = after;
+    while let Some((c, behind)) = split_first(rest) {
         if !is_digit(c) {
             break;
         }
         value = with_digit(value, c);
-        j += 1;
+        count += 1;
+        rest = behind;
     }
-    (value, j)
+    (value, count, rest)
 }
 
-/// Whether the characters from an index on go on an identifier.
-fn joins_name(cs: &[char], i: usize) -> bool
-    ensures { result ≡ spec.goes_on spec.continues_name (drop i cs.now) }
+/// Whether a text goes on an identifier.
+fn joins_name(text: &str) -> bool
+    ensures { result ≡ spec.goes_on spec.continues_name (chars text.now) }
 {
-    match char_at(cs, i) {
+    match first_char(text) {
         Some(c) => continues_name(c),
         None => false,
     }
 }
 
-fn name_token(alloc: Global, c: char, cs: &[char], at: u64) -> Result<Taken, LexFault>
-    requires { at + size (c ∷ cs.now) < 2 ^ 64 }
-    ensures { MatchResult result (IsTaken at Start.Name c cs.now) (λ f. f ≡ no_memory) }
+fn name_token<'a>(text: &'a str, c: char, after: &'a str, at: u64) -> Taken<'a>
+    requires parts { chars text.now ≡ c ∷ chars after.now }
+    requires place { at + size (c ∷ chars after.now) < 2 ^ 64 }
+    ensures { IsTaken at Start.Name c (chars after.now) result }
 {
-    let (name, used) = name_run(alloc, c, cs)?;
+    let (name, rest) = name_run(text, c, after);
     let to = at + name.len() as u64;
     let kind = word_kind(name);
-    Ok(Taken {
+    Taken {
         token: Some(Token { at, kind }),
-        used,
+        rest,
         to,
-    })
+    }
 }
 
-fn number_token(c: char, cs: &[char], at: u64) -> Result<Taken, LexFault>
+fn number_token(c: char, after: &str, at: u64) -> Result<Taken<'_>, LexFault>
     requires digit { spec.is_digit c ≡ true }
-    requires place { at + size (c ∷ cs.now) < 2 ^ 64 }
-    ensures { MatchResult result (IsTaken at Start.Number c cs.now) (Wrong at Start.Number c cs.now) }
+    requires place { at + size (c ∷ chars after.now) < 2 ^ 64 }
+    ensures { MatchResult result (IsTaken at Start.Number c (chars after.now)) (Wrong at Start.Number c (chars after.now)) }
 {
-    let (value, used) = digits_run(c, cs);
+    let (value, count, rest) = digits_run(c, after);
     let Some(n) = value else {
         return Err(LexFault::BadNumber { at });
     };
-    if joins_name(cs, used) {
+    if joins_name(rest) {
         return Err(LexFault::BadNumber { at });
     }
     Ok(Taken {
@@ -191,76 +163,78 @@ fn number_token(c: char, cs: &[char], at: u64) -> Result<Taken, LexFault>
             at,
             kind: TokenKind::Number(n as i64),
         }),
-        used,
-        to: at + 1 + used as u64,
+        rest,
+        to: at + 1 + count,
     })
 }
 
-fn text_token(alloc: Global, c: char, cs: &[char], at: u64) -> Result<Taken, LexFault>
-    requires { at + size (c ∷ cs.now) < 2 ^ 64 }
-    ensures { MatchResult result (IsTaken at Start.Text c cs.now) (OrNoMemory (Wrong at Start.Text c cs.now)) }
+fn text_token<'a>(alloc: Global, c: char, after: &'a str, at: u64) -> Result<Taken<'a>, LexFault>
+    requires { at + size (c ∷ chars after.now) < 2 ^ 64 }
+    ensures { MatchResult result (IsTaken at Start.Text c (chars after.now)) (OrNoMemory (Wrong at Start.Text c (chars after.now))) }
 {
-    match text_run(alloc, cs, at) {
-        Ok((bytes, used, to)) => Ok(Taken {
-            token: Some(Token {
-                at,
-                kind: TokenKind::Text(Literal::new(bytes)),
+    match text_run(alloc, after, at) {
+        Ok((bytes, rest, to)) => match Literal::new(alloc, bytes) {
+            Ok(literal) => Ok(Taken {
+                token: Some(Token {
+                    at,
+                    kind: TokenKind::Text(literal),
+                }),
+                rest,
+                to,
             }),
-            used,
-            to,
-        }),
+            Err(_) => Err(LexFault::NoMemory),
+        },
         Err(fault) => Err(fault),
     }
 }
 
-/// What a character begins is read.
-fn take(alloc: Global, begins: Start, c: char, cs: &[char], at: u64) -> Result<Taken, LexFault>
-    requires begins { Begins begins c (slice_get cs.now 0) }
-    requires place { at + size (c ∷ cs.now) < 2 ^ 64 }
-    ensures { MatchResult result (IsTaken at begins c cs.now) (OrNoMemory (Wrong at begins c cs.now)) }
+/// What a text's first character begins is read.
+fn take<'a>(
+    alloc: Global,
+    begins: Start<'a>,
+    text: &'a str,
+    c: char,
+    after: &'a str,
+    at: u64,
+) -> Result<Taken<'a>, LexFault>
+    requires begins { Begins begins c (spec.first (chars after.now)) }
+    requires parts { chars text.now ≡ c ∷ chars after.now }
+    requires place { at + size (c ∷ chars after.now) < 2 ^ 64 }
+    ensures { MatchResult result (IsTaken at begins.entry c (chars after.now)) (OrNoMemory (Wrong at begins.entry c (chars after.now))) }
 {
     match begins {
         Start::Space => Ok(Taken {
             token: None,
-            used: 0,
+            rest: after,
             to: at + 1,
         }),
         Start::Comment => {
-            let (used, to) = line_run(cs, at + 1);
+            let (rest, to) = line_run(after, at + 1);
             Ok(Taken {
                 token: None,
-                used,
+                rest,
                 to,
             })
         }
-        Start::Name => name_token(alloc, c, cs, at),
-        Start::Number => number_token(c, cs, at),
-        Start::Text => text_token(alloc, c, cs, at),
+        Start::Name => Ok(name_token(text, c, after, at)),
+        Start::Number => number_token(c, after, at),
+        Start::Text => text_token(alloc, c, after, at),
         Start::Mark(kind) => Ok(Taken {
             token: Some(Token { at, kind }),
-            used: 0,
+            rest: after,
             to: at + 1,
         }),
         Start::LongMark(kind) => Ok(Taken {
             token: Some(Token { at, kind }),
-            used: 1,
+            rest: behind_first(after),
             to: at + 2,
         }),
         Start::Nothing => Err(LexFault::BadChar { at }),
     }
 }
 
-/// One token, white space or a comment.
-fn step(alloc: Global, c: char, cs: &[char], at: u64) -> Result<Taken, LexFault>
-    requires { at + size (c ∷ cs.now) < 2 ^ 64 }
-    ensures { MatchResult result (IsTaken at (start c (spec.first cs.now)) c cs.now) (OrNoMemory (Wrong at (start c (spec.first cs.now)) c cs.now)) }
-{
-    let next = char_at(cs, 0);
-    take(alloc, start_of(c, next), c, cs, at)
-}
-
-fn keep(tokens: &mut Vec<Token>, token: Option<Token>) -> Result<(), LexFault>
-    ensures { MatchResult result (λ _. tokens.new.items ≡ tokens.old.items ++ tokens_of token) (λ f. f ≡ no_memory) }
+fn keep<'a>(tokens: &mut Vec<Token<'a>>, token: Option<Token<'a>>) -> Result<(), LexFault>
+    ensures { MatchResult result (λ _. tokens.new.items ≡ tokens.old.items ++ tokens_of token.entry) (λ f. f ≡ no_memory) }
 {
     match token {
         Some(token) => {
@@ -271,18 +245,21 @@ fn keep(tokens: &mut Vec<Token>, token: Option<Token>) -> Result<(), LexFault>
     }
 }
 
-fn lex_all(alloc: Global, cs: &[char]) -> Result<Vec<Token>, LexFault>
-    requires { size cs.now < 2 ^ 64 }
-    ensures { MatchResult result (λ v. Lexed cs.now v.items) (IsFault cs.now) }
+fn lex_text<'a>(alloc: Global, text: &'a str) -> Result<Vec<Token<'a>>, LexFault>
+    ensures { MatchResult result (λ v. Lexed (chars text.now) v.items) (IsFault (chars text.now)) }
 {
     let mut tokens = Vec::new(alloc);
-    let mut rest = cs;
+    let mut rest = text;
     let mut at = 0;
-    while let Some((c, after)) = rest.split_first() {
-        let Taken { token, used, to } = step(alloc, *c, after, at)?;
-        keep(&mut tokens, token)?;
-        rest = skip(after, used);
-        at = to;
+    while let Some((c, after)) = split_first(rest) {
+        match take(alloc, start_of(c, after), rest, c, after, at) {
+            Ok(taken) => {
+                keep(&mut tokens, taken.token)?;
+                rest = taken.rest;
+                at = taken.to;
+            }
+            Err(fault) => return Err(fault),
+        }
     }
     tokens.push(Token {
         at,
@@ -291,22 +268,9 @@ fn lex_all(alloc: Global, cs: &[char]) -> Result<Vec<Token>, LexFault>
     Ok(tokens)
 }
 
-fn chars_of(alloc: Global, text: &str) -> Result<Vec<char>, AllocError>
-    ensures { IfOk result (λ v. v.items ≡ chars text.now) }
-{
-    text.chars().collect(alloc)
-}
-
-fn lex_text(alloc: Global, text: &str) -> Result<Vec<Token>, LexFault>
-    ensures { MatchResult result (λ v. Lexed (chars text.now) v.items) (IsFault (chars text.now)) }
-{
-    let cs = chars_of(alloc, text)?;
-    lex_all(alloc, &cs)
-}
-
 /// The tokens of a text, where it has no lexical fault; the last is the end, at the text's length.
 /// Else its first fault in reading order. Only want of memory is free.
-pub fn lex(alloc: Global, text: &str) -> Result<Vec<Token>, LexFault>
+pub fn lex<'a>(alloc: Global, text: &'a str) -> Result<Vec<Token<'a>>, LexFault>
     // What is found is the text's.
     ensures exact { MatchResult result (λ v. Lexed (chars text.now) v.items) (IsFault (chars text.now)) }
     // Its tokens are found, where it has any.

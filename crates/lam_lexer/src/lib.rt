@@ -3,9 +3,11 @@
 
 pub mod fault;
 mod lexer;
+mod rest;
 mod start;
 mod text;
 pub mod token;
+mod words;
 
 pub use fault::LexFault;
 pub use lexer::lex;

@@ -1,24 +1,25 @@
 //! What a character begins.
 
-ghost use Rattle.std.specs.Prelude.{◌≡◌};
+ghost use Rattle.std.specs.Prelude.{◌≡◌, chars};
 ghost use Rattle.lam_lexer.specs.Characters as spec;
-ghost use Rattle.lam_lexer.specs.Lexed.{start, one_mark, two_marks};
+ghost use Rattle.lam_lexer.specs.Lexed.{start, marks, one_mark, two_marks};
 ghost use Rattle.lam_lexer.specs.Reading.{Begins};
 
+use crate::rest::first_char;
 use crate::token::TokenKind;
 
 /// What a character begins, where the next one is known.
 #[derive(Drop)]
-pub enum Start {
+pub enum Start<'a> {
     Space,
     Comment,
     Name,
     Number,
     Text,
     /// A mark of one character.
-    Mark(TokenKind),
+    Mark(TokenKind<'a>),
     /// A mark of two characters.
-    LongMark(TokenKind),
+    LongMark(TokenKind<'a>),
     Nothing,
 }
 
@@ -50,7 +51,7 @@ pub fn continues_name(c: char) -> bool
     unicode_ident::is_xid_continue(c) || c == '_'
 }
 
-fn one_mark(c: char) -> Start
+fn one_mark<'a>(c: char) -> Start<'a>
     ensures { result ≡ one_mark c }
 {
     match c {
@@ -77,7 +78,7 @@ fn one_mark(c: char) -> Start
     }
 }
 
-fn two_marks(c: char, d: char) -> Start
+fn two_marks<'a>(c: char, d: char) -> Start<'a>
     ensures { result ≡ two_marks c d }
 {
     if c == '/' && d == '/' {
@@ -99,10 +100,21 @@ fn two_marks(c: char, d: char) -> Start
     }
 }
 
-/// What a character begins before the next one. Of the marks it is the longest.
-pub fn start_of(c: char, next: Option<char>) -> Start
-    ensures is { result ≡ start c next }
+/// What a mark begins before the next character. It is the longest mark.
+fn marks<'a>(c: char, next: Option<char>) -> Start<'a>
+    ensures is { result ≡ marks c next }
     ensures begins { Begins result c next }
+{
+    match next {
+        None => one_mark(c),
+        Some(d) => two_marks(c, d),
+    }
+}
+
+/// What a character begins before a text. Of the marks it is the longest.
+pub fn start_of<'a>(c: char, after: &str) -> Start<'a>
+    ensures is { result ≡ start c (spec.first (chars after.now)) }
+    ensures begins { Begins result c (spec.first (chars after.now)) }
 {
     if is_space(c) {
         return Start::Space;
@@ -116,8 +128,5 @@ pub fn start_of(c: char, next: Option<char>) -> Start
     if c == '"' {
         return Start::Text;
     }
-    match next {
-        None => one_mark(c),
-        Some(d) => two_marks(c, d),
-    }
+    marks(c, first_char(after))
 }

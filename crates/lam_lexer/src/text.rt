@@ -1,42 +1,27 @@
 //! The reading of a text between quotes.
 
-ghost use Rattle.std.specs.Prelude.{◌≡◌, ◌<◌, ◌≤◌, ◌+◌, ◌^◌, length, drop, slice_get, IfSome, MatchResult, encode_utf8, ◌++◌, OnErr, OnOk};
+ghost use Rattle.std.specs.Prelude.{◌≡◌, ◌<◌, ◌+◌, ◌^◌, IfOk, IfSome, MatchResult, IsUtf8, chars, encode_utf8, ◌++◌, OnOk};
 ghost use Rattle.lam_lexer.specs.Text as spec;
-ghost use Rattle.lam_lexer.specs.Reading.{size, hex_at, IsPart, IsText, OrNoMemory};
+ghost use Rattle.lam_lexer.specs.Reading.{size, IsPart, IsText, OrNoMemory};
 
 use crate::fault::LexFault;
+use crate::rest::split_first;
 use crate::start::is_digit;
 use std::alloc::{AllocError, Global};
 
 /// A text means at most so many bytes.
 const ROOM: usize = 65536;
 
-/// What comes next in a text.
+/// What comes next in a text, and what is left behind it.
 #[derive(Clone, Copy, Drop)]
-pub enum Part {
-    EndQuote,
+pub enum Part<'a> {
+    EndQuote(&'a str),
     /// A character that means itself.
-    Char(char),
+    Char(char, &'a str),
     /// The escape of a byte, and of how many characters it is.
-    Byte(u8, usize),
+    Byte(u8, u64, &'a str),
     BadEscape,
     NoEnd,
-}
-
-/// The character at an index.
-pub fn char_at(cs: &[char], i: usize) -> Option<char>
-    ensures is { result ≡ slice_get cs.now i }
-    ensures within { IfSome result (λ _. i < length cs.now) }
-{
-    cs.get(i).copied()
-}
-
-/// What is left behind so many characters.
-pub fn skip(cs: &[char], n: usize) -> &[char]
-    requires { n ≤ length cs.now }
-    ensures { result.now ≡ drop n cs.now }
-{
-    &cs[n..]
 }
 
 fn letter(c: char) -> Option<u8>
@@ -66,69 +51,57 @@ fn hex_value(c: char) -> Option<u8>
     }
 }
 
-fn hex_digit(cs: &[char], i: usize) -> Option<u8>
-    ensures is { result ≡ hex_at (slice_get cs.now i) }
-    ensures small { IfSome result (λ x. x < 16) }
-    ensures within { IfSome result (λ _. i < length cs.now) }
+/// What a text means behind `\x`.
+fn hex_part(text: &str) -> Part<'_>
+    ensures { IsPart (spec.after_x (chars text.now)) result }
 {
-    match char_at(cs, i) {
-        Some(c) => hex_value(c),
-        None => None,
-    }
-}
-
-fn hex_part(cs: &[char]) -> Part
-    requires { 2 ≤ length cs.now }
-    ensures { IsPart cs.now (spec.after_x (drop 2 cs.now)) result }
-{
-    let Some(x) = hex_digit(cs, 2) else {
+    let Some((high, behind)) = split_first(text) else {
         return Part::BadEscape;
     };
-    let Some(y) = hex_digit(cs, 3) else {
+    let Some((low, rest)) = split_first(behind) else {
         return Part::BadEscape;
     };
-    Part::Byte(x * 16 + y, 4)
+    let Some(x) = hex_value(high) else {
+        return Part::BadEscape;
+    };
+    let Some(y) = hex_value(low) else {
+        return Part::BadEscape;
+    };
+    Part::Byte(x * 16 + y, 4, rest)
 }
 
-fn escape_part(cs: &[char]) -> Part
-    requires { 1 ≤ length cs.now }
-    ensures { IsPart cs.now (spec.after_backslash (drop 1 cs.now)) result }
+/// What a text means behind a backslash.
+fn escape_part(text: &str) -> Part<'_>
+    ensures { IsPart (spec.after_backslash (chars text.now)) result }
 {
-    let Some(c) = char_at(cs, 1) else {
+    let Some((c, rest)) = split_first(text) else {
         return Part::BadEscape;
     };
     if c == 'x' {
-        return hex_part(cs);
+        return hex_part(rest);
     }
     let Some(b) = letter(c) else {
         return Part::BadEscape;
     };
-    Part::Byte(b, 2)
+    Part::Byte(b, 2, rest)
 }
 
-fn next_part(cs: &[char]) -> Part
-    ensures { IsPart cs.now (spec.part cs.now) result }
+fn next_part(text: &str) -> Part<'_>
+    ensures { IsPart (spec.part (chars text.now)) result }
 {
-    let Some(c) = char_at(cs, 0) else {
+    let Some((c, rest)) = split_first(text) else {
         return Part::NoEnd;
     };
     if c == '"' {
-        return Part::EndQuote;
+        return Part::EndQuote(rest);
     }
     if c == '\\' {
-        return escape_part(cs);
+        return escape_part(rest);
     }
     if c == '\n' {
         return Part::NoEnd;
     }
-    Part::Char(c)
-}
-
-fn part_at(cs: &[char], i: usize) -> Part
-    requires { i ≤ length cs.now }
-    ensures { IsPart (drop i cs.now) (spec.part (drop i cs.now)) result }
-{
-    next_part(skip(cs, i))
+    Part::Char(c, rest)
 }
 
 fn push_char(bytes: &mut Vec<u8>, c: char) -> Result<(), AllocError>
@@ -138,33 +111,38 @@ fn push_char(bytes: &mut Vec<u8>, c: char) -> Result<(), AllocError>
     bytes.extend_from_slice(c.encode_utf8(&mut room).as_bytes())
 }
 
-/// The bytes that the text behind a quote means, how many characters it is with its last quote, and the position behind.
-pub fn text_run(alloc: Global, cs: &[char], quote: u64) -> Result<(Vec<u8>, usize, u64), LexFault>
-    requires { quote + 1 + size cs.now < 2 ^ 64 }
-    ensures { MatchResult result (λ x. IsText cs.now quote x.0.items x.1 x.2) (OrNoMemory (spec.TextFault quote 0 (quote + 1) cs.now)) }
+/// The bytes that the text behind a quote means, what is left behind its last quote, and the position there.
+pub fn text_run<'a>(
+    alloc: Global,
+    text: &'a str,
+    quote: u64,
+) -> Result<(Vec<u8>, &'a str, u64), LexFault>
+    requires { quote + 1 + size (chars text.now) < 2 ^ 64 }
+    ensures exact { MatchResult result (λ x. IsText (chars text.now) quote x.0.items (chars x.1.now) x.2) (OrNoMemory (spec.TextFault quote 0 (quote + 1) (chars text.now))) }
+    ensures utf8 { IfOk result (λ x. IsUtf8 x.1.now) }
 {
     let mut bytes = Vec::new(alloc);
-    let mut used = 0;
+    let mut rest = text;
     let mut to = quote + 1;
     loop {
-        match part_at(cs, used) {
-            Part::EndQuote => return Ok((bytes, used + 1, to + 1)),
-            Part::Char(c) => {
+        match next_part(rest) {
+            Part::EndQuote(behind) => return Ok((bytes, behind, to + 1)),
+            Part::Char(c, behind) => {
                 let n = c.len_utf8();
                 if bytes.len() + n > ROOM {
                     return Err(LexFault::OpenText { at: quote });
                 }
                 push_char(&mut bytes, c)?;
-                used += 1;
+                rest = behind;
                 to += n as u64;
             }
-            Part::Byte(b, n) => {
+            Part::Byte(b, n, behind) => {
                 if bytes.len() == ROOM {
                     return Err(LexFault::OpenText { at: quote });
                 }
                 bytes.push(b)?;
-                used += n;
-                to += n as u64;
+                rest = behind;
+                to += n;
             }
             Part::BadEscape => return Err(LexFault::BadEscape { at: to }),
             Part::NoEnd => return Err(LexFault::OpenText { at: quote }),

@@ -1,59 +1,62 @@
 //! The tokens of a program.
 
-ghost use Rattle.std.specs.Prelude.{◌≡◌, string_bytes};
+ghost use Rattle.std.specs.Prelude.{◌≡◌, IfOk};
 
+use std::alloc::{AllocError, Global};
 use std::marker::Model;
 
-/// The bytes of an identifier, in UTF-8.
+/// The bytes of an identifier, in UTF-8: a part of the program's text.
 #[derive(Drop)]
-pub struct Identifier {
-    text: String,
+pub struct Identifier<'a> {
+    text: &'a str,
 }
 
-impl Model for Identifier {
-    ghost use Rattle.std.specs.Prelude.{List, ℕ, string_bytes};
+impl<'a> Model for Identifier<'a> {
+    ghost use Rattle.std.specs.Prelude.{List, ℕ};
 
     ghost Value = { List ℕ };
 
-    ghost view = { λ x. string_bytes x.text };
+    ghost view = { λ x. x.text.now };
 }
 
-impl Identifier {
+impl<'a> Identifier<'a> {
     /// An identifier of that text.
-    pub fn new(text: String) -> Identifier
-        ensures { result ≡ string_bytes text }
+    pub fn new(text: &'a str) -> Identifier<'a>
+        ensures { result ≡ text.now }
     {
         Identifier { text }
     }
 
     /// The identifier as a text.
-    pub fn as_str(&self) -> &str
+    pub fn as_str(&self) -> &'a str
         ensures { result.now ≡ self.now }
     {
-        self.text.as_str()
+        self.text
     }
 }
 
 /// The bytes that a text between quotes means.
 #[derive(Drop)]
 pub struct Literal {
-    bytes: Vec<u8>,
+    /// In a box, which keeps a token small.
+    bytes: Box<Vec<u8>>,
 }
 
 impl Model for Literal {
-    ghost use Rattle.std.specs.Prelude.{List, ℕ};
+    ghost use Rattle.std.specs.Prelude.{List, ℕ, box_value};
 
     ghost Value = { List ℕ };
 
-    ghost view = { λ x. x.bytes.items };
+    ghost view = { λ x. (box_value x.bytes).items };
 }
 
 impl Literal {
     /// A text that means these bytes.
-    pub fn new(bytes: Vec<u8>) -> Literal
-        ensures { result ≡ bytes.items }
+    pub fn new(alloc: Global, bytes: Vec<u8>) -> Result<Literal, AllocError>
+        ensures { IfOk result (λ x. x ≡ bytes.items) }
     {
-        Literal { bytes }
+        let bytes = Box::new(alloc, bytes)?;
+        Ok(Literal { bytes })
     }
 
     /// The bytes.
@@ -66,15 +69,15 @@ impl Literal {
 
 /// A token: what it is, and the position of its first byte.
 #[derive(Drop)]
-pub struct Token {
+pub struct Token<'a> {
     pub at: u64,
-    pub kind: TokenKind,
+    pub kind: TokenKind<'a>,
 }
 
 /// What a token is: an identifier, a number, a text, a mark, a reserved word, or the end of the text.
 #[derive(Drop)]
-pub enum TokenKind {
-    Id(Identifier),
+pub enum TokenKind<'a> {
+    Id(Identifier<'a>),
     Number(i64),
     Text(Literal),
     BraceOpen,

@@ -1,5 +1,5 @@
 -- Pieces that are parted are read as their tokens.
-use Rattle.std.proofs.Common.{◌≡◌, ℕ, zero, suc, ◌+◌, ◌/◌, ◌%◌, ◌^◌, ◌<◌, ◌≤◌, ◌⊎◌, inl, inr, ◌==◌, ◌&&◌, nat_le, nat_lt, Bool, true, false, not, List, [], ◌∷◌, ◌++◌, Option, Some, None, length, map, refl, sym, ap, ◌∙◌, subst, arith, append_assoc, pos, negsuc, encode_utf8_all}
+use Rattle.std.proofs.Common.{◌≡◌, ℕ, zero, suc, ◌+◌, ◌-◌, ◌*◌, ◌/◌, ◌%◌, ◌^◌, ◌<◌, ◌≤◌, ◌⊎◌, inl, inr, ◌==◌, ◌&&◌, nat_le, nat_lt, Bool, true, false, not, List, [], ◌∷◌, ◌++◌, Option, Some, None, length, map, refl, sym, ap, ◌∙◌, subst, arith, append_assoc, pos, negsuc, encode_utf8_all}
 use Rattle.std.proofs.lemmas.Bool.{both_ways, and_parts, and_from, not-true, leb-true, le-leb, le-ltb, lt-ltb, lt-leb, ltb-true, eqb-true, ne_eqb, and_right, cases_lt, cases_Bool, agree_below_at}
 use Rattle.std.proofs.lemmas.Str.{encodes-chars, encode_ascii, chars-append}
 use Rattle.std.proofs.lemmas.Fmt.{decimal_by_steps}
@@ -13,15 +13,20 @@ use Rattle.lam_lexer.specs.declared.token.Token.{Token}
 use Rattle.lam_lexer.specs.declared.token.TokenKind.{TokenKind}
 use Rattle.lam_lexer.specs.declared.token.TokenKind.TheVariants as Kind
 use Rattle.lam_lexer.specs.declared.start.Start.{Start}
-use Rattle.lam_lexer.specs.Characters.{is_space, is_digit, starts_name, continues_name, run, past, goes_on, first, number}
+use Rattle.lam_lexer.specs.Characters.{is_space, is_digit, starts_name, continues_name, run, past, goes_on, first, number, number_after}
 use Rattle.lam_lexer.specs.Text.{Part, part, means, end_quote, hex_value, hex_part, room, Means, ends}
 use Rattle.lam_lexer.specs.Text as text
 use Rattle.lam_lexer.specs.Lexed.{start, marks, reserved, kind_or_name, word_kind, Reads, a_space, a_name, a_number, a_text, a_mark, a_long_mark, LexedAt, at_end, then_on, Lexed}
 use Rattle.lam_lexer.specs.Lexed as lexed
-use Rattle.lam_lexer.proofs.Runs.{at_true, at_false, number_on}
+use Rattle.lam_lexer.proofs.Runs.{at_true, at_false}
 use Rattle.lam_print.specs.Pieces.{Piece, token, blank, line, hex_digit, spell_byte, spell_text, spelling, indent, written, kinds}
 use Rattle.lam_print.specs.Law.{all_continue, is_identifier, AllBytes, Fits, AllFit, kind_of}
 use Rattle.lam_print.proofs.Sides.{or_true_left, or_true_right, start_continues, another, no_start, no_continue, begins_name, begins_number, begins_mark, begins_text, Side, wordy, half, whole, right, left, joins, parted, Calm}
+
+-- the number of digits with one more behind them
+number_on : (n : ℕ) (ds : List ℕ) (d : ℕ) → number_after n (ds ++ d ∷ []) ≡ number_after n ds * 10 + (d - 48)
+number_on n [] d = refl
+number_on n (x ∷ ds) d = number_on (n * 10 + (x - 48)) ds d
 
 -- characters that are read as tokens of these kinds, wherever they begin
 pub record LexedTo (cs : List ℕ) (ks : List TokenKind) : Type 0 where

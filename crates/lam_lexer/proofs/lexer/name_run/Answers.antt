@@ -1,28 +1,24 @@
-use Rattle.std.proofs.Common.{◌≡◌, ◌∙◌, ◌++◌, sym, ap, arith, string_bytes, encode_utf8}
-use Rattle.lam_lexer.specs.Characters.{continues_name}
-use Rattle.lam_lexer.proofs.Runs.{named_first, named_on, named_bytes, named_rest, goes_char, stop_none}
+use Rattle.std.proofs.Common.{◌≡◌, ◌∙◌, ◌∷◌, sym, chars}
+use Rattle.lam_lexer.specs.Characters.{run, past, continues_name}
+use Rattle.lam_lexer.proofs.Runs.{name_parts, run_left, char_goes_on, none_goes_on}
 use Rattle.lam_lexer.proofs.lexer.name_run.Goals as goal
 use Rattle.lam_lexer.proofs.lexer.name_run.Goals.{in-Some+then-not-continues_name, in_default}
 
-pub loop-c-init : goal.loop-c-init
-loop-c-init c = record { named = named_first _ _ _ c.in_ok-name.ensures; inside = omega arith }
-
-pub loop-c-preserved : goal.loop-c-preserved
-loop-c-preserved c = record {
-  named = named_on c.in-Some.c c.in-Some.ensures.within (sym c.in-Some.ensures.is) (sym c.continues_name.ensures ∙ c.if-not-continues_name.false) c.in_ok-push.ensures.bytes c.loop-c.invariant.named;
-  inside = omega (arith, c.in-Some.ensures.within);
-}
+pub before-requires : goal.before-requires
+before-requires c =
+    let q : chars c.loop-c.rest.now ≡ past continues_name (chars c.args.after.now) = elim c.match-split_first.branch [
+      | in-Some+then-not-continues_name w ↦ run_left continues_name (chars c.args.after.now) (chars c.loop-c.rest.now) (char_goes_on continues_name w.in-Some.c w.in-Some.ensures.cases ∙ sym w.continues_name.ensures ∙ w.if-not-continues_name.true) c.loop-c.invariant.left
+      | in_default w ↦ run_left continues_name (chars c.args.after.now) (chars c.loop-c.rest.now) (none_goes_on continues_name w.in_default.ensures.cases) c.loop-c.invariant.left
+    ] in
+    record {
+      front = c.args.first ∷ run continues_name (chars c.args.after.now);
+      parts = name_parts continues_name c.args.first c.requires q;
+    }
 
 pub returns-clause-bytes : goal.returns-clause-bytes
 returns-clause-bytes c =
-    elim c.match-char_at.branch [
-      | in-Some+then-not-continues_name w ↦ named_bytes (goes_char continues_name c.args.cs.now c.loop-c.j w.in-Some.c w.in-Some.ensures.within (sym w.in-Some.ensures.is) ∙ sym w.continues_name.ensures ∙ w.if-not-continues_name.true) c.loop-c.invariant.named
-      | in_default w ↦ named_bytes (stop_none continues_name c.args.cs.now c.loop-c.j (sym w.in_default.ensures.is)) c.loop-c.invariant.named
-    ]
-
-pub returns-clause-rest : goal.returns-clause-rest
-returns-clause-rest c =
-    elim c.match-char_at.branch [
-      | in-Some+then-not-continues_name w ↦ named_rest (goes_char continues_name c.args.cs.now c.loop-c.j w.in-Some.c w.in-Some.ensures.within (sym w.in-Some.ensures.is) ∙ sym w.continues_name.ensures ∙ w.if-not-continues_name.true) c.loop-c.invariant.named
-      | in_default w ↦ named_rest (stop_none continues_name c.args.cs.now c.loop-c.j (sym w.in_default.ensures.is)) c.loop-c.invariant.named
-    ]
+    let q : chars c.loop-c.rest.now ≡ past continues_name (chars c.args.after.now) = elim c.match-split_first.branch [
+      | in-Some+then-not-continues_name w ↦ run_left continues_name (chars c.args.after.now) (chars c.loop-c.rest.now) (char_goes_on continues_name w.in-Some.c w.in-Some.ensures.cases ∙ sym w.continues_name.ensures ∙ w.if-not-continues_name.true) c.loop-c.invariant.left
+      | in_default w ↦ run_left continues_name (chars c.args.after.now) (chars c.loop-c.rest.now) (none_goes_on continues_name w.in_default.ensures.cases) c.loop-c.invariant.left
+    ] in
+    c.before-2.ensures (c.args.first ∷ run continues_name (chars c.args.after.now)) (name_parts continues_name c.args.first c.requires q)

@@ -1,12 +1,14 @@
-use Rattle.std.proofs.Common.{◌≤◌, ◌-◌, length, string_bytes}
-use Rattle.lam_lexer.proofs.Runs.{Named}
+use Rattle.std.proofs.Common.{◌≡◌, length, chars}
+use denote.Shadow.{shadow}
+use denote.Text.{Utf8}
+use Rattle.lam_lexer.specs.Characters.{past, continues_name}
 use Rattle.lam_lexer.proofs.lexer.name_run.Given as goal
 
 abbrev pub invariant-loop-c : goal.invariant-loop-c
 invariant-loop-c l = record {
-  named : Named l.fn.first l.cs (string_bytes l.name) l.j;
-  inside : l.j ≤ length l.cs;
+  utf8 : shadow (Utf8 l.rest);
+  left : past continues_name (chars l.after) ≡ past continues_name (chars l.rest);
 }
 
 abbrev pub decreases-loop-c : goal.decreases-loop-c
-decreases-loop-c l = length l.initial.cs - l.j
+decreases-loop-c l = length (chars l.rest)

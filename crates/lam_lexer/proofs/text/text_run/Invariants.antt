@@ -1,9 +1,15 @@
-use Rattle.std.proofs.Common.{◌-◌, length}
+use Rattle.std.proofs.Common.{chars}
+use Rattle.lam_lexer.specs.Reading.{size}
+use denote.Shadow.{shadow}
+use denote.Text.{Utf8}
 use Rattle.lam_lexer.proofs.TextRuns.{TextSoFar}
 use Rattle.lam_lexer.proofs.text.text_run.Given as goal
 
-abbrev pub invariant-loop-bytes : goal.invariant-loop-bytes
-invariant-loop-bytes l = TextSoFar l.quote l.cs l.bytes.items l.used l.to
+abbrev pub invariant-loop-behind : goal.invariant-loop-behind
+invariant-loop-behind l = record {
+  utf8 : shadow (Utf8 l.rest);
+  so_far : TextSoFar l.quote (chars l.text) l.bytes.items (chars l.rest) l.to;
+}
 
-abbrev pub decreases-loop-bytes : goal.decreases-loop-bytes
-decreases-loop-bytes l = length l.initial.cs - l.used
+abbrev pub decreases-loop-behind : goal.decreases-loop-behind
+decreases-loop-behind l = size (chars l.rest)
