@@ -127,11 +127,11 @@ fn list(alloc: Global, tokens: &[Token], at: usize, depth: u64) -> Result<(Vec<E
         return Ok((args, at));
     }
     let first = expression(alloc, tokens, at, depth)?;
-    args.push(first.expr)?;
+    args.push(Box::into_inner(first.expr))?;
     let mut next = first.next;
     while let Some(_comma) = take_if(tokens, next, depth, Mark::Comma)? {
         let arg = expression(alloc, tokens, next + 1, depth)?;
-        args.push(arg.expr)?;
+        args.push(Box::into_inner(arg.expr))?;
         next = arg.next;
     }
     Ok((args, next))
@@ -147,8 +147,9 @@ fn created(alloc: Global, tokens: &[Token], at: usize, depth: u64) -> Result<Rea
 {
     let word = take(tokens, at, depth, Mark::New)?;
     let (kind, next) = new_part(alloc, tokens, at + 1, depth)?;
+    let expr = make_node(alloc, word.at, kind)?;
     Ok(Read {
-        expr: make_node(word.at, kind),
+        expr,
         begin: word.at,
         next,
         depth,
@@ -194,8 +195,7 @@ fn new_array(
     let (element, close) = typ(alloc, tokens, at + 1, depth)?;
     let _close = take(tokens, close, depth, Mark::BracketClose)?;
     let length = parens(alloc, tokens, close + 1, depth)?;
-    let kind = array_kind(alloc, element, length.expr)?;
-    Ok((kind, length.next))
+    Ok((array_kind(element, length.expr), length.next))
 }
 
 /// `label` with the tags for secrecy and those for integrity.
@@ -213,8 +213,9 @@ fn label_of(alloc: Global, tokens: &[Token], at: usize, depth: u64) -> Result<Re
     let _semicolon = take(tokens, middle, depth, Mark::Semicolon)?;
     let (i, close) = list(alloc, tokens, middle + 1, depth)?;
     let _close = take(tokens, close, depth, Mark::BraceClose)?;
+    let expr = make_label(alloc, word.at, s, i)?;
     Ok(Read {
-        expr: make_label(word.at, s, i),
+        expr,
         begin: word.at,
         next: close + 1,
         depth,

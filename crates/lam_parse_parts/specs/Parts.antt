@@ -38,7 +38,7 @@ ReadsForm tokens r s i (Err b) = Fails (slice_get tokens) (rule r ∷ []) s i b
 pub record IsMember (tokens : List Token) (of x : Read) : Type 0 where
   pub name : Token
   pub taken : Taken tokens of.depth (of.next + 1) Member name
-  pub tree : expr_tree x.expr ≡ expr_node of.begin (field_expr (expr_tree of.expr) (id_of name))
+  pub tree : expr_tree x.expr.value ≡ expr_node of.begin (field_expr (expr_tree of.expr.value) (id_of name))
   pub begins : x.begin ≡ of.begin
   pub next : x.next ≡ of.next + 1 + 1
   pub depth : x.depth ≡ of.depth + 1
@@ -56,7 +56,7 @@ pub record IsElement (tokens : List Token) (of x : Read) : Type 0 where
   pub index : Index tokens of k
   pub close : Token
   pub taken : Taken tokens of.depth k IndexClose close
-  pub tree : expr_tree x.expr ≡ expr_node of.begin (element_expr (expr_tree of.expr) index.tree)
+  pub tree : expr_tree x.expr.value ≡ expr_node of.begin (element_expr (expr_tree of.expr.value) index.tree)
   pub begins : x.begin ≡ of.begin
   pub next : x.next ≡ k + 1
   pub depth : x.depth ≡ of.depth + 1

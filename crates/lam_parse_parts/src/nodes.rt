@@ -9,7 +9,7 @@ ghost use Rattle.lam_grammar.specs.Meaning.{spelt, id_of, literal_form, is_plus}
 use lam_lexer::{Token, TokenKind};
 use lam_reading::name_of;
 use lam_syntax::{CapItem, Expr, ExprKind, TypeExpr};
-use std::alloc::Global;
+use std::alloc::{AllocError, Global};
 use want_of_memory::NoMemory;
 
 /// The text of an identifier. Other tokens have none.
@@ -36,70 +36,61 @@ fn literal_kind(alloc: Global, kind: &TokenKind) -> Result<ExprKind, NoMemory>
 }
 
 /// A literal, at its position.
-pub fn make_literal(alloc: Global, token: &Token) -> Result<Expr, NoMemory>
-    ensures { IfOk result (λ e. view.expr_tree e ≡ view.expr_node token.now.at (literal_form token.now.kind)) }
+pub fn make_literal(alloc: Global, token: &Token) -> Result<Box<Expr>, NoMemory>
+    ensures { IfOk result (λ e. view.expr_tree e.value ≡ view.expr_node token.now.at (literal_form token.now.kind)) }
 {
-    Ok(Expr {
-        at: token.at,
-        kind: literal_kind(alloc, &token.kind)?,
-    })
+    let kind = literal_kind(alloc, &token.kind)?;
+    Ok(make_node(alloc, token.at, kind)?)
 }
 
 /// A name as an expression.
-pub fn make_name(alloc: Global, token: &Token) -> Result<Expr, NoMemory>
-    ensures { IfOk result (λ e. view.expr_tree e ≡ view.expr_node token.now.at (view.name_expr (spelt token.now.kind))) }
+pub fn make_name(alloc: Global, token: &Token) -> Result<Box<Expr>, NoMemory>
+    ensures { IfOk result (λ e. view.expr_tree e.value ≡ view.expr_node token.now.at (view.name_expr (spelt token.now.kind))) }
 {
-    Ok(Expr {
-        at: token.at,
-        kind: ExprKind::Name(spelling(alloc, &token.kind)?),
-    })
+    let name = spelling(alloc, &token.kind)?;
+    Ok(make_node(alloc, token.at, ExprKind::Name(name))?)
 }
 
 /// A call, at the position of the name of its function.
-pub fn make_call(alloc: Global, name: &Token, args: Vec<Expr>) -> Result<Expr, NoMemory>
-    ensures { IfOk result (λ e. view.expr_tree e ≡ view.expr_node name.now.at (view.call_expr (id_of name.now) (view.exprs_tree args.items))) }
+pub fn make_call(alloc: Global, name: &Token, args: Vec<Expr>) -> Result<Box<Expr>, NoMemory>
+    ensures { IfOk result (λ e. view.expr_tree e.value ≡ view.expr_node name.now.at (view.call_expr (id_of name.now) (view.exprs_tree args.items))) }
 {
     let at = name.at;
     let name = name_of(alloc, name)?;
-    Ok(Expr {
-        at,
-        kind: ExprKind::Call { name, args },
-    })
+    Ok(make_node(alloc, at, ExprKind::Call { name, args })?)
 }
 
 /// A node at a position.
-pub fn make_node(at: u64, kind: ExprKind) -> Expr
-    ensures { view.expr_tree result ≡ view.expr_node at (view.expr_form kind) }
+pub fn make_node(alloc: Global, at: u64, kind: ExprKind) -> Result<Box<Expr>, AllocError>
+    ensures { IfOk result (λ e. view.expr_tree e.value ≡ view.expr_node at (view.expr_form kind)) }
 {
-    Expr { at, kind }
+    Ok(Box::new(alloc, Expr { at, kind })?)
 }
 
 /// `new [element](length)`.
-pub fn array_kind(alloc: Global, element: TypeExpr, length: Expr) -> Result<ExprKind, NoMemory>
-    ensures { IfOk result (λ k. view.expr_form k ≡ view.new_array_expr (view.type_tree element) (view.expr_tree length)) }
+pub fn array_kind(element: TypeExpr, length: Box<Expr>) -> ExprKind
+    ensures { view.expr_form result ≡ view.new_array_expr (view.type_tree element) (view.expr_tree length.value) }
 {
-    let length = Box::new(alloc, length)?;
-    Ok(ExprKind::NewArray { element, length })
+    ExprKind::NewArray { element, length }
 }
 
 /// `label{s; i}`, from a position on.
-pub fn make_label(at: u64, s: Vec<Expr>, i: Vec<Expr>) -> Expr
-    ensures { view.expr_tree result ≡ view.expr_node at (view.label_expr (view.exprs_tree s.items) (view.exprs_tree i.items)) }
+pub fn make_label(
+    alloc: Global,
+    at: u64,
+    s: Vec<Expr>,
+    i: Vec<Expr>,
+) -> Result<Box<Expr>, AllocError>
+    ensures { IfOk result (λ e. view.expr_tree e.value ≡ view.expr_node at (view.label_expr (view.exprs_tree s.items) (view.exprs_tree i.items))) }
 {
-    Expr {
-        at,
-        kind: ExprKind::LabelOf { s, i },
-    }
+    make_node(alloc, at, ExprKind::LabelOf { s, i })
 }
 
 /// `caps{..}`, from a position on.
-pub fn make_caps(at: u64, items: Vec<CapItem>) -> Expr
-    ensures { view.expr_tree result ≡ view.expr_node at (view.caps_expr (view.caps_tree items.items)) }
+pub fn make_caps(alloc: Global, at: u64, items: Vec<CapItem>) -> Result<Box<Expr>, AllocError>
+    ensures { IfOk result (λ e. view.expr_tree e.value ≡ view.expr_node at (view.caps_expr (view.caps_tree items.items))) }
 {
-    Expr {
-        at,
-        kind: ExprKind::CapsOf(items),
-    }
+    make_node(alloc, at, ExprKind::CapsOf(items))
 }
 
 /// A tag and its sign, in the braces of `caps`.
@@ -116,20 +107,17 @@ pub fn make_cap(alloc: Global, name: &Token, sign: &Token) -> Result<CapItem, No
 pub fn make_spawn(
     alloc: Global,
     at: u64,
-    caps: Expr,
+    caps: Box<Expr>,
     function: &Token,
     args: Vec<Expr>,
-) -> Result<Expr, NoMemory>
-    ensures { IfOk result (λ e. view.expr_tree e ≡ view.expr_node at (view.spawn_expr (view.expr_tree caps) (id_of function.now) (view.exprs_tree args.items))) }
+) -> Result<Box<Expr>, NoMemory>
+    ensures { IfOk result (λ e. view.expr_tree e.value ≡ view.expr_node at (view.spawn_expr (view.expr_tree caps.value) (id_of function.now) (view.exprs_tree args.items))) }
 {
     let function = name_of(alloc, function)?;
-    let caps = Box::new(alloc, caps)?;
-    Ok(Expr {
-        at,
-        kind: ExprKind::Spawn {
-            caps,
-            function,
-            args,
-        },
-    })
+    let kind = ExprKind::Spawn {
+        caps,
+        function,
+        args,
+    };
+    Ok(make_node(alloc, at, kind)?)
 }

@@ -6,6 +6,7 @@ ghost use Rattle.lam_grammar.specs.Meaning as meaning;
 ghost use Rattle.lam_reading.specs.Reading.{TakeFails};
 ghost use Rattle.lam_parse_parts.specs.Parts.{IsMember};
 
+use crate::nodes::make_node;
 use lam_lexer::{Token, TokenKind};
 use lam_reading::{Break, Mark, Read, name_of, take};
 use lam_syntax::{BinaryOp, Expr, ExprKind, Id, UnaryOp};
@@ -44,19 +45,19 @@ pub fn unary_op(kind: &TokenKind) -> UnaryOp
 
 /// Two operands with the operator between them.
 pub fn joined(alloc: Global, left: Read, op: BinaryOp, right: Read) -> Result<Read, AllocError>
-    ensures tree { IfOk result (λ x. expr_tree x.expr ≡ expr_node left.begin (binary_expr op (expr_tree left.expr) (expr_tree right.expr))) }
+    ensures tree { IfOk result (λ x. expr_tree x.expr.value ≡ expr_node left.begin (binary_expr op (expr_tree left.expr.value) (expr_tree right.expr.value))) }
     ensures places { IfOk result (λ x. (x.begin ≡ left.begin) × (x.next ≡ right.next) × (x.depth ≡ right.depth)) }
 {
     let begin = left.begin;
-    let left = Box::new(alloc, left.expr)?;
     let next = right.next;
     let depth = right.depth;
-    let right = Box::new(alloc, right.expr)?;
+    let kind = ExprKind::Binary {
+        op,
+        left: left.expr,
+        right: right.expr,
+    };
     Ok(Read {
-        expr: Expr {
-            at: begin,
-            kind: ExprKind::Binary { op, left, right },
-        },
+        expr: make_node(alloc, begin, kind)?,
         begin,
         next,
         depth,
@@ -64,14 +65,15 @@ pub fn joined(alloc: Global, left: Read, op: BinaryOp, right: Read) -> Result<Re
 }
 
 /// A prefix with what stands behind it, from a position on.
-pub fn make_unary(alloc: Global, at: u64, op: UnaryOp, of: Expr) -> Result<Expr, AllocError>
-    ensures { IfOk result (λ e. expr_tree e ≡ expr_node at (unary_expr op (expr_tree of))) }
+pub fn make_unary(
+    alloc: Global,
+    at: u64,
+    op: UnaryOp,
+    of: Box<Expr>,
+) -> Result<Box<Expr>, AllocError>
+    ensures { IfOk result (λ e. expr_tree e.value ≡ expr_node at (unary_expr op (expr_tree of.value))) }
 {
-    let of = Box::new(alloc, of)?;
-    Ok(Expr {
-        at,
-        kind: ExprKind::Unary { op, of },
-    })
+    make_node(alloc, at, ExprKind::Unary { op, of })
 }
 
 /// What is read, with the field whose dot stands behind it.
@@ -94,18 +96,15 @@ pub fn member(alloc: Global, tokens: &[Token], of: Read) -> Result<Read, Break>
 fn with_field(alloc: Global, of: Read, field: Id) -> Result<Read, AllocError>
     requires room { of.next + 2 < 2 ^ 64 }
     requires low { of.depth ≤ 150 }
-    ensures tree { IfOk result (λ x. expr_tree x.expr ≡ expr_node of.begin (field_expr (expr_tree of.expr) (id_tree field))) }
+    ensures tree { IfOk result (λ x. expr_tree x.expr.value ≡ expr_node of.begin (field_expr (expr_tree of.expr.value) (id_tree field))) }
     ensures places { IfOk result (λ x. (x.begin ≡ of.begin) × (x.next ≡ of.next + 1 + 1) × (x.depth ≡ of.depth + 1)) }
 {
     let begin = of.begin;
     let next = of.next + 1 + 1;
     let depth = of.depth + 1;
-    let of = Box::new(alloc, of.expr)?;
+    let kind = ExprKind::Field { of: of.expr, field };
     Ok(Read {
-        expr: Expr {
-            at: begin,
-            kind: ExprKind::Field { of, field },
-        },
+        expr: make_node(alloc, begin, kind)?,
         begin,
         next,
         depth,
@@ -116,19 +115,18 @@ fn with_field(alloc: Global, of: Read, field: Id) -> Result<Read, AllocError>
 pub fn element(alloc: Global, of: Read, index: Read) -> Result<Read, AllocError>
     requires room { index.next + 1 < 2 ^ 64 }
     requires low { of.depth ≤ 150 }
-    ensures tree { IfOk result (λ x. expr_tree x.expr ≡ expr_node of.begin (element_expr (expr_tree of.expr) (expr_tree index.expr))) }
+    ensures tree { IfOk result (λ x. expr_tree x.expr.value ≡ expr_node of.begin (element_expr (expr_tree of.expr.value) (expr_tree index.expr.value))) }
     ensures places { IfOk result (λ x. (x.begin ≡ of.begin) × (x.next ≡ index.next + 1) × (x.depth ≡ of.depth + 1)) }
 {
     let begin = of.begin;
     let next = index.next + 1;
     let depth = of.depth + 1;
-    let of = Box::new(alloc, of.expr)?;
-    let index = Box::new(alloc, index.expr)?;
+    let kind = ExprKind::Element {
+        of: of.expr,
+        index: index.expr,
+    };
     Ok(Read {
-        expr: Expr {
-            at: begin,
-            kind: ExprKind::Element { of, index },
-        },
+        expr: make_node(alloc, begin, kind)?,
         begin,
         next,
         depth,

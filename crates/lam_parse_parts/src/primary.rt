@@ -108,8 +108,9 @@ pub fn caps_of(alloc: Global, tokens: &[Token], at: usize, depth: u64) -> Result
     let _open = take(tokens, open, depth, Mark::BraceOpen)?;
     let (items, close) = cap_items(alloc, tokens, open + 1, depth)?;
     let _close = take(tokens, close, depth, Mark::BraceClose)?;
+    let expr = make_caps(alloc, word.at, items)?;
     Ok(Read {
-        expr: make_caps(word.at, items),
+        expr,
         begin: word.at,
         next: close + 1,
         depth,

@@ -10,12 +10,15 @@ use lam_reading::Read;
 use lam_syntax::{Expr, Id, Stmt, StmtKind, Var};
 
 /// `let var = value;`, from a position on.
-pub fn make_let(at: u64, var: Var, value: Expr) -> Stmt
-    ensures { view.stmt_tree result ≡ view.stmt_node at (view.let_stmt (view.var_tree var) (view.expr_tree value)) }
+pub fn make_let(at: u64, var: Var, value: Box<Expr>) -> Stmt
+    ensures { view.stmt_tree result ≡ view.stmt_node at (view.let_stmt (view.var_tree var) (view.expr_tree value.value)) }
 {
     Stmt {
         at,
-        kind: StmtKind::Let { var, value },
+        kind: StmtKind::Let {
+            var,
+            value: Box::into_inner(value),
+        },
     }
 }
 
@@ -30,65 +33,75 @@ pub fn make_return(at: u64, value: Option<Expr>) -> Stmt
 }
 
 /// `throw value;`, from a position on.
-pub fn make_throw(at: u64, value: Expr) -> Stmt
-    ensures { view.stmt_tree result ≡ view.stmt_node at (view.throw_stmt (view.expr_tree value)) }
+pub fn make_throw(at: u64, value: Box<Expr>) -> Stmt
+    ensures { view.stmt_tree result ≡ view.stmt_node at (view.throw_stmt (view.expr_tree value.value)) }
 {
     Stmt {
         at,
-        kind: StmtKind::Throw(value),
+        kind: StmtKind::Throw(Box::into_inner(value)),
     }
 }
 
 /// An expression as a statement.
 pub fn make_do(of: Read) -> Stmt
-    ensures { view.stmt_tree result ≡ view.stmt_node of.begin (view.do_stmt (view.expr_tree of.expr)) }
+    ensures { view.stmt_tree result ≡ view.stmt_node of.begin (view.do_stmt (view.expr_tree of.expr.value)) }
 {
     Stmt {
         at: of.begin,
-        kind: StmtKind::Do(of.expr),
+        kind: StmtKind::Do(Box::into_inner(of.expr)),
     }
 }
 
 /// `place = value;`
-pub fn make_assign(place: Read, value: Expr) -> Stmt
-    ensures { view.stmt_tree result ≡ view.stmt_node place.begin (view.assign_stmt (view.expr_tree place.expr) (view.expr_tree value)) }
+pub fn make_assign(place: Read, value: Box<Expr>) -> Stmt
+    ensures { view.stmt_tree result ≡ view.stmt_node place.begin (view.assign_stmt (view.expr_tree place.expr.value) (view.expr_tree value.value)) }
 {
     Stmt {
         at: place.begin,
         kind: StmtKind::Assign {
-            place: place.expr,
-            value,
+            place: Box::into_inner(place.expr),
+            value: Box::into_inner(value),
         },
     }
 }
 
 /// `if (test) { yes } else { no }`, or without `else`, from a position on.
-pub fn make_if(at: u64, test: Expr, yes: Vec<Stmt>, no: Option<Vec<Stmt>>) -> Stmt
-    ensures { view.stmt_tree result ≡ view.stmt_node at (view.if_stmt (view.expr_tree test) (view.stmts_tree yes.items) (view.else_tree no)) }
+pub fn make_if(at: u64, test: Box<Expr>, yes: Vec<Stmt>, no: Option<Vec<Stmt>>) -> Stmt
+    ensures { view.stmt_tree result ≡ view.stmt_node at (view.if_stmt (view.expr_tree test.value) (view.stmts_tree yes.items) (view.else_tree no)) }
 {
     Stmt {
         at,
-        kind: StmtKind::If { test, yes, no },
+        kind: StmtKind::If {
+            test: Box::into_inner(test),
+            yes,
+            no,
+        },
     }
 }
 
 /// `while (test) { body }`, from a position on.
-pub fn make_while(at: u64, test: Expr, body: Vec<Stmt>) -> Stmt
-    ensures { view.stmt_tree result ≡ view.stmt_node at (view.while_stmt (view.expr_tree test) (view.stmts_tree body.items)) }
+pub fn make_while(at: u64, test: Box<Expr>, body: Vec<Stmt>) -> Stmt
+    ensures { view.stmt_tree result ≡ view.stmt_node at (view.while_stmt (view.expr_tree test.value) (view.stmts_tree body.items)) }
 {
     Stmt {
         at,
-        kind: StmtKind::While { test, body },
+        kind: StmtKind::While {
+            test: Box::into_inner(test),
+            body,
+        },
     }
 }
 
 /// `sync (thing) { body }`, from a position on.
-pub fn make_sync(at: u64, thing: Expr, body: Vec<Stmt>) -> Stmt
-    ensures { view.stmt_tree result ≡ view.stmt_node at (view.sync_stmt (view.expr_tree thing) (view.stmts_tree body.items)) }
+pub fn make_sync(at: u64, thing: Box<Expr>, body: Vec<Stmt>) -> Stmt
+    ensures { view.stmt_tree result ≡ view.stmt_node at (view.sync_stmt (view.expr_tree thing.value) (view.stmts_tree body.items)) }
 {
     Stmt {
         at,
-        kind: StmtKind::Sync { thing, body },
+        kind: StmtKind::Sync {
+            thing: Box::into_inner(thing),
+            body,
+        },
     }
 }
 

@@ -61,7 +61,10 @@ pub fn return_statement(
     }
     let value = expression(alloc, tokens, after_word, depth)?;
     take(tokens, value.next, depth, Mark::Semicolon)?;
-    Ok((make_return(word.at, Some(value.expr)), value.next + 1))
+    Ok((
+        make_return(word.at, Some(Box::into_inner(value.expr))),
+        value.next + 1,
+    ))
 }
 
 /// `throw value;`
@@ -104,8 +107,8 @@ pub fn region_head(alloc: Global, tokens: &[Token], at: usize, depth: u64) -> Re
     let caps = expression(alloc, tokens, label.next + 1, depth)?;
     take(tokens, caps.next, depth, Mark::ParenClose)?;
     Ok(Head {
-        label: label.expr,
-        caps: caps.expr,
+        label: Box::into_inner(label.expr),
+        caps: Box::into_inner(caps.expr),
         next: caps.next + 1,
     })
 }
@@ -162,7 +165,7 @@ fn assignment(
     requires in_range { left.next < length tokens.now }
     requires bounded { depth ≤ 128 }
     requires begun { NoWord tokens.now at }
-    requires left { Gives (slice_get tokens.now) expr depth at (expr_value left.begin (expr_tree left.expr)) left.next depth }
+    requires left { Gives (slice_get tokens.now) expr depth at (expr_value left.begin (expr_tree left.expr.value)) left.next depth }
     requires behind { at < left.next }
     requires equals { Taken tokens.now depth left.next Mark.Assign equals.now }
     ensures reads { ReadsStmt tokens.now depth at result }

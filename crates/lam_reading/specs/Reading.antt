@@ -28,7 +28,7 @@ Gives look r s i v j t = (before : Value) → Reads lam (limited lam) look (rule
 
 -- what reading an expression by a rule gives
 abbrev pub ReadsExpr : List Token → Rule → ℕ → ℕ → Result Read Break → Type 0
-ReadsExpr tokens r s i (Ok x) = Gives (slice_get tokens) r s i (expr_value x.begin (expr_tree x.expr)) x.next x.depth
+ReadsExpr tokens r s i (Ok x) = Gives (slice_get tokens) r s i (expr_value x.begin (expr_tree x.expr.value)) x.next x.depth
 ReadsExpr tokens r s i (Err b) = Fails (slice_get tokens) (rule r ∷ []) s i b
 
 -- The token at i is of the class, within the depth limit.

@@ -19,7 +19,7 @@ const LIMIT: u64 = 128;
 /// An expression that was read.
 #[derive(Drop)]
 pub struct Read {
-    pub expr: Expr,
+    pub expr: Box<Expr>,
     /// The position of its first token, which is a parenthesis where it begins with one.
     pub begin: u64,
     /// The index of the token after it.
@@ -28,7 +28,7 @@ pub struct Read {
     pub depth: u64,
 }
 
-fn token_at(tokens: &[Token], at: usize) -> Option<&Token>
+fn token_at<'a, 'b>(tokens: &'a [Token<'b>], at: usize) -> Option<&'a Token<'b>>
     ensures is { option_copied result ≡ slice_get tokens.now at }
     ensures within { IfSome result (λ _. at < length tokens.now) }
 {
@@ -105,7 +105,12 @@ fn is_statement_start(kind: &TokenKind) -> bool
 }
 
 /// The token at an index, which has to be of the class, and within the depth limit.
-pub fn take<'a>(tokens: &'a [Token], at: usize, depth: u64, mark: Mark) -> Result<&'a Token, Break>
+pub fn take<'a, 'b>(
+    tokens: &'a [Token<'b>],
+    at: usize,
+    depth: u64,
+    mark: Mark,
+) -> Result<&'a Token<'b>, Break>
     ensures takes { MatchResult result (λ w. Taken tokens.now depth at mark w.now) (TakeFails tokens.now depth at mark) }
     ensures within { IfOk result (λ _. at < length tokens.now) }
 {
@@ -128,12 +133,12 @@ pub fn take<'a>(tokens: &'a [Token], at: usize, depth: u64, mark: Mark) -> Resul
 }
 
 /// The token at an index where it is of the class, within the depth limit, and none where it is not.
-pub fn take_if<'a>(
-    tokens: &'a [Token],
+pub fn take_if<'a, 'b>(
+    tokens: &'a [Token<'b>],
     at: usize,
     depth: u64,
     mark: Mark,
-) -> Result<Option<&'a Token>, Break>
+) -> Result<Option<&'a Token<'b>>, Break>
     ensures takes { MatchResult result (λ o. MatchOption o (Absent tokens.now at mark) (λ w. Taken tokens.now depth at mark w.now)) (IsDeep tokens.now depth at mark) }
     ensures within { IfOk result (λ o. IfSome o (λ _. at < length tokens.now)) }
 {

@@ -217,7 +217,7 @@ pub operators::indexed-returns-in_err-_close-clause-reads : goal.operators::inde
 operators::indexed-returns-in_err-_close-clause-reads t c =
     let p = err_from_is_err_and c.from_residual-in_err-_close.result c.from_residual-in_err-_close.ensures.1 in
     let e = c.in_ok-index.ensures in
-    rw (p.1, p.2) (no_close _ (record { begin = c.in_ok-index.index.begin; tree = expr_tree c.in_ok-index.index.expr; reads = rw e.depth at e.reads; goes_on = e.goes_on.0 }) c.in_err-_close.ensures.takes)
+    rw (p.1, p.2) (no_close _ (record { begin = c.in_ok-index.index.begin; tree = expr_tree c.in_ok-index.index.expr.value; reads = rw e.depth at e.reads; goes_on = e.goes_on.0 }) c.in_err-_close.ensures.takes)
 
 pub operators::indexed-returns-clause-reads : goal.operators::indexed-returns-clause-reads
 operators::indexed-returns-clause-reads t c =
@@ -225,7 +225,7 @@ operators::indexed-returns-clause-reads t c =
     let q = c.in_ok-element.ensures.places in
     record {
       k = c.in_ok-index.index.next;
-      index = record { begin = c.in_ok-index.index.begin; tree = expr_tree c.in_ok-index.index.expr; reads = rw e.depth at e.reads; goes_on = e.goes_on.0 };
+      index = record { begin = c.in_ok-index.index.begin; tree = expr_tree c.in_ok-index.index.expr.value; reads = rw e.depth at e.reads; goes_on = e.goes_on.0 };
       close = _;
       taken = c.in_ok-_close.ensures.takes;
       tree = c.in_ok-element.ensures.tree;
@@ -369,7 +369,7 @@ primary::list-loop-args-init t c =
     let g = part_begun look args c.args.depth c.args.at (rule_body_of c.args.tokens.now c.args.at args expr y refl (λ before. refl)) in
     let h = loop_begins (rule_taken (rw c.in_ok-first.ensures.depth at c.in_ok-first.ensures.reads) c.in_ok-first.ensures.goes_on.0 g) (λ os. refl) in
     record {
-      goes = loop_as (λ os. ap exprs_value (first_exprs _ _ c.in_ok-first.first.expr c.new-args.ensures.items c.in_ok-push.ensures.items os)) h;
+      goes = loop_as (λ os. ap exprs_value (first_exprs _ _ c.in_ok-first.first.expr.value c.new-args.ensures.items (rw c.into_inner.ensures at c.in_ok-push.ensures.items) os)) h;
       after = c.in_ok-first.ensures.goes_on.0;
       within = c.in_ok-first.ensures.goes_on.1;
     }
@@ -388,7 +388,7 @@ primary::list-loop-args-preserved t c =
     let g = c.in_ok-arg.ensures.goes_on in
     let h = loop_goes_on refl c.loop-args.invariant.goes (omega arith) (rule_taken (rw c.in_ok-arg.ensures.depth at c.in_ok-arg.ensures.reads) g.0 turn) (λ os. refl) in
     record {
-      goes = loop_as (λ os. ap exprs_value (more_exprs _ _ c.in_ok-arg.arg.expr c.in_ok-push-2.ensures.items os)) h;
+      goes = loop_as (λ os. ap exprs_value (more_exprs _ _ c.in_ok-arg.arg.expr.value (rw c.into_inner-in-Some.ensures at c.in_ok-push-2.ensures.items) os)) h;
       after = omega (arith, g.0, c.loop-args.invariant.after);
       within = g.1;
     }
@@ -419,7 +419,7 @@ primary::created-returns-clause-reads t c =
     let g0 = begun look prim c.args.depth c.args.at refl (prim_body (look c.args.at) form.New c.requires.begins) in
     let g1 = mark_taken c.in_ok-word.ensures.takes refl g0 in
     let g2 = rule_taken c.in_ok-kind.ensures.reads c.in_ok-kind.ensures.goes_on.0 g1 in
-    rw c.make_node.ensures (rule_read g2)
+    rw c.in_ok-expr.ensures (rule_read g2)
 
 pub primary::new_part-returns-clause-reads : goal.primary::new_part-returns-clause-reads
 primary::new_part-returns-clause-reads t c =
@@ -469,7 +469,7 @@ primary::new_array-returns-clause-reads t c =
     let g2 = rule_taken c.in_ok-element.ensures.reads c.in_ok-element.ensures.goes_on.0 g1 in
     let g3 = mark_taken c.in_ok-_close.ensures.takes refl g2 in
     let g4 = rule_taken (rw c.in_ok-length.ensures.depth at c.in_ok-length.ensures.reads) c.in_ok-length.ensures.goes_on.0 g3 in
-    rw c.in_ok-kind.ensures (rule_read g4)
+    rw c.array_kind.ensures (rule_read g4)
 
 pub primary::label_of-returns-in_err-word-clause-reads : goal.primary::label_of-returns-in_err-word-clause-reads
 primary::label_of-returns-in_err-word-clause-reads t c =
@@ -538,7 +538,7 @@ primary::label_of-returns-clause-reads t c =
     let g4 = mark_taken c.in_ok-_semicolon.ensures.takes refl g3 in
     let g5 = maybe_taken c.in_ok-i.ensures.reads c.in_ok-i.ensures.goes_on.0 g4 in
     let g6 = mark_taken c.in_ok-_close.ensures.takes refl g5 in
-    rw c.make_label.ensures (rule_read g6)
+    rw c.in_ok-expr.ensures (rule_read g6)
 
 pub primary::spawned-returns-in_err-word-clause-reads : goal.primary::spawned-returns-in_err-word-clause-reads
 primary::spawned-returns-in_err-word-clause-reads t c =

@@ -31,7 +31,7 @@ decreases-operators::indexed l = measure (length l.tokens.now) l.of.next 5
 
 abbrev pub invariant-operators::chain-loop-left : goal.invariant-operators::chain-loop-left
 invariant-operators::chain-loop-left l = record {
-  goes : Loop Operations operations_value (slice_get l.tokens) (chain l.level) (chain_tail l.level) l.depth l.at (λ os. expr_value l.left.begin (combine l.left.begin (expr_tree l.left.expr) os)) l.left.next l.left.depth (λ w. examples.closes (operand l.level) w ≡ true);
+  goes : Loop Operations operations_value (slice_get l.tokens) (chain l.level) (chain_tail l.level) l.depth l.at (λ os. expr_value l.left.begin (combine l.left.begin (expr_tree l.left.expr.value) os)) l.left.next l.left.depth (λ w. examples.closes (operand l.level) w ≡ true);
   after : l.at < l.left.next;
   within : l.left.next ≤ length l.tokens;
   low : l.left.depth ≤ 150;
@@ -42,7 +42,7 @@ decreases-operators::chain-loop-left l = length l.initial.tokens - l.left.next
 
 abbrev pub invariant-operators::postfix-loop-of : goal.invariant-operators::postfix-loop-of
 invariant-operators::postfix-loop-of l = record {
-  goes : Loop Postfixes postfixes_value (slice_get l.tokens) post post_tail l.depth l.at (λ os. expr_value l.of.begin (extend l.of.begin (expr_tree l.of.expr) os)) l.of.next l.of.depth (λ w. ⊥);
+  goes : Loop Postfixes postfixes_value (slice_get l.tokens) post post_tail l.depth l.at (λ os. expr_value l.of.begin (extend l.of.begin (expr_tree l.of.expr.value) os)) l.of.next l.of.depth (λ w. ⊥);
   after : l.at < l.of.next;
   within : l.of.next ≤ length l.tokens;
   low : l.of.depth ≤ 150;

@@ -4,4 +4,4 @@ use Rattle.lam_syntax.proofs.Rows.{call_row}
 use Rattle.lam_parse_parts.proofs.nodes.make_call.Goals as goal
 
 pub returns : goal.returns
-returns c = ap (expr_node c.args.name.now.at) (call_row c.in_ok-name.name c.args.args ∙ ap (λ x. call_expr x (exprs_tree c.args.args.items)) c.in_ok-name.ensures)
+returns c = c.in_ok-make_node.ensures ∙ ap (expr_node c.args.name.now.at) (call_row c.in_ok-name.name c.args.args ∙ ap (λ x. call_expr x (exprs_tree c.args.args.items)) c.in_ok-name.ensures)

@@ -45,4 +45,4 @@ returns-clause-reads c =
     let g = begun look prim c.args.depth c.args.at refl (prim_body (look c.args.at) form.Caps c.requires.begins) in
     let g2 = mark_taken c.in_ok-_open.ensures.takes refl (mark_taken c.in_ok-word.ensures.takes refl g) in
     let g3 = maybe_taken c.in_ok-items.ensures.reads c.in_ok-items.ensures.goes_on.0 g2 in
-    rw c.make_caps.ensures (rule_read (mark_taken c.in_ok-_close.ensures.takes refl g3))
+    rw c.in_ok-expr.ensures (rule_read (mark_taken c.in_ok-_close.ensures.takes refl g3))

@@ -4,4 +4,4 @@ use Rattle.lam_syntax.proofs.Rows.{if_row}
 use Rattle.lam_parse_stmts.proofs.nodes.make_if.Goals as goal
 
 pub returns : goal.returns
-returns c = ap (stmt_node c.args.at) (if_row c.args.test c.args.yes c.args.no)
+returns c = rw c.into_inner.ensures (ap (stmt_node c.args.at) (if_row c.args.test.value c.args.yes c.args.no))

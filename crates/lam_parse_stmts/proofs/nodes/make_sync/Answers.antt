@@ -4,4 +4,4 @@ use Rattle.lam_syntax.proofs.Rows.{sync_row}
 use Rattle.lam_parse_stmts.proofs.nodes.make_sync.Goals as goal
 
 pub returns : goal.returns
-returns c = ap (stmt_node c.args.at) (sync_row c.args.thing c.args.body)
+returns c = rw c.into_inner.ensures (ap (stmt_node c.args.at) (sync_row c.args.thing.value c.args.body))

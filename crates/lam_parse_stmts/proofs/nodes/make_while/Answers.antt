@@ -4,4 +4,4 @@ use Rattle.lam_syntax.proofs.Rows.{while_row}
 use Rattle.lam_parse_stmts.proofs.nodes.make_while.Goals as goal
 
 pub returns : goal.returns
-returns c = ap (stmt_node c.args.at) (while_row c.args.test c.args.body)
+returns c = rw c.into_inner.ensures (ap (stmt_node c.args.at) (while_row c.args.test.value c.args.body))

@@ -13,7 +13,7 @@ returns-then-not-is_place-clause-reads c =
     let s = c.args.depth in
     let at = c.args.at in
     let left = rule_taken c.requires.left c.requires.behind (begun (slice_get tokens) stmt s at refl (expression_body c.requires.begun)) in
-    no_place tokens s at c.args.left.next s _ _ left _ c.requires.equals (sym c.is_place.ensures ∙ c.if-not-is_place.true)
+    no_place tokens s at c.args.left.next s _ _ left _ c.requires.equals (sym (rw c.deref.ensures at c.is_place.ensures) ∙ c.if-not-is_place.true)
 
 pub returns-in_err-value-clause-reads : goal.returns-in_err-value-clause-reads
 returns-in_err-value-clause-reads c =
@@ -22,7 +22,7 @@ returns-in_err-value-clause-reads c =
     let s = c.args.depth in
     let at = c.args.at in
     let left = rule_taken c.requires.left c.requires.behind (begun (slice_get tokens) stmt s at refl (expression_body c.requires.begun)) in
-    let place = sym c.is_place.ensures ∙ c.if-not-is_place.false in
+    let place = sym (rw c.deref.ensures at c.is_place.ensures) ∙ c.if-not-is_place.false in
     rw (p.1, p.2) (value_fails tokens s at c.args.left.next s _ _ left _ c.requires.equals place c.in_err-value.field-0.0 c.in_err-value.ensures.reads)
 
 pub returns-in_err-take-clause-reads : goal.returns-in_err-take-clause-reads
@@ -32,7 +32,7 @@ returns-in_err-take-clause-reads c =
     let s = c.args.depth in
     let at = c.args.at in
     let left = rule_taken c.requires.left c.requires.behind (begun (slice_get tokens) stmt s at refl (expression_body c.requires.begun)) in
-    let place = sym c.is_place.ensures ∙ c.if-not-is_place.false in
+    let place = sym (rw c.deref.ensures at c.is_place.ensures) ∙ c.if-not-is_place.false in
     let value = assigned tokens s at c.args.left.next s _ _ left _ c.requires.equals place _ _ (with_sum c.in_ok-value.ensures.depth c.in_ok-value.ensures.reads) c.in_ok-value.ensures.goes_on.0 in
     rw (p.1, p.2) (mark_fails value refl c.in_err-take.field-0.0 c.in_err-take.ensures.takes)
 
@@ -42,6 +42,6 @@ returns-clause-reads c =
     let s = c.args.depth in
     let at = c.args.at in
     let left = rule_taken c.requires.left c.requires.behind (begun (slice_get tokens) stmt s at refl (expression_body c.requires.begun)) in
-    let place = sym c.is_place.ensures ∙ c.if-not-is_place.false in
+    let place = sym (rw c.deref.ensures at c.is_place.ensures) ∙ c.if-not-is_place.false in
     let value = assigned tokens s at c.args.left.next s _ _ left _ c.requires.equals place _ _ (with_sum c.in_ok-value.ensures.depth c.in_ok-value.ensures.reads) c.in_ok-value.ensures.goes_on.0 in
     rw c.make_assign.ensures (rule_read (mark_taken c.in_ok-take.ensures.takes refl value))

@@ -59,4 +59,4 @@ returns-clause-reads c =
     let inner = part_begun (slice_get tokens) value_part c.args.depth (c.args.at + 1) (rule_body_of tokens (c.args.at + 1) value_part expr begins refl (λ b. refl)) in
     let on = c.in_ok-value.ensures.goes_on in
     let value = rule_taken (rule_read (rule_taken (with_sum c.in_ok-value.ensures.depth c.in_ok-value.ensures.reads) on.0 inner)) on.0 word in
-    rw c.make_return-2.ensures (subst (λ v. Gives (slice_get c.args.tokens.now) stmt c.args.depth c.args.at v (c.in_ok-value.value.next + 1) c.args.depth) (return_means c.args.word.now c.in_ok-value.value.begin (expr_tree c.in_ok-value.value.expr) c.in_ok-take-2.field-0.now t.fit) (rule_read (mark_taken c.in_ok-take-2.ensures.takes refl value)))
+    rw (c.make_return-2.ensures, c.into_inner.ensures) (subst (λ v. Gives (slice_get c.args.tokens.now) stmt c.args.depth c.args.at v (c.in_ok-value.value.next + 1) c.args.depth) (return_means c.args.word.now c.in_ok-value.value.begin (expr_tree c.in_ok-value.value.expr.value) c.in_ok-take-2.field-0.now t.fit) (rule_read (mark_taken c.in_ok-take-2.ensures.takes refl value)))

@@ -28,4 +28,4 @@ returns-clause-reads c =
     let t = c.requires.begun in
     let word = mark_taken t refl (begun (slice_get c.args.tokens.now) stmt c.args.depth c.args.at refl (throw_body t)) in
     let value = rule_taken (with_sum c.in_ok-value.ensures.depth c.in_ok-value.ensures.reads) c.in_ok-value.ensures.goes_on.0 word in
-    rw c.make_throw.ensures (subst (λ v. Gives (slice_get c.args.tokens.now) stmt c.args.depth c.args.at v (c.in_ok-value.value.next + 1) c.args.depth) (throw_means c.args.word.now c.in_ok-value.value.begin (expr_tree c.in_ok-value.value.expr) c.in_ok-take.field-0.now t.fit) (rule_read (mark_taken c.in_ok-take.ensures.takes refl value)))
+    rw c.make_throw.ensures (subst (λ v. Gives (slice_get c.args.tokens.now) stmt c.args.depth c.args.at v (c.in_ok-value.value.next + 1) c.args.depth) (throw_means c.args.word.now c.in_ok-value.value.begin (expr_tree c.in_ok-value.value.expr.value) c.in_ok-take.field-0.now t.fit) (rule_read (mark_taken c.in_ok-take.ensures.takes refl value)))
