@@ -89,14 +89,25 @@ each_last {X} {one} {f} l xs {old} {now} i h g =
 -- ---- the arms of a tree
 
 -- what was written before the last step, and the last step, which writes a text
-pub arm_text : {X E : Type 0} (lay : X → List Piece → List Piece) {a b : X} (old mid new text : List ℕ) (r : Result (Unit {0}) E) → a ≡ b → ((ps : List Piece) → old ++ written (lay b ps) ≡ mid ++ (text ++ written ps)) → OnOk r (new ≡ mid ++ text) → OnOk r (Puts old new (lay a))
-arm_text {X} {E} lay {a} {b} old mid new text r e before h =
-    on_ok r (λ q. puts_of lay e (record { gives = λ ps. before ps ∙ said mid text q (written ps) })) h
+pub last_text : {E : Type 0} (old mid new text : List ℕ) (f : List Piece → List Piece) (r : Result (Unit {0}) E) → ((ps : List Piece) → old ++ written (f ps) ≡ mid ++ (text ++ written ps)) → OnOk r (new ≡ mid ++ text) → OnOk r (Puts old new f)
+last_text old mid new text f r before h =
+    on_ok r (λ q. record { gives = λ ps. before ps ∙ said mid text q (written ps) }) h
 
 -- the last step writes pieces
+pub last_puts : {E : Type 0} (old mid new : List ℕ) (f g : List Piece → List Piece) (r : Result (Unit {0}) E) → ((ps : List Piece) → old ++ written (f ps) ≡ mid ++ written (g ps)) → OnOk r (Puts mid new g) → OnOk r (Puts old new f)
+last_puts old mid new f g r before h =
+    on_ok r (λ q. record { gives = λ ps. before ps ∙ q.gives ps }) h
+
+-- the one step of an arm writes it
+pub arm_of : {X E : Type 0} (lay : X → List Piece → List Piece) {a b : X} (old new : List ℕ) (r : Result (Unit {0}) E) → a ≡ b → OnOk r (Puts old new (lay b)) → OnOk r (Puts old new (lay a))
+arm_of {X} {E} lay {a} {b} old new r e h = on_ok r (λ q. puts_of lay e q) h
+
+-- the same, of the value that an arm takes apart
+pub arm_text : {X E : Type 0} (lay : X → List Piece → List Piece) {a b : X} (old mid new text : List ℕ) (r : Result (Unit {0}) E) → a ≡ b → ((ps : List Piece) → old ++ written (lay b ps) ≡ mid ++ (text ++ written ps)) → OnOk r (new ≡ mid ++ text) → OnOk r (Puts old new (lay a))
+arm_text {X} {E} lay {a} {b} old mid new text r e before h = arm_of lay old new r e (last_text old mid new text (lay b) r before h)
+
 pub arm_puts : {X E : Type 0} (lay : X → List Piece → List Piece) {a b : X} (old mid new : List ℕ) (g : List Piece → List Piece) (r : Result (Unit {0}) E) → a ≡ b → ((ps : List Piece) → old ++ written (lay b ps) ≡ mid ++ written (g ps)) → OnOk r (Puts mid new g) → OnOk r (Puts old new (lay a))
-arm_puts {X} {E} lay {a} {b} old mid new g r e before h =
-    on_ok r (λ q. puts_of lay e (record { gives = λ ps. before ps ∙ q.gives ps })) h
+arm_puts {X} {E} lay {a} {b} old mid new g r e before h = arm_of lay old new r e (last_puts old mid new (lay b) g r before h)
 
 -- the tag of a capability and its sign
 pub cap_said : {E : Type 0} (cap : CapTree) (old mid new text : List ℕ) (r : Result (Unit {0}) E) → Puts old mid (canon.name cap.name) → (b : Bool) → cap.plus ≡ b → text ≡ spelling (cond b Kind.Plus Kind.Minus) → OnOk r (new ≡ mid ++ text) → OnOk r (Puts old new (canon.lay_cap cap))

@@ -177,6 +177,23 @@ fn put_caps(out: &mut String, caps: &[CapItem]) -> Result<(), NoMemory>
     Ok(())
 }
 
+/// The capabilities in braces.
+fn put_caps_of(out: &mut String, caps: &[CapItem]) -> Result<(), NoMemory>
+    ensures { OnOk result (Puts (string_bytes out.old) (string_bytes out.new) (canon.lay_form (view.caps_expr (view.caps_tree caps.now)) canon.operand)) }
+{
+    put(out, "caps{")?;
+    put_caps(out, caps)?;
+    put(out, "}")
+}
+
+fn put_new_class(out: &mut String, class: &Id) -> Result<(), NoMemory>
+    ensures { OnOk result (Puts (string_bytes out.old) (string_bytes out.new) (canon.lay_form (view.new_class_expr (view.id_tree class.now)) canon.operand)) }
+{
+    put(out, "new ")?;
+    put_name(out, class)?;
+    put(out, "()")
+}
+
 #[cycle(expr)]
 fn put_args(out: &mut String, args: &[Expr]) -> Result<(), NoMemory>
     ensures { OnOk result (Puts (string_bytes out.old) (string_bytes out.new) (canon.lay_args false (view.exprs_tree args.now))) }
@@ -213,21 +230,8 @@ fn put_kind(out: &mut String, kind: &ExprKind, place: u8) -> Result<(), NoMemory
     ensures { OnOk result (Puts (string_bytes out.old) (string_bytes out.new) (canon.lay_form (view.expr_form kind.now) place)) }
 {
     match kind {
-        ExprKind::Binary { op, left, right } => {
-            let group = place < weight(*op);
-            open_group(out, group)?;
-            put_expr(out, left, left_place(*op))?;
-            put_operator(out, *op)?;
-            put_expr(out, right, right_place(*op))?;
-            close_group(out, group)
-        }
-        ExprKind::Unary { op, of } => {
-            let group = place < PREFIXED;
-            open_group(out, group)?;
-            put(out, sign(*op))?;
-            put_expr(out, of, PREFIXED)?;
-            close_group(out, group)
-        }
+        ExprKind::Binary { op, left, right } => put_binary(out, *op, left, right, place),
+        ExprKind::Unary { op, of } => put_unary(out, *op, of, place),
         ExprKind::Field { of, field } => {
             put_expr(out, of, OPERAND)?;
             put(out, ".")?;
@@ -244,48 +248,87 @@ fn put_kind(out: &mut String, kind: &ExprKind, place: u8) -> Result<(), NoMemory
         ExprKind::Bool(b) => put(out, truth(*b)),
         ExprKind::Null => put(out, "null"),
         ExprKind::Name(x) => put(out, x.as_str()),
-        ExprKind::Call { name, args } => {
-            put_name(out, name)?;
-            put(out, "(")?;
-            put_args(out, args)?;
-            put(out, ")")
-        }
-        ExprKind::NewClass { class } => {
-            put(out, "new ")?;
-            put_name(out, class)?;
-            put(out, "()")
-        }
-        ExprKind::NewArray { element, length } => {
-            put(out, "new [")?;
-            put_type(out, element)?;
-            put(out, "](")?;
-            put_expr(out, length, WHOLE)?;
-            put(out, ")")
-        }
-        ExprKind::LabelOf { s, i } => {
-            put(out, "label{")?;
-            put_args(out, s)?;
-            put(out, ";")?;
-            put_tags(out, i)?;
-            put(out, "}")
-        }
-        ExprKind::CapsOf(caps) => {
-            put(out, "caps{")?;
-            put_caps(out, caps)?;
-            put(out, "}")
-        }
+        ExprKind::Call { name, args } => put_call(out, name, args),
+        ExprKind::NewClass { class } => put_new_class(out, class),
+        ExprKind::NewArray { element, length } => put_new_array(out, element, length),
+        ExprKind::LabelOf { s, i } => put_label(out, s, i),
+        ExprKind::CapsOf(caps) => put_caps_of(out, caps),
         ExprKind::Spawn {
             caps,
             function,
             args,
-        } => {
-            put(out, "spawn(")?;
-            put_expr(out, caps, WHOLE)?;
-            put(out, ") ")?;
-            put_name(out, function)?;
-            put(out, "(")?;
-            put_args(out, args)?;
-            put(out, ")")
-        }
+        } => put_spawn(out, caps, function, args),
     }
+}
+
+#[cycle(expr)]
+fn put_binary(
+    out: &mut String,
+    op: BinaryOp,
+    left: &Expr,
+    right: &Expr,
+    place: u8,
+) -> Result<(), NoMemory>
+    ensures { OnOk result (Puts (string_bytes out.old) (string_bytes out.new) (canon.lay_form (view.binary_expr op (view.expr_tree left.now) (view.expr_tree right.now)) place)) }
+{
+    let group = place < weight(op);
+    open_group(out, group)?;
+    put_expr(out, left, left_place(op))?;
+    put_operator(out, op)?;
+    put_expr(out, right, right_place(op))?;
+    close_group(out, group)
+}
+
+#[cycle(expr)]
+fn put_unary(out: &mut String, op: UnaryOp, of: &Expr, place: u8) -> Result<(), NoMemory>
+    ensures { OnOk result (Puts (string_bytes out.old) (string_bytes out.new) (canon.lay_form (view.unary_expr op (view.expr_tree of.now)) place)) }
+{
+    let group = place < PREFIXED;
+    open_group(out, group)?;
+    put(out, sign(op))?;
+    put_expr(out, of, PREFIXED)?;
+    close_group(out, group)
+}
+
+/// A call. As every form below, it is an operand, and has no parentheses at any place.
+#[cycle(expr)]
+fn put_call(out: &mut String, name: &Id, args: &[Expr]) -> Result<(), NoMemory>
+    ensures { OnOk result (Puts (string_bytes out.old) (string_bytes out.new) (canon.lay_form (view.call_expr (view.id_tree name.now) (view.exprs_tree args.now)) canon.operand)) }
+{
+    put_name(out, name)?;
+    put(out, "(")?;
+    put_args(out, args)?;
+    put(out, ")")
+}
+
+#[cycle(expr)]
+fn put_new_array(out: &mut String, element: &TypeExpr, length: &Expr) -> Result<(), NoMemory>
+    ensures { OnOk result (Puts (string_bytes out.old) (string_bytes out.new) (canon.lay_form (view.new_array_expr (view.type_tree element.now) (view.expr_tree length.now)) canon.operand)) }
+{
+    put(out, "new [")?;
+    put_type(out, element)?;
+    put(out, "](")?;
+    put_expr(out, length, WHOLE)?;
+    put(out, ")")
+}
+
+#[cycle(expr)]
+fn put_label(out: &mut String, s: &[Expr], i: &[Expr]) -> Result<(), NoMemory>
+    ensures { OnOk result (Puts (string_bytes out.old) (string_bytes out.new) (canon.lay_form (view.label_expr (view.exprs_tree s.now) (view.exprs_tree i.now)) canon.operand)) }
+{
+    put(out, "label{")?;
+    put_args(out, s)?;
+    put(out, ";")?;
+    put_tags(out, i)?;
+    put(out, "}")
+}
+
+#[cycle(expr)]
+fn put_spawn(out: &mut String, caps: &Expr, function: &Id, args: &[Expr]) -> Result<(), NoMemory>
+    ensures { OnOk result (Puts (string_bytes out.old) (string_bytes out.new) (canon.lay_form (view.spawn_expr (view.expr_tree caps.now) (view.id_tree function.now) (view.exprs_tree args.now)) canon.operand)) }
+{
+    put(out, "spawn(")?;
+    put_expr(out, caps, WHOLE)?;
+    put(out, ") ")?;
+    put_call(out, function, args)
 }
