@@ -8,8 +8,8 @@ ghost use Rattle.std.specs.Prelude.{◌≡◌, IfOk};
 ghost use Rattle.lam_syntax.specs.Tree as view;
 
 use lam_syntax::{
-    CapItem, Class, Expr, ExprKind, Function, Id, Item, Program, Stmt, StmtKind, TypeExpr,
-    TypeKind, Var,
+    BinaryOp, CapItem, Class, Expr, ExprKind, Function, Id, Item, Program, Stmt, StmtKind,
+    TypeExpr, TypeKind, Var,
 };
 use std::alloc::Global;
 use want_of_memory::NoMemory;
@@ -200,11 +200,7 @@ fn copy_expr_kind(alloc: Global, kind: &ExprKind) -> Result<ExprKind, NoMemory>
     ensures { IfOk result (λ k. view.expr_form k ≡ view.expr_form kind.now) }
 {
     match kind {
-        ExprKind::Binary { op, left, right } => Ok(ExprKind::Binary {
-            op: *op,
-            left: copy_boxed(alloc, left)?,
-            right: copy_boxed(alloc, right)?,
-        }),
+        ExprKind::Binary { op, left, right } => copy_binary(alloc, *op, left, right),
         ExprKind::Unary { op, of } => Ok(ExprKind::Unary {
             op: *op,
             of: copy_boxed(alloc, of)?,
@@ -229,10 +225,7 @@ fn copy_expr_kind(alloc: Global, kind: &ExprKind) -> Result<ExprKind, NoMemory>
         ExprKind::NewClass { class } => Ok(ExprKind::NewClass {
             class: copy_id(class)?,
         }),
-        ExprKind::NewArray { element, length } => Ok(ExprKind::NewArray {
-            element: copy_type(alloc, element)?,
-            length: copy_boxed(alloc, length)?,
-        }),
+        ExprKind::NewArray { element, length } => copy_new_array(alloc, element, length),
         ExprKind::LabelOf { s, i } => Ok(ExprKind::LabelOf {
             s: copy_exprs(alloc, s)?,
             i: copy_exprs(alloc, i)?,
@@ -242,12 +235,45 @@ fn copy_expr_kind(alloc: Global, kind: &ExprKind) -> Result<ExprKind, NoMemory>
             caps,
             function,
             args,
-        } => Ok(ExprKind::Spawn {
-            caps: copy_boxed(alloc, caps)?,
-            function: copy_id(function)?,
-            args: copy_exprs(alloc, args)?,
-        }),
+        } => copy_spawn(alloc, caps, function, args),
     }
+}
+
+#[cycle(copy_expr)]
+fn copy_binary(alloc: Global, op: BinaryOp, left: &Expr, right: &Expr) -> Result<ExprKind, NoMemory>
+    ensures { IfOk result (λ k. view.expr_form k ≡ view.binary_expr op (view.expr_tree left.now) (view.expr_tree right.now)) }
+{
+    Ok(ExprKind::Binary {
+        op,
+        left: copy_boxed(alloc, left)?,
+        right: copy_boxed(alloc, right)?,
+    })
+}
+
+#[cycle(copy_expr)]
+fn copy_new_array(alloc: Global, element: &TypeExpr, length: &Expr) -> Result<ExprKind, NoMemory>
+    ensures { IfOk result (λ k. view.expr_form k ≡ view.new_array_expr (view.type_tree element.now) (view.expr_tree length.now)) }
+{
+    Ok(ExprKind::NewArray {
+        element: copy_type(alloc, element)?,
+        length: copy_boxed(alloc, length)?,
+    })
+}
+
+#[cycle(copy_expr)]
+fn copy_spawn(
+    alloc: Global,
+    caps: &Expr,
+    function: &Id,
+    args: &[Expr],
+) -> Result<ExprKind, NoMemory>
+    ensures { IfOk result (λ k. view.expr_form k ≡ view.spawn_expr (view.expr_tree caps.now) (view.id_tree function.now) (view.exprs_tree args.now)) }
+{
+    Ok(ExprKind::Spawn {
+        caps: copy_boxed(alloc, caps)?,
+        function: copy_id(function)?,
+        args: copy_exprs(alloc, args)?,
+    })
 }
 
 fn copy_value(alloc: Global, value: &Option<Expr>) -> Result<Option<Expr>, NoMemory>
