@@ -7,7 +7,7 @@
 
 ghost use Rattle.std.specs.Prelude.{◌≡◌, ◌∷◌, reverse};
 ghost use Rattle.lam_bytecode.specs.declared.op.Op.TheVariants.{Load, Store, Return, WriteBarrier, PutField, PutElement, EnterMonitor, LeaveMonitor, EnterRegion};
-ghost use Rattle.resolved_tree.specs.Tree.{expr_tree, option_expr_tree, stmt_tree, stmts_tree};
+ghost use Rattle.resolved_tree.specs.Tree.{expr_tree, option_expr_tree, stmt_tree, stmts_tree, sync_block};
 ghost use Rattle.lam_scheme.specs.Pieces.{joined, one, op, when, either, loops};
 ghost use Rattle.lam_scheme.specs.Scheme.{expression, loads, gives_back, value_or_null, statement, block};
 ghost use Rattle.emit_parts.specs.Emits.{Emits};
@@ -148,11 +148,7 @@ fn emit_stmt(out: &mut Buffer, s: &Stmt, held: &mut Vec<usize>)
         Stmt::While { test, body } => emit_loop(out, body, test, held),
         Stmt::Return(value) => emit_return(out, held, value),
         Stmt::Throw(e) => emit_then(out, e, Op::Throw),
-        Stmt::Sync { slot, thing, body } => {
-            emit_enter(out, *slot, thing);
-            emit_inside(out, body, *slot, held);
-            emit_leave(out, *slot)
-        }
+        Stmt::Sync { slot, thing, body } => emit_sync(out, body, *slot, thing, held),
         Stmt::Region {
             number,
             label,
@@ -202,6 +198,16 @@ fn emit_loop(out: &mut Buffer, body: &Vec<Stmt>, test: &Expr, held: &mut Vec<usi
     out.push(Op::Jump(start));
     let end = out.len();
     out.point(leave, Op::JumpIfFalse(end))
+}
+
+#[cycle(stmt)]
+fn emit_sync(out: &mut Buffer, body: &Vec<Stmt>, slot: usize, thing: &Expr, held: &mut Vec<usize>)
+    ensures emits { Emits out.old out.new (statement (reverse held.old.items) (sync_block slot (expr_tree thing.now) (stmts_tree body.now.items))) }
+    ensures held { held.new.items ≡ held.old.items }
+{
+    emit_enter(out, slot, thing);
+    emit_inside(out, body, slot, held);
+    emit_leave(out, slot)
 }
 
 /// A block inside one more open `sync`.

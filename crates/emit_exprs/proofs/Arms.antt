@@ -3,7 +3,7 @@ use Rattle.std.proofs.Common.{◌≡◌, ℕ, suc, ◌+◌, ◌<◌, ◌≤◌, 
 use Rattle.resolved_tree.specs.declared.Expr.{Expr}
 use Rattle.resolved_tree.specs.declared.CapItem.{CapItem}
 use Rattle.resolved_tree.specs.Tree.{Expression, expr_tree, exprs_tree, caps_tree}
-use Rattle.lam_bytecode.specs.declared.op.Op.TheVariants.{Load}
+use Rattle.lam_bytecode.specs.declared.op.Op.TheVariants.{Load, GetField, GetElement, ReadBarrier}
 use Rattle.lam_scheme.specs.Pieces.{Pieces, joined, op}
 use Rattle.lam_syntax.specs.declared.BinaryOp.{BinaryOp}
 use Rattle.lam_scheme.specs.Scheme.{between, expression, expressions, signs, sign_op}
@@ -21,6 +21,14 @@ child {a = a} {b = b} e h = subst (λ (x : Expr). Emits a b (expression (expr_tr
 -- the right child of an operator
 pub right_child : {a b : State} (o : BinaryOp) {x y : Expr} → x ≡ y → Emits a b (between o (expression (expr_tree x))) → Emits a b (between o (expression (expr_tree y)))
 right_child {a = a} {b = b} o e h = subst (λ (x : Expr). Emits a b (between o (expression (expr_tree x)))) e h
+
+-- the object whose field is read
+pub field_child : {a b : State} (n : ℕ) {x y : Expr} → x ≡ y → Emits a b (joined (expression (expr_tree x)) (joined (op (ReadBarrier 0)) (op (GetField n)))) → Emits a b (joined (expression (expr_tree y)) (joined (op (ReadBarrier 0)) (op (GetField n))))
+field_child {a = a} {b = b} n e h = subst (λ (x : Expr). Emits a b (joined (expression (expr_tree x)) (joined (op (ReadBarrier 0)) (op (GetField n))))) e h
+
+-- the index of an element that is read
+pub index_child : {a b : State} {x y : Expr} → x ≡ y → Emits a b (joined (expression (expr_tree x)) (joined (op (ReadBarrier 1)) (op GetElement))) → Emits a b (joined (expression (expr_tree y)) (joined (op (ReadBarrier 1)) (op GetElement)))
+index_child {a = a} {b = b} e h = subst (λ (x : Expr). Emits a b (joined (expression (expr_tree x)) (joined (op (ReadBarrier 1)) (op GetElement)))) e h
 
 -- an item of a list, read from another that is equal
 pub at_item : {A : Type 0} (xs ys : List A) (i : ℕ) (x : A) → xs ≡ ys → x ≡ get_or xs i x → x ≡ get_or ys i x

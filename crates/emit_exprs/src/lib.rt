@@ -7,7 +7,7 @@
 
 ghost use Rattle.std.specs.Prelude.{◌≡◌, vec_len, true, false};
 ghost use Rattle.lam_value.specs.declared.values.Value.TheVariants.{Bool as a_bool};
-ghost use Rattle.lam_bytecode.specs.declared.op.Op.TheVariants.{Load};
+ghost use Rattle.lam_bytecode.specs.declared.op.Op.TheVariants.{Load, Call, System, GetField, GetElement, ReadBarrier, NoCaps};
 ghost use Rattle.resolved_tree.specs.Tree.{type_tree, expr_tree, exprs_tree, caps_tree, text_value};
 ghost use Rattle.lam_scheme.specs.Pieces.{joined, one, op, either, puts};
 ghost use Rattle.lam_scheme.specs.Scheme.{between, prefix_op, sign_op, signs, expression, expressions};
@@ -16,6 +16,7 @@ ghost use Rattle.emit_parts.specs.Emits.{Emits};
 ghost use Rattle.emit_exprs.specs.Labels.{MakesLabel};
 
 use emit_parts::{Buffer, Constant};
+use lam_builtins::Builtin;
 use lam_bytecode::Op;
 use lam_syntax::{BinaryOp, UnaryOp};
 use lam_value::Kind;
@@ -67,6 +68,13 @@ fn emit_signs(out: &mut Buffer, items: &[CapItem])
     }
 }
 
+fn emit_caps(out: &mut Buffer, items: &[CapItem])
+    ensures { Emits out.old out.new (joined (op NoCaps) (signs (caps_tree items.now))) }
+{
+    out.push(Op::NoCaps);
+    emit_signs(out, items)
+}
+
 fn emit_bytes(out: &mut Buffer, bytes: &Vec<u8>)
     ensures { Emits out.old out.new (expression (text_value bytes.now.items)) }
 {
@@ -101,25 +109,13 @@ pub fn emit_expr(out: &mut Buffer, e: &Expr)
             emit_expr(out, left);
             emit_right(out, right, *op)
         }
-        Expr::Field { of, field, .. } => {
-            emit_expr(out, of);
-            out.push(Op::ReadBarrier(0));
-            out.get_field(*field)
-        }
+        Expr::Field { of, field, .. } => emit_field(out, of, *field),
         Expr::Element { of, index, .. } => {
             emit_expr(out, of);
-            emit_expr(out, index);
-            out.push(Op::ReadBarrier(1));
-            out.push(Op::GetElement)
+            emit_index(out, index)
         }
-        Expr::Call { function, args } => {
-            emit_exprs(out, args);
-            out.call(*function)
-        }
-        Expr::BuiltinCall { call, args, .. } => {
-            emit_exprs(out, args);
-            out.push(Op::System(*call))
-        }
+        Expr::Call { function, args } => emit_call(out, args, *function),
+        Expr::BuiltinCall { call, args, .. } => emit_builtin(out, args, *call),
         Expr::NewClass { class } => out.new_object(*class),
         Expr::NewArray { element, length } => {
             emit_then(out, length, Op::NewArray(kind_of(element)))
@@ -129,10 +125,7 @@ pub fn emit_expr(out: &mut Buffer, e: &Expr)
             emit_exprs(out, i);
             emit_label(out, s, i)
         }
-        Expr::CapsOf(items) => {
-            out.push(Op::NoCaps);
-            emit_signs(out, items)
-        }
+        Expr::CapsOf(items) => emit_caps(out, items),
         Expr::Spawn {
             caps,
             function,
@@ -152,6 +145,44 @@ fn emit_then(out: &mut Buffer, e: &Expr, last: Op)
 {
     emit_expr(out, e);
     out.push(last)
+}
+
+/// A field of an object.
+#[cycle(expr)]
+fn emit_field(out: &mut Buffer, of: &Expr, field: usize)
+    ensures { Emits out.old out.new (joined (expression (expr_tree of.now)) (joined (op (ReadBarrier 0)) (op (GetField field)))) }
+{
+    emit_expr(out, of);
+    out.push(Op::ReadBarrier(0));
+    out.get_field(field)
+}
+
+/// An index and the read of that element, where the array is there.
+#[cycle(expr)]
+fn emit_index(out: &mut Buffer, index: &Expr)
+    ensures { Emits out.old out.new (joined (expression (expr_tree index.now)) (joined (op (ReadBarrier 1)) (op GetElement))) }
+{
+    emit_expr(out, index);
+    out.push(Op::ReadBarrier(1));
+    out.push(Op::GetElement)
+}
+
+/// Arguments, and a call of a declared function.
+#[cycle(expr)]
+fn emit_call(out: &mut Buffer, args: &Vec<Expr>, function: usize)
+    ensures { Emits out.old out.new (joined (expressions (exprs_tree args.now.items)) (op (Call function))) }
+{
+    emit_exprs(out, args);
+    out.call(function)
+}
+
+/// Arguments, and a built-in call.
+#[cycle(expr)]
+fn emit_builtin(out: &mut Buffer, args: &Vec<Expr>, call: Builtin)
+    ensures { Emits out.old out.new (joined (expressions (exprs_tree args.now.items)) (op (System call))) }
+{
+    emit_exprs(out, args);
+    out.push(Op::System(call))
 }
 
 /// The right operand of an operator and the operator, where the left operand's value is there.

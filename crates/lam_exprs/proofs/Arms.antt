@@ -1,12 +1,12 @@
 -- What is shown of a form holds of the form that the code matched. An argument x is the expression that the code
 -- reached through a box, and l the one in the tree.
-use Rattle.std.proofs.Common.{◌≡◌, ℕ, sym, ap, ◌∙◌, subst, refl, Result, Ok, Err, Option, Some, None, List}
+use Rattle.std.proofs.Common.{◌≡◌, ℕ, sym, ap, ◌∙◌, subst, Result, Option}
 use Rattle.lam_syntax.specs.declared.Expr.{Expr}
 use Rattle.lam_syntax.specs.declared.BinaryOp.{BinaryOp}
 use Rattle.lam_syntax.specs.declared.UnaryOp.{UnaryOp}
-use Rattle.lam_syntax.specs.Tree.{Word, IdTree, TypeTree, ExprTree, ExprForm, ExprList, expr_tree, binary_expr, unary_expr, field_expr, element_expr, new_array_expr, label_expr, spawn_expr, call_expr}
+use Rattle.lam_syntax.specs.Tree.{IdTree, TypeTree, ExprTree, ExprForm, ExprList, expr_tree, binary_expr, unary_expr, field_expr, element_expr, new_array_expr, label_expr, spawn_expr}
 use Rattle.lam_builtins.specs.Types.{ValueType, Given, a_value, Place, exactly, any_class, any_array, int, label, caps, array, written}
-use Rattle.lam_kinds.specs.Breaks.{Verdict, Fine, Stop, then_on}
+use Rattle.lam_kinds.specs.Breaks.{Verdict, Fine, then_on}
 use Rattle.lam_builtins.specs.Builtins.{Signature}
 use Rattle.lam_kinds.specs.Tables.{Names, Decls, find, type_known}
 use Rattle.lam_kinds.specs.Values.{Breaks, Gives}
@@ -22,6 +22,9 @@ module _ (d : Decls) (env : Names) (at : ℕ) (k : ExprForm) where
 
   pub gives_form : (r : Result Got TypeFault) (form : ExprForm) → k ≡ form → Gives r (form_given d env at form) → Gives r (form_given d env at k)
   gives_form r form e h = subst (λ (k : ExprForm). Gives r (form_given d env at k)) (sym e) h
+
+  pub gives_through : (r : Result Got TypeFault) (form : ExprTree → ExprForm) (x l : Expr) → k ≡ form (expr_tree l) → x ≡ l → Gives r (form_given d env at (form (expr_tree x))) → Gives r (form_given d env at k)
+  gives_through r form x l e q h = gives_form r (form (expr_tree l)) e (subst (λ (x : Expr). Gives r (form_given d env at (form (expr_tree x)))) q h)
 
   place_at : Place → ExprTree → Verdict Given
   place_at p e = placed (at_of e) p (given_of d env e)

@@ -1,10 +1,9 @@
 -- An expression is typed exactly where there is no break in it.
-use Rattle.std.proofs.Common.{◌≡◌, ℕ, ◌+◌, Bool, true, false, cond, if◌then◌else◌, List, [], ◌∷◌, length, nat_eq, Option, Some, None, is_some, refl, sym, ap, ◌∙◌, subst, arith, Result, Ok, Err, IfOk, eq-eqb}
+use Rattle.std.proofs.Common.{◌≡◌, ℕ, Bool, true, false, cond, List, [], ◌∷◌, length, nat_eq, Option, Some, None, is_some, refl, sym, ap, ◌∙◌, subst, arith, Result, Ok, Err, IfOk, eq-eqb}
 use Rattle.std.proofs.lemmas.Bool.Decides.{nat_tests}
-use Rattle.std.specs.Str.{bytes_eq}
 use Rattle.std.proofs.lemmas.Slice.Eq.{bytes_eq-Decides}
-use Rattle.lam_syntax.specs.Tree.{Word, IdTree, CapTree, TypeTree, type_node, TypeForm, int_type, bool_type, bytes_type, tag_type, label_type, caps_type, file_type, dir_type, pipe_type, thread_type, class_type, array_type, ExprTree, expr_node, ExprForm, binary_expr, unary_expr, field_expr, element_expr, number_expr, text_expr, bool_expr, null_expr, name_expr, call_expr, new_class_expr, new_array_expr, label_expr, caps_expr, spawn_expr, ExprList, no_exprs, exprs}
-use Rattle.lam_builtins.specs.Types.{ValueType, int, bool, bytes, tag, label, caps, file, dir, pipe, thread, object, array, written, Given, a_value, a_null, nothing, given_type, Place, exactly, any_class, any_array, suits, accepts, wanted_type, comparable, same_type}
+use Rattle.lam_syntax.specs.Tree.{Word, CapTree, TypeTree, type_node, TypeForm, int_type, bool_type, bytes_type, tag_type, label_type, caps_type, file_type, dir_type, pipe_type, thread_type, class_type, array_type, ExprTree, expr_node, ExprForm, binary_expr, unary_expr, field_expr, element_expr, number_expr, text_expr, bool_expr, null_expr, name_expr, call_expr, new_class_expr, new_array_expr, label_expr, caps_expr, spawn_expr, ExprList, no_exprs, exprs}
+use Rattle.lam_builtins.specs.Types.{ValueType, int, bool, bytes, tag, label, caps, file, dir, pipe, thread, object, array, written, Given, a_value, a_null, nothing, given_type, Place, exactly, any_class, any_array, suits, wanted_type, comparable, same_type}
 use Rattle.lam_kinds.specs.Breaks.{Break, no_name, arity, Verdict, Fine, Stop, then_on, fit, unequal, mismatch_of}
 use Rattle.lam_builtins.specs.Builtins.{Answer, answers, no_answer, as_first, Signature, answered}
 use Rattle.lam_kinds.specs.Tables.{Names, Fields, Decls, find, signature_named, type_known, form_known, named_if}
@@ -14,7 +13,7 @@ use Rattle.lam_kinds.specs.declared.fault.TypeFault.{TypeFault}
 use Rattle.lam_exprs.specs.Exprs.{at_of, placed, operate, field_in, field_type, found_field, element_of, known, count, counted, called, spawnable, started, cap_tag, cap_tags, given_of, form_given, args_given, rest_given, tags_given}
 use Rattle.lam_builtins.specs.Operators.{operand, operator_type, unary_type}
 use Rattle.lam_exprs.specs.Judgement.{IsDeclared, IsDeclaredForm, Fits, Operates, AreTagNames, IsGiven, IsFormGiven, AreArgs, AreRest, AreTags}
-use Rattle.lam_exprs.specs.Meets.{IsFine}
+use Rattle.lam_exprs.specs.Meets.{HasNoBreak}
 
 -- ---- what is typed has no break
 
@@ -380,6 +379,6 @@ pub ok_is_given : (r : Result Got TypeFault) (d : Decls) (env : Names) (e : Expr
 ok_is_given (Ok g) d env e m = given_back d env e (given g) m
 ok_is_given (Err f) d env e m = tt
 
-pub given_is_ok : (r : Result Got TypeFault) (d : Decls) (env : Names) (e : ExprTree) (g : Given) → Gives r (given_of d env e) → IsGiven d env e g → IsFine r
+pub given_is_ok : (r : Result Got TypeFault) (d : Decls) (env : Names) (e : ExprTree) (g : Given) → Gives r (given_of d env e) → IsGiven d env e g → HasNoBreak r
 given_is_ok (Ok k) d env e g m h = tt
 given_is_ok (Err f) d env e g m h = subst (λ (v : Verdict Given). Breaks f v) (given_fine d env e g h) m

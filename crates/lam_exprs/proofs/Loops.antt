@@ -1,10 +1,10 @@
 -- Arguments and tags, one after the other.
-use Rattle.std.proofs.Common.{◌≡◌, refl, sym, ap, ◌∙◌, subst, ℕ, zero, suc, ◌+◌, ◌<◌, List, [], ◌∷◌, length, drop, get_or, map, arith, add-one, Option, Some, None}
+use Rattle.std.proofs.Common.{◌≡◌, refl, sym, ap, ◌∙◌, subst, ℕ, zero, suc, ◌+◌, ◌<◌, List, [], ◌∷◌, length, drop, get_or, arith, add-one, Some}
 use Rattle.std.proofs.lemmas.List.{length-map}
 use Rattle.std.proofs.Math.Seq.{drop-cons}
 use Rattle.lam_syntax.specs.declared.Expr.{Expr}
 use Rattle.lam_syntax.specs.declared.CapItem.{CapItem}
-use Rattle.lam_syntax.specs.Tree.{ExprTree, ExprList, no_exprs, exprs, exprs_tree, expr_tree, CapTree, caps_tree, cap_tree}
+use Rattle.lam_syntax.specs.Tree.{ExprTree, ExprList, no_exprs, exprs, exprs_tree, expr_tree, caps_tree, cap_tree}
 use Rattle.lam_builtins.specs.Types.{Given, nothing, Place, exactly, tag}
 use Rattle.lam_kinds.specs.Breaks.{Verdict, Fine, Stop, then_on}
 use Rattle.lam_builtins.specs.Builtins.{Answer, answered}

@@ -19,9 +19,9 @@ TakesAsMany n None = Unit {0}
 TakesAsMany n (Some c) = length c.now.takes.items ≡ n
 
 -- no break; only memory may have run out
-abbrev pub IsFine : {A : Type 0} → Result A TypeFault → Type 0
-IsFine (Ok a) = Unit {0}
-IsFine (Err f) = f ≡ NoMemory
+abbrev pub HasNoBreak : {A : Type 0} → Result A TypeFault → Type 0
+HasNoBreak (Ok a) = Unit {0}
+HasNoBreak (Err f) = f ≡ NoMemory
 
 abbrev pub signature_as : List Place → Answer → Signature
 signature_as takes answer = record { takes = takes; answer = answer }

@@ -8,22 +8,23 @@
 //! what the expression gives, without allocating; only a refusal that names types does.
 #![tactic(auto)]
 
-ghost use Rattle.std.specs.Prelude.{◌≡◌, IfOk, OnOk, length, Some};
-ghost use Rattle.lam_syntax.specs.Tree.{expr_tree, exprs_tree, id_tree, cap_tree, caps_tree, call_expr, label_expr, spawn_expr};
-ghost use Rattle.lam_builtins.specs.Types.{Given};
-ghost use Rattle.lam_kinds.specs.Tables.{find};
+ghost use Rattle.std.specs.Prelude.{◌≡◌, IfOk, OnOk, length, is_some, Some};
+ghost use Rattle.lam_syntax.specs.Tree.{expr_tree, exprs_tree, id_tree, cap_tree, caps_tree, type_tree, call_expr};
+ghost use Rattle.lam_builtins.specs.Types.{Given, a_value, int, caps, object, array, written, exactly, any_class};
+ghost use Rattle.lam_kinds.specs.Tables.{find, named_if, type_known};
+ghost use Rattle.lam_kinds.specs.Breaks.{Fine, then_on};
 ghost use Rattle.lam_kinds.specs.Values.{decls, names, value_type, option_type, given, place, places, answer, option_signature, Gives, Passes};
 ghost use Rattle.lam_exprs.specs.Exprs.{at_of, placed, operate, field_type, found_field, element_of, known as known_name, count, counted, called, spawnable, started, cap_tag, cap_tags, given_of, form_given, args_given, tags_given};
 ghost use Rattle.lam_builtins.specs.Operators.{operand, operator_type, unary_type};
 ghost use Rattle.lam_exprs.specs.Judgement.{IsGiven};
-ghost use Rattle.lam_exprs.specs.Meets.{first_of, signature_as, GivesSignature, TakesAsMany, IsFine};
+ghost use Rattle.lam_exprs.specs.Meets.{first_of, signature_as, GivesSignature, TakesAsMany, HasNoBreak};
 
 use lam_kinds::builtins::{answered, builtin_returns, builtin_wants};
 use lam_kinds::fault::{fit, unequal};
 use lam_kinds::tables::{find_name, known_type};
 use lam_kinds::types::{comparable, type_ref};
 use lam_kinds::{Builtin, Callable, Got, Known, Names, Returns, TypeFault, TypeRef, Want};
-use lam_syntax::{BinaryOp, CapItem, Expr, ExprKind, Id, UnaryOp};
+use lam_syntax::{BinaryOp, CapItem, Expr, ExprKind, Id, TypeExpr, UnaryOp};
 use std::alloc::Global;
 
 fn operand_type(op: BinaryOp) -> Option<TypeRef<'static>>
@@ -115,6 +116,17 @@ fn check_name<'a>(env: &Names<'a>, at: u64, name: &str) -> Result<Got<'a>, TypeF
     }
 }
 
+// A new object of a class, which is declared.
+fn check_object<'a>(known: &Known<'a>, class: &'a Id) -> Result<Got<'a>, TypeFault>
+    ensures { Gives result (then_on (named_if (is_some (find (id_tree class.now).word (decls known.now).classes)) (id_tree class.now).at) (λ _. Fine (a_value (object (id_tree class.now).word)))) }
+{
+    if known.class(class.name.as_str()).is_some() {
+        Ok(Got::Value(TypeRef::Class(class.name.as_str())))
+    } else {
+        Err(TypeFault::NoName { at: class.at })
+    }
+}
+
 #[tactic(auto, unfolding(crate::specs::Exprs::placed))]
 fn check_cap<'a>(alloc: Global, env: &Names<'a>, item: &CapItem) -> Result<Got<'a>, TypeFault>
     ensures { Gives result (cap_tag (names env.now.entries) (cap_tree item.now)) }
@@ -130,6 +142,17 @@ fn check_caps(alloc: Global, env: &Names, items: &[CapItem]) -> Result<(), TypeF
         check_cap(alloc, env, item)?;
     }
     Ok(())
+}
+
+fn check_caps_of<'a>(
+    alloc: Global,
+    env: &Names<'a>,
+    items: &[CapItem],
+) -> Result<Got<'a>, TypeFault>
+    ensures { Gives result (then_on (cap_tags (names env.now.entries) (caps_tree items.now)) (λ _. Fine (a_value caps))) }
+{
+    check_caps(alloc, env, items)?;
+    Ok(Got::Value(TypeRef::Caps))
 }
 
 // The function that is spawned, where it is declared: its result is int, and it takes so many arguments.
@@ -196,14 +219,8 @@ pub fn check_expr<'a>(
             let second = check_expr(alloc, known, env, right)?;
             check_operator(alloc, *op, left.at, right.at, first, second)
         }
-        ExprKind::Unary { op, of } => {
-            check_at(alloc, known, env, Want::Exactly(prefix_type(*op)), of)?;
-            Ok(Got::Value(prefix_type(*op)))
-        }
-        ExprKind::Field { of, field } => {
-            let got = check_at(alloc, known, env, Want::AnyClass, of)?;
-            check_field(known, got, field)
-        }
+        ExprKind::Unary { op, of } => check_prefix(alloc, known, env, of, *op),
+        ExprKind::Field { of, field } => check_access(alloc, known, env, of, field),
         ExprKind::Element { of, index } => {
             let got = check_at(alloc, known, env, Want::AnyArray, of)?;
             check_at(alloc, known, env, Want::Exactly(TypeRef::Int), index)?;
@@ -215,27 +232,14 @@ pub fn check_expr<'a>(
         ExprKind::Null => Ok(Got::Null),
         ExprKind::Name(x) => check_name(env, e.at, x.as_str()),
         ExprKind::Call { name, args } => check_call(alloc, known, env, e.at, name, args),
-        ExprKind::NewClass { class } => {
-            if known.class(class.name.as_str()).is_some() {
-                Ok(Got::Value(TypeRef::Class(class.name.as_str())))
-            } else {
-                Err(TypeFault::NoName { at: class.at })
-            }
-        }
-        ExprKind::NewArray { element, length } => {
-            known_type(known, element)?;
-            check_at(alloc, known, env, Want::Exactly(TypeRef::Int), length)?;
-            Ok(Got::Value(TypeRef::Array(element)))
-        }
+        ExprKind::NewClass { class } => check_object(known, class),
+        ExprKind::NewArray { element, length } => check_array(alloc, known, env, length, element),
         ExprKind::LabelOf { s, i } => {
             check_tags(alloc, known, env, s)?;
             check_tags(alloc, known, env, i)?;
             Ok(Got::Value(TypeRef::Label))
         }
-        ExprKind::CapsOf(items) => {
-            check_caps(alloc, env, items.as_slice())?;
-            Ok(Got::Value(TypeRef::Caps))
-        }
+        ExprKind::CapsOf(items) => check_caps_of(alloc, env, items.as_slice()),
         ExprKind::Spawn {
             caps,
             function,
@@ -262,6 +266,50 @@ pub fn check_at<'a>(
 {
     let got = check_expr(alloc, known, env, e)?;
     fit(alloc, e.at, want, got)
+}
+
+#[cycle(expr)]
+fn check_prefix<'a>(
+    alloc: Global,
+    known: &Known<'a>,
+    env: &Names<'a>,
+    of: &'a Expr,
+    op: UnaryOp,
+) -> Result<Got<'a>, TypeFault>
+    ensures { Gives result (then_on (placed (at_of (expr_tree of.now)) (exactly (unary_type op)) (given_of (decls known.now) (names env.now.entries) (expr_tree of.now))) (λ _. Fine (a_value (unary_type op)))) }
+{
+    check_at(alloc, known, env, Want::Exactly(prefix_type(op)), of)?;
+    Ok(Got::Value(prefix_type(op)))
+}
+
+#[cycle(expr)]
+fn check_access<'a>(
+    alloc: Global,
+    known: &Known<'a>,
+    env: &Names<'a>,
+    of: &'a Expr,
+    field: &Id,
+) -> Result<Got<'a>, TypeFault>
+    ensures { Gives result (then_on (placed (at_of (expr_tree of.now)) any_class (given_of (decls known.now) (names env.now.entries) (expr_tree of.now))) (λ g. found_field field.now.at (field_type (decls known.now) g (id_tree field.now).word))) }
+{
+    let got = check_at(alloc, known, env, Want::AnyClass, of)?;
+    check_field(known, got, field)
+}
+
+// A new array: the classes in the type of its elements are declared, and its length is an int.
+#[cycle(expr)]
+fn check_array<'a>(
+    alloc: Global,
+    known: &Known<'a>,
+    env: &Names<'a>,
+    length: &'a Expr,
+    element: &'a TypeExpr,
+) -> Result<Got<'a>, TypeFault>
+    ensures { Gives result (then_on (type_known (decls known.now) (type_tree element.now)) (λ _. then_on (placed (at_of (expr_tree length.now)) (exactly int) (given_of (decls known.now) (names env.now.entries) (expr_tree length.now))) (λ _. Fine (a_value (array (written (type_tree element.now))))))) }
+{
+    known_type(known, element)?;
+    check_at(alloc, known, env, Want::Exactly(TypeRef::Int), length)?;
+    Ok(Got::Value(TypeRef::Array(element)))
 }
 
 #[cycle(expr)]
@@ -380,7 +428,7 @@ pub fn check_one<'a>(
 ) -> Result<Got<'a>, TypeFault>
     ensures exact { Gives result (given_of (decls known.now) (names env.now.entries) (expr_tree e.now)) }
     ensures typed { IfOk result (λ g. IsGiven (decls known.now) (names env.now.entries) (expr_tree e.now) (given g)) }
-    ensures only { (g : Given) → IsGiven (decls known.now) (names env.now.entries) (expr_tree e.now) g → IsFine result }
+    ensures only { (g : Given) → IsGiven (decls known.now) (names env.now.entries) (expr_tree e.now) g → HasNoBreak result }
 {
     check_expr(alloc, known, env, e)
 }

@@ -25,17 +25,24 @@ module _ (t : Tables) (ls : Locals) (k : ExprForm) where
   is_at : (x l : Expr) (a : Value) → x ≡ l → Some a ≡ resolve t ls (expr_tree x) → Some a ≡ resolve t ls (expr_tree l)
   is_at x l a q h = h ∙ ap (λ x. resolve t ls (expr_tree x)) q
 
-  smaller_at : (x l : Expr) → x ≡ l → expr_size (expr_tree l) < 1 + form_size k → expr_size (expr_tree x) < 1 + form_size k
-  smaller_at x l q h = subst (λ x. expr_size (expr_tree x) < 1 + form_size k) (sym q) h
+  smaller_at : (x l : Expr) → x ≡ l → expr_size (expr_tree l) < 2 + form_size k → expr_size (expr_tree x) < 2 + form_size k
+  smaller_at x l q h = subst (λ x. expr_size (expr_tree x) < 2 + form_size k) (sym q) h
+
+  -- a form that has a function of its own
+  pub form_needs : (form : ExprForm) → k ≡ form → IsSome (resolve_form t ls k) → (1 + form_size form < 2 + form_size k) × IsSome (resolve_form t ls form)
+  form_needs form e h = (omega (arith, ap form_size e), at_form form e h)
+
+  pub form_done : (form : ExprForm) (v : Value) → k ≡ form → Some v ≡ resolve_form t ls form → Some v ≡ resolve_form t ls k
+  form_done form v e h = h ∙ sym (ap (resolve_form t ls) e)
 
   -- two operands
   pub binary_left : (op : BinaryOp) (x l r : Expr) → k ≡ binary_expr op (expr_tree l) (expr_tree r) → x ≡ l → IsSome (resolve_form t ls k) →
-      (expr_size (expr_tree x) < 1 + form_size k) × IsSome (resolve t ls (expr_tree x))
+      (expr_size (expr_tree x) < 2 + form_size k) × IsSome (resolve t ls (expr_tree x))
   binary_left op x l r e q h =
       (smaller_at x l q (omega (arith, ap form_size e)), known_at x l q (first_some (resolve t ls (expr_tree l)) _ (at_form (binary_expr op (expr_tree l) (expr_tree r)) e h)))
 
   pub binary_right : (op : BinaryOp) (x l y r : Expr) (a : Value) → k ≡ binary_expr op (expr_tree l) (expr_tree r) → x ≡ l → y ≡ r → Some a ≡ resolve t ls (expr_tree x) → IsSome (resolve_form t ls k) →
-      (expr_size (expr_tree y) < 1 + form_size k) × IsSome (resolve t ls (expr_tree y))
+      (expr_size (expr_tree y) < 2 + form_size k) × IsSome (resolve t ls (expr_tree y))
   binary_right op x l y r a e q p i h =
       (smaller_at y r p (omega (arith, ap form_size e)), known_at y r p (first_some (resolve t ls (expr_tree r)) _ (next_some (resolve t ls (expr_tree l)) a _ (is_at x l a q i) (at_form (binary_expr op (expr_tree l) (expr_tree r)) e h))))
 
@@ -44,7 +51,7 @@ module _ (t : Tables) (ls : Locals) (k : ExprForm) where
   binary_done op x l y r a b v e q p i j n =
       ap Some n ∙ sym (ap (resolve_form t ls) e ∙ goes (resolve t ls (expr_tree l)) a _ (is_at x l a q i) ∙ goes (resolve t ls (expr_tree r)) b _ (is_at y r b p j))
 
-  pub unary_first : (op : UnaryOp) (x l : Expr) → k ≡ unary_expr op (expr_tree l) → x ≡ l → IsSome (resolve_form t ls k) → (expr_size (expr_tree x) < 1 + form_size k) × IsSome (resolve t ls (expr_tree x))
+  pub unary_first : (op : UnaryOp) (x l : Expr) → k ≡ unary_expr op (expr_tree l) → x ≡ l → IsSome (resolve_form t ls k) → (expr_size (expr_tree x) < 2 + form_size k) × IsSome (resolve t ls (expr_tree x))
   unary_first op x l e q h =
       (smaller_at x l q (omega (arith, ap form_size e)), known_at x l q (first_some (resolve t ls (expr_tree l)) _ (at_form (unary_expr op (expr_tree l)) e h)))
 
@@ -53,7 +60,7 @@ module _ (t : Tables) (ls : Locals) (k : ExprForm) where
 
   -- a field
   module _ (f : IdTree) (w : Word) (x l : Expr) (e : k ≡ field_expr (expr_tree l) f) (q : x ≡ l) where
-    pub field_first : IsSome (resolve_form t ls k) → (expr_size (expr_tree x) < 1 + form_size k) × IsSome (resolve t ls (expr_tree x))
+    pub field_first : IsSome (resolve_form t ls k) → (expr_size (expr_tree x) < 2 + form_size k) × IsSome (resolve t ls (expr_tree x))
     field_first h =
         (smaller_at x l q (omega (arith, ap form_size e)), known_at x l q (first_some (resolve t ls (expr_tree l)) _ (at_form (field_expr (expr_tree l) f) e h)))
 
@@ -67,7 +74,7 @@ module _ (t : Tables) (ls : Locals) (k : ExprForm) where
 
   -- an element
   module _ (x l y r : Expr) (e : k ≡ element_expr (expr_tree l) (expr_tree r)) (q : x ≡ l) where
-    pub element_first : IsSome (resolve_form t ls k) → (expr_size (expr_tree x) < 1 + form_size k) × IsSome (resolve t ls (expr_tree x))
+    pub element_first : IsSome (resolve_form t ls k) → (expr_size (expr_tree x) < 2 + form_size k) × IsSome (resolve t ls (expr_tree x))
     element_first h =
         (smaller_at x l q (omega (arith, ap form_size e)), known_at x l q (first_some (resolve t ls (expr_tree l)) _ (at_form (element_expr (expr_tree l) (expr_tree r)) e h)))
 
@@ -75,7 +82,7 @@ module _ (t : Tables) (ls : Locals) (k : ExprForm) where
     element_rest a i h =
         next_some (resolve t ls (expr_tree l)) a (λ v. then_some (resolve t ls (expr_tree r)) (λ i. element_read v.it v.gives i.it)) (is_at x l a q i) (at_form (element_expr (expr_tree l) (expr_tree r)) e h)
 
-    pub element_second : (a : Value) → y ≡ r → Some a ≡ resolve t ls (expr_tree x) → IsSome (resolve_form t ls k) → (expr_size (expr_tree y) < 1 + form_size k) × IsSome (resolve t ls (expr_tree y))
+    pub element_second : (a : Value) → y ≡ r → Some a ≡ resolve t ls (expr_tree x) → IsSome (resolve_form t ls k) → (expr_size (expr_tree y) < 2 + form_size k) × IsSome (resolve t ls (expr_tree y))
     element_second a p i h =
         (smaller_at y r p (omega (arith, ap form_size e)), known_at y r p (first_some (resolve t ls (expr_tree r)) (λ i. element_read a.it a.gives i.it) (element_rest a i h)))
 
@@ -92,7 +99,7 @@ module _ (t : Tables) (ls : Locals) (k : ExprForm) where
 
   -- a call
   module _ (f : IdTree) (w : Word) (args : ExprList) (e : k ≡ call_expr f args) where
-    pub call_args : IsSome (resolve_form t ls k) → (args_size args < 1 + form_size k) × IsSome (resolve_args t ls args)
+    pub call_args : IsSome (resolve_form t ls k) → (args_size args < 2 + form_size k) × IsSome (resolve_args t ls args)
     call_args h = (omega (arith, ap form_size e), first_some (resolve_args t ls args) (λ args. called t (builtin_named f.word) f.word args) (at_form (call_expr f args) e h))
 
     pub call_needs : (a : Args) → w ≡ f.word → Some a ≡ resolve_args t ls args → IsSome (resolve_form t ls k) → IsSome (called t (builtin_named w) w a)
@@ -106,6 +113,9 @@ module _ (t : Tables) (ls : Locals) (k : ExprForm) where
   pub class_needs : (c : IdTree) (w : Word) → k ≡ new_class_expr c → w ≡ c.word → IsSome (resolve_form t ls k) → IsSome (found w t.names)
   class_needs c w e q h = ap (λ w. is_some (found w t.names)) q ∙ first_some (found c.word t.names) (λ n. Some (value_as (new_object n.number) (a_value (object n.number)))) (at_form (new_class_expr c) e h)
 
+  smaller_in : (x l : Expr) → x ≡ l → expr_size (expr_tree l) < 1 + form_size k → expr_size (expr_tree x) < 1 + form_size k
+  smaller_in x l q h = subst (λ x. expr_size (expr_tree x) < 1 + form_size k) (sym q) h
+
   -- a new array
   module _ (ty : TypeTree) (x l : Expr) (e : k ≡ new_array_expr ty (expr_tree l)) where
     pub array_type : IsSome (resolve_form t ls k) → IsSome (resolve_type t.names ty)
@@ -113,7 +123,7 @@ module _ (t : Tables) (ls : Locals) (k : ExprForm) where
 
     pub array_length : (u : ResolvedType) → x ≡ l → Some u ≡ resolve_type t.names ty → IsSome (resolve_form t ls k) → (expr_size (expr_tree x) < 1 + form_size k) × IsSome (resolve t ls (expr_tree x))
     array_length u q i h = (
-      smaller_at x l q (omega (arith, ap form_size e)),
+      smaller_in x l q (omega (arith, ap form_size e)),
       known_at x l q (first_some (resolve t ls (expr_tree l)) (λ n. Some (value_as (new_array u n.it) (a_value (array u))))
           (next_some (resolve_type t.names ty) u (λ u. then_some (resolve t ls (expr_tree l)) (λ n. Some (value_as (new_array u n.it) (a_value (array u))))) i (at_form (new_array_expr ty (expr_tree l)) e h))),
     )
@@ -147,7 +157,7 @@ module _ (t : Tables) (ls : Locals) (k : ExprForm) where
   module _ (f : IdTree) (w : Word) (args : ExprList) (x l : Expr) (e : k ≡ spawn_expr (expr_tree l) f args) (q : x ≡ l) where
     pub spawn_caps : IsSome (resolve_form t ls k) → (expr_size (expr_tree x) < 1 + form_size k) × IsSome (resolve t ls (expr_tree x))
     spawn_caps h =
-        (smaller_at x l q (omega (arith, ap form_size e)), known_at x l q (first_some (resolve t ls (expr_tree l)) _ (at_form (spawn_expr (expr_tree l) f args) e h)))
+        (smaller_in x l q (omega (arith, ap form_size e)), known_at x l q (first_some (resolve t ls (expr_tree l)) _ (at_form (spawn_expr (expr_tree l) f args) e h)))
 
     spawn_rest : (a : Value) → Some a ≡ resolve t ls (expr_tree x) → IsSome (resolve_form t ls k) →
         IsSome (then_some (found f.word t.functions) (λ h. then_some (resolve_args t ls args) (λ args. Some (value_as (spawn_of a.it h.number args.it) (a_value thread)))))

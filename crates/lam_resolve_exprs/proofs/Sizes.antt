@@ -4,7 +4,7 @@ use Rattle.lam_syntax.specs.Tree.{ExprTree, expr_node, ExprForm, binary_expr, un
 
 abbrev mutual
   pub expr_size : ExprTree → ℕ
-  expr_size (expr_node at form) = 1 + form_size form
+  expr_size (expr_node at form) = 2 + form_size form
 
   pub form_size : ExprForm → ℕ
   form_size (binary_expr op l r) = expr_size l + expr_size r

@@ -5,10 +5,10 @@
 ghost use Rattle.std.specs.Prelude.{◌≡◌, ℕ, IfOk, IsSome, Some, slice_get};
 ghost use Rattle.std.specs.Option.{option_map, option_copied};
 ghost use Rattle.lam_syntax.specs.Tree.{cap_tree as written_cap, caps_tree as written_caps};
-ghost use Rattle.lam_builtins.specs.Types.{a_value, label as label_type, caps as caps_type, thread as thread_type, object, array};
+ghost use Rattle.lam_builtins.specs.Types.{a_value, a_null, bytes as bytes_type, label as label_type, caps as caps_type, thread as thread_type, object, array};
 ghost use Rattle.lam_builtins.specs.Operators.{operator_type, unary_type};
 ghost use Rattle.lam_builtins.specs.Builtins.{row_by, answered as answered_by};
-ghost use Rattle.resolved_tree.specs.Tree.{expr_tree, exprs_tree, cap_tree, caps_tree, local_value as local_tree, option_type_tree, new_object as new_object_tree, unary_of, builtin_of, call_of, field_of, binary_of, new_array as new_array_tree, label_of as label_tree, caps_of as caps_of_tree, spawn_of};
+ghost use Rattle.resolved_tree.specs.Tree.{expr_tree, exprs_tree, cap_tree, caps_tree, text_value as text_tree, null_value as null_tree, local_value as local_tree, option_type_tree, new_object as new_object_tree, unary_of, builtin_of, call_of, field_of, binary_of, new_array as new_array_tree, label_of as label_tree, caps_of as caps_of_tree, spawn_of};
 ghost use Rattle.lam_resolved.specs.Resolved.{then_some, value_as, local_named as first_local, field_read as read_field, element_read as read_element, builtin_value as value_of_builtin, called as called_by, found, resolve_caps as resolved_caps};
 ghost use Rattle.lam_builtins.specs.Builtins.{builtin_named};
 ghost use Rattle.lam_resolve_tables.specs.Kinds.{base_type, kind_type, given};
@@ -56,6 +56,28 @@ pub fn plain_value(it: Expr, base: Base) -> Value
     Value {
         it,
         gives: Given::Value(plain(base)),
+    }
+}
+
+/// Bytes.
+///
+/// # Errors
+///
+/// `NoMemory` where memory is refused.
+pub fn text_value(alloc: Global, bytes: &Vec<u8>) -> Result<Value, NoMemory>
+    ensures { IfOk result (λ v. value v ≡ value_as (text_tree bytes.now.items) (a_value bytes_type)) }
+{
+    let copy = Vec::from_slice(alloc, bytes)?;
+    Ok(plain_value(Expr::Text(copy), Base::Bytes))
+}
+
+/// `null`
+pub fn null_value() -> Value
+    ensures { value result ≡ value_as null_tree a_null }
+{
+    Value {
+        it: Expr::Null,
+        gives: Given::Null,
     }
 }
 

@@ -25,7 +25,7 @@ leaves (Ok c) new old v k m = ap (λ (v : Verdict Counts). then_on {B = State} v
 leaves (Err f) new old v k m = stops f v (λ c. Fine (names old, c)) m
 
 module _ (d : Decls) (res : Option ValueType) (c : Counts) (at : ℕ) (k : StmtForm) (old : Entries) where
-  steps_form : (r : Result Counts TypeFault) (new : Entries) (form : StmtForm) → k ≡ form → Steps r (names new) (form_checked d res (names old) c at form) → Steps r (names new) (form_checked d res (names old) c at k)
+  pub steps_form : (r : Result Counts TypeFault) (new : Entries) (form : StmtForm) → k ≡ form → Steps r (names new) (form_checked d res (names old) c at form) → Steps r (names new) (form_checked d res (names old) c at k)
   steps_form r new form e h = subst (λ (k : StmtForm). Steps r (names new) (form_checked d res (names old) c at k)) (sym e) h
 
   breaks_form : (f : TypeFault) (form : StmtForm) → k ≡ form → Breaks f (form_checked d res (names old) c at form) → Breaks f (form_checked d res (names old) c at k)

@@ -7,7 +7,8 @@ use Rattle.lam_kinds.specs.Values.{Breaks}
 use Rattle.lam_kinds.specs.declared.fault.TypeFault.{TypeFault}
 use Rattle.lam_types.specs.Program.{program_checked, first_type_break}
 use Rattle.lam_types.specs.Judgement.{IsTyped}
-use Rattle.lam_types.specs.Meets.{CountedRegions, IsFirst, IsFine}
+use Rattle.lam_types.specs.Meets.{CountedRegions, IsFirst}
+use Rattle.lam_exprs.specs.Meets.{HasNoBreak}
 use Rattle.lam_types.proofs.ProgramLaw.{typed_has_none, none_is_typed}
 
 none_of : (o : Option Break) → IsTrue (is_none o) → o ≡ None
@@ -35,12 +36,12 @@ pub is_first : (f : TypeFault) (p : ProgramTree) → Breaks f (program_checked p
 unfolding first_type_break
 is_first f p h = first_of f (program_checked p) h
 
-pub memory_only : (A : Type 0) (f : TypeFault) (p : ProgramTree) → Breaks f (program_checked p) → IsTyped p → IsFine {A = A} (Err f)
+pub memory_only : (A : Type 0) (f : TypeFault) (p : ProgramTree) → Breaks f (program_checked p) → IsTyped p → HasNoBreak {A = A} (Err f)
 memory_only A f p h t = subst (λ (o : Option Break). IsFirst f o) (typed_has_none p t) (is_first f p h)
 
 -- the same, where the items were reached as xs
 module _ (xs ys : List Item) (e : xs ≡ ys) where
-  pub only_there : (A : Type 0) (f : TypeFault) → Breaks f (program_checked (items_tree xs)) → IsTyped (items_tree ys) → IsFine {A = A} (Err f)
+  pub only_there : (A : Type 0) (f : TypeFault) → Breaks f (program_checked (items_tree xs)) → IsTyped (items_tree ys) → HasNoBreak {A = A} (Err f)
   only_there A f h t = memory_only A f (items_tree ys) (subst (λ (l : List Item). Breaks f (program_checked (items_tree l))) e h) t
 
   pub first_there : (f : TypeFault) → Breaks f (program_checked (items_tree xs)) → IsFirst f (first_type_break (items_tree ys))

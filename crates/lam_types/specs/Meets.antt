@@ -29,8 +29,3 @@ CountedRegions (Err f) v = Breaks f v
 abbrev pub IsFirst : TypeFault → Option Break → Type 0
 IsFirst f (Some b) = IsFault f b
 IsFirst f None = f ≡ NoMemory
-
--- no break; only memory may have run out
-abbrev pub IsFine : {A : Type 0} → Result A TypeFault → Type 0
-IsFine (Ok a) = Unit {0}
-IsFine (Err f) = f ≡ NoMemory

@@ -6,7 +6,8 @@ ghost use Rattle.lam_kinds.specs.Values.{decls, option_type, Passes};
 ghost use Rattle.lam_types.specs.Program.{result_type, result_known, returns, class_checked, function_checked, item_checked, items_checked, program_checked, first_type_break};
 ghost use Rattle.lam_types.specs.Judgement.{IsTyped};
 ghost use Rattle.lam_types.specs.Seen.{tree_of};
-ghost use Rattle.lam_types.specs.Meets.{CountedRegions, IsFirst, IsFine};
+ghost use Rattle.lam_types.specs.Meets.{CountedRegions, IsFirst};
+ghost use Rattle.lam_exprs.specs.Meets.{HasNoBreak};
 
 use crate::endings::block_ends;
 use crate::stmts::{Counts, check_block};
@@ -125,7 +126,7 @@ impl Typed {
 pub fn check(p: Program) -> Result<Typed, TypeFault>
     ensures tree { IfOk result (λ t. tree_of t ≡ program_tree p) }
     ensures typed { OnOk result (IsTyped (program_tree p)) }
-    ensures only { IsTyped (program_tree p) → IsFine result }
+    ensures only { IsTyped (program_tree p) → HasNoBreak result }
     ensures fine { OnOk result (first_type_break (program_tree p) ≡ None) }
     ensures first { IfErr result (λ f. IsFirst f (first_type_break (program_tree p))) }
 {

@@ -2,9 +2,11 @@
 
 ghost use Rattle.std.specs.Prelude.{◌≡◌, ◌++◌, ◌∷◌, [], OnOk, IfErr, None};
 ghost use Rattle.lam_syntax.specs.Tree.{expr_tree, id_tree, ids_tree, option_expr_tree, stmt_tree, stmts_tree, type_tree, var_tree};
+ghost use Rattle.lam_builtins.specs.Types.{exactly, int};
+ghost use Rattle.lam_kinds.specs.Breaks.{Fine, then_on};
 ghost use Rattle.lam_kinds.specs.Tables.{find, room};
 ghost use Rattle.lam_kinds.specs.Values.{decls, names, value_type, option_type, given, place, Passes, Extends};
-ghost use Rattle.lam_exprs.specs.Exprs.{at_of};
+ghost use Rattle.lam_exprs.specs.Exprs.{at_of, given_of};
 ghost use Rattle.lam_types.specs.Stmts.{stands, one_slot, one_region, back_in, with_local, new_local, capture, captured, returned, is_place as is_a_place, place_type, assigned, let_checked, head_checked, closed, stmt_checked, stmts_checked, block_checked, guarded, synced, opened, caught};
 ghost use Rattle.lam_types.specs.Meets.{Counted, Steps};
 ghost use Rattle.lam_kinds.specs.declared.fault.TypeFault.TheVariants.{NoMemory as no_memory};
@@ -111,7 +113,7 @@ fn declare<'a>(env: &mut Names<'a>, name: &'a str, t: TypeRef<'a>) -> Result<(),
     add_name(env, name, t)
 }
 
-fn check_return<'a>(
+fn check_returned<'a>(
     alloc: Global,
     known: &Known<'a>,
     want: Option<TypeRef<'a>>,
@@ -134,6 +136,47 @@ fn check_return<'a>(
             }
         },
     }
+}
+
+fn check_return<'a>(
+    alloc: Global,
+    known: &Known<'a>,
+    want: Option<TypeRef<'a>>,
+    env: &Names<'a>,
+    c: Counts,
+    at: u64,
+    value: &'a Option<Expr>,
+) -> Result<Counts, TypeFault>
+    ensures { Steps result (names env.now.entries) (then_on (returned (decls known.now) (option_type want.entry) (names env.now.entries) at (option_expr_tree value.now)) (λ _. Fine (names env.now.entries, c))) }
+{
+    check_returned(alloc, known, want, env, at, value)?;
+    Ok(c)
+}
+
+fn check_throw<'a>(
+    alloc: Global,
+    known: &Known<'a>,
+    env: &Names<'a>,
+    c: Counts,
+    e: &'a Expr,
+) -> Result<Counts, TypeFault>
+    ensures { Steps result (names env.now.entries) (then_on (stands (decls known.now) (names env.now.entries) (exactly int) (expr_tree e.now)) (λ _. Fine (names env.now.entries, c))) }
+{
+    check_stands(alloc, known, env, Want::Exactly(TypeRef::Int), e)?;
+    Ok(c)
+}
+
+fn check_do<'a>(
+    alloc: Global,
+    known: &Known<'a>,
+    env: &Names<'a>,
+    c: Counts,
+    e: &'a Expr,
+) -> Result<Counts, TypeFault>
+    ensures { Steps result (names env.now.entries) (then_on (given_of (decls known.now) (names env.now.entries) (expr_tree e.now)) (λ _. Fine (names env.now.entries, c))) }
+{
+    check_expr(alloc, known, env, e)?;
+    Ok(c)
 }
 
 fn is_place(e: &Expr) -> bool
@@ -166,6 +209,29 @@ fn check_assigned<'a>(
         Some(t) => check_stands(alloc, known, env, Want::Exactly(t), value),
         None => Err(mismatch(alloc, at, None, got_type(got))),
     }
+}
+
+fn check_assign<'a>(
+    alloc: Global,
+    known: &Known<'a>,
+    env: &Names<'a>,
+    c: Counts,
+    place: &'a Expr,
+    value: &'a Expr,
+) -> Result<Counts, TypeFault>
+    ensures { Steps result (names env.now.entries) (then_on (given_of (decls known.now) (names env.now.entries) (expr_tree place.now)) (λ g. then_on (assigned (decls known.now) (names env.now.entries) (at_of (expr_tree place.now)) g (place_type (is_a_place (expr_tree place.now)) g) (expr_tree value.now)) (λ _. Fine (names env.now.entries, c)))) }
+{
+    let got = check_expr(alloc, known, env, place)?;
+    check_assigned(
+        alloc,
+        known,
+        env,
+        place.at,
+        got,
+        type_before(place, got),
+        value,
+    )?;
+    Ok(c)
 }
 
 fn check_let<'a>(
@@ -223,14 +289,8 @@ fn check_stmt<'a>(
             }
         }
         StmtKind::While { test, body } => check_guarded(alloc, known, want, env, c, body, test),
-        StmtKind::Return(e) => {
-            check_return(alloc, known, want, env, s.at, e)?;
-            Ok(c)
-        }
-        StmtKind::Throw(e) => {
-            check_stands(alloc, known, env, Want::Exactly(TypeRef::Int), e)?;
-            Ok(c)
-        }
+        StmtKind::Return(e) => check_return(alloc, known, want, env, c, s.at, e),
+        StmtKind::Throw(e) => check_throw(alloc, known, env, c, e),
         StmtKind::Sync { thing, body } => check_sync(alloc, known, want, env, c, body, s.at, thing),
         StmtKind::Region {
             label,
@@ -253,23 +313,8 @@ fn check_stmt<'a>(
                 regions: inner.regions,
             })
         }
-        StmtKind::Do(e) => {
-            check_expr(alloc, known, env, e)?;
-            Ok(c)
-        }
-        StmtKind::Assign { place, value } => {
-            let got = check_expr(alloc, known, env, place)?;
-            check_assigned(
-                alloc,
-                known,
-                env,
-                place.at,
-                got,
-                type_before(place, got),
-                value,
-            )?;
-            Ok(c)
-        }
+        StmtKind::Do(e) => check_do(alloc, known, env, c, e),
+        StmtKind::Assign { place, value } => check_assign(alloc, known, env, c, place, value),
     }
 }
 

@@ -3,7 +3,7 @@ use Rattle.std.proofs.Common.{◌≡◌, Bool, true, false, Option, Some, None, 
 use Rattle.lam_syntax.specs.Tree.{ProgramTree}
 use Rattle.region_check.specs.Breaks.{Break, Verdict, Fine, Stop, first_break, program_checked, first_region_break}
 use Rattle.region_check.specs.Legal.{IsRegionLegal}
-use Rattle.region_check.specs.Values.{Breaks, IsFirst, IsFine}
+use Rattle.region_check.specs.Values.{Breaks, IsFirst, HasNoBreak}
 use Rattle.region_check.specs.declared.RegionFault.{RegionFault}
 use Rattle.region_check.proofs.Law.{legal_has_none, none_is_legal}
 
@@ -32,12 +32,12 @@ pub is_first : (f : RegionFault) (p : ProgramTree) → Breaks f (program_checked
 unfolding first_region_break
 is_first f p h = first_of f (program_checked p) h
 
-pub memory_only : (A : Type 0) (f : RegionFault) (p : ProgramTree) → Breaks f (program_checked p) → IsRegionLegal p → IsFine {A = A} (Err f)
+pub memory_only : (A : Type 0) (f : RegionFault) (p : ProgramTree) → Breaks f (program_checked p) → IsRegionLegal p → HasNoBreak {A = A} (Err f)
 memory_only A f p h t = subst (λ (o : Option Break). IsFirst f o) (legal_has_none p t) (is_first f p h)
 
 -- where the program was reached as q
 module _ (q p : ProgramTree) (e : q ≡ p) where
-  pub only_there : (A : Type 0) (f : RegionFault) → Breaks f (program_checked q) → IsRegionLegal p → IsFine {A = A} (Err f)
+  pub only_there : (A : Type 0) (f : RegionFault) → Breaks f (program_checked q) → IsRegionLegal p → HasNoBreak {A = A} (Err f)
   only_there A f h t = memory_only A f p (subst (λ (p : ProgramTree). Breaks f (program_checked p)) e h) t
 
   pub first_there : (f : RegionFault) → Breaks f (program_checked q) → IsFirst f (first_region_break p)

@@ -43,6 +43,6 @@ IsFirst f (Some b) = IsFault f b
 IsFirst f None = f ≡ NoMemory
 
 -- no break; only memory may have run out
-abbrev pub IsFine : {A : Type 0} → Result A RegionFault → Type 0
-IsFine (Ok a) = Unit {0}
-IsFine (Err f) = f ≡ NoMemory
+abbrev pub HasNoBreak : {A : Type 0} → Result A RegionFault → Type 0
+HasNoBreak (Ok a) = Unit {0}
+HasNoBreak (Err f) = f ≡ NoMemory

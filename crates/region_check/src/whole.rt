@@ -7,7 +7,7 @@ ghost use Rattle.region_check.specs.Breaks.{first_region_break, program_checked}
 ghost use Rattle.region_check.specs.Legal.{IsRegionLegal};
 ghost use Rattle.lam_types.specs.Seen.{tree_of};
 ghost use Rattle.region_check.specs.Seen.{checked_tree};
-ghost use Rattle.region_check.specs.Values.{Passes, IsFirst, IsFine};
+ghost use Rattle.region_check.specs.Values.{Passes, IsFirst, HasNoBreak};
 
 use crate::checked::Checked;
 use crate::{RegionFault, check_items};
@@ -31,7 +31,7 @@ impl Checked {
 pub fn regions(t: Typed) -> Result<Checked, RegionFault>
     ensures tree { IfOk result (λ c. checked_tree c ≡ tree_of t) }
     ensures legal { OnOk result (IsRegionLegal (tree_of t)) }
-    ensures only { IsRegionLegal (tree_of t) → IsFine result }
+    ensures only { IsRegionLegal (tree_of t) → HasNoBreak result }
     ensures fine { OnOk result (first_region_break (tree_of t) ≡ None) }
     ensures first { IfErr result (λ f. IsFirst f (first_region_break (tree_of t))) }
 {

@@ -41,5 +41,8 @@ emit_stmt-returns-in-While-clause-emits t c =
 
 pub emit_stmt-returns-in-Sync-clause-emits : goal.emit_stmt-returns-in-Sync-clause-emits
 emit_stmt-returns-in-Sync-clause-emits t c =
-    of_form (reverse c.args.held.now.items) (ap stmt_tree c.in-Sync.is ∙ sync_row c.in-Sync.slot c.in-Sync.thing c.in-Sync.body)
-    (sync_emits (reverse c.args.held.now.items) c.in-Sync.slot (expr_tree c.in-Sync.thing) (stmts_tree c.in-Sync.body.items) c.emit_enter.ensures c.emit_inside.ensures.emits c.emit_leave.ensures)
+    of_form (reverse c.args.held.now.items) (ap stmt_tree c.in-Sync.is ∙ sync_row c.in-Sync.slot c.in-Sync.thing c.in-Sync.body) c.emit_sync.ensures.emits
+
+pub emit_sync-returns-clause-emits : goal.emit_sync-returns-clause-emits
+emit_sync-returns-clause-emits t c =
+    sync_emits (reverse c.args.held.now.items) c.args.slot (expr_tree c.args.thing.now) (stmts_tree c.args.body.now.items) c.emit_enter.ensures c.emit_inside.ensures.emits c.emit_leave.ensures

@@ -3,7 +3,7 @@ use Rattle.resolved_tree.specs.Tree.{expr_tree}
 use Rattle.resolved_tree.proofs.Rows.{call_row, builtin_row, label_row, spawn_row}
 use Rattle.emit_parts.proofs.Joins.{joins, starts}
 use Rattle.emit_parts.proofs.Jumps.{either_emits}
-use Rattle.emit_exprs.proofs.Arms.{of_form, child, right_child, at_item, expr_added, exprs_done}
+use Rattle.emit_exprs.proofs.Arms.{of_form, child, right_child, field_child, index_child, at_item, expr_added, exprs_done}
 use Rattle.emit_exprs.proofs.Labels.{label_emits}
 use Rattle.emit_exprs.proofs.+expr.Goals as goal
 
@@ -18,29 +18,38 @@ pub emit_or-returns : goal.emit_or-returns
 emit_or-returns t c =
     either_emits c.jump-test.ensures.at c.jump-test.ensures.emits c.constant.ensures c.jump-skip.ensures.at c.jump-skip.ensures.emits c.len-other.ensures c.emit_expr.ensures c.len-end.ensures c.point.ensures c.point-2.ensures
 
+pub emit_field-returns : goal.emit_field-returns
+emit_field-returns t c = joins c.emit_expr.ensures (joins c.push.ensures c.get_field.ensures)
+
+pub emit_index-returns : goal.emit_index-returns
+emit_index-returns t c = joins c.emit_expr.ensures (joins c.push.ensures c.push-2.ensures)
+
+pub emit_call-returns : goal.emit_call-returns
+emit_call-returns t c = joins c.emit_exprs.ensures c.call.ensures
+
+pub emit_builtin-returns : goal.emit_builtin-returns
+emit_builtin-returns t c = joins c.emit_exprs.ensures c.push.ensures
+
 pub emit_expr-returns-in-Binary : goal.emit_expr-returns-in-Binary
 emit_expr-returns-in-Binary t c =
     of_form (ap expr_tree c.in-Binary.is) (joins (child c.deref-in-Binary.ensures c.emit_expr.ensures) (right_child c.in-Binary.op c.deref-in-Binary-2.ensures c.emit_right.ensures))
 
 pub emit_expr-returns-in-Field : goal.emit_expr-returns-in-Field
-emit_expr-returns-in-Field t c =
-    of_form (ap expr_tree c.in-Field.is) (joins (child c.deref-in-Field.ensures c.emit_expr-in-Field.ensures) (joins c.push.ensures c.get_field.ensures))
+emit_expr-returns-in-Field t c = of_form (ap expr_tree c.in-Field.is) (field_child c.in-Field.field c.deref-in-Field.ensures c.emit_field.ensures)
 
 pub emit_expr-returns-in-Element : goal.emit_expr-returns-in-Element
 emit_expr-returns-in-Element t c =
-    of_form (ap expr_tree c.in-Element.is)
-    (joins (child c.deref-in-Element.ensures c.emit_expr-in-Element.ensures) (joins (child c.deref-in-Element-2.ensures c.emit_expr-in-Element-2.ensures) (joins c.push-in-Element.ensures c.push-in-Element-2.ensures)))
+    of_form (ap expr_tree c.in-Element.is) (joins (child c.deref-in-Element.ensures c.emit_expr-in-Element.ensures) (index_child c.deref-in-Element-2.ensures c.emit_index.ensures))
 
 pub emit_expr-returns-in-Call : goal.emit_expr-returns-in-Call
-emit_expr-returns-in-Call t c = of_form (ap expr_tree c.in-Call.is ∙ call_row c.in-Call.function c.in-Call.args) (joins c.emit_exprs.ensures c.call.ensures)
+emit_expr-returns-in-Call t c = of_form (ap expr_tree c.in-Call.is ∙ call_row c.in-Call.function c.in-Call.args) c.emit_call.ensures
 
 pub emit_expr-returns-in-BuiltinCall : goal.emit_expr-returns-in-BuiltinCall
-emit_expr-returns-in-BuiltinCall t c =
-    of_form (ap expr_tree c.in-BuiltinCall.is ∙ builtin_row c.in-BuiltinCall.call c.in-BuiltinCall.args c.in-BuiltinCall.ty) (joins c.emit_exprs-in-BuiltinCall.ensures c.push-in-BuiltinCall.ensures)
+emit_expr-returns-in-BuiltinCall t c = of_form (ap expr_tree c.in-BuiltinCall.is ∙ builtin_row c.in-BuiltinCall.call c.in-BuiltinCall.args c.in-BuiltinCall.ty) c.emit_builtin.ensures
 
 pub emit_expr-returns-in-LabelOf : goal.emit_expr-returns-in-LabelOf
 emit_expr-returns-in-LabelOf t c =
-    of_form (ap expr_tree c.in-LabelOf.is ∙ label_row c.in-LabelOf.s c.in-LabelOf.i) (label_emits c.in-LabelOf.s.items c.in-LabelOf.i.items c.in-LabelOf.s.ok.0 c.in-LabelOf.i.ok.0 c.emit_exprs-in-LabelOf.ensures c.emit_exprs-in-LabelOf-2.ensures c.emit_label.ensures)
+    of_form (ap expr_tree c.in-LabelOf.is ∙ label_row c.in-LabelOf.s c.in-LabelOf.i) (label_emits c.in-LabelOf.s.items c.in-LabelOf.i.items c.in-LabelOf.s.ok.0 c.in-LabelOf.i.ok.0 c.emit_exprs.ensures c.emit_exprs-in-LabelOf.ensures c.emit_label.ensures)
 
 pub emit_expr-returns-in-Spawn : goal.emit_expr-returns-in-Spawn
 emit_expr-returns-in-Spawn t c =

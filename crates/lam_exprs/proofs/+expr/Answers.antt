@@ -1,13 +1,12 @@
 use Rattle.std.proofs.Common.{◌≡◌, ℕ, List, length, get_or, refl, sym, ap, ◌∙◌, arith}
 use Rattle.std.proofs.lemmas.Result.{err_from_is_err_and}
 use Rattle.lam_syntax.proofs.Rows.{call_row, label_row, spawn_row}
-use Rattle.lam_syntax.specs.Tree.{expr_form, expr_tree, exprs_tree, type_tree, id_tree}
-use Rattle.lam_kinds.specs.Tables.{Decls, Names}
+use Rattle.lam_syntax.specs.Tree.{ExprTree, unary_expr, field_expr, new_array_expr, expr_form, expr_tree, exprs_tree, type_tree, id_tree}
 use Rattle.lam_kinds.specs.Values.{decls, names, places, given, value_type, option_signature, answer}
 use Rattle.lam_kinds.proofs.Steps.{stops}
 use Rattle.lam_exprs.specs.Exprs.{given_of, placed}
 use Rattle.lam_exprs.proofs.Arms
-use Rattle.lam_exprs.proofs.Loops.{args_stop, args_next, tags_stop, tags_next, count_exprs, called_count, called_args, called_fine}
+use Rattle.lam_exprs.proofs.Loops.{args_stop, args_next, tags_stop, count_exprs, called_count, called_args, called_fine}
 use Rattle.lam_syntax.specs.declared.Expr.{Expr}
 use Rattle.lam_exprs.proofs.+expr.Goals as goal
 
@@ -24,16 +23,6 @@ check_expr-returns-in_err-second-in-Binary t c =
     let p = err_from_is_err_and c.from_residual-in_err-second-in-Binary.result c.from_residual-in_err-second-in-Binary.ensures.1 in
     rw (p.1, p.2) (Arms.binary_second (decls c.args.known.now) (names c.args.env.now.entries) c.args.e.now.at (expr_form c.args.e.now.kind) c.in_err-second-in-Binary.field-0.0 c.in-Binary.op (given c.in_ok-first-in-Binary.first) c.deref.result.now c.in-Binary.left.value c.deref-in-Binary.result.now c.in-Binary.right.value (ap expr_form c.in-Binary.is) c.deref.ensures c.in_ok-first-in-Binary.ensures c.deref-in-Binary.ensures c.in_err-second-in-Binary.ensures)
 
-pub check_expr-returns-in_err-check_at-in-Unary : goal.check_expr-returns-in_err-check_at-in-Unary
-check_expr-returns-in_err-check_at-in-Unary t c =
-    let p = err_from_is_err_and c.from_residual-in_err-check_at-in-Unary.result c.from_residual-in_err-check_at-in-Unary.ensures.1 in
-    rw (p.1, p.2) (Arms.unary_stop (decls c.args.known.now) (names c.args.env.now.entries) c.args.e.now.at (expr_form c.args.e.now.kind) c.in_err-check_at-in-Unary.field-0.0 c.in-Unary.op (value_type c.prefix_type.result) c.deref-in-Unary.result.now c.in-Unary.of.value (ap expr_form c.in-Unary.is) c.prefix_type.ensures c.deref-in-Unary.ensures c.in_err-check_at-in-Unary.ensures)
-
-pub check_expr-returns-in_err-got-in-Field : goal.check_expr-returns-in_err-got-in-Field
-check_expr-returns-in_err-got-in-Field t c =
-    let p = err_from_is_err_and c.from_residual-in_err-got-in-Field.result c.from_residual-in_err-got-in-Field.ensures.1 in
-    rw (p.1, p.2) (Arms.field_stop (decls c.args.known.now) (names c.args.env.now.entries) c.args.e.now.at (expr_form c.args.e.now.kind) c.in_err-got-in-Field.field-0.0 (id_tree c.in-Field.field) c.deref-in-Field.result.now c.in-Field.of.value (ap expr_form c.in-Field.is) c.deref-in-Field.ensures c.in_err-got-in-Field.ensures)
-
 pub check_expr-returns-in_err-got-in-Element : goal.check_expr-returns-in_err-got-in-Element
 check_expr-returns-in_err-got-in-Element t c =
     let p = err_from_is_err_and c.from_residual-in_err-got-in-Element.result c.from_residual-in_err-got-in-Element.ensures.1 in
@@ -43,16 +32,6 @@ pub check_expr-returns-in_err-check_at-in-Element : goal.check_expr-returns-in_e
 check_expr-returns-in_err-check_at-in-Element t c =
     let p = err_from_is_err_and c.from_residual-in_err-check_at-in-Element.result c.from_residual-in_err-check_at-in-Element.ensures.1 in
     rw (p.1, p.2) (Arms.element_second (decls c.args.known.now) (names c.args.env.now.entries) c.args.e.now.at (expr_form c.args.e.now.kind) c.in_err-check_at-in-Element.field-0.0 (given c.in_ok-got-in-Element.got) c.deref-in-Element.result.now c.in-Element.of.value c.deref-in-Element-2.result.now c.in-Element.index.value (ap expr_form c.in-Element.is) c.deref-in-Element.ensures c.in_ok-got-in-Element.ensures c.deref-in-Element-2.ensures c.in_err-check_at-in-Element.ensures)
-
-pub check_expr-returns-in_err-known_type-in-NewArray : goal.check_expr-returns-in_err-known_type-in-NewArray
-check_expr-returns-in_err-known_type-in-NewArray t c =
-    let p = err_from_is_err_and c.from_residual-in_err-known_type-in-NewArray.result c.from_residual-in_err-known_type-in-NewArray.ensures.1 in
-    rw (p.1, p.2) (Arms.array_first (decls c.args.known.now) (names c.args.env.now.entries) c.args.e.now.at (expr_form c.args.e.now.kind) c.in_err-known_type-in-NewArray.field-0.0 (type_tree c.in-NewArray.element) (expr_tree c.in-NewArray.length.value) (ap expr_form c.in-NewArray.is) c.in_err-known_type-in-NewArray.ensures)
-
-pub check_expr-returns-in_err-check_at-in-NewArray : goal.check_expr-returns-in_err-check_at-in-NewArray
-check_expr-returns-in_err-check_at-in-NewArray t c =
-    let p = err_from_is_err_and c.from_residual-in_err-check_at-in-NewArray.result c.from_residual-in_err-check_at-in-NewArray.ensures.1 in
-    rw (p.1, p.2) (Arms.array_second (decls c.args.known.now) (names c.args.env.now.entries) c.args.e.now.at (expr_form c.args.e.now.kind) c.in_err-check_at-in-NewArray.field-0.0 (type_tree c.in-NewArray.element) c.deref-in-NewArray.result.now c.in-NewArray.length.value (ap expr_form c.in-NewArray.is) c.in_ok-known_type-in-NewArray.ensures c.deref-in-NewArray.ensures c.in_err-check_at-in-NewArray.ensures)
 
 pub check_expr-returns-in_err-check_tags-in-LabelOf : goal.check_expr-returns-in_err-check_tags-in-LabelOf
 check_expr-returns-in_err-check_tags-in-LabelOf t c =
@@ -74,6 +53,15 @@ check_expr-returns-in_err-check_at-in-Spawn t c =
     let p = err_from_is_err_and c.from_residual-in_err-check_at-in-Spawn.result c.from_residual-in_err-check_at-in-Spawn.ensures.1 in
     rw (p.1, p.2) (Arms.spawn_caps (decls c.args.known.now) (names c.args.env.now.entries) c.args.e.now.at (expr_form c.args.e.now.kind) c.in_err-check_at-in-Spawn.field-0.0 (option_signature c.in_ok-call-in-Spawn.call) c.deref-in-Spawn.result.now c.in-Spawn.caps.value (id_tree c.in-Spawn.function) (exprs_tree c.in-Spawn.args.items) (length c.in-Spawn.args.items) (ap expr_form c.in-Spawn.is ∙ spawn_row c.in-Spawn.caps c.in-Spawn.function c.in-Spawn.args) (sym (count_exprs c.in-Spawn.args.items)) c.in_ok-call-in-Spawn.ensures.meets c.deref-in-Spawn.ensures c.in_err-check_at-in-Spawn.ensures)
 
+pub check_expr-returns-in-Unary : goal.check_expr-returns-in-Unary
+check_expr-returns-in-Unary t c = Arms.gives_through (decls c.args.known.now) (names c.args.env.now.entries) c.args.e.now.at (expr_form c.args.e.now.kind) c.check_prefix.result (unary_expr c.in-Unary.op) c.deref-in-Unary.result.now c.in-Unary.of.value (ap expr_form c.in-Unary.is) c.deref-in-Unary.ensures c.check_prefix.ensures
+
+pub check_expr-returns-in-Field : goal.check_expr-returns-in-Field
+check_expr-returns-in-Field t c = Arms.gives_through (decls c.args.known.now) (names c.args.env.now.entries) c.args.e.now.at (expr_form c.args.e.now.kind) c.check_access.result (λ (e : ExprTree). field_expr e (id_tree c.in-Field.field)) c.deref-in-Field.result.now c.in-Field.of.value (ap expr_form c.in-Field.is) c.deref-in-Field.ensures c.check_access.ensures
+
+pub check_expr-returns-in-NewArray : goal.check_expr-returns-in-NewArray
+check_expr-returns-in-NewArray t c = Arms.gives_through (decls c.args.known.now) (names c.args.env.now.entries) c.args.e.now.at (expr_form c.args.e.now.kind) c.check_array.result (new_array_expr (type_tree c.in-NewArray.element)) c.deref-in-NewArray.result.now c.in-NewArray.length.value (ap expr_form c.in-NewArray.is) c.deref-in-NewArray.ensures c.check_array.ensures
+
 pub check_expr-returns-in-Call : goal.check_expr-returns-in-Call
 check_expr-returns-in-Call t c = Arms.gives_form (decls c.args.known.now) (names c.args.env.now.entries) c.args.e.now.at (expr_form c.args.e.now.kind) c.check_call.result _ (ap expr_form c.in-Call.is ∙ call_row c.in-Call.name c.in-Call.args) c.check_call.ensures
 
@@ -83,6 +71,26 @@ check_expr-returns-in_ok-check_tags-in-LabelOf-2 t c = Arms.label_fine (decls c.
 pub check_expr-returns-in_ok-check_at-in-Spawn : goal.check_expr-returns-in_ok-check_at-in-Spawn
 check_expr-returns-in_ok-check_at-in-Spawn t c =
     Arms.spawn_rest (decls c.args.known.now) (names c.args.env.now.entries) c.args.e.now.at (expr_form c.args.e.now.kind) c.check_started.result (option_signature c.in_ok-call-in-Spawn.call) (given c.in_ok-check_at-in-Spawn.field-0) c.deref-in-Spawn.result.now c.in-Spawn.caps.value (id_tree c.in-Spawn.function) (exprs_tree c.in-Spawn.args.items) (length c.in-Spawn.args.items) (ap expr_form c.in-Spawn.is ∙ spawn_row c.in-Spawn.caps c.in-Spawn.function c.in-Spawn.args) (sym (count_exprs c.in-Spawn.args.items)) c.in_ok-call-in-Spawn.ensures.meets c.deref-in-Spawn.ensures c.in_ok-check_at-in-Spawn.ensures c.check_started.ensures
+
+pub check_prefix-returns-in_err-check_at : goal.check_prefix-returns-in_err-check_at
+check_prefix-returns-in_err-check_at t c =
+    let p = err_from_is_err_and c.from_residual.result c.from_residual.ensures.1 in
+    rw (p.1, p.2) (Arms.unary_stop (decls c.args.known.now) (names c.args.env.now.entries) 0 _ c.in_err-check_at.field-0.0 c.args.op (value_type c.prefix_type.result) c.args.of.now c.args.of.now refl c.prefix_type.ensures refl c.in_err-check_at.ensures)
+
+pub check_access-returns-in_err-got : goal.check_access-returns-in_err-got
+check_access-returns-in_err-got t c =
+    let p = err_from_is_err_and c.from_residual.result c.from_residual.ensures.1 in
+    rw (p.1, p.2) (Arms.field_stop (decls c.args.known.now) (names c.args.env.now.entries) 0 _ c.in_err-got.field-0.0 (id_tree c.args.field.now) c.args.of.now c.args.of.now refl refl c.in_err-got.ensures)
+
+pub check_array-returns-in_err-known_type : goal.check_array-returns-in_err-known_type
+check_array-returns-in_err-known_type t c =
+    let p = err_from_is_err_and c.from_residual.result c.from_residual.ensures.1 in
+    rw (p.1, p.2) (Arms.array_first (decls c.args.known.now) (names c.args.env.now.entries) 0 _ c.in_err-known_type.field-0.0 (type_tree c.args.element.now) (expr_tree c.args.length.now) refl c.in_err-known_type.ensures)
+
+pub check_array-returns-in_err-check_at : goal.check_array-returns-in_err-check_at
+check_array-returns-in_err-check_at t c =
+    let p = err_from_is_err_and c.from_residual-in_err-check_at.result c.from_residual-in_err-check_at.ensures.1 in
+    rw (p.1, p.2) (Arms.array_second (decls c.args.known.now) (names c.args.env.now.entries) 0 _ c.in_err-check_at.field-0.0 (type_tree c.args.element.now) c.args.length.now c.args.length.now refl c.in_ok-known_type.ensures refl c.in_err-check_at.ensures)
 
 pub check_at-returns-in_err-got : goal.check_at-returns-in_err-got
 unfolding placed

@@ -1,4 +1,4 @@
-use Rattle.std.proofs.Common.{◌≡◌, subst, Option}
+use Rattle.std.proofs.Common.{subst, Option}
 use Rattle.std.proofs.lemmas.Result.{err_from_is_err_and}
 use Rattle.lam_builtins.specs.Types.{ValueType, exactly}
 use Rattle.lam_kinds.specs.Breaks.{fit}

@@ -1,6 +1,7 @@
-use Rattle.std.proofs.Common.{rules, arith, refl, get_or, ap, ◌∙◌}
+use Rattle.std.proofs.Common.{rules, arith, refl, sym, get_or, ap, ◌∙◌}
 use Rattle.std.proofs.lemmas.List.{drop_all}
-use Rattle.lam_syntax.specs.Tree.{expr_form, exprs_tree, id_tree, type_tree, caps_tree}
+use Rattle.lam_syntax.specs.Tree.{expr_form, expr_tree, new_array_expr, label_expr, spawn_expr, exprs_tree, id_tree, type_tree, caps_tree}
+use Rattle.lam_syntax.specs.declared.Expr.{Expr}
 use Rattle.lam_syntax.proofs.Rows.{call_row, label_row, spawn_row}
 use Rattle.lam_resolved.specs.Resolved.{resolve_args}
 use Rattle.lam_resolve_tables.specs.Kinds.{kind_type, given}
@@ -91,56 +92,80 @@ pub resolve_expr-new_object-requires : goal.resolve_expr-new_object-requires
 resolve_expr-new_object-requires t c =
     Arms.class_needs (tables c.args.t.now) (locals c.args.scope.now) (expr_form c.args.e.now.kind) (id_tree c.in-NewClass.class) c.as_str-in-NewClass.result.now (ap expr_form c.in-NewClass.is) c.as_str-in-NewClass.ensures.value c.requires
 
-pub resolve_expr-resolve_type-requires : goal.resolve_expr-resolve_type-requires
-resolve_expr-resolve_type-requires t c =
-    Arms.array_type (tables c.args.t.now) (locals c.args.scope.now) (expr_form c.args.e.now.kind) (type_tree c.in-NewArray.element) c.in-NewArray.length.value c.in-NewArray.length.value (ap expr_form c.in-NewArray.is) c.requires
-
-pub resolve_expr-resolve_expr-requires-in-NewArray : goal.resolve_expr-resolve_expr-requires-in-NewArray
-resolve_expr-resolve_expr-requires-in-NewArray t c =
-    let h = Arms.array_length (tables c.args.t.now) (locals c.args.scope.now) (expr_form c.args.e.now.kind) (type_tree c.in-NewArray.element) c.deref-in-NewArray.result.now c.in-NewArray.length.value (ap expr_form c.in-NewArray.is) (kind_type c.in_ok-kind-in-NewArray.kind) c.deref-in-NewArray.ensures c.in_ok-kind-in-NewArray.ensures c.requires in
-    search rules
-
-pub resolve_expr-returns-in_ok-size-in-NewArray : goal.resolve_expr-returns-in_ok-size-in-NewArray
-resolve_expr-returns-in_ok-size-in-NewArray t c =
-    if_ok c.new_array.result _ _ c.new_array.ensures (λ v e.
-    Arms.array_done (tables c.args.t.now) (locals c.args.scope.now) (expr_form c.args.e.now.kind) (type_tree c.in-NewArray.element) c.deref-in-NewArray.result.now c.in-NewArray.length.value (ap expr_form c.in-NewArray.is) (kind_type c.in_ok-kind-in-NewArray.kind) (value c.in_ok-size-in-NewArray.size) (value v) c.deref-in-NewArray.ensures c.in_ok-kind-in-NewArray.ensures c.in_ok-size-in-NewArray.ensures e)
-
-pub resolve_expr-resolve_args-requires-in-LabelOf : goal.resolve_expr-resolve_args-requires-in-LabelOf
-resolve_expr-resolve_args-requires-in-LabelOf t c =
-    let h = Arms.label_first (tables c.args.t.now) (locals c.args.scope.now) (expr_form c.args.e.now.kind) (exprs_tree c.in-LabelOf.s.items) (exprs_tree c.in-LabelOf.i.items) (ap expr_form c.in-LabelOf.is ∙ label_row c.in-LabelOf.s c.in-LabelOf.i) c.requires in
-    search rules
-
-pub resolve_expr-resolve_args-requires-in-LabelOf-2 : goal.resolve_expr-resolve_args-requires-in-LabelOf-2
-resolve_expr-resolve_args-requires-in-LabelOf-2 t c =
-    let h = Arms.label_second (tables c.args.t.now) (locals c.args.scope.now) (expr_form c.args.e.now.kind) (exprs_tree c.in-LabelOf.s.items) (exprs_tree c.in-LabelOf.i.items) (ap expr_form c.in-LabelOf.is ∙ label_row c.in-LabelOf.s c.in-LabelOf.i) (seen_args c.in_ok-secrecy-in-LabelOf.secrecy) c.in_ok-secrecy-in-LabelOf.ensures c.requires in
-    search rules
-
-pub resolve_expr-returns-in_ok-integrity-in-LabelOf : goal.resolve_expr-returns-in_ok-integrity-in-LabelOf
-resolve_expr-returns-in_ok-integrity-in-LabelOf t c =
-    Arms.label_done (tables c.args.t.now) (locals c.args.scope.now) (expr_form c.args.e.now.kind) (exprs_tree c.in-LabelOf.s.items) (exprs_tree c.in-LabelOf.i.items) (ap expr_form c.in-LabelOf.is ∙ label_row c.in-LabelOf.s c.in-LabelOf.i) (seen_args c.in_ok-secrecy-in-LabelOf.secrecy) (seen_args c.in_ok-integrity-in-LabelOf.integrity) (value c.label_of.result) c.in_ok-secrecy-in-LabelOf.ensures c.in_ok-integrity-in-LabelOf.ensures c.label_of.ensures
-
 pub resolve_expr-caps_of-requires : goal.resolve_expr-caps_of-requires
 resolve_expr-caps_of-requires t c =
     Arms.caps_needs (tables c.args.t.now) (locals c.args.scope.now) (expr_form c.args.e.now.kind) (caps_tree c.as_slice.result.now) (caps_tree c.in-CapsOf.items.items) (ap expr_form c.in-CapsOf.is) (ap caps_tree c.as_slice.ensures.value) c.requires
 
-pub resolve_expr-resolve_expr-requires-in-Spawn : goal.resolve_expr-resolve_expr-requires-in-Spawn
-resolve_expr-resolve_expr-requires-in-Spawn t c =
-    let h = Arms.spawn_caps (tables c.args.t.now) (locals c.args.scope.now) (expr_form c.args.e.now.kind) (id_tree c.in-Spawn.function) (id_tree c.in-Spawn.function).word (exprs_tree c.in-Spawn.args.items) c.deref-in-Spawn.result.now c.in-Spawn.caps.value (ap expr_form c.in-Spawn.is ∙ spawn_row c.in-Spawn.caps c.in-Spawn.function c.in-Spawn.args) c.deref-in-Spawn.ensures c.requires in
+pub resolve_expr-resolve_array-requires : goal.resolve_expr-resolve_array-requires
+resolve_expr-resolve_array-requires t c =
+    let h = Arms.form_needs (tables c.args.t.now) (locals c.args.scope.now) (expr_form c.args.e.now.kind) (new_array_expr (type_tree c.in-NewArray.element) (expr_tree c.deref-in-NewArray.result.now)) (ap expr_form c.in-NewArray.is ∙ ap (λ (x : Expr). new_array_expr (type_tree c.in-NewArray.element) (expr_tree x)) (sym c.deref-in-NewArray.ensures)) c.requires in
     search rules
 
-pub resolve_expr-function_number-number-requires : goal.resolve_expr-function_number-number-requires
-resolve_expr-function_number-number-requires t c =
-    Arms.spawn_function (tables c.args.t.now) (locals c.args.scope.now) (expr_form c.args.e.now.kind) (id_tree c.in-Spawn.function) c.as_str-in-Spawn.result.now (exprs_tree c.in-Spawn.args.items) c.deref-in-Spawn.result.now c.in-Spawn.caps.value (ap expr_form c.in-Spawn.is ∙ spawn_row c.in-Spawn.caps c.in-Spawn.function c.in-Spawn.args) c.deref-in-Spawn.ensures (value c.in_ok-held-in-Spawn.held) c.as_str-in-Spawn.ensures.value c.in_ok-held-in-Spawn.ensures c.requires
+pub resolve_expr-returns-in-NewArray : goal.resolve_expr-returns-in-NewArray
+resolve_expr-returns-in-NewArray t c = if_ok c.resolve_array.result _ _ c.resolve_array.ensures (λ v h. Arms.form_done (tables c.args.t.now) (locals c.args.scope.now) (expr_form c.args.e.now.kind) (new_array_expr (type_tree c.in-NewArray.element) (expr_tree c.deref-in-NewArray.result.now)) (value v) (ap expr_form c.in-NewArray.is ∙ ap (λ (x : Expr). new_array_expr (type_tree c.in-NewArray.element) (expr_tree x)) (sym c.deref-in-NewArray.ensures)) h)
 
-pub resolve_expr-resolve_args-requires-in-Spawn : goal.resolve_expr-resolve_args-requires-in-Spawn
-resolve_expr-resolve_args-requires-in-Spawn t c =
-    let h = Arms.spawn_args (tables c.args.t.now) (locals c.args.scope.now) (expr_form c.args.e.now.kind) (id_tree c.in-Spawn.function) c.as_str-in-Spawn.result.now (exprs_tree c.in-Spawn.args.items) c.deref-in-Spawn.result.now c.in-Spawn.caps.value (ap expr_form c.in-Spawn.is ∙ spawn_row c.in-Spawn.caps c.in-Spawn.function c.in-Spawn.args) c.deref-in-Spawn.ensures (value c.in_ok-held-in-Spawn.held) c.function_number-number.result c.as_str-in-Spawn.ensures.value c.in_ok-held-in-Spawn.ensures c.function_number-number.ensures c.requires in
+pub resolve_expr-resolve_label-requires : goal.resolve_expr-resolve_label-requires
+resolve_expr-resolve_label-requires t c =
+    let h = Arms.form_needs (tables c.args.t.now) (locals c.args.scope.now) (expr_form c.args.e.now.kind) (label_expr (exprs_tree c.in-LabelOf.s.items) (exprs_tree c.in-LabelOf.i.items)) (ap expr_form c.in-LabelOf.is ∙ label_row c.in-LabelOf.s c.in-LabelOf.i) c.requires in
     search rules
 
-pub resolve_expr-returns-in_ok-given-in-Spawn : goal.resolve_expr-returns-in_ok-given-in-Spawn
-resolve_expr-returns-in_ok-given-in-Spawn t c =
+pub resolve_expr-returns-in-LabelOf : goal.resolve_expr-returns-in-LabelOf
+resolve_expr-returns-in-LabelOf t c = if_ok c.resolve_label.result _ _ c.resolve_label.ensures (λ v h. Arms.form_done (tables c.args.t.now) (locals c.args.scope.now) (expr_form c.args.e.now.kind) (label_expr (exprs_tree c.in-LabelOf.s.items) (exprs_tree c.in-LabelOf.i.items)) (value v) (ap expr_form c.in-LabelOf.is ∙ label_row c.in-LabelOf.s c.in-LabelOf.i) h)
+
+pub resolve_expr-resolve_spawn-requires : goal.resolve_expr-resolve_spawn-requires
+resolve_expr-resolve_spawn-requires t c =
+    let h = Arms.form_needs (tables c.args.t.now) (locals c.args.scope.now) (expr_form c.args.e.now.kind) (spawn_expr (expr_tree c.deref-in-Spawn.result.now) (id_tree c.in-Spawn.function) (exprs_tree c.in-Spawn.args.items)) (ap expr_form c.in-Spawn.is ∙ spawn_row c.in-Spawn.caps c.in-Spawn.function c.in-Spawn.args ∙ ap (λ (x : Expr). spawn_expr (expr_tree x) (id_tree c.in-Spawn.function) (exprs_tree c.in-Spawn.args.items)) (sym c.deref-in-Spawn.ensures)) c.requires in
+    search rules
+
+pub resolve_expr-returns-in-Spawn : goal.resolve_expr-returns-in-Spawn
+resolve_expr-returns-in-Spawn t c = if_ok c.resolve_spawn.result _ _ c.resolve_spawn.ensures (λ v h. Arms.form_done (tables c.args.t.now) (locals c.args.scope.now) (expr_form c.args.e.now.kind) (spawn_expr (expr_tree c.deref-in-Spawn.result.now) (id_tree c.in-Spawn.function) (exprs_tree c.in-Spawn.args.items)) (value v) (ap expr_form c.in-Spawn.is ∙ spawn_row c.in-Spawn.caps c.in-Spawn.function c.in-Spawn.args ∙ ap (λ (x : Expr). spawn_expr (expr_tree x) (id_tree c.in-Spawn.function) (exprs_tree c.in-Spawn.args.items)) (sym c.deref-in-Spawn.ensures)) h)
+
+pub resolve_array-resolve_type-requires : goal.resolve_array-resolve_type-requires
+resolve_array-resolve_type-requires t c =
+    Arms.array_type (tables c.args.t.now) (locals c.args.scope.now) _ (type_tree c.args.element.now) c.args.length.now c.args.length.now refl c.requires
+
+pub resolve_array-resolve_expr-requires : goal.resolve_array-resolve_expr-requires
+resolve_array-resolve_expr-requires t c =
+    let h = Arms.array_length (tables c.args.t.now) (locals c.args.scope.now) _ (type_tree c.args.element.now) c.args.length.now c.args.length.now refl (kind_type c.in_ok-kind.kind) refl c.in_ok-kind.ensures c.requires in
+    search rules
+
+pub resolve_array-returns : goal.resolve_array-returns
+resolve_array-returns t c =
+    if_ok c.new_array.result _ _ c.new_array.ensures (λ v e.
+    Arms.array_done (tables c.args.t.now) (locals c.args.scope.now) _ (type_tree c.args.element.now) c.args.length.now c.args.length.now refl (kind_type c.in_ok-kind.kind) (value c.in_ok-size.size) (value v) refl c.in_ok-kind.ensures c.in_ok-size.ensures e)
+
+pub resolve_label-resolve_args-requires : goal.resolve_label-resolve_args-requires
+resolve_label-resolve_args-requires t c =
+    let h = Arms.label_first (tables c.args.t.now) (locals c.args.scope.now) _ (exprs_tree c.args.s.now.items) (exprs_tree c.args.i.now.items) refl c.requires in
+    search rules
+
+pub resolve_label-resolve_args-requires-2 : goal.resolve_label-resolve_args-requires-2
+resolve_label-resolve_args-requires-2 t c =
+    let h = Arms.label_second (tables c.args.t.now) (locals c.args.scope.now) _ (exprs_tree c.args.s.now.items) (exprs_tree c.args.i.now.items) refl (seen_args c.in_ok-secrecy.secrecy) c.in_ok-secrecy.ensures c.requires in
+    search rules
+
+pub resolve_label-returns : goal.resolve_label-returns
+resolve_label-returns t c =
+    Arms.label_done (tables c.args.t.now) (locals c.args.scope.now) _ (exprs_tree c.args.s.now.items) (exprs_tree c.args.i.now.items) refl (seen_args c.in_ok-secrecy.secrecy) (seen_args c.in_ok-integrity.integrity) (value c.label_of.result) c.in_ok-secrecy.ensures c.in_ok-integrity.ensures c.label_of.ensures
+
+pub resolve_spawn-resolve_expr-requires : goal.resolve_spawn-resolve_expr-requires
+resolve_spawn-resolve_expr-requires t c =
+    let h = Arms.spawn_caps (tables c.args.t.now) (locals c.args.scope.now) _ (id_tree c.args.function.now) (id_tree c.args.function.now).word (exprs_tree c.args.args.now.items) c.args.caps.now c.args.caps.now refl refl c.requires in
+    search rules
+
+pub resolve_spawn-function_number-number-requires : goal.resolve_spawn-function_number-number-requires
+resolve_spawn-function_number-number-requires t c =
+    Arms.spawn_function (tables c.args.t.now) (locals c.args.scope.now) _ (id_tree c.args.function.now) c.as_str.result.now (exprs_tree c.args.args.now.items) c.args.caps.now c.args.caps.now refl refl (value c.in_ok-held.held) c.as_str.ensures.value c.in_ok-held.ensures c.requires
+
+pub resolve_spawn-resolve_args-requires : goal.resolve_spawn-resolve_args-requires
+resolve_spawn-resolve_args-requires t c =
+    let h = Arms.spawn_args (tables c.args.t.now) (locals c.args.scope.now) _ (id_tree c.args.function.now) c.as_str.result.now (exprs_tree c.args.args.now.items) c.args.caps.now c.args.caps.now refl refl (value c.in_ok-held.held) c.function_number-number.result c.as_str.ensures.value c.in_ok-held.ensures c.function_number-number.ensures c.requires in
+    search rules
+
+pub resolve_spawn-returns : goal.resolve_spawn-returns
+resolve_spawn-returns t c =
     if_ok c.spawn.result _ _ c.spawn.ensures (λ v e.
-    Arms.spawn_done (tables c.args.t.now) (locals c.args.scope.now) (expr_form c.args.e.now.kind) (id_tree c.in-Spawn.function) c.as_str-in-Spawn.result.now (exprs_tree c.in-Spawn.args.items) c.deref-in-Spawn.result.now c.in-Spawn.caps.value (ap expr_form c.in-Spawn.is ∙ spawn_row c.in-Spawn.caps c.in-Spawn.function c.in-Spawn.args) c.deref-in-Spawn.ensures (value c.in_ok-held-in-Spawn.held) (value v) c.function_number-number.result (seen_args c.in_ok-given-in-Spawn.given) c.as_str-in-Spawn.ensures.value c.in_ok-held-in-Spawn.ensures c.function_number-number.ensures c.in_ok-given-in-Spawn.ensures e)
+    Arms.spawn_done (tables c.args.t.now) (locals c.args.scope.now) _ (id_tree c.args.function.now) c.as_str.result.now (exprs_tree c.args.args.now.items) c.args.caps.now c.args.caps.now refl refl (value c.in_ok-held.held) (value v) c.function_number-number.result (seen_args c.in_ok-given.given) c.as_str.ensures.value c.in_ok-held.ensures c.function_number-number.ensures c.in_ok-given.ensures e)
 
 pub resolve_args-loop-i-init : goal.resolve_args-loop-i-init
 resolve_args-loop-i-init t c =

@@ -2,7 +2,7 @@ use Rattle.std.proofs.Common.{◌≡◌, sym, ap, ◌∙◌, Some, None, Option,
 use Rattle.std.proofs.lemmas.Result.{err_from_is_err_and}
 use Rattle.lam_syntax.specs.declared.Stmt.{Stmt}
 use Rattle.lam_syntax.proofs.Rows.{while_row, sync_row, if_row, region_row}
-use Rattle.lam_syntax.specs.Tree.{stmt_form, if_stmt, expr_tree, option_expr_tree, stmts_tree, else_tree, ids_tree, id_tree}
+use Rattle.lam_syntax.specs.Tree.{stmt_form, if_stmt, return_stmt, throw_stmt, do_stmt, assign_stmt, expr_tree, option_expr_tree, stmts_tree, else_tree, ids_tree, id_tree}
 use Rattle.lam_kinds.specs.Values.{decls, names, option_type, given}
 use Rattle.lam_types.proofs.Arms
 use Rattle.lam_types.proofs.Pieces.{block_stop, block_done}
@@ -22,11 +22,6 @@ check_stmt-returns-in_err-c-in-If-clause-meets t c =
     let p = err_from_is_err_and c.from_residual.result c.from_residual.ensures.1 in
     rw (p.1, p.2) (Arms.if_stop (decls c.args.known.now) (option_type c.args.want) c.args.c c.args.s.now.at (stmt_form c.args.s.now.kind) c.args.env.now.entries c.in_err-c-in-If.field-0.0 (expr_tree c.in-If.test) (stmts_tree c.in-If.yes.items) (else_tree c.in-If.no) (ap stmt_form c.in-If.is ∙ if_row c.in-If.test c.in-If.yes c.in-If.no) c.in_err-c-in-If.ensures.meets)
 
-pub check_stmt-returns-in_err-check_return-in-Return-clause-meets : goal.check_stmt-returns-in_err-check_return-in-Return-clause-meets
-check_stmt-returns-in_err-check_return-in-Return-clause-meets t c =
-    let p = err_from_is_err_and c.from_residual-in_err-check_return-in-Return.result c.from_residual-in_err-check_return-in-Return.ensures.1 in
-    rw (p.1, p.2) (Arms.return_arm (decls c.args.known.now) (option_type c.args.want) c.args.c c.args.s.now.at (stmt_form c.args.s.now.kind) c.args.env.now.entries c.in_err-check_return-in-Return.field-0.0 (option_expr_tree c.in-Return.e) (ap stmt_form c.in-Return.is) c.in_err-check_return-in-Return.ensures)
-
 pub check_stmt-returns-in_err-inner-in-Region-clause-meets : goal.check_stmt-returns-in_err-inner-in-Region-clause-meets
 check_stmt-returns-in_err-inner-in-Region-clause-meets t c =
     let p = err_from_is_err_and c.from_residual-in_err-inner-in-Region.result c.from_residual-in_err-inner-in-Region.ensures.1 in
@@ -36,21 +31,6 @@ pub check_stmt-returns-in_err-inner-in-Region-2-clause-meets : goal.check_stmt-r
 check_stmt-returns-in_err-inner-in-Region-2-clause-meets t c =
     let p = err_from_is_err_and c.from_residual-in_err-inner-in-Region-2.result c.from_residual-in_err-inner-in-Region-2.ensures.1 in
     rw (p.1, p.2) (Arms.catch_stop (decls c.args.known.now) (option_type c.args.want) c.args.c c.args.s.now.at (stmt_form c.args.s.now.kind) c.args.env.now.entries c.in_err-inner-in-Region-2.field-0.0 c.in_ok-inner-in-Region.inner c.check_opened.new.env.entries (expr_tree c.in-Region.label) (expr_tree c.in-Region.caps) (ids_tree c.in-Region.captures.items) (stmts_tree c.in-Region.body.items) (id_tree c.in-Region.catch_name) (stmts_tree c.in-Region.catch_body.items) (ap stmt_form c.in-Region.is ∙ region_row c.in-Region.label c.in-Region.caps c.in-Region.captures c.in-Region.body c.in-Region.catch_name c.in-Region.catch_body) c.in_ok-inner-in-Region.ensures.meets c.in_ok-inner-in-Region.ensures.keeps c.in_err-inner-in-Region-2.ensures.meets)
-
-pub check_stmt-returns-in_err-check_expr-in-Do-clause-meets : goal.check_stmt-returns-in_err-check_expr-in-Do-clause-meets
-check_stmt-returns-in_err-check_expr-in-Do-clause-meets t c =
-    let p = err_from_is_err_and c.from_residual-in_err-check_expr-in-Do.result c.from_residual-in_err-check_expr-in-Do.ensures.1 in
-    rw (p.1, p.2) (Arms.do_arm (decls c.args.known.now) (option_type c.args.want) c.args.c c.args.s.now.at (stmt_form c.args.s.now.kind) c.args.env.now.entries c.in_err-check_expr-in-Do.field-0.0 (expr_tree c.in-Do.e) (ap stmt_form c.in-Do.is) c.in_err-check_expr-in-Do.ensures)
-
-pub check_stmt-returns-in_err-got-in-Assign-clause-meets : goal.check_stmt-returns-in_err-got-in-Assign-clause-meets
-check_stmt-returns-in_err-got-in-Assign-clause-meets t c =
-    let p = err_from_is_err_and c.from_residual-in_err-got-in-Assign.result c.from_residual-in_err-got-in-Assign.ensures.1 in
-    rw (p.1, p.2) (Arms.assign_first (decls c.args.known.now) (option_type c.args.want) c.args.c c.args.s.now.at (stmt_form c.args.s.now.kind) c.args.env.now.entries c.in_err-got-in-Assign.field-0.0 (expr_tree c.in-Assign.place) (expr_tree c.in-Assign.value) (ap stmt_form c.in-Assign.is) c.in_err-got-in-Assign.ensures)
-
-pub check_stmt-returns-in_err-check_assigned-in-Assign-clause-meets : goal.check_stmt-returns-in_err-check_assigned-in-Assign-clause-meets
-check_stmt-returns-in_err-check_assigned-in-Assign-clause-meets t c =
-    let p = err_from_is_err_and c.from_residual-in_err-check_assigned-in-Assign.result c.from_residual-in_err-check_assigned-in-Assign.ensures.1 in
-    rw (p.1, p.2) (Arms.assign_second (decls c.args.known.now) (option_type c.args.want) c.args.c c.args.s.now.at (stmt_form c.args.s.now.kind) c.args.env.now.entries c.in_err-check_assigned-in-Assign.field-0.0 (given c.in_ok-got-in-Assign.got) (option_type c.type_before.result) (expr_tree c.in-Assign.place) (expr_tree c.in-Assign.value) (ap stmt_form c.in-Assign.is) c.in_ok-got-in-Assign.ensures c.type_before.ensures c.in_err-check_assigned-in-Assign.ensures)
 
 pub check_stmt-returns-in-None-clause-meets : goal.check_stmt-returns-in-None-clause-meets
 check_stmt-returns-in-None-clause-meets t c =
@@ -71,3 +51,15 @@ check_stmt-returns-in-Sync-clause-meets t c =
 pub check_stmt-returns-in_ok-inner-in-Region-2-clause-meets : goal.check_stmt-returns-in_ok-inner-in-Region-2-clause-meets
 check_stmt-returns-in_ok-inner-in-Region-2-clause-meets t c =
     Arms.region_fine (decls c.args.known.now) (option_type c.args.want) c.args.c c.args.s.now.at (stmt_form c.args.s.now.kind) c.args.env.now.entries c.in_ok-inner-in-Region.inner c.in_ok-inner-in-Region-2.inner c.check_opened.new.env.entries c.check_catch.new.env.entries (expr_tree c.in-Region.label) (expr_tree c.in-Region.caps) (ids_tree c.in-Region.captures.items) (stmts_tree c.in-Region.body.items) (id_tree c.in-Region.catch_name) (stmts_tree c.in-Region.catch_body.items) (ap stmt_form c.in-Region.is ∙ region_row c.in-Region.label c.in-Region.caps c.in-Region.captures c.in-Region.body c.in-Region.catch_name c.in-Region.catch_body) c.in_ok-inner-in-Region.ensures.meets c.in_ok-inner-in-Region.ensures.keeps c.in_ok-inner-in-Region-2.ensures.meets c.in_ok-inner-in-Region-2.ensures.keeps
+
+pub check_stmt-returns-in-Return-clause-meets : goal.check_stmt-returns-in-Return-clause-meets
+check_stmt-returns-in-Return-clause-meets t c = Arms.steps_form (decls c.args.known.now) (option_type c.args.want) c.args.c c.args.s.now.at (stmt_form c.args.s.now.kind) c.args.env.now.entries c.check_return.result c.args.env.now.entries (return_stmt (option_expr_tree c.in-Return.e)) (ap stmt_form c.in-Return.is) c.check_return.ensures
+
+pub check_stmt-returns-in-Throw-clause-meets : goal.check_stmt-returns-in-Throw-clause-meets
+check_stmt-returns-in-Throw-clause-meets t c = Arms.steps_form (decls c.args.known.now) (option_type c.args.want) c.args.c c.args.s.now.at (stmt_form c.args.s.now.kind) c.args.env.now.entries c.check_throw.result c.args.env.now.entries (throw_stmt (expr_tree c.in-Throw.e)) (ap stmt_form c.in-Throw.is) c.check_throw.ensures
+
+pub check_stmt-returns-in-Do-clause-meets : goal.check_stmt-returns-in-Do-clause-meets
+check_stmt-returns-in-Do-clause-meets t c = Arms.steps_form (decls c.args.known.now) (option_type c.args.want) c.args.c c.args.s.now.at (stmt_form c.args.s.now.kind) c.args.env.now.entries c.check_do.result c.args.env.now.entries (do_stmt (expr_tree c.in-Do.e)) (ap stmt_form c.in-Do.is) c.check_do.ensures
+
+pub check_stmt-returns-in-Assign-clause-meets : goal.check_stmt-returns-in-Assign-clause-meets
+check_stmt-returns-in-Assign-clause-meets t c = Arms.steps_form (decls c.args.known.now) (option_type c.args.want) c.args.c c.args.s.now.at (stmt_form c.args.s.now.kind) c.args.env.now.entries c.check_assign.result c.args.env.now.entries (assign_stmt (expr_tree c.in-Assign.place) (expr_tree c.in-Assign.value)) (ap stmt_form c.in-Assign.is) c.check_assign.ensures
