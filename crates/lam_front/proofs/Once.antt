@@ -11,7 +11,7 @@ use Rattle.lam_grammar.specs.Meaning.{nothing, word, items_value}
 use Rattle.lam_grammar.specs.Program.{lam, program, SpellsProgram}
 use Rattle.lam_grammar.specs.Examples.{examples}
 use Rattle.lam_grammar.proofs.Passes.{sound}
-use Rattle.lam_parser.specs.Answers.{place}
+use Rattle.lam_parser.specs.Answers.{position_at}
 use Rattle.lam_kinds.specs.Breaks.{Break}
 use Rattle.lam_types.specs.Program.{first_type_break}
 use Rattle.region_check.specs.Breaks as region
@@ -112,8 +112,8 @@ module _ (bytes : List ℕ) where
   spelt_or_misspelt p f a (unexpected ts n l h e) = spelt_or_unexpected a.tokens p n a.is.spelt (move_unexpected (one_list l (lexed_of p a)) h)
   spelt_or_misspelt p f a (too_deep ts n l h e) = spelt_or_too_deep a.tokens p n a.is.spelt (move_too_deep (one_list l (lexed_of p a)) h)
 
-  same_at : (flaw : _) (ts us : List Token) (n m : ℕ) → ts ≡ us → n ≡ m → At flaw (place ts n) ≡ At flaw (place us m)
-  same_at flaw ts us n m q e = ap (λ (x : List Token). At flaw (place x n)) q ∙ ap (λ (x : ℕ). At flaw (place us x)) e
+  same_at : (flaw : _) (ts us : List Token) (n m : ℕ) → ts ≡ us → n ≡ m → At flaw (position_at ts n) ≡ At flaw (position_at us m)
+  same_at flaw ts us n m q e = ap (λ (x : List Token). At flaw (position_at x n)) q ∙ ap (λ (x : ℕ). At flaw (position_at us x)) e
 
   pub one_misspelt : (f g : ProgramFault) → IsMisspelt bytes f → IsMisspelt bytes g → f ≡ g
   one_misspelt f g (no_text n e) (no_text n' e') = e ∙ sym e'

@@ -9,7 +9,7 @@ use Rattle.lam_lexer.specs.Lexed.{Lexed, FirstFault}
 use Rattle.lam_grammar.specs.Meaning.{nothing}
 use Rattle.lam_grammar.specs.Program.{lam, program}
 use Rattle.lam_spelt.specs.Law.{IsOf}
-use Rattle.lam_parser.specs.Answers.{place}
+use Rattle.lam_parser.specs.Answers.{position_at}
 use Rattle.lam_kinds.specs.Breaks.{Break}
 use Rattle.lam_types.specs.Program.{first_type_break}
 use Rattle.region_check.specs.Breaks as region
@@ -34,9 +34,9 @@ pub data IsMisspelt (bytes : List ℕ) (fault : ProgramFault) : Type 0 where
   no_text : (IsUtf8 bytes → ⊥) → fault ≡ NotUtf8 → IsMisspelt bytes fault
   bad_token : (f : LexFault) → IsUtf8 bytes → FirstFault (chars bytes) f → fault ≡ lexical f → IsMisspelt bytes fault
   -- the token n is the first that continues no program
-  unexpected : (tokens : List Token) (n : ℕ) → IsLexed bytes tokens → IsUnexpected lam program nothing tokens n → fault ≡ At Unexpected (place tokens n) → IsMisspelt bytes fault
+  unexpected : (tokens : List Token) (n : ℕ) → IsLexed bytes tokens → IsUnexpected lam program nothing tokens n → fault ≡ At Unexpected (position_at tokens n) → IsMisspelt bytes fault
   -- the token n is the first at which the depth sum passes its limit
-  too_deep : (tokens : List Token) (n : ℕ) → IsLexed bytes tokens → IsTooDeep lam program nothing tokens n → fault ≡ At TooDeep (place tokens n) → IsMisspelt bytes fault
+  too_deep : (tokens : List Token) (n : ℕ) → IsLexed bytes tokens → IsTooDeep lam program nothing tokens n → fault ≡ At TooDeep (position_at tokens n) → IsMisspelt bytes fault
 
 -- the bytes spell the program, and it keeps the type rules and the region rules
 pub record IsFine (bytes : List ℕ) (p : ProgramTree) : Type 0 where

@@ -24,7 +24,7 @@ use Rattle.lam_reading.specs.declared.breaks.Break.TheVariants.{Unexpected, TooD
 use Rattle.lam_reading.specs.Classes.{class_of, sample_of}
 use Rattle.lam_reading.specs.Reading.{Fails}
 use Rattle.lam_parser.specs.declared.ParseFault.TheVariants as answer
-use Rattle.lam_parser.specs.Answers.{CouldBe, LacksPlace, place, Parses}
+use Rattle.lam_parser.specs.Answers.{CouldBe, LacksPlace, position_at, Parses}
 
 module _ (ts : List Token) where
   pub unexpected_there : (n : ℕ) (w : Token) → Stops lam examples (limited lam) (slice_get ts) program nothing 0 0 (unexpected false n) → Stops lam examples (limited lam) (slice_get ts) program nothing 0 0 (could n w) → IsUnexpected lam program nothing ts n × (LacksPlace ts n → ⊥) × CouldBe ts n w
@@ -84,7 +84,7 @@ module _ (ts : List Token) where
 
 -- ---- the parser's answer
 
-pub unexpected_answer : (ts : List Token) (n at : ℕ) (wanted : Wanted) → at ≡ place ts n → Fails (slice_get ts) program 0 0 (Unexpected n wanted) → Parses ts (Err (answer.Unexpected at wanted))
+pub unexpected_answer : (ts : List Token) (n at : ℕ) (wanted : Wanted) → at ≡ position_at ts n → Fails (slice_get ts) program 0 0 (Unexpected n wanted) → Parses ts (Err (answer.Unexpected at wanted))
 unexpected_answer ts n at Place e h =
     let u = barred_there ts n _ (h.0 nothing) (h.1 nothing) in
     (n, e, u.0, u.1)
@@ -107,11 +107,11 @@ unexpected_answer ts n at (Mark m) e h =
     let u = unexpected_there ts n _ (h.0 nothing) (h.1 nothing) in
     (n, e, u.0, (u.1, inl (sample_of (Mark m), (class_of m).sure, u.2)))
 
-pub too_deep_answer : (ts : List Token) (n at : ℕ) → at ≡ place ts n → Fails (slice_get ts) program 0 0 (TooDeep n) → Parses ts (Err (answer.TooDeep at))
+pub too_deep_answer : (ts : List Token) (n at : ℕ) → at ≡ position_at ts n → Fails (slice_get ts) program 0 0 (TooDeep n) → Parses ts (Err (answer.TooDeep at))
 too_deep_answer ts n at e h = (n, e, too_deep_there ts n (h nothing))
 
 -- the tokens go on behind the end of the text
-pub past_answer : (ts : List Token) (n at s : ℕ) (vs : List Value) (m : marks.Mark) → at ≡ place ts n → Reads lam (limited lam) (slice_get ts) program nothing 0 0 vs n s → n < length ts → Parses ts (Err (answer.Unexpected at (Mark m)))
+pub past_answer : (ts : List Token) (n at s : ℕ) (vs : List Value) (m : marks.Mark) → at ≡ position_at ts n → Reads lam (limited lam) (slice_get ts) program nothing 0 0 vs n s → n < length ts → Parses ts (Err (answer.Unexpected at (Mark m)))
 past_answer ts n at s vs m e h lt =
     let u = past_end ts vs n s h lt in
     (n, e, u.0, (u.1, inr u.2))

@@ -14,7 +14,7 @@ use Rattle.lam_grammar.specs.Examples.{examples}
 use Rattle.lam_grammar.proofs.Passes.{sound}
 use Rattle.lam_parser.specs.declared.ParseFault.{ParseFault}
 use Rattle.lam_parser.specs.declared.ParseFault.TheVariants.{Unexpected, TooDeep, NoMemory}
-use Rattle.lam_parser.specs.Answers.{Parses, Agree, IsReadAs, place}
+use Rattle.lam_parser.specs.Answers.{Parses, Agree, IsReadAs, position_at}
 
 either_below : (b : Bool) (l n : ℕ) → cond b l n ≤ l + n
 either_below true l n = omega arith
@@ -65,8 +65,8 @@ module _ (ts : List Token) where
         | inr ge ↦ no_later_unexpected n (m + 1) m (omega arith) u v.0
       ]
 
-  same_place : (n m at at' : ℕ) → n ≡ m → at ≡ place ts n → at' ≡ place ts m → at ≡ at'
-  same_place n m at at' e p q = p ∙ ap (place ts) e ∙ sym q
+  same_place : (n m at at' : ℕ) → n ≡ m → at ≡ position_at ts n → at' ≡ position_at ts m → at ≡ at'
+  same_place n m at at' e p q = p ∙ ap (position_at ts) e ∙ sym q
 
   same_tree : (p q : ProgramTree) → SpellsProgram ts p → SpellsProgram ts q → p ≡ q
   same_tree p q s r =

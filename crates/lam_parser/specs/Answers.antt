@@ -29,8 +29,8 @@ at_or other None = other
 at_or other (Some w) = w.at
 
 -- the position of the token at an index, or else of the last token; 0 without tokens
-abbrev pub place : List Token → ℕ → ℕ
-place tokens n = at_or (at_or 0 (slice_get tokens (length tokens - 1))) (slice_get tokens n)
+abbrev pub position_at : List Token → ℕ → ℕ
+position_at tokens n = at_or (at_or 0 (slice_get tokens (length tokens - 1))) (slice_get tokens n)
 
 -- the program's text goes on from the first n tokens with the token w
 abbrev pub CouldBe : List Token → ℕ → Token → Type 0
@@ -50,8 +50,8 @@ IsWanted tokens n wanted = (LacksPlace tokens n → ⊥) × (((w : Token) × (is
 -- is the first at which the depth sum passes 128. Want of memory says nothing.
 abbrev pub Parses : List Token → Result Program ParseFault → Type 0
 Parses tokens (Ok p) = SpellsProgram tokens (program_tree p)
-Parses tokens (Err (Unexpected at wanted)) = (n : ℕ) × (at ≡ place tokens n) × IsUnexpected lam program nothing tokens n × IsWanted tokens n wanted
-Parses tokens (Err (TooDeep at)) = (n : ℕ) × (at ≡ place tokens n) × IsTooDeep lam program nothing tokens n
+Parses tokens (Err (Unexpected at wanted)) = (n : ℕ) × (at ≡ position_at tokens n) × IsUnexpected lam program nothing tokens n × IsWanted tokens n wanted
+Parses tokens (Err (TooDeep at)) = (n : ℕ) × (at ≡ position_at tokens n) × IsTooDeep lam program nothing tokens n
 Parses tokens (Err NoMemory) = Unit {0}
 
 -- Two answers agree, as far as memory sufficed: the same tree, or the same fault at the same place.

@@ -14,7 +14,7 @@
 ghost use Rattle.std.specs.Prelude.{◌≡◌, slice_get};
 ghost use Rattle.lam_grammar.specs.Program as table;
 ghost use Rattle.lam_reading.specs.Reading.{Fails};
-ghost use Rattle.lam_parser.specs.Answers.{Parses, place};
+ghost use Rattle.lam_parser.specs.Answers.{Parses, position_at};
 
 mod items;
 mod stmts;
@@ -58,7 +58,7 @@ pub fn parse(alloc: Global, tokens: &[Token]) -> Result<Program, ParseFault>
 
 /// The position of a token, or of the last one where there is none at the index; 0 without tokens.
 fn position(tokens: &[Token], index: usize) -> u64
-    ensures { result ≡ place tokens.now index }
+    ensures { result ≡ position_at tokens.now index }
 {
     match tokens.get(index) {
         Some(token) => token.at,

@@ -142,7 +142,7 @@ while_statement-returns-clause-reads t c =
     let word = mark_taken c.requires.begun refl (begun (slice_get c.args.tokens.now) stmt c.args.depth c.args.at refl (while_body c.requires.begun)) in
     let test = rule_taken (with_sum c.in_ok-test.ensures.depth c.in_ok-test.ensures.reads) c.in_ok-test.ensures.goes_on.0 word in
     let body = rule_taken c.in_ok-body.ensures.reads c.in_ok-body.ensures.goes_on.0 test in
-    rw c.make_while.ensures (subst (λ v. Gives (slice_get c.args.tokens.now) stmt c.args.depth c.args.at v c.in_ok-body.next c.args.depth) (while_means c.args.word.now c.in_ok-test.test.begin (expr_tree c.in_ok-test.test.expr) (stmts_tree c.in_ok-body.body.items) c.requires.begun.fit) (rule_read body))
+    rw c.make_while.ensures (subst (λ v. Gives (slice_get c.args.tokens.now) stmt c.args.depth c.args.at v c.in_ok-body.next c.args.depth) (while_means c.args.word.now c.in_ok-test.test.begin (expr_tree c.in_ok-test.test.expr.value) (stmts_tree c.in_ok-body.body.items) c.requires.begun.fit) (rule_read body))
 
 -- ---- `sync`
 
@@ -164,7 +164,7 @@ sync_statement-returns-clause-reads t c =
     let word = mark_taken c.requires.begun refl (begun (slice_get c.args.tokens.now) stmt c.args.depth c.args.at refl (sync_body c.requires.begun)) in
     let thing = rule_taken (with_sum c.in_ok-thing.ensures.depth c.in_ok-thing.ensures.reads) c.in_ok-thing.ensures.goes_on.0 word in
     let body = rule_taken c.in_ok-body.ensures.reads c.in_ok-body.ensures.goes_on.0 thing in
-    rw c.make_sync.ensures (subst (λ v. Gives (slice_get c.args.tokens.now) stmt c.args.depth c.args.at v c.in_ok-body.next c.args.depth) (sync_means c.args.word.now c.in_ok-thing.thing.begin (expr_tree c.in_ok-thing.thing.expr) (stmts_tree c.in_ok-body.body.items) c.requires.begun.fit) (rule_read body))
+    rw c.make_sync.ensures (subst (λ v. Gives (slice_get c.args.tokens.now) stmt c.args.depth c.args.at v c.in_ok-body.next c.args.depth) (sync_means c.args.word.now c.in_ok-thing.thing.begin (expr_tree c.in_ok-thing.thing.expr.value) (stmts_tree c.in_ok-body.body.items) c.requires.begun.fit) (rule_read body))
 
 -- ---- regions
 
