@@ -12,4 +12,4 @@ returns-in_err-program-clause-says c =
     rw p.1 (not_formatted c.args.bytes.now c.in_err-program.field-0.0 p.0 c.in_err-program.ensures.exact p.2)
 
 pub returns-clause-says : goal.returns-clause-says
-returns-clause-says c = canonical (program_tree c.in_ok-program.program) c.in_ok-program.ensures.exact (ap prints c.in_ok-print.ensures)
+returns-clause-says c = canonical (program_tree c.in_ok-program.program) c.in_ok-program.ensures.exact (ap prints c.in_ok-text_of.ensures)
