@@ -1,57 +1,104 @@
 //! Capabilities: what they allow, and their texts.
 
+use crate::labels::three_names;
+use crate::sets::has;
 use capabilities::{Caps, CapsFault, caps_text, parse_caps};
 use flow_labels::{Denied, Label, Rule, TagNames};
-use std::test::Fail;
+use std::alloc::Global;
 use tag_sets::{NoMemory, TagId, TagSet};
 
-#[test]
-fn both_signs_of_a_tag(rt: HostRuntime) -> Result<(), NoMemory> {
-    let alloc = rt.alloc();
-    let caps = Caps::none(alloc).with_both(TagId(3))?;
-    assert_eq!(rt; caps.plus.tags(), [TagId(3)].as_slice());
-    assert_eq!(rt; caps.minus.tags(), [TagId(3)].as_slice());
-    let secret = Label {
-        s: TagSet::from_slice(alloc, &[TagId(3), TagId(4)])?,
+/// The label `{#3,#4}/{}`.
+fn secret(alloc: Global) -> Result<Label, NoMemory> {
+    let s = TagSet::from_slice(alloc, &[TagId(3), TagId(4)])?;
+    Ok(Label {
+        s,
         i: TagSet::empty(alloc),
-    };
-    let public = Label::public(alloc);
-    let denied = Denied {
-        rule: Rule::DropS,
-        tag: TagId(4),
-    };
-    assert_eq!(rt; caps.change_rule(&secret, &public), Some(denied));
-    let denied = Denied {
-        rule: Rule::AddS,
-        tag: TagId(4),
-    };
-    assert_eq!(rt; caps.change_rule(&public, &secret), Some(denied));
-    let release = Caps::used(&secret, &public)?;
-    assert_eq!(rt; release.minus.tags(), [TagId(3), TagId(4)].as_slice());
-    assert!(rt; release.plus.tags().is_empty());
+    })
+}
+
+/// Whether a change is forbidden for tag 4.
+fn forbids(denied: Option<Denied>, rule: Rule) -> bool {
+    let tag = TagId(4);
+    denied == Some(Denied { rule, tag })
+}
+
+/// Whether capabilities over one tag of two allow no change, down or up.
+fn are_too_few(caps: &Caps, secret: &Label, public: &Label) -> bool {
+    let down = forbids(caps.change_rule(secret, public), Rule::DropS);
+    down & forbids(caps.change_rule(public, secret), Rule::AddS)
+}
+
+/// Whether a release uses the minus of both tags and no plus.
+fn drops_both(release: &Caps) -> bool {
+    has(&release.minus, &[TagId(3), TagId(4)]) & release.plus.tags().is_empty()
+}
+
+/// Whether a change needs both tags, which what it uses has.
+fn needs_both(caps: &Caps, secret: &Label, public: &Label) -> Result<bool, NoMemory> {
+    let release = Caps::used(secret, public)?;
     let held = caps.join(&release)?;
-    assert!(rt; held.covers(&caps).is_none() && held.change_rule(&secret, &public).is_none());
-    Ok(())
+    let allowed = held.covers(caps).is_none() & held.change_rule(secret, public).is_none();
+    Ok(allowed & drops_both(&release))
+}
+
+/// Whether capabilities over tag 3 allow less than a release of 3 and 4 takes.
+fn are_joined(caps: &Caps) -> Result<bool, NoMemory> {
+    let secret = secret(caps.allocator())?;
+    let public = Label::public(caps.allocator());
+    Ok(are_too_few(caps, &secret, &public) & needs_both(caps, &secret, &public)?)
+}
+
+/// Whether tag 3 is held with both signs.
+fn has_both_signs(alloc: Global) -> Result<bool, NoMemory> {
+    let none = Caps::none(alloc);
+    let caps = none.with_both(TagId(3))?;
+    let held = has(&caps.plus, &[TagId(3)]) & has(&caps.minus, &[TagId(3)]);
+    Ok(held & are_joined(&caps)?)
 }
 
 #[test]
-fn capabilities_are_read_and_printed(rt: HostRuntime) -> Result<(), Fail> {
-    let mut names = TagNames::new(rt.alloc());
-    for name in ["a", "b"] {
-        assert!(rt; names.add(name).is_ok());
-    }
-    let Ok(caps) = parse_caps("+{a,a}-{b,a}", &names) else {
-        return Err(Fail::new("refused"));
-    };
-    assert_eq!(rt; caps_text(&caps, &names)?.as_str(), "+{a}-{a,b}");
+fn both_signs_of_a_tag(rt: HostRuntime) {
+    assert!(rt; has_both_signs(rt.alloc()) == Ok(true));
+}
+
+/// Whether capabilities have this text.
+fn has_text(caps: &Caps, names: &TagNames, want: &str) -> Result<bool, NoMemory> {
+    let text = caps_text(caps, names)?;
+    Ok(text.as_str() == want)
+}
+
+/// Whether capabilities are printed, also with a tag that has no name.
+fn are_printed(caps: &Caps, names: &TagNames) -> Result<bool, NoMemory> {
     let minted = caps.with_both(TagId(12))?;
-    assert_eq!(rt; caps_text(&minted, &names)?.as_str(), "+{a,#12}-{a,b,#12}");
-    for (text, want) in [
-        ("{a}-{}", CapsFault::BadCaps { at: 0 }),
-        ("+{a}-{", CapsFault::BadCaps { at: 6 }),
-        ("+{a}-{a,c}", CapsFault::NoTag { at: 8 }),
-    ] {
-        assert_eq!(rt; parse_caps(text, &names).err(), Some(want), "{text}");
-    }
-    Ok(())
+    let numbered = has_text(&minted, names, "+{a,#12}-{a,b,#12}")?;
+    Ok(numbered & has_text(caps, names, "+{a}-{a,b}")?)
+}
+
+/// Whether capabilities are read and printed.
+fn are_read(names: &TagNames) -> Option<bool> {
+    let caps = parse_caps("+{a,a}-{b,a}", names).ok()?;
+    are_printed(&caps, names).ok()
+}
+
+/// Whether a text is refused, for this reason.
+fn is_refused(text: &str, names: &TagNames, fault: CapsFault) -> bool {
+    parse_caps(text, names).err() == Some(fault)
+}
+
+/// Whether three texts are refused.
+fn are_refused(names: &TagNames) -> bool {
+    let begin = is_refused("{a}-{}", names, CapsFault::BadCaps { at: 0 });
+    let cut = is_refused("+{a}-{", names, CapsFault::BadCaps { at: 6 });
+    begin & cut & is_refused("+{a}-{a,c}", names, CapsFault::NoTag { at: 8 })
+}
+
+/// Whether capabilities are read where three names are known, and others refused.
+fn reads_known(alloc: Global) -> Option<bool> {
+    let names = three_names(alloc).ok()?;
+    Some(are_read(&names)? & are_refused(&names))
+}
+
+#[test]
+fn capabilities_are_read_and_printed(rt: HostRuntime) {
+    assert!(rt; reads_known(rt.alloc()) == Some(true));
 }

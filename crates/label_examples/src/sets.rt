@@ -1,41 +1,85 @@
 //! Sets of no tag, of one and of more: how they are made, and what a copy shares.
 
+use std::alloc::Global;
 use tag_sets::{NoMemory, TagId, TagSet};
 
-#[test]
-fn three_one_three_is_the_set_of_one_and_three(rt: HostRuntime) -> Result<(), NoMemory> {
-    let alloc = rt.alloc();
+/// Whether these are the tags of a set, the least first.
+pub(crate) fn has(set: &TagSet, tags: &[TagId]) -> bool {
+    set.tags() == tags
+}
+
+/// Whether tag 2 is put between 1 and 3.
+fn takes_two(set: &TagSet) -> Result<bool, NoMemory> {
+    let two = TagSet::one(set.allocator(), TagId(2));
+    let union = set.union(&two)?;
+    Ok(has(&union, &[TagId(1), TagId(2), TagId(3)]))
+}
+
+/// Whether 3 is left without 1.
+fn loses_one(set: &TagSet) -> Result<bool, NoMemory> {
+    let one = TagSet::from_slice(set.allocator(), &[TagId(1)])?;
+    let rest = set.minus(&one)?;
+    Ok(has(&rest, &[TagId(3)]))
+}
+
+/// Whether the set of 3, 1 and 3 is that of 1 and 3, also for what is made of it.
+fn is_one_and_three(alloc: Global) -> Result<bool, NoMemory> {
     let set = TagSet::from_slice(alloc, &[TagId(3), TagId(1), TagId(3)])?;
-    assert_eq!(rt; set.tags(), [TagId(1), TagId(3)].as_slice());
-    let with_two = set.union(&TagSet::one(alloc, TagId(2)))?;
-    assert_eq!(rt; with_two.tags(), [TagId(1), TagId(2), TagId(3)].as_slice());
-    let without_one = set.minus(&TagSet::from_slice(alloc, &[TagId(1)])?)?;
-    assert_eq!(rt; without_one.tags(), [TagId(3)].as_slice());
-    Ok(())
+    let made = takes_two(&set)? & loses_one(&set)?;
+    Ok(made & has(&set, &[TagId(1), TagId(3)]))
 }
 
 #[test]
-fn a_copy_keeps_its_tags_when_its_source_grows(rt: HostRuntime) -> Result<(), NoMemory> {
+fn three_one_three_is_the_set_of_one_and_three(rt: HostRuntime) {
+    assert!(rt; is_one_and_three(rt.alloc()) == Ok(true));
+}
+
+/// Whether a set takes a tag, and its copy keeps as many tags as it had.
+fn grows_alone(set: &mut TagSet, tag: TagId, count: usize) -> Result<bool, NoMemory> {
+    let copy = set.copy()?;
+    set.insert(tag)?;
+    Ok((copy.tags().len() == count) & copy.is_subset(set) & set.contains(tag))
+}
+
+/// Whether a set takes four tags, of which the last was there.
+fn grows(set: &mut TagSet) -> Result<bool, NoMemory> {
+    let two = grows_alone(set, TagId(5), 0)? & grows_alone(set, TagId(2), 1)?;
+    Ok(two & grows_alone(set, TagId(9), 2)? & grows_alone(set, TagId(2), 3)?)
+}
+
+/// Whether a set that grew has its three tags.
+fn has_three(set: &TagSet) -> bool {
+    has(set, &[TagId(2), TagId(5), TagId(9)]) & (set.first() == Some(TagId(2)))
+}
+
+#[test]
+fn a_copy_keeps_its_tags_when_its_source_grows(rt: HostRuntime) {
     let mut set = TagSet::empty(rt.alloc());
-    for (tag, count) in [(TagId(5), 0), (TagId(2), 1), (TagId(9), 2), (TagId(2), 3)] {
-        let copy = set.copy()?;
-        set.insert(tag)?;
-        assert_eq!(rt; copy.tags().len(), count);
-        assert!(rt; copy.is_subset(&set) && set.contains(tag));
-    }
-    assert_eq!(rt; set.tags(), [TagId(2), TagId(5), TagId(9)].as_slice());
-    assert_eq!(rt; set.first(), Some(TagId(2)));
-    Ok(())
+    assert!(rt; grows(&mut set) == Ok(true));
+    assert!(rt; has_three(&set));
 }
 
-#[test]
-fn the_least_tag_that_is_missing_is_named(rt: HostRuntime) -> Result<(), NoMemory> {
-    let alloc = rt.alloc();
+/// Whether what is missing of the tags 4 and 7 is named, where 4, 6 and 8 are.
+fn names_missing(few: &TagSet, more: &TagSet) -> bool {
+    let one = few.first_missing(more) == Some(TagId(7));
+    let apart = few.first_apart(more) == Some(TagId(6));
+    one & apart & few.first_missing_both(more, few).is_none()
+}
+
+/// Whether a set is the same as its copy, and not as another.
+fn is_same(few: &TagSet, more: &TagSet) -> Result<bool, NoMemory> {
+    let copy = few.copy()?;
+    Ok(few.same(&copy) & !few.same(more))
+}
+
+/// Whether two sets are told apart.
+fn differ(alloc: Global) -> Result<bool, NoMemory> {
     let few = TagSet::from_slice(alloc, &[TagId(4), TagId(7)])?;
     let more = TagSet::from_slice(alloc, &[TagId(4), TagId(6), TagId(8)])?;
-    assert_eq!(rt; few.first_missing(&more), Some(TagId(7)));
-    assert_eq!(rt; few.first_apart(&more), Some(TagId(6)));
-    assert_eq!(rt; few.first_missing_both(&more, &few), None);
-    assert!(rt; few.same(&few.copy()?) && !few.same(&more));
-    Ok(())
+    Ok(names_missing(&few, &more) & is_same(&few, &more)?)
+}
+
+#[test]
+fn the_least_tag_that_is_missing_is_named(rt: HostRuntime) {
+    assert!(rt; differ(rt.alloc()) == Ok(true));
 }
