@@ -32,19 +32,32 @@ fn are_same(a: &Counters, b: &Counters, public: &Label) -> bool {
     a.same(b) & a.same_seen(b, public)
 }
 
-/// Whether homes count apart, and counters are equal to their copy until one of the two is raised.
-fn counts(alloc: Global) -> Result<bool, NoMemory> {
-    let public = Label::public(alloc);
-    let mut counters = Counters::new(alloc);
-    let apart = count_apart(&mut counters, &public, &secret(alloc)?);
+/// Whether a public home and a secret one of a public maker count apart.
+fn homes_count_apart(counters: &mut Counters, public: &Label) -> Result<bool, NoMemory> {
+    let secret = secret(public.allocator())?;
+    Ok(count_apart(counters, public, &secret))
+}
+
+/// Raises the counter of the public home.
+fn raise(counters: &mut Counters, public: &Label) -> bool {
+    counters.raise(public, public, 9).is_ok() && counters.next(public, public) == 9
+}
+
+/// Whether counters are equal to their copy until one of the two is raised.
+fn are_copied(counters: &mut Counters, public: &Label) -> Result<bool, NoMemory> {
     let copy = counters.copy()?;
-    let before = are_same(&counters, &copy, &public);
-    counters.raise(&public, &public, 9)?;
-    let raised = counters.next(&public, &public) == 9;
-    Ok(apart & before & raised & !are_same(&counters, &copy, &public))
+    let before = are_same(counters, &copy, public);
+    let raised = raise(counters, public);
+    Ok(before & raised & !are_same(counters, &copy, public))
+}
+
+/// Whether homes count apart, and the counters are copied.
+fn count(counters: &mut Counters, public: &Label) -> Result<bool, NoMemory> {
+    Ok(homes_count_apart(counters, public)? & are_copied(counters, public)?)
 }
 
 #[test]
 fn each_home_counts_for_itself(rt: HostRuntime) {
-    assert!(rt; counts(rt.alloc()) == Ok(true));
+    let mut counters = Counters::new(rt.alloc());
+    assert!(rt; count(&mut counters, &Label::public(rt.alloc())) == Ok(true));
 }

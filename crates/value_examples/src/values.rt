@@ -16,22 +16,27 @@ fn secret(alloc: Global) -> Result<Label, NoMemory> {
     })
 }
 
-/// Whether a value has this text, where no tag has a name.
-fn shows(alloc: Global, value: &Value, want: &str) -> Result<bool, NoMemory> {
-    let text = value_text(value, &TagNames::new(alloc))?;
+/// Whether a value has this text.
+fn shows(value: &Value, names: &TagNames, want: &str) -> Result<bool, NoMemory> {
+    let text = value_text(value, names)?;
+    Ok(text.as_str() == want)
+}
+
+/// Whether a list of values has this text.
+fn shows_list(values: &[Value], names: &TagNames, want: &str) -> Result<bool, NoMemory> {
+    let text = values_text(values, names)?;
     Ok(text.as_str() == want)
 }
 
 /// Whether four plain values have their texts.
-fn shows_plain(alloc: Global) -> Result<bool, NoMemory> {
+fn shows_plain(names: &TagNames) -> Result<bool, NoMemory> {
     let values = [
         Value::Int(-5),
         Value::Bool(true),
         Value::Nothing,
         Value::Thread(7),
     ];
-    let text = values_text(&values, &TagNames::new(alloc))?;
-    Ok(text.as_str() == "-5,true,null,t7")
+    shows_list(&values, names, "-5,true,null,t7")
 }
 
 /// Whether bytes are escaped.
@@ -40,87 +45,165 @@ fn shows_bytes(alloc: Global) -> Result<bool, NoMemory> {
     Ok(text.as_str() == "\"a\\\"\\\\\\x00\\xff\"")
 }
 
+/// Whether numbers, truths, null, threads and bytes have their texts.
+fn are_shown(alloc: Global) -> Result<bool, NoMemory> {
+    let names = TagNames::new(alloc);
+    Ok(shows_plain(&names)? & shows_bytes(alloc)?)
+}
+
 #[test]
 fn plain_values_have_their_texts(rt: HostRuntime) {
-    assert!(rt; shows_plain(rt.alloc()) == Ok(true));
-    assert!(rt; shows_bytes(rt.alloc()) == Ok(true));
+    assert!(rt; are_shown(rt.alloc()) == Ok(true));
+}
+
+/// A name of a public maker.
+fn name(own: &Label) -> Result<Name, NoMemory> {
+    let public = Label::public(own.allocator());
+    Name::of(&public, own, 3)
 }
 
 /// An array of a public maker, of length 2.
 fn array(alloc: Global) -> Result<Value, NoMemory> {
     let own = secret(alloc)?;
-    let name = Name::of(&Label::public(alloc), &own, 3)?;
+    let name = name(&own)?;
     Ok(Value::Arr { name, len: 2 })
 }
 
 /// A description of capabilities.
 fn both_sets(alloc: Global) -> Result<Value, NoMemory> {
-    let plus = TagSet::from_slice(alloc, &[TagId(1)])?;
+    let plus = TagSet::one(alloc, TagId(1));
     let minus = TagSet::from_slice(alloc, &[TagId(2), TagId(1)])?;
     Ok(Value::CapV { plus, minus })
 }
 
+/// A label as a value.
+fn label(alloc: Global) -> Result<Value, NoMemory> {
+    Ok(Value::Lab(secret(alloc)?))
+}
+
+/// Whether a label shows its tag.
+fn shows_label(names: &TagNames) -> Result<bool, NoMemory> {
+    let label = label(names.allocator())?;
+    shows(&label, names, "{#0}/{}")
+}
+
+/// Whether an array shows its name and its length.
+fn shows_array(names: &TagNames) -> Result<bool, NoMemory> {
+    let array = array(names.allocator())?;
+    shows(&array, names, "arr<{}/{}|{#0}/{}|3>[2]")
+}
+
+/// Whether a description of capabilities shows its tags.
+fn shows_sets(names: &TagNames) -> Result<bool, NoMemory> {
+    let sets = both_sets(names.allocator())?;
+    shows(&sets, names, "+{#1}-{#1,#2}")
+}
+
 /// Whether labels, names and capabilities show their tags.
-fn shows_tags(alloc: Global) -> Result<bool, NoMemory> {
-    let label = shows(alloc, &Value::Lab(secret(alloc)?), "{#0}/{}")?;
-    let name = shows(alloc, &array(alloc)?, "arr<{}/{}|{#0}/{}|3>[2]")?;
-    let sets = shows(alloc, &both_sets(alloc)?, "+{#1}-{#1,#2}")?;
-    Ok(label & name & sets)
+fn shows_tags(names: &TagNames) -> Result<bool, NoMemory> {
+    Ok(shows_label(names)? & shows_array(names)? & shows_sets(names)?)
+}
+
+/// Whether tags are shown by their numbers where none has a name.
+fn shows_numbers(alloc: Global) -> Result<bool, NoMemory> {
+    let names = TagNames::new(alloc);
+    shows_tags(&names)
 }
 
 #[test]
 fn tags_are_shown(rt: HostRuntime) {
-    assert!(rt; shows_tags(rt.alloc()) == Ok(true));
+    assert!(rt; shows_numbers(rt.alloc()) == Ok(true));
 }
 
-/// Whether a copy of a value is equal to it, and another value is not.
-fn is_copied(alloc: Global) -> Result<bool, NoMemory> {
+/// A copy, of which nothing is known to its caller's proof.
+fn copied(value: &Value) -> Result<Value, NoMemory> {
+    value.copy()
+}
+
+/// Whether a value is equal to its copy.
+fn is_copied(value: &Value) -> Result<bool, NoMemory> {
+    let copy = copied(value)?;
+    Ok(same_value(value, &copy))
+}
+
+/// Whether a value is equal to null.
+fn is_null(value: &Value) -> bool {
+    same_value(value, &Value::Nothing)
+}
+
+/// Whether an array is equal to its copy, and not to null.
+fn array_is_copied(alloc: Global) -> Result<bool, NoMemory> {
     let value = array(alloc)?;
-    let copy = value.copy()?;
-    Ok(same_value(&value, &copy) & !same_value(&value, &Value::Nothing))
+    Ok(is_copied(&value)? & !is_null(&value))
 }
 
 #[test]
 fn a_copied_value_is_equal(rt: HostRuntime) {
-    assert!(rt; is_copied(rt.alloc()) == Ok(true));
+    assert!(rt; array_is_copied(rt.alloc()) == Ok(true));
+}
+
+/// Whether a value is the number 0.
+fn is_zero(value: &Value) -> bool {
+    matches!(value, Value::Int(0))
 }
 
 /// Whether a slot was there and held 0; now it holds 7.
 fn sets(slots: &mut Values, at: u64) -> bool {
     match slots.set(at, Value::Int(7)) {
-        Some(old) => same_value(&old, &Value::Int(0)),
+        Some(old) => is_zero(&old),
         None => false,
     }
 }
 
-/// Whether the two slots of a new array of numbers hold 0 each.
-fn begins_with_zeros(alloc: Global) -> Result<bool, NoMemory> {
-    let shape = Shape::Array {
-        kind: Kind::Int,
-        len: 2,
-    };
+/// Whether the slots of a shape are two, and hold 0 each.
+fn begins_with_zeros(alloc: Global, shape: Shape) -> Result<bool, NoMemory> {
+    let mut slots = shape.into_slots(alloc)?;
+    Ok(sets(&mut slots, 1) & !sets(&mut slots, 1) & !sets(&mut slots, 2))
+}
+
+/// Whether the copy of a shape is the same, and its slots hold 0.
+fn copy_begins(alloc: Global, shape: &Shape) -> Result<bool, NoMemory> {
     let copy = shape.copy()?;
-    let same = copy.same(&shape);
-    let mut slots = copy.into_slots(alloc)?;
-    Ok(same & sets(&mut slots, 1) & !sets(&mut slots, 1) & !sets(&mut slots, 2))
+    let same = copy.same(shape);
+    Ok(same & begins_with_zeros(alloc, copy)?)
 }
 
 #[test]
 fn an_array_begins_with_first_values(rt: HostRuntime) {
-    assert!(rt; begins_with_zeros(rt.alloc()) == Ok(true));
+    let shape = Shape::Array {
+        kind: Kind::Int,
+        len: 2,
+    };
+    assert!(rt; copy_begins(rt.alloc(), &shape) == Ok(true));
+}
+
+/// Whether two lists are equal.
+fn are_same(slots: &Values, copy: &Values) -> bool {
+    slots.same(copy) & same_values(slots.as_slice(), copy.as_slice())
+}
+
+/// Whether a list of one value takes a second.
+fn takes_second(slots: &mut Values) -> Result<bool, NoMemory> {
+    slots.push(Value::Int(1))?;
+    Ok((slots.len() == 2) & slots.get(1).is_some())
 }
 
 /// Whether a list is equal to its copy, until one value more stands in it.
-fn list_is_copied(alloc: Global) -> Result<bool, NoMemory> {
+fn list_is_copied(slots: &mut Values) -> Result<bool, NoMemory> {
+    let copy = slots.copy()?;
+    let before = are_same(slots, &copy);
+    let grew = takes_second(slots)?;
+    Ok(before & grew & !slots.same(&copy))
+}
+
+/// Whether a list of one value is equal to its copy, until it grows.
+fn one_is_copied(alloc: Global) -> Result<bool, NoMemory> {
     let mut slots = Values::new(alloc);
     slots.push(Value::Nothing)?;
-    let copy = slots.copy()?;
-    let before = slots.same(&copy) & same_values(slots.as_slice(), copy.as_slice());
-    slots.push(Value::Int(1))?;
-    Ok(before & !slots.same(&copy) & (slots.len() == 2) & slots.get(1).is_some())
+    list_is_copied(&mut slots)
 }
 
 #[test]
 fn a_copied_list_is_equal(rt: HostRuntime) {
-    assert!(rt; list_is_copied(rt.alloc()) == Ok(true));
+    assert!(rt; one_is_copied(rt.alloc()) == Ok(true));
 }
