@@ -3,13 +3,17 @@
 
 Usage: tools/build.py
 
-The crates that lam stands on are proved beside each other where their order allows it, as many at a time as there are
-processors and memory for; LAM_JOBS=N takes N. Each has a line when it is proved. All that the tools said is in build.log.
+The crates that lam stands on are copied to a temporary folder, without the crates of tests and without the edits that
+must fail, and `rt ci` proves them there, beside each other where their order allows it; LAM_JOBS=N keeps to N
+processors. What a run on this machine has proved, an earlier one of these or the gate, is kept by the toolchain and is
+not proved again. Each crate has a line when it is proved. All that the tools said is in build.log.
 """
 import os
 import re
+import shutil
 import subprocess
 import sys
+import tempfile
 import threading
 import time
 
@@ -17,7 +21,6 @@ HERE = os.path.dirname(os.path.dirname(os.path.abspath(__file__)))
 PROGRAM = 'lam'
 LOG = os.path.join(HERE, 'build.log')
 QUIET = 30          # seconds after which a line says what goes on
-MEMORY = 3 << 30    # bytes that the proof of a crate may take
 
 
 def say(text):
@@ -28,30 +31,38 @@ def took(seconds):
     return f'{seconds:.0f} s' if seconds < 100 else f'{seconds // 60:.0f} min {seconds % 60:.0f} s'
 
 
-def crates_of(program):
-    """The crates of the repository that a program stands on, and itself."""
-    uses = {}
-    with open(os.path.join(HERE, 'crates.txt'), encoding='utf-8') as lines:
-        for line in lines:
+def lines_below(program):
+    """The lines of crates.txt for a program and the crates of the repository that it stands on, by their names."""
+    lines, uses = {}, {}
+    with open(os.path.join(HERE, 'crates.txt'), encoding='utf-8') as all_lines:
+        for line in all_lines:
             name, found, below = line.partition('#')[0].partition(':')
             if found:
-                uses[name.split()[0]] = below.split()
+                lines[name.split()[0]], uses[name.split()[0]] = line, below.split()
     known, left = set(), [program]
     while left:
         name = left.pop()
         if name in uses and name not in known:
             known.add(name)
             left += uses[name]
-    return known
+    return {name: line for name, line in lines.items() if name in known}
 
 
-def at_once():
-    """How many crates to prove at a time."""
-    if os.environ.get('LAM_JOBS', '').isdigit():
-        return max(int(os.environ['LAM_JOBS']), 1)
-    with open('/proc/meminfo', encoding='ascii') as lines:
-        free = next(int(line.split()[1]) * 1024 for line in lines if line.startswith('MemAvailable'))
-    return max(min(len(os.sched_getaffinity(0)), free // MEMORY), 1)
+def copy_to(folder, lines):
+    """Copies these crates to a folder, as a repository of their own."""
+    for name in lines:
+        shutil.copytree(os.path.join(HERE, 'crates', name), os.path.join(folder, 'crates', name),
+                        ignore=shutil.ignore_patterns('out', 'must-fail'))
+    with open(os.path.join(folder, 'crates.txt'), 'w', encoding='utf-8') as out:
+        out.writelines(lines.values())
+    shutil.copy(os.path.join(HERE, 'HANDLES'), folder)
+
+
+def kept_to():
+    """The processors that LAM_JOBS allows, or all."""
+    processors = sorted(os.sched_getaffinity(0))
+    jobs = os.environ.get('LAM_JOBS', '')
+    return processors[:max(int(jobs), 1)] if jobs.isdigit() else processors
 
 
 def proofs_under(top):
@@ -65,8 +76,7 @@ def proofs_under(top):
                 words = words.read().split('\0')
         except OSError:
             continue
-        # (with --only and no name the tool looks the sources over, and proves nothing)
-        if '--crate-name' in words and '--only' not in words:
+        if '--crate-name' in words:
             crates[pid] = words[words.index('--crate-name') + 1]
     found = set()
     for pid, crate in crates.items():
@@ -97,7 +107,7 @@ class Progress:
             for crate in now:
                 self.since.setdefault(crate, at)
             if at - self.last > QUIET:
-                names = ', '.join(sorted(now)) or 'the sources are looked over'
+                names = ', '.join(sorted(now)) or 'what was proved before is read'
                 say(f'{self.so_far()}, {took(at - self.start)}; now {names}')
                 self.last = at
 
@@ -113,15 +123,15 @@ class Progress:
                 self.last = at
 
 
-def prove(log):
-    """Proves the crates, and answers the lines of those that failed."""
-    crates = crates_of(PROGRAM)
-    jobs = at_once()
-    say(f'proving {len(crates)} crates, {jobs} at a time; LAM_TRIAL=1 does not wait for it')
-    folder = os.path.join(HERE, 'crates', PROGRAM)
-    tool = subprocess.Popen(['rt', 'all', 'check', '--jobs', str(jobs)], cwd=folder, stdin=subprocess.DEVNULL,
-                            stdout=subprocess.PIPE, stderr=subprocess.STDOUT, text=True, errors='replace')
-    progress, ended = Progress(crates), threading.Event()
+def prove(folder, log):
+    """Proves the crates and builds the program in a folder, and answers the lines of those that failed."""
+    lines, processors = lines_below(PROGRAM), kept_to()
+    say(f'proving {len(lines)} crates, {len(processors)} at a time; LAM_TRIAL=1 does not wait for it')
+    copy_to(folder, lines)
+    tool = subprocess.Popen(['rt', 'ci'], cwd=folder, stdin=subprocess.DEVNULL, stdout=subprocess.PIPE,
+                            stderr=subprocess.STDOUT, text=True, errors='replace',
+                            preexec_fn=lambda: os.sched_setaffinity(0, processors))
+    progress, ended = Progress(set(lines)), threading.Event()
 
     def watch():
         while not ended.wait(1):
@@ -133,10 +143,11 @@ def prove(log):
     for line in tool.stdout:
         log.write(line)
         log.flush()
-        if line.startswith('== '):
-            progress.end(line[3:].strip())
-        elif re.match(r'\w+: (failed|not run)', line):
+        done = re.match(r'rt: (\w+) (proved$|is kept:|NOT PROVED)', line)
+        if done and done[2] == 'NOT PROVED':
             failed.append(line.strip())
+        elif done:
+            progress.end(done[1])
     ended.set()
     watcher.join()
     return failed if not tool.wait() else failed or [f'rt ended with status {tool.returncode}']
@@ -144,20 +155,17 @@ def prove(log):
 
 def main():
     start = time.monotonic()
-    with open(LOG, 'w', encoding='utf-8') as log:
-        failed = prove(log)
-        if failed:
-            for line in failed:
-                say(line)
-            return 1
-        say('all are proved; compiling the program')
-        # the run that the gate compares, so that what was built is also seen to run
-        ran = subprocess.run(['rt', 'run', '--', 'play', 'data/s', '{}/{}'], cwd=os.path.join(HERE, 'crates', PROGRAM),
-                             stdin=subprocess.DEVNULL, stdout=subprocess.DEVNULL, stderr=log)
-        if ran.returncode:
-            return 1
-    say(f'proved and built in {took(time.monotonic() - start)}')
-    return 0
+    program = os.path.join('crates', PROGRAM, 'out', PROGRAM)
+    with tempfile.TemporaryDirectory(prefix='lam-build-') as folder, open(LOG, 'w', encoding='utf-8') as log:
+        failed = prove(folder, log)
+        if not failed:
+            os.makedirs(os.path.dirname(os.path.join(HERE, program)), exist_ok=True)
+            shutil.copy(os.path.join(folder, program), os.path.join(HERE, program))
+    for line in failed:
+        say(line)
+    if not failed:
+        say(f'proved and built in {took(time.monotonic() - start)}')
+    return 1 if failed else 0
 
 
 if __name__ == '__main__':
