@@ -1,6 +1,6 @@
 //! Statements and blocks.
 
-ghost use Rattle.std.specs.Prelude.{◌<◌, ◌≤◌, length, IfOk};
+ghost use Rattle.std.specs.Prelude.{◌≡◌, ◌<◌, ◌≤◌, length, IfOk};
 ghost use Rattle.lam_reading.specs.Reading.{Taken};
 ghost use Rattle.lam_parse_stmts.specs.Parts.{ReadsStmt};
 ghost use Rattle.lam_parser.specs.Parts.{ReadsBlock, ReadsElse, ReadsHandler};
@@ -47,7 +47,15 @@ pub(crate) fn block(
             wanted: Wanted::Statement,
         });
     };
-    Ok((body, next + 1))
+    Ok((fitted(body), next + 1))
+}
+
+/// The statements of a block, in no more room than they take: they stand as long as the program, and one is large.
+fn fitted(mut body: Vec<Stmt>) -> Vec<Stmt>
+    ensures { result.items ≡ body.items }
+{
+    body.shrink_to_fit();
+    body
 }
 
 /// A statement of the form that its first token tells.

@@ -71,7 +71,7 @@ block-returns-clause-reads t c =
     let listed = loop_ends no_stmts refl c.loop-alloc.invariant.loop refl (no_rule_body_of tokens k stmts stmt none refl (λ b. refl)) in
     let filled = maybe_taken listed (omega (arith, c.loop-alloc.invariant.after)) brace in
     let closed = rw c.in-Some.is at c.in_ok-take_if.ensures.takes in
-    subst (λ xs. Gives (slice_get tokens) block c.args.depth c.args.at (stmts_value xs) (k + 1) c.args.depth) (stmts_whole c.loop-alloc.body.items) (rule_read (mark_taken closed refl filled))
+    subst (λ xs. Gives (slice_get tokens) block c.args.depth c.args.at (stmts_value xs) (k + 1) c.args.depth) (stmts_whole c.loop-alloc.body.items ∙ ap stmts_tree (sym c.fitted.ensures)) (rule_read (mark_taken closed refl filled))
 
 -- ---- `if`
 
