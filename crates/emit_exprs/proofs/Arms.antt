@@ -5,7 +5,7 @@ use Rattle.resolved_tree.specs.declared.CapItem.{CapItem}
 use Rattle.resolved_tree.specs.Tree.{Expression, expr_tree, exprs_tree, caps_tree}
 use Rattle.lam_bytecode.specs.declared.op.Op.TheVariants.{Load, GetField, GetElement, ReadBarrier}
 use Rattle.lam_scheme.specs.Pieces.{Pieces, joined, op}
-use Rattle.lam_syntax.specs.declared.BinaryOp.{BinaryOp}
+use Rattle.lam_operators.specs.declared.BinaryOp.{BinaryOp}
 use Rattle.lam_scheme.specs.Scheme.{between, expression, expressions, signs, sign_op}
 use Rattle.emit_parts.specs.Emits.{State, Emits, Goes}
 use Rattle.emit_parts.proofs.Joins.{goes_on, all_done}

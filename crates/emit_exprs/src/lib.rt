@@ -18,7 +18,7 @@ ghost use Rattle.emit_exprs.specs.Labels.{MakesLabel};
 use emit_parts::{Buffer, Constant};
 use lam_builtins::Builtin;
 use lam_bytecode::Op;
-use lam_syntax::{BinaryOp, UnaryOp};
+use lam_operators::{BinaryOp, UnaryOp};
 use lam_value::Kind;
 use resolved_tree::{CapItem, Expr, ValueType};
 

@@ -2,7 +2,7 @@
 use Rattle.std.specs.Prelude.{◌≡◌, ℕ, pos, true, List, [], ◌∷◌, Some, codes, refl}
 use Rattle.capabilities.specs.Changes.{no_caps}
 use Rattle.lam_value.specs.declared.values.Value.TheVariants.{Int as an_int}
-use Rattle.lam_syntax.specs.declared.BinaryOp.TheVariants as binary
+use Rattle.lam_operators.specs.declared.BinaryOp.TheVariants as binary
 use Rattle.lam_builtins.specs.Types.{int}
 use Rattle.lam_asks.specs.declared.answer.Outcome.TheVariants as outcome
 use Rattle.lam_asks.specs.declared.answer.Answer.TheVariants.{Done}

@@ -3,8 +3,8 @@
 use Rattle.std.specs.Prelude.{ℕ, true, false, List, [], ◌∷◌, length, Option, Some, None}
 use Rattle.lam_value.specs.declared.values.Value.{Value}
 use Rattle.lam_value.specs.declared.values.Value.TheVariants.{Int, Bool as Truth, Bytes, Nothing}
-use Rattle.lam_syntax.specs.declared.BinaryOp.{BinaryOp}
-use Rattle.lam_syntax.specs.declared.BinaryOp.TheVariants as binary
+use Rattle.lam_operators.specs.declared.BinaryOp.{BinaryOp}
+use Rattle.lam_operators.specs.declared.BinaryOp.TheVariants as binary
 use Rattle.lam_bytecode.specs.declared.op.Op.{Op}
 use Rattle.lam_bytecode.specs.declared.op.Op.TheVariants.{Load, Store, Pop, Add, Sub, Mul, Div, Rem, Eq, Ne, Lt, Le, Gt, Ge, Call, Return, Throw, ReadBarrier, WriteBarrier, GetField, PutField, GetElement, PutElement, NewObject, NewArray, MakeLabel, NoCaps, System, EnterMonitor, LeaveMonitor, EnterRegion, Spawn}
 use Rattle.lam_meaning.specs.Means.{kind_of}

@@ -7,10 +7,8 @@
 ghost use Rattle.std.specs.Prelude.{◌≡◌, IfOk};
 ghost use Rattle.lam_syntax.specs.Tree as view;
 
-use lam_syntax::{
-    BinaryOp, CapItem, Class, Expr, ExprKind, Function, Id, Item, Program, Stmt, StmtKind,
-    TypeExpr, TypeKind, Var,
-};
+use lam_operators::BinaryOp;
+use lam_syntax::{CapItem, Class, Expr, ExprKind, Function, Id, Item, Program, Stmt, StmtKind, TypeExpr, TypeKind, Var, };
 use std::alloc::Global;
 use want_of_memory::NoMemory;
 

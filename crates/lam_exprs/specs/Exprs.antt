@@ -1,7 +1,9 @@
 -- What an expression gives, or the first break in it: from left to right, an operator's own rule after its operands.
 use Rattle.std.specs.Prelude.{ℕ, ◌+◌, if◌then◌else◌, is_some, nat_eq, List, [], ◌∷◌, length, Option, Some, None}
-use Rattle.lam_syntax.specs.Tree.{Word, CapTree, ExprTree, expr_node, ExprForm, binary_expr, unary_expr, field_expr, element_expr, number_expr, text_expr, bool_expr, null_expr, name_expr, call_expr, new_class_expr, new_array_expr, label_expr, caps_expr, spawn_expr, ExprList, no_exprs, exprs}
-use Rattle.lam_builtins.specs.Types.{ValueType, int, bool, bytes, tag, label, caps, thread, object, array, written, Given, a_value, a_null, nothing, Place, exactly, any_class, any_array, comparable}
+use Rattle.lam_syntax.specs.Tree.{CapTree, ExprTree, expr_node, ExprForm, binary_expr, unary_expr, field_expr, element_expr, number_expr, text_expr, bool_expr, null_expr, name_expr, call_expr, new_class_expr, new_array_expr, label_expr, caps_expr, spawn_expr, ExprList, no_exprs, exprs}
+use Rattle.lam_operators.specs.Words.{Word}
+use Rattle.lam_builtins.specs.Types.{ValueType, int, bool, bytes, tag, label, caps, thread, object, array, Given, a_value, a_null, nothing, Place, exactly, any_class, any_array, comparable}
+use Rattle.lam_kinds.specs.Written.{written}
 use Rattle.lam_builtins.specs.Operators.{operand, operator_type, unary_type}
 use Rattle.lam_kinds.specs.Breaks.{no_name, arity, no_field, Verdict, Fine, Stop, then_on, fit, unequal}
 use Rattle.lam_builtins.specs.Builtins.{Signature, answered}

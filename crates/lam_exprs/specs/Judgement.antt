@@ -1,7 +1,9 @@
 -- Which expressions are typed, and what they give: one rule for each form, without positions and without order.
 use Rattle.std.specs.Prelude.{◌≡◌, true, List, [], ◌∷◌, Option, Some, None}
-use Rattle.lam_syntax.specs.Tree.{Word, CapTree, TypeTree, type_node, TypeForm, int_type, bool_type, bytes_type, tag_type, label_type, caps_type, file_type, dir_type, pipe_type, thread_type, class_type, array_type, ExprTree, expr_node, ExprForm, binary_expr, unary_expr, field_expr, element_expr, number_expr, text_expr, bool_expr, null_expr, name_expr, call_expr, new_class_expr, new_array_expr, label_expr, caps_expr, spawn_expr, ExprList, no_exprs, exprs}
-use Rattle.lam_builtins.specs.Types.{ValueType, int, bool, bytes, tag, label, caps, thread, object, array, written, Given, a_value, a_null, nothing, Place, exactly, suits, comparable}
+use Rattle.lam_syntax.specs.Tree.{CapTree, TypeTree, type_node, TypeForm, int_type, bool_type, bytes_type, tag_type, label_type, caps_type, file_type, dir_type, pipe_type, thread_type, class_type, array_type, ExprTree, expr_node, ExprForm, binary_expr, unary_expr, field_expr, element_expr, number_expr, text_expr, bool_expr, null_expr, name_expr, call_expr, new_class_expr, new_array_expr, label_expr, caps_expr, spawn_expr, ExprList, no_exprs, exprs}
+use Rattle.lam_operators.specs.Words.{Word}
+use Rattle.lam_builtins.specs.Types.{ValueType, int, bool, bytes, tag, label, caps, thread, object, array, Given, a_value, a_null, nothing, Place, exactly, suits, comparable}
+use Rattle.lam_kinds.specs.Written.{written}
 use Rattle.lam_builtins.specs.Builtins.{Signature, answers, answered}
 use Rattle.lam_kinds.specs.Tables.{Names, Fields, Decls, find, signature_named}
 use Rattle.lam_builtins.specs.Operators.{operand, operator_type, unary_type}

@@ -10,7 +10,8 @@
 
 ghost use Rattle.std.specs.Prelude.{◌≡◌, IfOk, OnOk, length, is_some, Some};
 ghost use Rattle.lam_syntax.specs.Tree.{expr_tree, exprs_tree, id_tree, cap_tree, caps_tree, type_tree, call_expr};
-ghost use Rattle.lam_builtins.specs.Types.{Given, a_value, int, caps, object, array, written, exactly, any_class};
+ghost use Rattle.lam_builtins.specs.Types.{Given, a_value, int, caps, object, array, exactly, any_class};
+ghost use Rattle.lam_kinds.specs.Written.{written};
 ghost use Rattle.lam_kinds.specs.Tables.{find, named_if, type_known};
 ghost use Rattle.lam_kinds.specs.Breaks.{Fine, then_on};
 ghost use Rattle.lam_kinds.specs.Values.{decls, names, value_type, option_type, given, place, places, answer, option_signature, Gives, Passes};
@@ -24,7 +25,8 @@ use lam_kinds::fault::{fit, unequal};
 use lam_kinds::tables::{find_name, known_type};
 use lam_kinds::types::{comparable, type_ref};
 use lam_kinds::{Builtin, Callable, Got, Known, Names, Returns, TypeFault, TypeRef, Want};
-use lam_syntax::{BinaryOp, CapItem, Expr, ExprKind, Id, TypeExpr, UnaryOp};
+use lam_operators::{BinaryOp, UnaryOp};
+use lam_syntax::{CapItem, Expr, ExprKind, Id, TypeExpr};
 use std::alloc::Global;
 
 fn operand_type(op: BinaryOp) -> Option<TypeRef<'static>>

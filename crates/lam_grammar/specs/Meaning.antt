@@ -1,9 +1,9 @@
 -- What each rule of the table means: trees without their places in memory.
 use Rattle.std.specs.Prelude.{ℕ, List, [], ◌∷◌, Option, Some, None, Bool, true, false}
-use Rattle.lam_syntax.specs.declared.BinaryOp.{BinaryOp}
-use Rattle.lam_syntax.specs.declared.BinaryOp.TheVariants as op
-use Rattle.lam_syntax.specs.declared.UnaryOp.{UnaryOp}
-use Rattle.lam_syntax.specs.declared.UnaryOp.TheVariants as sign
+use Rattle.lam_operators.specs.declared.BinaryOp.{BinaryOp}
+use Rattle.lam_operators.specs.declared.BinaryOp.TheVariants as op
+use Rattle.lam_operators.specs.declared.UnaryOp.{UnaryOp}
+use Rattle.lam_operators.specs.declared.UnaryOp.TheVariants as sign
 use Rattle.lam_syntax.specs.Tree.{IdTree, TypeTree, TypeForm, VarTree, CapTree, ExprTree, ExprForm, ExprList, StmtTree, StmtList, ElseTree, ItemTree, type_node, int_type, bool_type, bytes_type, tag_type, label_type, caps_type, file_type, dir_type, pipe_type, thread_type, class_type, array_type, expr_node, binary_expr, unary_expr, field_expr, element_expr, number_expr, text_expr, bool_expr, null_expr, name_expr, call_expr, new_class_expr, new_array_expr, label_expr, caps_expr, spawn_expr, no_exprs, exprs, stmt_node, let_stmt, if_stmt, while_stmt, return_stmt, throw_stmt, sync_stmt, region_stmt, do_stmt, assign_stmt, no_stmts, no_else, else_block, class_item, function_item}
 use Rattle.lam_syntax.specs.Tree.{stmts as stmts_node}
 use Rattle.lam_lexer.specs.declared.token.Token.{Token}

@@ -7,8 +7,10 @@ use Rattle.std.specs.Map.{lookup}
 use Rattle.std.specs.Option.{option_map}
 use Rattle.std.proofs.lemmas.Slice.Eq.{bytes_eq-Decides}
 use Rattle.lam_syntax.specs.declared.Var.{Var}
-use Rattle.lam_syntax.specs.Tree.{Word, IdTree, VarTree, var_tree, vars_tree}
-use Rattle.lam_builtins.specs.Types.{ValueType, written}
+use Rattle.lam_syntax.specs.Tree.{IdTree, VarTree, var_tree, vars_tree}
+use Rattle.lam_operators.specs.Words.{Word}
+use Rattle.lam_builtins.specs.Types.{ValueType}
+use Rattle.lam_kinds.specs.Written.{written}
 use Rattle.lam_kinds.specs.Meets.{or_else, IsAddedField}
 use Rattle.lam_kinds.specs.Breaks.{Verdict, Fine, Stop, then_on}
 use Rattle.lam_kinds.specs.Tables.{Names, Decls, typed_name, find, fresh, new_name, room, twice_if, with_var, vars_known}

@@ -1,7 +1,8 @@
 -- Breaks of the typing rules, and checks that stop at the first.
 use Rattle.std.specs.Prelude.{ℕ, Bool, if◌then◌else◌, List, Option, Some, None}
 use Rattle.lam_syntax.specs.Tree.{TypeTree}
-use Rattle.lam_builtins.specs.Types.{ValueType, plain, Given, a_value, a_null, nothing, given_type, Place, suits, wanted_type}
+use Rattle.lam_builtins.specs.Types.{ValueType, Given, a_value, a_null, nothing, given_type, Place, suits, wanted_type}
+use Rattle.lam_kinds.specs.Written.{plain}
 
 pub data Break : Type 0 where
   no_name : (at : ℕ) → Break

@@ -1,4 +1,5 @@
 pub mod Breaks
 pub mod Tables
+pub mod Written
 pub mod Values
 pub mod Meets

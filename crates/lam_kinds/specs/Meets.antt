@@ -1,6 +1,7 @@
 -- How the building of the tables meets the definitions.
 use Rattle.std.specs.Prelude.{◌≡◌, List, [], ◌∷◌, ◌++◌, Option, Some, None, Result, Ok, Err}
-use Rattle.lam_syntax.specs.Tree.{Word, VarTree}
+use Rattle.lam_syntax.specs.Tree.{VarTree}
+use Rattle.lam_operators.specs.Words.{Word}
 use Rattle.lam_kinds.specs.Breaks.{Verdict, Fine}
 use Rattle.lam_builtins.specs.Builtins.{Signature}
 use Rattle.lam_kinds.specs.Tables.{Names, Fields, find, typed_name}

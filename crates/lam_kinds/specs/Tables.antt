@@ -1,8 +1,10 @@
 -- The declared classes and functions, and names that are declared once.
 use Rattle.std.specs.Prelude.{ℕ, Bool, true, false, if◌then◌else◌, nat_lt, List, [], ◌∷◌, ◌++◌, length, map, Option, Some, None, is_some}
 use Rattle.std.specs.Str.{bytes_eq}
-use Rattle.lam_syntax.specs.Tree.{Word, IdTree, TypeTree, type_node, TypeForm, int_type, bool_type, bytes_type, tag_type, label_type, caps_type, file_type, dir_type, pipe_type, thread_type, class_type, array_type, VarTree, ClassTree, FunctionTree, ItemTree, class_item, function_item, ProgramTree}
-use Rattle.lam_builtins.specs.Types.{ValueType, written, Place, exactly}
+use Rattle.lam_syntax.specs.Tree.{IdTree, TypeTree, type_node, TypeForm, int_type, bool_type, bytes_type, tag_type, label_type, caps_type, file_type, dir_type, pipe_type, thread_type, class_type, array_type, VarTree, ClassTree, FunctionTree, ItemTree, class_item, function_item, ProgramTree}
+use Rattle.lam_operators.specs.Words.{Word}
+use Rattle.lam_builtins.specs.Types.{ValueType, Place, exactly}
+use Rattle.lam_kinds.specs.Written.{written}
 use Rattle.lam_kinds.specs.Breaks.{Break, no_name, twice, too_many, Verdict, Fine, Stop, then_on}
 use Rattle.lam_builtins.specs.declared.Builtin.{Builtin}
 use Rattle.lam_builtins.specs.Builtins.{Answer, answers, no_answer, Signature, row, builtin_named}

@@ -5,8 +5,10 @@ use Rattle.std.specs.declared.hash.FoldHasher.{FoldHasher}
 use Rattle.std.specs.declared.hash.BuildHasherDefault.{BuildHasherDefault}
 use Rattle.indexmap.specs.IndexMap.{IndexMap}
 use Rattle.lam_syntax.specs.declared.TypeExpr.{TypeExpr}
-use Rattle.lam_syntax.specs.Tree.{Word, type_tree, option_type_tree}
-use Rattle.lam_builtins.specs.Types.{ValueType, int, bool, bytes, tag, label, caps, file, dir, pipe, thread, object, array, written, Given, a_value, a_null, nothing, Place, exactly, any_class, any_array, any_object, any_labelled}
+use Rattle.lam_syntax.specs.Tree.{type_tree, option_type_tree}
+use Rattle.lam_operators.specs.Words.{Word}
+use Rattle.lam_builtins.specs.Types.{ValueType, int, bool, bytes, tag, label, caps, file, dir, pipe, thread, object, array, Given, a_value, a_null, nothing, Place, exactly, any_class, any_array, any_object, any_labelled}
+use Rattle.lam_kinds.specs.Written.{written}
 use Rattle.lam_kinds.specs.Breaks.{Break, no_name, twice, arity, no_field, no_return, too_many, mismatch, Verdict, Fine, Stop}
 use Rattle.lam_builtins.specs.Builtins.{Answer, answers, no_answer, as_first, Signature}
 use Rattle.lam_kinds.specs.Tables.{Names, Fields, Decls, find}

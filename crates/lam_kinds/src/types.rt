@@ -3,7 +3,8 @@
 ghost use Rattle.std.specs.Prelude.{◌≡◌, IfOk, None, Some};
 ghost use Rattle.std.specs.Str.{bytes_eq};
 ghost use Rattle.lam_syntax.specs.Tree.{type_tree, option_type_tree};
-ghost use Rattle.lam_builtins.specs.Types.{same_type as same, nullable as may_be_null, accepts, suits as suits_place, comparable as may_compare, plain, wanted_type, given_type};
+ghost use Rattle.lam_builtins.specs.Types.{same_type as same, nullable as may_be_null, accepts, suits as suits_place, comparable as may_compare, wanted_type, given_type};
+ghost use Rattle.lam_kinds.specs.Written.{plain};
 ghost use Rattle.lam_kinds.specs.Breaks.{plain_option};
 ghost use Rattle.lam_kinds.specs.Values.{type_of, value_type, given, place, option_type};
 

@@ -6,7 +6,7 @@ use Rattle.flow_labels.specs.Flow.{public_label}
 use Rattle.lam_value.specs.declared.values.Value.{Value}
 use Rattle.lam_value.specs.declared.values.Value.TheVariants.{Int, Bytes, Nothing, Obj}
 use Rattle.lam_value.specs.declared.names.Name.{Name}
-use Rattle.lam_syntax.specs.declared.BinaryOp.TheVariants.{Add, Div, Lt}
+use Rattle.lam_operators.specs.declared.BinaryOp.TheVariants.{Add, Div, Lt}
 use Rattle.lam_builtins.specs.declared.Builtin.TheVariants.{Say}
 use Rattle.lam_builtins.specs.Types.{int, object}
 use Rattle.lam_asks.specs.declared.fault.Fault.TheVariants.{Zero, Null}

@@ -13,8 +13,8 @@ use Rattle.lam_value.specs.declared.shapes.Kind.{Kind}
 use Rattle.lam_value.specs.declared.shapes.Kind.TheVariants as kind
 use Rattle.lam_value.specs.declared.shapes.Shape.TheVariants.{Class, Array}
 use Rattle.lam_value.specs.Shapes.{zero_of}
-use Rattle.lam_syntax.specs.declared.BinaryOp.{BinaryOp}
-use Rattle.lam_syntax.specs.declared.BinaryOp.TheVariants.{Or, And, Eq, Ne, Lt, Le, Gt, Ge, Add, Sub, Mul, Div, Rem}
+use Rattle.lam_operators.specs.declared.BinaryOp.{BinaryOp}
+use Rattle.lam_operators.specs.declared.BinaryOp.TheVariants.{Or, And, Eq, Ne, Lt, Le, Gt, Ge, Add, Sub, Mul, Div, Rem}
 use Rattle.lam_builtins.specs.declared.Builtin.{Builtin}
 use Rattle.lam_builtins.specs.Types.{int, bool, bytes, tag, label, caps, file, dir, pipe, thread, object, array}
 use Rattle.lam_asks.specs.declared.fault.Fault.{Fault}

@@ -5,8 +5,8 @@ use Rattle.lam_value.specs.declared.values.Value.{Value}
 use Rattle.lam_value.specs.declared.shapes.Kind.{Kind}
 use Rattle.lam_value.specs.declared.shapes.Shape.TheVariants.{Class}
 use Rattle.lam_value.specs.Shapes.{zero_of}
-use Rattle.lam_syntax.specs.declared.UnaryOp.{UnaryOp}
-use Rattle.lam_syntax.specs.declared.UnaryOp.TheVariants as unary
+use Rattle.lam_operators.specs.declared.UnaryOp.{UnaryOp}
+use Rattle.lam_operators.specs.declared.UnaryOp.TheVariants as unary
 use Rattle.lam_builtins.specs.declared.Builtin.{Builtin}
 use Rattle.lam_builtins.specs.Builtins.{row}
 use Rattle.lam_asks.specs.declared.fault.Fault.TheVariants.{Deep}

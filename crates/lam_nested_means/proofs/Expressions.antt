@@ -7,8 +7,8 @@ use Rattle.lam_value.specs.declared.names.Name.{Name}
 use Rattle.lam_value.specs.declared.values.Value.{Value}
 use Rattle.lam_value.specs.declared.values.Value.TheVariants.{Bool as Truth, Nothing, CapV}
 use Rattle.lam_value.specs.declared.shapes.Shape.TheVariants.{Class}
-use Rattle.lam_syntax.specs.declared.BinaryOp.{BinaryOp}
-use Rattle.lam_syntax.specs.declared.BinaryOp.TheVariants as binary
+use Rattle.lam_operators.specs.declared.BinaryOp.{BinaryOp}
+use Rattle.lam_operators.specs.declared.BinaryOp.TheVariants as binary
 use Rattle.lam_builtins.specs.Types.{exactly}
 use Rattle.lam_builtins.specs.Operators.{operand}
 use Rattle.lam_builtins.specs.Builtins.{row_by}

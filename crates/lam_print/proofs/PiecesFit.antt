@@ -1,10 +1,10 @@
 -- The pieces of a program whose names, numbers and texts fit are tokens that fit.
 use Rattle.std.proofs.Common.{ℕ, ◌+◌, nat_lt, Bool, true, false, if◌then◌else◌, List, [], ◌∷◌, Option, Some, None}
 use Rattle.lam_lexer.specs.declared.token.TokenKind.TheVariants as Kind
-use Rattle.lam_syntax.specs.declared.BinaryOp.{BinaryOp}
-use Rattle.lam_syntax.specs.declared.BinaryOp.TheVariants as Op
-use Rattle.lam_syntax.specs.declared.UnaryOp.{UnaryOp}
-use Rattle.lam_syntax.specs.declared.UnaryOp.TheVariants as Sign
+use Rattle.lam_operators.specs.declared.BinaryOp.{BinaryOp}
+use Rattle.lam_operators.specs.declared.BinaryOp.TheVariants as Op
+use Rattle.lam_operators.specs.declared.UnaryOp.{UnaryOp}
+use Rattle.lam_operators.specs.declared.UnaryOp.TheVariants as Sign
 use Rattle.lam_syntax.specs.Tree.{IdTree, TypeTree, TypeForm, type_node, int_type, bool_type, bytes_type, tag_type, label_type, caps_type, file_type, dir_type, pipe_type, thread_type, class_type, array_type, VarTree, CapTree, ExprTree, ExprForm, ExprList, expr_node, binary_expr, unary_expr, field_expr, element_expr, number_expr, text_expr, bool_expr, null_expr, name_expr, call_expr, new_class_expr, new_array_expr, label_expr, caps_expr, spawn_expr, no_exprs, exprs, StmtTree, StmtForm, StmtList, ElseTree, stmt_node, let_stmt, if_stmt, while_stmt, return_stmt, throw_stmt, sync_stmt, region_stmt, do_stmt, assign_stmt, no_stmts, stmts, no_else, else_block, ClassTree, FunctionTree, ItemTree, class_item, function_item, ProgramTree}
 use Rattle.lam_print.specs.Law.{Fits, AllFit}
 use Rattle.lam_print.specs.Pieces.{Piece, token, blank, line, kinds}

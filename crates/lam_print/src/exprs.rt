@@ -10,7 +10,8 @@ ghost use Rattle.lam_print.specs.Printing.{Puts};
 use crate::words::{
     close_group, open_group, put, put_comma, put_name, put_number, put_spaced, put_text,
 };
-use lam_syntax::{BinaryOp, CapItem, Expr, ExprKind, Id, TypeExpr, TypeKind, UnaryOp, Var};
+use lam_operators::{BinaryOp, UnaryOp};
+use lam_syntax::{CapItem, Expr, ExprKind, Id, TypeExpr, TypeKind, Var};
 use want_of_memory::NoMemory;
 
 /// The place of an operand of `.` and `[`.

@@ -2,7 +2,8 @@
 use Rattle.std.proofs.Common.{◌≡◌, ℕ, ◌+◌, ◌<◌, List, [], ◌∷◌, ◌++◌, length, map, drop, get_or, Option, Some, None, IsSome, is_some, refl, sym, ap, ◌∙◌, append_assoc, subst}
 use Rattle.std.specs.Option.{IsSomeAnd}
 use Rattle.lam_syntax.specs.declared.Item.{Item}
-use Rattle.lam_syntax.specs.Tree.{Word, FunctionTree, ClassTree, ItemTree, class_item, function_item, ProgramTree, items_tree, item_tree}
+use Rattle.lam_syntax.specs.Tree.{FunctionTree, ClassTree, ItemTree, class_item, function_item, ProgramTree, items_tree, item_tree}
+use Rattle.lam_operators.specs.Words.{Word}
 use Rattle.resolved_tree.specs.declared.Class.{Class}
 use Rattle.resolved_tree.specs.declared.Function.{Function}
 use Rattle.resolved_tree.specs.Tree.{ResolvedType, ResolvedFunction, ResolvedTree, Block, class_tree, classes_tree, function_tree, functions_tree}

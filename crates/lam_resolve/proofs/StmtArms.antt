@@ -1,6 +1,7 @@
 -- Statements, form by form.
 use Rattle.std.proofs.Common.{◌≡◌, ℕ, ◌+◌, ◌<◌, arith, List, length, Option, Some, None, IsSome, is_some, refl, sym, ap, ◌∙◌}
-use Rattle.lam_syntax.specs.Tree.{Word, IdTree, ExprTree, StmtForm, StmtList, ElseTree, if_stmt, while_stmt, return_stmt, throw_stmt, sync_stmt, region_stmt, do_stmt, assign_stmt, else_block}
+use Rattle.lam_syntax.specs.Tree.{IdTree, ExprTree, StmtForm, StmtList, ElseTree, if_stmt, while_stmt, return_stmt, throw_stmt, sync_stmt, region_stmt, do_stmt, assign_stmt, else_block}
+use Rattle.lam_operators.specs.Words.{Word}
 use Rattle.lam_builtins.specs.Types.{given_type, int}
 use Rattle.resolved_tree.specs.Tree.{ResolvedType, Expression, Statement, Block, OtherBlock, if_block, while_block, return_value, throw_value, sync_block, region_block, do_value, other_block}
 use Rattle.lam_resolved.specs.Resolved.{then_some, Tables, Locals, State, state_as, next_slot, Value, Step, step_as, Closed, closed_as, with_local, locals_from, taken_over, types_of, slots_of, resolve, resolve_value, resolve_captures, resolve_stmt_form, resolve_else, resolve_stmts, assignment}

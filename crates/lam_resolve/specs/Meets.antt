@@ -1,6 +1,7 @@
 -- How the building of lists meets the definitions.
 use Rattle.std.specs.Prelude.{◌≡◌, ℕ, List, ◌∷◌, ◌++◌, map, Some}
-use Rattle.lam_syntax.specs.Tree.{Word, ItemTree, ProgramTree}
+use Rattle.lam_syntax.specs.Tree.{ItemTree, ProgramTree}
+use Rattle.lam_operators.specs.Words.{Word}
 use Rattle.resolved_tree.specs.Tree.{ResolvedType, ResolvedFunction}
 use Rattle.lam_resolved.specs.Resolved.{then_some, Tables, types_of, resolve_functions}
 

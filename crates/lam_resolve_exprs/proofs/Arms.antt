@@ -3,9 +3,10 @@
 use Rattle.std.proofs.Common.{◌≡◌, ℕ, ◌+◌, ◌<◌, arith, List, Option, Some, None, IsSome, is_some, refl, sym, ap, ◌∙◌, subst}
 use Rattle.std.specs.Option.{option_map}
 use Rattle.lam_syntax.specs.declared.Expr.{Expr}
-use Rattle.lam_syntax.specs.declared.BinaryOp.{BinaryOp}
-use Rattle.lam_syntax.specs.declared.UnaryOp.{UnaryOp}
-use Rattle.lam_syntax.specs.Tree.{Word, IdTree, TypeTree, ExprForm, ExprList, CapTree, expr_tree, binary_expr, unary_expr, field_expr, element_expr, name_expr, call_expr, new_class_expr, new_array_expr, label_expr, caps_expr, spawn_expr}
+use Rattle.lam_operators.specs.declared.BinaryOp.{BinaryOp}
+use Rattle.lam_operators.specs.declared.UnaryOp.{UnaryOp}
+use Rattle.lam_syntax.specs.Tree.{IdTree, TypeTree, ExprForm, ExprList, CapTree, expr_tree, binary_expr, unary_expr, field_expr, element_expr, name_expr, call_expr, new_class_expr, new_array_expr, label_expr, caps_expr, spawn_expr}
+use Rattle.lam_operators.specs.Words.{Word}
 use Rattle.lam_builtins.specs.Types.{a_value, object, array, label, caps, thread}
 use Rattle.lam_builtins.specs.Operators.{operator_type, unary_type}
 use Rattle.lam_builtins.specs.Builtins.{builtin_named}

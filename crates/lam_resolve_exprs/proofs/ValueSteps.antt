@@ -2,7 +2,8 @@
 use Rattle.std.proofs.Common.{◌≡◌, ℕ, ◌+◌, ◌<◌, List, [], ◌∷◌, ◌++◌, length, drop, get_or, Option, Some, None, IsSome, is_some, slice_get, refl, sym, ap, ◌∙◌, Bor}
 use Rattle.std.specs.Option.{option_map}
 use Rattle.std.proofs.lemmas.Option.{slice_get-map}
-use Rattle.lam_syntax.specs.Tree.{Word, CapTree, cap_tree as written_cap, caps_tree as written_caps}
+use Rattle.lam_syntax.specs.Tree.{CapTree, cap_tree as written_cap, caps_tree as written_caps}
+use Rattle.lam_operators.specs.Words.{Word}
 use Rattle.lam_builtins.specs.Types.{int, bool, bytes, tag, label, caps, file, dir, pipe, thread, object, array, a_value, a_null, nothing}
 use Rattle.lam_builtins.specs.declared.Builtin.{Builtin}
 use Rattle.resolved_tree.specs.Tree.{ResolvedType, ResolvedGiven, Expression, field_of, call_of, cap_tree, caps_tree}

@@ -23,7 +23,8 @@ use lam_resolve_tables::kinds::{
 };
 use lam_resolve_tables::named::Named;
 use lam_resolve_tables::tables::Tables;
-use lam_syntax::{BinaryOp, CapItem as WrittenCap, UnaryOp};
+use lam_operators::{BinaryOp, UnaryOp};
+use lam_syntax::CapItem as WrittenCap;
 use resolved_tree::{CapItem, Expr, ValueType};
 use std::alloc::Global;
 use want_of_memory::NoMemory;

@@ -6,7 +6,7 @@ use Rattle.std.specs.Str.{bytes_eq}
 use Rattle.std.specs.Map.{lookup}
 use Rattle.std.specs.Option.{option_map}
 use Rattle.std.proofs.lemmas.Slice.Eq.{bytes_eq-Decides}
-use Rattle.lam_syntax.specs.Tree.{Word}
+use Rattle.lam_operators.specs.Words.{Word}
 use Rattle.lam_kinds.specs.Tables.{find}
 use Rattle.lam_kinds.specs.Values.{keyed}
 use Rattle.lam_kinds.proofs.TableLemmas.{key_is, find_see, see_push, find_both}

@@ -3,7 +3,8 @@ use Rattle.std.proofs.Common.{◌≡◌, ℕ, ◌+◌, ◌<◌, List, [], ◌∷
 use Rattle.std.proofs.lemmas.List.{append-nil}
 use Rattle.lam_syntax.specs.declared.Var.{Var}
 use Rattle.lam_syntax.specs.declared.Item.{Item}
-use Rattle.lam_syntax.specs.Tree.{Word, ItemTree, class_item, function_item, ClassTree, FunctionTree, ProgramTree, vars_tree, var_tree, items_tree, item_tree}
+use Rattle.lam_syntax.specs.Tree.{ItemTree, class_item, function_item, ClassTree, FunctionTree, ProgramTree, vars_tree, var_tree, items_tree, item_tree}
+use Rattle.lam_operators.specs.Words.{Word}
 use Rattle.resolved_tree.specs.declared.ValueType.{ValueType}
 use Rattle.resolved_tree.specs.Tree.{ResolvedType, type_tree, types_tree}
 use Rattle.resolved_tree.specs.Typing.{Head}

@@ -1,6 +1,6 @@
 -- What the definitions see of named values.
 use Rattle.std.specs.Prelude.{◌-◌, List, take, length}
-use Rattle.lam_syntax.specs.Tree.{Word}
+use Rattle.lam_operators.specs.Words.{Word}
 use Rattle.lam_kinds.specs.Values.{keyed}
 use Rattle.lam_resolve_tables.specs.declared.named.Named.{Named}
 

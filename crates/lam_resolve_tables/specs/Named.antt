@@ -1,7 +1,7 @@
 -- The numbers of names in a list: a name stands by the place of its first entry.
 use Rattle.std.specs.Prelude.{ℕ, ◌+◌, if◌then◌else◌, List, [], ◌∷◌, ◌++◌, map, Option, Some, None, is_some}
 use Rattle.std.specs.Borrow.{Bor}
-use Rattle.lam_syntax.specs.Tree.{Word}
+use Rattle.lam_operators.specs.Words.{Word}
 use Rattle.lam_kinds.specs.Tables.{find}
 use Rattle.lam_resolved.specs.Resolved.{Found}
 

@@ -1,7 +1,7 @@
 -- What the definitions see of the tables.
 use Rattle.std.specs.Prelude.{List, map, option_map}
 use Rattle.std.specs.Borrow.{Bor}
-use Rattle.lam_syntax.specs.Tree.{Word}
+use Rattle.lam_operators.specs.Words.{Word}
 use Rattle.resolved_tree.specs.Tree.{ResolvedType}
 use Rattle.resolved_tree.specs.Typing.{Head as ResolvedHead}
 use Rattle.lam_resolved.specs.Resolved.{Tables as ResolvedTables, types_of}

@@ -1,7 +1,7 @@
 //! Names are found in constant time.
 
 ghost use Rattle.std.specs.Prelude.{◌≡◌, ◌++◌, ◌∷◌, [], List, OnErr, OnOk, length, take};
-ghost use Rattle.lam_syntax.specs.Tree.{Word};
+ghost use Rattle.lam_operators.specs.Words.{Word};
 ghost use Rattle.lam_kinds.specs.Values.{keyed};
 ghost use Rattle.lam_resolve_tables.specs.Named.{firsts, with_first, seen_found};
 ghost use Rattle.lam_resolve_tables.specs.Entries.{entries_of, shorter};

@@ -1,6 +1,7 @@
 -- Parts of statements, as the code meets them.
 use Rattle.std.proofs.Common.{◌≡◌, ℕ, ◌+◌, List, length, Option, Some, IsSome, is_some, sym, ap, ◌∙◌}
-use Rattle.lam_syntax.specs.Tree.{Word, ExprTree, VarTree, let_stmt}
+use Rattle.lam_syntax.specs.Tree.{ExprTree, VarTree, let_stmt}
+use Rattle.lam_operators.specs.Words.{Word}
 use Rattle.resolved_tree.specs.Tree.{ResolvedType, Statement, let_slot}
 use Rattle.lam_resolved.specs.Resolved.{then_some, Tables, Locals, State, Value, step_as, with_local, next_slot, resolve, resolve_type, resolve_value, resolve_stmt_form, assignment, state_as, slots_of, taken_over, locals_from, types_of}
 use Rattle.lam_resolve_tables.proofs.Options.{first_some, next_some, goes}

@@ -1,7 +1,8 @@
 -- Units, step by step.
 use Rattle.std.proofs.Common.{◌≡◌, ℕ, suc, ◌+◌, ◌<◌, List, [], ◌∷◌, ◌++◌, length, map, drop, get_or, Some, refl, sym, ap, ◌∙◌, Bor, append_assoc}
 use Rattle.lam_syntax.specs.declared.Id.{Id}
-use Rattle.lam_syntax.specs.Tree.{Word, id_tree, ids_tree}
+use Rattle.lam_syntax.specs.Tree.{id_tree, ids_tree}
+use Rattle.lam_operators.specs.Words.{Word}
 use Rattle.resolved_tree.specs.declared.ValueType.{ValueType}
 use Rattle.resolved_tree.specs.Tree.{types_tree}
 use Rattle.lam_resolved.specs.Resolved.{then_some, Locals, locals_from, local_named, resolve_captures}

@@ -2,8 +2,10 @@
 use Rattle.std.proofs.Common.{◌≡◌, ℕ, zero, suc, ◌+◌, Bool, true, false, cond, List, [], ◌∷◌, map, Option, Some, None, refl, sym, ap, ◌∙◌, subst, arith}
 use Rattle.std.specs.Prelude.{slice_get}
 use Rattle.std.specs.Str.{bytes_eq}
-use Rattle.lam_syntax.specs.Tree.{Word, TypeTree, type_node, int_type, bool_type, bytes_type, tag_type, label_type, caps_type, file_type, dir_type, pipe_type, thread_type, class_type, array_type, VarTree, FunctionTree, class_item, function_item, ProgramTree}
-use Rattle.lam_builtins.specs.Types.{ValueType, written}
+use Rattle.lam_syntax.specs.Tree.{TypeTree, type_node, int_type, bool_type, bytes_type, tag_type, label_type, caps_type, file_type, dir_type, pipe_type, thread_type, class_type, array_type, VarTree, FunctionTree, class_item, function_item, ProgramTree}
+use Rattle.lam_operators.specs.Words.{Word}
+use Rattle.lam_builtins.specs.Types.{ValueType}
+use Rattle.lam_kinds.specs.Written.{written}
 use Rattle.lam_builtins.specs.Builtins.{Signature}
 use Rattle.lam_kinds.specs.Tables.{Fields, find, typed_names, fields_of, answer_of, places_of, signature_of, declared, declared_classes, declared_functions}
 use Rattle.lam_exprs.specs.Judgement.{IsDeclared}

@@ -1,13 +1,15 @@
 -- Each typed expression whose names are reached resolves, to one that is typed without names, and that reads as it was.
 use Rattle.std.proofs.Common.{◌≡◌, ℕ, Bool, true, List, [], ◌∷◌, map, Option, Some, None, refl, sym, ap, ◌∙◌, subst}
-use Rattle.lam_syntax.specs.declared.BinaryOp.{BinaryOp}
-use Rattle.lam_syntax.specs.declared.BinaryOp.TheVariants.{Or, And, Eq, Ne, Lt, Le, Gt, Ge, Add, Sub, Mul, Div, Rem}
-use Rattle.lam_syntax.specs.declared.UnaryOp.{UnaryOp}
-use Rattle.lam_syntax.specs.declared.UnaryOp.TheVariants.{Not, Neg}
-use Rattle.lam_syntax.specs.Tree.{Word, IdTree, CapTree, TypeTree, type_node, int_type, bool_type, bytes_type, tag_type, label_type, caps_type, file_type, dir_type, pipe_type, thread_type, class_type, array_type, ExprTree, expr_node, ExprForm, binary_expr, unary_expr, field_expr, element_expr, number_expr, text_expr, bool_expr, null_expr, name_expr, call_expr, new_class_expr, new_array_expr, label_expr, caps_expr, spawn_expr, ExprList, no_exprs, exprs}
+use Rattle.lam_operators.specs.declared.BinaryOp.{BinaryOp}
+use Rattle.lam_operators.specs.declared.BinaryOp.TheVariants.{Or, And, Eq, Ne, Lt, Le, Gt, Ge, Add, Sub, Mul, Div, Rem}
+use Rattle.lam_operators.specs.declared.UnaryOp.{UnaryOp}
+use Rattle.lam_operators.specs.declared.UnaryOp.TheVariants.{Not, Neg}
+use Rattle.lam_syntax.specs.Tree.{IdTree, CapTree, TypeTree, type_node, int_type, bool_type, bytes_type, tag_type, label_type, caps_type, file_type, dir_type, pipe_type, thread_type, class_type, array_type, ExprTree, expr_node, ExprForm, binary_expr, unary_expr, field_expr, element_expr, number_expr, text_expr, bool_expr, null_expr, name_expr, call_expr, new_class_expr, new_array_expr, label_expr, caps_expr, spawn_expr, ExprList, no_exprs, exprs}
+use Rattle.lam_operators.specs.Words.{Word}
 use Rattle.lam_syntax.specs.Unplaced.{unplaced_id, unplaced_type, unplaced_caps, unplaced_expr, unplaced_exprs}
 use Rattle.lam_builtins.specs.declared.Builtin.{Builtin}
-use Rattle.lam_builtins.specs.Types.{ValueType, int, tag, caps, object, array, written, plain, Given, a_value, a_null, nothing, Place, exactly, suits}
+use Rattle.lam_builtins.specs.Types.{ValueType, int, tag, caps, object, array, Given, a_value, a_null, nothing, Place, exactly, suits}
+use Rattle.lam_kinds.specs.Written.{written, plain}
 use Rattle.lam_builtins.specs.Operators.{operand, operator_type, unary_type}
 use Rattle.lam_builtins.specs.Builtins.{Signature, Answer, answers, no_answer, as_first, answered, row, row_by, builtin_named}
 use Rattle.lam_kinds.specs.Tables.{Names, Decls, find, signature_or}

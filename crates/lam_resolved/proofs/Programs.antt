@@ -2,9 +2,10 @@
 -- numbered by place, and that reads as it was.
 use Rattle.std.proofs.Common.{◌≡◌, ℕ, ◌+◌, false, List, [], ◌∷◌, ◌++◌, length, map, Option, Some, None, refl, sym, ap, ◌∙◌, subst, arith}
 use Rattle.std.proofs.lemmas.List.{length-map}
-use Rattle.lam_syntax.specs.Tree.{Word, TypeTree, VarTree, FunctionTree, class_item, function_item, ProgramTree, StmtList}
+use Rattle.lam_syntax.specs.Tree.{TypeTree, VarTree, FunctionTree, class_item, function_item, ProgramTree, StmtList}
+use Rattle.lam_operators.specs.Words.{Word}
 use Rattle.lam_syntax.specs.Unplaced.{unplaced_id, unplaced_option_type, unplaced_var, unplaced_vars, unplaced_item, unplaced}
-use Rattle.lam_builtins.specs.Types.{written}
+use Rattle.lam_kinds.specs.Written.{written}
 use Rattle.lam_kinds.specs.Tables.{Decls, typed_names, declared}
 use Rattle.lam_exprs.specs.Judgement.{IsDeclared}
 use Rattle.lam_types.specs.Program.{result_type}

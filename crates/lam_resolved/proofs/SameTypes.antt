@@ -1,6 +1,6 @@
 -- What is said of types by words is said of them by numbers.
 use Rattle.std.proofs.Common.{◌≡◌, ℕ, true, List, [], ◌∷◌, Some, refl, sym, ap, ◌∙◌, subst}
-use Rattle.lam_syntax.specs.Tree.{Word}
+use Rattle.lam_operators.specs.Words.{Word}
 use Rattle.lam_builtins.specs.declared.Builtin.{Builtin}
 use Rattle.lam_builtins.specs.declared.Builtin.TheVariants.{Len, Size, Byte, Slice, Cat, Text, Number, MyLabel, MyCaps, Root, LabelOf, Copy, Mint, Say, MakeFile, MakeDir, OpenFile, OpenDir, Remove, Read, Length, Append, Cut, MakePipe, Send, SendCaps, Receive, ReceiveCaps, Join}
 use Rattle.lam_builtins.specs.Types.{ValueType, int, bool, bytes, tag, label, caps, file, dir, pipe, thread, object, array, nullable, Given, a_value, a_null, nothing, Place, exactly, any_class, any_array, any_object, any_labelled, accepts, suits, comparable}

@@ -1,8 +1,9 @@
 -- What a small program resolves to, computed.
 use Rattle.std.proofs.Common.{◌≡◌, ℕ, pos, [], ◌∷◌, Some, refl}
 use Rattle.std.specs.Prelude.{codes}
-use Rattle.lam_syntax.specs.declared.BinaryOp.TheVariants.{Lt}
-use Rattle.lam_syntax.specs.Tree.{Word, IdTree, VarTree, TypeTree, type_node, TypeForm, int_type, class_type, array_type, ItemTree, class_item, function_item, ProgramTree, ExprTree, expr_node, ExprForm, binary_expr, field_expr, element_expr, number_expr, name_expr, call_expr, new_class_expr, new_array_expr, label_expr, caps_expr, no_exprs, exprs, stmt_node, StmtForm, let_stmt, while_stmt, return_stmt, sync_stmt, region_stmt, assign_stmt, StmtList, no_stmts, stmts}
+use Rattle.lam_operators.specs.declared.BinaryOp.TheVariants.{Lt}
+use Rattle.lam_syntax.specs.Tree.{IdTree, VarTree, TypeTree, type_node, TypeForm, int_type, class_type, array_type, ItemTree, class_item, function_item, ProgramTree, ExprTree, expr_node, ExprForm, binary_expr, field_expr, element_expr, number_expr, name_expr, call_expr, new_class_expr, new_array_expr, label_expr, caps_expr, no_exprs, exprs, stmt_node, StmtForm, let_stmt, while_stmt, return_stmt, sync_stmt, region_stmt, assign_stmt, StmtList, no_stmts, stmts}
+use Rattle.lam_operators.specs.Words.{Word}
 use Rattle.lam_builtins.specs.declared.Builtin.TheVariants.{Len}
 use Rattle.lam_builtins.specs.Types.{int, object, array}
 use Rattle.lam_builtins.specs.Builtins.{builtin_named}

@@ -3,9 +3,11 @@ use Rattle.std.proofs.Common.{◌≡◌, ℕ, suc, ◌+◌, ◌<◌, ◌≤◌, 
 use Rattle.std.proofs.lemmas.Bool.Decides.{nat_tests}
 use Rattle.std.specs.Prelude.{nat_eq, slice_get}
 use Rattle.std.specs.Str.{bytes_eq}
-use Rattle.lam_syntax.specs.Tree.{Word, IdTree, VarTree}
+use Rattle.lam_syntax.specs.Tree.{IdTree, VarTree}
+use Rattle.lam_operators.specs.Words.{Word}
 use Rattle.lam_syntax.specs.Unplaced.{unplaced_ids}
-use Rattle.lam_builtins.specs.Types.{ValueType, written}
+use Rattle.lam_builtins.specs.Types.{ValueType}
+use Rattle.lam_kinds.specs.Written.{written}
 use Rattle.lam_kinds.specs.Tables.{Names, find, typed_names}
 use Rattle.lam_types.specs.Stmts.{with_local as with_name_typed}
 use Rattle.lam_types.specs.Judgement.{AllInScope}

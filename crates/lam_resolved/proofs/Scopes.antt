@@ -1,7 +1,7 @@
 -- What ties a scope by names to the slots, and a program's declarations to their numbers.
 use Rattle.std.proofs.Common.{◌≡◌, ℕ, ◌<◌, Bool, List, map, Option, Some, None}
 use Rattle.std.specs.Prelude.{slice_get}
-use Rattle.lam_syntax.specs.Tree.{Word}
+use Rattle.lam_operators.specs.Words.{Word}
 use Rattle.lam_builtins.specs.Types.{ValueType}
 use Rattle.lam_builtins.specs.Builtins.{Signature, Answer, answers, no_answer, as_first}
 use Rattle.lam_kinds.specs.Tables.{Names, Fields, Decls, find}

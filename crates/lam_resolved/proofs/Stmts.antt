@@ -3,9 +3,11 @@
 use Rattle.std.proofs.Common.{◌≡◌, ℕ, suc, ◌+◌, ◌≤◌, Bool, true, false, ◌&&◌, List, [], ◌∷◌, ◌++◌, length, Option, Some, None, refl, sym, ap, ◌∙◌, subst, arith}
 use Rattle.std.specs.Prelude.{slice_get, unwrap_or}
 use Rattle.std.proofs.lemmas.List.{length-map, append-nil}
-use Rattle.lam_syntax.specs.Tree.{Word, IdTree, VarTree, ExprTree, expr_node, binary_expr, unary_expr, field_expr, element_expr, number_expr, text_expr, bool_expr, null_expr, name_expr, call_expr, new_class_expr, new_array_expr, label_expr, caps_expr, spawn_expr, StmtTree, stmt_node, StmtForm, let_stmt, if_stmt, while_stmt, return_stmt, throw_stmt, sync_stmt, region_stmt, do_stmt, assign_stmt, StmtList, no_stmts, stmts, ElseTree, no_else, else_block}
+use Rattle.lam_syntax.specs.Tree.{IdTree, VarTree, ExprTree, expr_node, binary_expr, unary_expr, field_expr, element_expr, number_expr, text_expr, bool_expr, null_expr, name_expr, call_expr, new_class_expr, new_array_expr, label_expr, caps_expr, spawn_expr, StmtTree, stmt_node, StmtForm, let_stmt, if_stmt, while_stmt, return_stmt, throw_stmt, sync_stmt, region_stmt, do_stmt, assign_stmt, StmtList, no_stmts, stmts, ElseTree, no_else, else_block}
+use Rattle.lam_operators.specs.Words.{Word}
 use Rattle.lam_syntax.specs.Unplaced.{unplaced_id, unplaced_ids, unplaced_var, unplaced_expr, unplaced_option_expr, unplaced_stmt_form, unplaced_stmts, unplaced_else}
-use Rattle.lam_builtins.specs.Types.{ValueType, int, bool, label, caps, object, array, written, Given, a_value, given_type, exactly, any_object, suits}
+use Rattle.lam_builtins.specs.Types.{ValueType, int, bool, label, caps, object, array, Given, a_value, given_type, exactly, any_object, suits}
+use Rattle.lam_kinds.specs.Written.{written}
 use Rattle.lam_kinds.specs.Tables.{Names, Decls}
 use Rattle.lam_exprs.specs.Judgement.{IsDeclared, IsGiven}
 use Rattle.lam_types.specs.Endings.{ends_form, ends_stmt, both_end, ends as tree_ends}

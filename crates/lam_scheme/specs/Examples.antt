@@ -2,7 +2,7 @@
 use Rattle.std.specs.Prelude.{◌≡◌, ℕ, pos, true, false, List, [], ◌∷◌, map, Option, Some, None, codes, refl}
 use Rattle.lam_value.specs.declared.values.Value.{Value}
 use Rattle.lam_value.specs.declared.values.Value.TheVariants.{Int as an_int, Bool as a_bool, Nothing}
-use Rattle.lam_syntax.specs.declared.BinaryOp.TheVariants as binary
+use Rattle.lam_operators.specs.declared.BinaryOp.TheVariants as binary
 use Rattle.lam_builtins.specs.Types.{int, bool, object}
 use Rattle.lam_bytecode.specs.declared.op.Op.{Op}
 use Rattle.lam_bytecode.specs.declared.op.Op.TheVariants.{Const, Load, Store, Add, Jump, JumpIfFalse, Call, Return, ReadBarrier, GetField, NewObject, MakeLabel, NoCaps, EnterRegion, LeaveRegion}

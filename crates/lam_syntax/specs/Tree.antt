@@ -3,11 +3,12 @@
 -- the code. Row lemmas in proofs/Rows.antt say that the children in a vector are those of its list of items.
 use Rattle.std.specs.Prelude.{ℕ, ℤ, Bool, List, [], ◌∷◌, Option, Some, None, string_bytes, Vec}
 use Rattle.std.specs.declared.alloc.Global.{Global}
+use Rattle.lam_operators.specs.Words.{Word}
 use Rattle.lam_syntax.specs.declared.Id.{Id}
 use Rattle.lam_syntax.specs.declared.Var.{Var}
 use Rattle.lam_syntax.specs.declared.CapItem.{CapItem}
-use Rattle.lam_syntax.specs.declared.BinaryOp.{BinaryOp}
-use Rattle.lam_syntax.specs.declared.UnaryOp.{UnaryOp}
+use Rattle.lam_operators.specs.declared.BinaryOp.{BinaryOp}
+use Rattle.lam_operators.specs.declared.UnaryOp.{UnaryOp}
 use Rattle.lam_syntax.specs.declared.TypeExpr.{TypeExpr}
 use Rattle.lam_syntax.specs.declared.TypeKind.{TypeKind, Int, Bool as BoolKind, Bytes, Tag, Label, Caps, File, Dir, Pipe, Thread, Class as ClassKind, Array'}
 use Rattle.lam_syntax.specs.declared.Expr.{Expr}
@@ -21,10 +22,6 @@ use Rattle.lam_syntax.specs.declared.Item.TheVariants.{Class as ClassItem, Funct
 use Rattle.lam_syntax.specs.declared.Program.{Program}
 
 -- ---- the trees
-
--- a name: its bytes in UTF-8
-abbrev pub Word : Type 0
-Word = List ℕ
 
 pub record IdTree : Type 0 where
   pub at : ℕ

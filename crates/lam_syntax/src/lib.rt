@@ -9,6 +9,8 @@
 //! types as plain data, with a view from each type here, and every definition of the language is on that mirror.
 #![tactic(auto)]
 
+use lam_operators::{BinaryOp, UnaryOp};
+
 /// A name, and the position of its first byte.
 #[derive(Drop)]
 pub struct Id {
@@ -47,32 +49,6 @@ pub enum TypeKind {
 pub struct Var {
     pub name: Id,
     pub ty: TypeExpr,
-}
-
-/// The operators between two operands, from those that bind weakest to those that bind strongest:
-/// `||`, `&&`, `==`, `!=`, `<`, `<=`, `>`, `>=`, `+`, `-`, `*`, `/`, `%`.
-#[derive(Clone, Copy, Debug, PartialEq, Eq, Drop)]
-pub enum BinaryOp {
-    Or,
-    And,
-    Eq,
-    Ne,
-    Lt,
-    Le,
-    Gt,
-    Ge,
-    Add,
-    Sub,
-    Mul,
-    Div,
-    Rem,
-}
-
-/// The operators before one operand: `!` and `-`.
-#[derive(Clone, Copy, Debug, PartialEq, Eq, Drop)]
-pub enum UnaryOp {
-    Not,
-    Neg,
 }
 
 /// A tag in the braces of `caps`: `name+` where `plus` holds, else `name-`.

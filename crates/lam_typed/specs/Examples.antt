@@ -1,7 +1,7 @@
 -- Worked examples: a typed program, and one that is not typed and goes wrong.
 use Rattle.std.specs.Prelude.{◌≡◌, pos, true, List, [], ◌∷◌, Some, codes, refl}
 use Rattle.capabilities.specs.Changes.{no_caps}
-use Rattle.lam_syntax.specs.declared.BinaryOp.TheVariants.{Add}
+use Rattle.lam_operators.specs.declared.BinaryOp.TheVariants.{Add}
 use Rattle.lam_builtins.specs.Types.{int, a_value}
 use Rattle.resolved_tree.specs.Tree.{ResolvedType, number_value, bool_value, local_value, binary_of, Expression, return_value, block_end, block_more, ResolvedTree}
 use Rattle.resolved_tree.specs.Typing.{IsTypedTree}

@@ -1,6 +1,7 @@
 -- The statements that hold blocks.
 use Rattle.std.proofs.Common.{◌≡◌, ℕ, List, Option, Some, None, Result, Ok, Err, OnOk, Bor, refl, sym, ap, ◌∙◌, subst}
-use Rattle.lam_syntax.specs.Tree.{Word, ExprTree, StmtForm, StmtList, ElseTree, no_else, else_block, IdTree, while_stmt, sync_stmt, if_stmt, region_stmt, return_stmt, do_stmt, assign_stmt}
+use Rattle.lam_syntax.specs.Tree.{ExprTree, StmtForm, StmtList, ElseTree, no_else, else_block, IdTree, while_stmt, sync_stmt, if_stmt, region_stmt, return_stmt, do_stmt, assign_stmt}
+use Rattle.lam_operators.specs.Words.{Word}
 use Rattle.lam_builtins.specs.Types.{ValueType, Given, int}
 use Rattle.lam_kinds.specs.Breaks.{Verdict, Fine, Stop, then_on}
 use Rattle.lam_kinds.specs.Tables.{Names, Decls}

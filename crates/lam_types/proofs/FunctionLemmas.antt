@@ -1,7 +1,8 @@
 -- A function, as the code meets it: xs are its parameters as the code reached them.
 use Rattle.std.proofs.Common.{◌≡◌, ℕ, suc, ◌+◌, ◌≤◌, List, [], ◌∷◌, length, Option, Some, None, Bor, refl, sym, ap, ◌∙◌, subst, arith}
 use Rattle.lam_syntax.specs.declared.Var.{Var}
-use Rattle.lam_syntax.specs.Tree.{Word, FunctionTree, VarTree, vars_tree}
+use Rattle.lam_syntax.specs.Tree.{FunctionTree, VarTree, vars_tree}
+use Rattle.lam_operators.specs.Words.{Word}
 use Rattle.lam_builtins.specs.Types.{ValueType}
 use Rattle.lam_kinds.specs.Breaks.{Verdict, Fine, Stop, then_on}
 use Rattle.lam_kinds.specs.Tables.{Names, Decls, vars_known}

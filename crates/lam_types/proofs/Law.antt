@@ -1,8 +1,10 @@
 -- A statement is typed exactly where there is no break in it, with the counts of the tree.
 use Rattle.std.proofs.Common.{◌≡◌, ℕ, suc, ◌+◌, ◌<◌, ◌≤◌, nat_lt, Bool, true, false, cond, List, [], ◌∷◌, ◌++◌, length, Option, Some, None, is_some, refl, sym, ap, ◌∙◌, subst, arith, not, ◌&&◌}
 use Rattle.std.proofs.lemmas.Bool.Decides.{nat_tests}
-use Rattle.lam_syntax.specs.Tree.{Word, IdTree, VarTree, ExprTree, StmtTree, stmt_node, StmtForm, let_stmt, if_stmt, while_stmt, return_stmt, throw_stmt, sync_stmt, region_stmt, do_stmt, assign_stmt, StmtList, no_stmts, stmts, ElseTree, no_else, else_block}
-use Rattle.lam_builtins.specs.Types.{ValueType, int, bool, label, caps, written, Given, a_value, a_null, nothing, given_type, Place, exactly, any_object}
+use Rattle.lam_syntax.specs.Tree.{IdTree, VarTree, ExprTree, StmtTree, stmt_node, StmtForm, let_stmt, if_stmt, while_stmt, return_stmt, throw_stmt, sync_stmt, region_stmt, do_stmt, assign_stmt, StmtList, no_stmts, stmts, ElseTree, no_else, else_block}
+use Rattle.lam_operators.specs.Words.{Word}
+use Rattle.lam_builtins.specs.Types.{ValueType, int, bool, label, caps, Given, a_value, a_null, nothing, given_type, Place, exactly, any_object}
+use Rattle.lam_kinds.specs.Written.{written}
 use Rattle.lam_kinds.specs.Breaks.{Break, twice, too_many, Verdict, Fine, Stop, then_on, mismatch_of}
 use Rattle.lam_kinds.specs.Tables.{Names, Decls, find, fresh, twice_if, room, named_if, type_known}
 use Rattle.lam_exprs.specs.Exprs.{at_of, placed, given_of}

@@ -1,7 +1,8 @@
 -- Parts of statements, as the code meets them.
 use Rattle.std.proofs.Common.{◌≡◌, ℕ, List, Option, Some, None, is_some, Result, Ok, Err, OnOk, Bor, refl, sym, ap, ◌∙◌, subst}
 use Rattle.lam_syntax.specs.declared.Stmt.{Stmt}
-use Rattle.lam_syntax.specs.Tree.{Word, IdTree, ExprTree, stmts_tree}
+use Rattle.lam_syntax.specs.Tree.{IdTree, ExprTree, stmts_tree}
+use Rattle.lam_operators.specs.Words.{Word}
 use Rattle.lam_builtins.specs.Types.{ValueType, Given, given_type, exactly}
 use Rattle.lam_kinds.specs.Breaks.{Verdict, Fine, Stop, then_on, mismatch_of}
 use Rattle.lam_kinds.specs.Tables.{Names, Decls, find, fresh, twice_if}

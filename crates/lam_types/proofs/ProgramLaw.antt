@@ -1,7 +1,9 @@
 -- A program is typed exactly where there is no break in it.
 use Rattle.std.proofs.Common.{◌≡◌, ℕ, suc, ◌+◌, ◌<◌, ◌≤◌, Bool, true, false, cond, not, ◌&&◌, List, [], ◌∷◌, ◌++◌, length, map, Option, Some, None, is_some, refl, sym, ap, ◌∙◌, subst, arith, append_assoc, length-append}
-use Rattle.lam_syntax.specs.Tree.{Word, IdTree, TypeTree, VarTree, ClassTree, FunctionTree, ItemTree, class_item, function_item, ProgramTree, StmtList}
-use Rattle.lam_builtins.specs.Types.{ValueType, written}
+use Rattle.lam_syntax.specs.Tree.{IdTree, TypeTree, VarTree, ClassTree, FunctionTree, ItemTree, class_item, function_item, ProgramTree, StmtList}
+use Rattle.lam_operators.specs.Words.{Word}
+use Rattle.lam_builtins.specs.Types.{ValueType}
+use Rattle.lam_kinds.specs.Written.{written}
 use Rattle.lam_kinds.specs.Breaks.{Break, no_return, twice, Verdict, Fine, Stop, then_on, first_break}
 use Rattle.lam_builtins.specs.Builtins.{Signature, builtin_named}
 use Rattle.lam_kinds.specs.Tables.{Names, Fields, Decls, find, typed_name, typed_names, fresh, room, twice_if, new_name, with_class, class_table, function_name, with_function, function_table, tables_of, with_var, vars_known, type_known, fields_of, signature_of, declared, declared_classes, declared_functions}

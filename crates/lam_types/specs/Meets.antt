@@ -1,7 +1,7 @@
 -- How the code meets the definitions.
 use Rattle.std.specs.Prelude.{◌≡◌, ℕ, List, ◌++◌, ◌∷◌, [], Option, Some, None, Result, Ok, Err}
 use Rattle.std.specs.Borrow.{Bor}
-use Rattle.lam_syntax.specs.Tree.{Word}
+use Rattle.lam_operators.specs.Words.{Word}
 use Rattle.lam_builtins.specs.Types.{ValueType}
 use Rattle.lam_kinds.specs.Breaks.{Break, Verdict, Fine, Stop}
 use Rattle.lam_kinds.specs.Tables.{Names}

@@ -6,7 +6,8 @@
 --   fn f(x:int):int{return (x+1)*2;}                                 none
 use Rattle.std.specs.Prelude.{◌≡◌, ℕ, Bool, true, false, ◌&&◌, not, if◌then◌else◌, is_some, List, [], ◌∷◌, length, Option, Some, None}
 use Rattle.lam_syntax.specs.Tree.{TypeTree, ClassTree, FunctionTree, ItemTree, class_item, function_item, ProgramTree}
-use Rattle.lam_builtins.specs.Types.{ValueType, written}
+use Rattle.lam_builtins.specs.Types.{ValueType}
+use Rattle.lam_kinds.specs.Written.{written}
 use Rattle.lam_kinds.specs.Breaks.{Break, no_return, Verdict, Fine, Stop, then_on, first_break}
 use Rattle.lam_kinds.specs.Tables.{Decls, Names, type_known, vars_known, tables_of}
 use Rattle.lam_types.specs.declared.stmts.Counts.{Counts}

@@ -8,8 +8,8 @@ use Rattle.lam_value.specs.declared.values.Value.{Value}
 use Rattle.lam_value.specs.declared.values.Value.TheVariants.{Int, Bool as Truth, Nothing, Obj, Arr, CapV}
 use Rattle.lam_value.specs.declared.shapes.Kind.{Kind}
 use Rattle.lam_value.specs.declared.shapes.Shape.TheVariants.{Array}
-use Rattle.lam_syntax.specs.declared.BinaryOp.{BinaryOp}
-use Rattle.lam_syntax.specs.declared.BinaryOp.TheVariants.{Or, And}
+use Rattle.lam_operators.specs.declared.BinaryOp.{BinaryOp}
+use Rattle.lam_operators.specs.declared.BinaryOp.TheVariants.{Or, And}
 use Rattle.lam_asks.specs.declared.fault.Fault.TheVariants.{Long, Deep}
 use Rattle.lam_asks.specs.Faults.{fault_number}
 use Rattle.lam_asks.specs.declared.answer.Outcome.TheVariants as outcome

@@ -1,8 +1,7 @@
 //! Trees made by hand.
 
-use lam_syntax::{
-    BinaryOp, Expr, ExprKind, Function, Id, Item, Program, Stmt, StmtKind, TypeExpr, TypeKind, Var,
-};
+use lam_operators::BinaryOp;
+use lam_syntax::{Expr, ExprKind, Function, Id, Item, Program, Stmt, StmtKind, TypeExpr, TypeKind, Var, };
 use std::alloc::{AllocError, Global};
 use std::test::Fail;
 

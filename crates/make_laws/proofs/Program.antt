@@ -5,8 +5,9 @@ use Rattle.std.specs.Str.{chars, is_utf8}
 use lib.Utf8.{encode}
 use Rattle.unicode_ident.proofs.Computing.{unicode_ident}
 use Rattle.lam_make.specs.Made.{program_text}
-use Rattle.lam_syntax.specs.declared.BinaryOp.TheVariants as Op
-use Rattle.lam_syntax.specs.Tree.{Word, IdTree, TypeForm, type_node, int_type, tag_type, VarTree, ExprTree, expr_node, binary_expr, number_expr, name_expr, call_expr, label_expr, caps_expr, ExprList, no_exprs, exprs, StmtForm, stmt_node, let_stmt, while_stmt, return_stmt, region_stmt, do_stmt, assign_stmt, StmtList, no_stmts, stmts, function_item, ProgramTree}
+use Rattle.lam_operators.specs.declared.BinaryOp.TheVariants as Op
+use Rattle.lam_syntax.specs.Tree.{IdTree, TypeForm, type_node, int_type, tag_type, VarTree, ExprTree, expr_node, binary_expr, number_expr, name_expr, call_expr, label_expr, caps_expr, ExprList, no_exprs, exprs, StmtForm, stmt_node, let_stmt, while_stmt, return_stmt, region_stmt, do_stmt, assign_stmt, StmtList, no_stmts, stmts, function_item, ProgramTree}
+use Rattle.lam_operators.specs.Words.{Word}
 use Rattle.lam_lexer.specs.declared.token.Token.{Token}
 use Rattle.lam_lexer.specs.declared.token.TokenKind.TheVariants as Kind
 use Rattle.lam_lexer.specs.Lexed.{token, Lexed}

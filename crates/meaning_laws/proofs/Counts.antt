@@ -1,7 +1,8 @@
 -- A program with its names resolved has as many classes, functions and regions as it has in words.
 use Rattle.std.proofs.Common.{◌≡◌, ℕ, ◌≤◌, List, [], ◌∷◌, length, Option, Some, None, IfSome, refl, subst, arith, length-append}
 use Rattle.std.proofs.lemmas.List.{length-map}
-use Rattle.lam_syntax.specs.Tree.{Word, FunctionTree, class_item, function_item, ProgramTree, stmt_node, StmtForm, let_stmt, if_stmt, while_stmt, return_stmt, throw_stmt, sync_stmt, region_stmt, do_stmt, assign_stmt, StmtList, no_stmts, stmts, ElseTree, no_else, else_block}
+use Rattle.lam_syntax.specs.Tree.{FunctionTree, class_item, function_item, ProgramTree, stmt_node, StmtForm, let_stmt, if_stmt, while_stmt, return_stmt, throw_stmt, sync_stmt, region_stmt, do_stmt, assign_stmt, StmtList, no_stmts, stmts, ElseTree, no_else, else_block}
+use Rattle.lam_operators.specs.Words.{Word}
 use Rattle.lam_kinds.specs.Tables.{declared_classes, declared_functions}
 use Rattle.lam_types.specs.Judgement as words
 use Rattle.lam_types.specs.Judgement.{regions_of_program, IsTyped}

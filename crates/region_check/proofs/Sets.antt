@@ -9,7 +9,8 @@ use Rattle.indexmap.specs.IndexSet.{IndexSet, contains_by}
 use Rattle.lam_syntax.specs.declared.Id.{Id}
 use Rattle.lam_syntax.specs.declared.CapItem.{CapItem}
 use Rattle.lam_syntax.specs.declared.Expr.{Expr}
-use Rattle.lam_syntax.specs.Tree.{Word, ids_tree, id_tree, caps_tree, cap_tree, exprs_tree, expr_tree}
+use Rattle.lam_syntax.specs.Tree.{ids_tree, id_tree, caps_tree, cap_tree, exprs_tree, expr_tree}
+use Rattle.lam_operators.specs.Words.{Word}
 use Rattle.region_check.specs.Breaks.{Verdict, Fine, Stop, then_on, has, with_name, read_checked, caps_checked, capture_checked, captures_checked, expr_checked, exprs_checked}
 use Rattle.region_check.specs.Values.{texts, Breaks, Extends}
 use Rattle.region_check.specs.declared.RegionFault.{RegionFault}

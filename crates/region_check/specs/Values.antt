@@ -1,7 +1,7 @@
 -- What the definitions see of the code's values.
 use Rattle.std.specs.Prelude.{◌≡◌, ℕ, List, map, Option, Some, None, Result, Ok, Err, take, length}
 use Rattle.std.specs.Borrow.{Bor}
-use Rattle.lam_syntax.specs.Tree.{Word}
+use Rattle.lam_operators.specs.Words.{Word}
 use Rattle.region_check.specs.Breaks.{Break, outer_read, outer_write, return_in_region, capture_twice, Verdict, Fine, Stop}
 use Rattle.region_check.specs.declared.RegionFault.{RegionFault}
 use Rattle.region_check.specs.declared.RegionFault.TheVariants.{OuterRead, OuterWrite, ReturnInRegion, CaptureTwice, NoMemory}

@@ -4,9 +4,9 @@
 -- of items.
 use Rattle.std.specs.Prelude.{ℕ, ℤ, Bool, List, [], ◌∷◌, Option, Some, None, string_bytes, Vec}
 use Rattle.std.specs.declared.alloc.Global.{Global}
-use Rattle.lam_syntax.specs.declared.BinaryOp.{BinaryOp}
-use Rattle.lam_syntax.specs.declared.UnaryOp.{UnaryOp}
-use Rattle.lam_syntax.specs.Tree.{Word}
+use Rattle.lam_operators.specs.declared.BinaryOp.{BinaryOp}
+use Rattle.lam_operators.specs.declared.UnaryOp.{UnaryOp}
+use Rattle.lam_operators.specs.Words.{Word}
 use Rattle.lam_builtins.specs.declared.Builtin.{Builtin}
 use Rattle.lam_builtins.specs.Types.{TypeBy, GivenBy, PlaceBy, int, bool, bytes, tag, label, caps, file, dir, pipe, thread, object, array}
 use Rattle.resolved_tree.specs.declared.ValueType.{ValueType, Int, Bool as BoolType, Bytes, Tag, Label, Caps, File, Dir, Pipe, Thread, Object, Array'}

@@ -14,7 +14,7 @@
 #![tactic(auto)]
 
 use lam_builtins::Builtin;
-use lam_syntax::{BinaryOp, UnaryOp};
+use lam_operators::{BinaryOp, UnaryOp};
 
 /// A type. A class stands by its number.
 #[cycle(value_type)]

@@ -10,7 +10,7 @@ ghost use Rattle.std.specs.List.{list_all};
 ghost use Rattle.thread_sights.specs.Fitting.{number_if};
 
 use lam_asks::Fault;
-use lam_syntax::{BinaryOp, UnaryOp};
+use lam_operators::{BinaryOp, UnaryOp};
 use lam_threads::Operands;
 use lam_value::Value;
 use thread_sights::{Computed, Sight, Worth, number_in, same_values, some_null, tag_in};

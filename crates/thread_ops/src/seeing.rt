@@ -15,7 +15,7 @@ use crate::operators::{add_cap, before, between, make_label};
 use crate::units::{enter_region, function_takes, spawn};
 use lam_asks::Fault;
 use lam_bytecode::{Code, CodeUnit, Op};
-use lam_syntax::{BinaryOp, UnaryOp};
+use lam_operators::{BinaryOp, UnaryOp};
 use lam_threads::{Context, Operands};
 use lam_value::Value;
 use thread_builtins::system;

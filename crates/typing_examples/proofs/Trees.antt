@@ -1,7 +1,8 @@
 -- Trees with positions.
 use Rattle.std.proofs.Common.{ℕ, [], ◌∷◌, Some, pos}
 use Rattle.std.specs.Prelude.{codes}
-use Rattle.lam_syntax.specs.Tree.{Word, IdTree, VarTree, type_node, int_type, function_item, ProgramTree, ExprTree, expr_node, number_expr, name_expr, stmt_node, StmtForm, StmtList, stmts}
+use Rattle.lam_syntax.specs.Tree.{IdTree, VarTree, type_node, int_type, function_item, ProgramTree, ExprTree, expr_node, number_expr, name_expr, stmt_node, StmtForm, StmtList, stmts}
+use Rattle.lam_operators.specs.Words.{Word}
 
 abbrev pub id : ℕ → Word → IdTree
 id at x = record { at = at; word = x }

@@ -1,7 +1,7 @@
 -- The first break of the typing rules.
 use Rattle.std.proofs.Common.{◌≡◌, [], ◌∷◌, Some, None, true, refl}
 use Rattle.std.specs.Prelude.{codes}
-use Rattle.lam_syntax.specs.declared.BinaryOp.TheVariants.{Add, Mul}
+use Rattle.lam_operators.specs.declared.BinaryOp.TheVariants.{Add, Mul}
 use Rattle.lam_syntax.specs.Tree.{ProgramTree, type_node, int_type, bool_type, function_item, expr_node, binary_expr, bool_expr, let_stmt, return_stmt, no_stmts}
 use Rattle.lam_builtins.specs.Builtins.{builtin_named}
 use Rattle.lam_kinds.specs.Breaks.{mismatch, no_name, twice, no_return}

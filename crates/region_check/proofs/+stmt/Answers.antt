@@ -2,7 +2,8 @@ use Rattle.std.proofs.Common.{◌≡◌, List, sym, ap, ◌∙◌, Some, None, O
 use Rattle.std.proofs.lemmas.Result.{err_from_is_err_and}
 use Rattle.lam_syntax.specs.declared.Stmt.{Stmt}
 use Rattle.lam_syntax.proofs.Rows.{while_row, sync_row, if_row, region_row}
-use Rattle.lam_syntax.specs.Tree.{Word, stmt_form, if_stmt, expr_tree, stmts_tree, else_tree, ids_tree, id_tree}
+use Rattle.lam_syntax.specs.Tree.{stmt_form, if_stmt, expr_tree, stmts_tree, else_tree, ids_tree, id_tree}
+use Rattle.lam_operators.specs.Words.{Word}
 use Rattle.region_check.specs.Breaks.{closed, stmts_checked, expr_checked, with_name}
 use Rattle.region_check.specs.Values.{texts}
 use Rattle.region_check.proofs.Arms

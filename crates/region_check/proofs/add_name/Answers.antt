@@ -1,7 +1,7 @@
 use Rattle.std.proofs.Common.{◌≡◌, ◌∙◌, sym, refl, ap, subst, List, Bor}
 use Rattle.std.specs.List.{list_any}
 use Rattle.std.specs.Str.{bytes_eq}
-use Rattle.lam_syntax.specs.Tree.{Word}
+use Rattle.lam_operators.specs.Words.{Word}
 use Rattle.region_check.specs.Values.{texts, Extends}
 use Rattle.region_check.proofs.Sets.{texts_insert, extends_insert}
 use Rattle.region_check.proofs.add_name.Goals as goal

@@ -1,7 +1,8 @@
 use Rattle.std.proofs.Common.{◌≡◌, sym, ap, ◌∙◌, subst, refl, ◌++◌, ◌∷◌, [], List}
 use Rattle.std.proofs.lemmas.Result.{err_from_is_err_and}
 use Rattle.lam_syntax.specs.declared.Var.{Var}
-use Rattle.lam_syntax.specs.Tree.{Word, class_tree, vars_tree}
+use Rattle.lam_syntax.specs.Tree.{class_tree, vars_tree}
+use Rattle.lam_operators.specs.Words.{Word}
 use Rattle.lam_kinds.specs.Breaks.{Fine}
 use Rattle.lam_kinds.specs.Tables.{with_class, fields_of, Fields, find, typed_names}
 use Rattle.lam_kinds.specs.Values.{fields, class_entries}

@@ -1,6 +1,7 @@
 use Rattle.std.proofs.Common.{◌≡◌, refl, sym, ap, ◌∙◌, is_some, true, false, Bool, Option, None, Some, List, ◌++◌, ◌∷◌, [], Bor}
 use Rattle.std.specs.Map.{lookup}
-use Rattle.lam_syntax.specs.Tree.{Word, VarTree, var_tree}
+use Rattle.lam_syntax.specs.Tree.{VarTree, var_tree}
+use Rattle.lam_operators.specs.Words.{Word}
 use Rattle.lam_kinds.specs.Tables.{Names, find, typed_name}
 use Rattle.lam_builtins.specs.Types.{ValueType}
 use Rattle.lam_kinds.specs.Values.{names, value_type, keyed, Table}

@@ -1,5 +1,6 @@
 use Rattle.std.proofs.Common.{◌≡◌, drop}
-use Rattle.lam_syntax.specs.Tree.{Word, vars_tree}
+use Rattle.lam_syntax.specs.Tree.{vars_tree}
+use Rattle.lam_operators.specs.Words.{Word}
 use Rattle.lam_kinds.specs.Meets.{or_else}
 use Rattle.lam_kinds.specs.Tables.{find, typed_names}
 use Rattle.lam_kinds.specs.Values.{names}

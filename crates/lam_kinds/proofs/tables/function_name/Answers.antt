@@ -1,5 +1,6 @@
 use Rattle.std.proofs.Common.{◌≡◌, sym, ap, ◌∙◌, subst, is_some}
-use Rattle.lam_syntax.specs.Tree.{Word, id_tree}
+use Rattle.lam_syntax.specs.Tree.{id_tree}
+use Rattle.lam_operators.specs.Words.{Word}
 use Rattle.lam_kinds.specs.Breaks.{Verdict}
 use Rattle.lam_builtins.specs.Builtins.{builtin_named}
 use Rattle.lam_kinds.specs.Values.{Passes}

@@ -1,0 +1,31 @@
+//! The operators of the language.
+//!
+//! The syntax tree, the program with its names resolved, the bytecode and the meaning of a program all speak of the same
+//! operators. They stand here, below all of these, so that the machine does not stand on the syntax tree.
+#![tactic(auto)]
+
+/// The operators between two operands, from those that bind weakest to those that bind strongest:
+/// `||`, `&&`, `==`, `!=`, `<`, `<=`, `>`, `>=`, `+`, `-`, `*`, `/`, `%`.
+#[derive(Clone, Copy, Debug, PartialEq, Eq, Drop)]
+pub enum BinaryOp {
+    Or,
+    And,
+    Eq,
+    Ne,
+    Lt,
+    Le,
+    Gt,
+    Ge,
+    Add,
+    Sub,
+    Mul,
+    Div,
+    Rem,
+}
+
+/// The operators before one operand: `!` and `-`.
+#[derive(Clone, Copy, Debug, PartialEq, Eq, Drop)]
+pub enum UnaryOp {
+    Not,
+    Neg,
+}
