@@ -56,9 +56,9 @@ label_row s i =
     ap (λ a. label_expr a (expr_row (more_args_of k).1)) (expr_row_is s (args_of k) (items_hidden-the_row-Expr-0 s)) ∙
     ap (label_expr (exprs_tree s.items)) (expr_row_is i (more_args_of k) (items_hidden-the_row-Expr-0 i))
 
-pub spawn_row : (c : Box Expr Global) (f : Id) (args : Vec Expr Global) → expr_form (Spawn c f args) ≡ spawn_expr (expr_tree c.value) (id_tree f) (exprs_tree args.items)
+pub spawn_row : (c : Box Expr Global) (f : Box Id Global) (args : Vec Expr Global) → expr_form (Spawn c f args) ≡ spawn_expr (expr_tree c.value) (id_tree f.value) (exprs_tree args.items)
 spawn_row c f args =
-    ap (spawn_expr (expr_tree c.value) (id_tree f)) (expr_row_is args (args_of (Spawn c f args)) (items_hidden-the_row-Expr-0 args))
+    ap (spawn_expr (expr_tree c.value) (id_tree f.value)) (expr_row_is args (args_of (Spawn c f args)) (items_hidden-the_row-Expr-0 args))
 
 pub while_row : (e : Expr) (body : Vec Stmt Global) → stmt_form (While e body) ≡ while_stmt (expr_tree e) (stmts_tree body.items)
 while_row e body =
@@ -76,9 +76,9 @@ if_row e body (Some other) =
     ap (λ b. if_stmt (expr_tree e) b (else_block (stmt_row (second_of k).1))) (stmt_row_is body (body_of k) (items_hidden-the_row-Stmt-0 body)) ∙
     ap (λ b. if_stmt (expr_tree e) (stmts_tree body.items) (else_block b)) (stmt_row_is other (second_of k) (items_hidden-the_row-Stmt-0 other))
 
-pub region_row : (l k : Expr) (xs : Vec Id Global) (body : Vec Stmt Global) (x : Id) (handler : Vec Stmt Global) →
-    stmt_form (Region l k xs body x handler) ≡ region_stmt (expr_tree l) (expr_tree k) (ids_tree xs.items) (stmts_tree body.items) (id_tree x) (stmts_tree handler.items)
+pub region_row : (l k : Box Expr Global) (xs : Vec Id Global) (body : Vec Stmt Global) (x : Id) (handler : Vec Stmt Global) →
+    stmt_form (Region l k xs body x handler) ≡ region_stmt (expr_tree l.value) (expr_tree k.value) (ids_tree xs.items) (stmts_tree body.items) (id_tree x) (stmts_tree handler.items)
 region_row l k xs body x handler =
     let r = Region l k xs body x handler in
-    ap (λ b. region_stmt (expr_tree l) (expr_tree k) (ids_tree xs.items) b (id_tree x) (stmt_row (second_of r).1)) (stmt_row_is body (body_of r) (items_hidden-the_row-Stmt-0 body)) ∙
-    ap (λ b. region_stmt (expr_tree l) (expr_tree k) (ids_tree xs.items) (stmts_tree body.items) (id_tree x) b) (stmt_row_is handler (second_of r) (items_hidden-the_row-Stmt-0 handler))
+    ap (λ b. region_stmt (expr_tree l.value) (expr_tree k.value) (ids_tree xs.items) b (id_tree x) (stmt_row (second_of r).1)) (stmt_row_is body (body_of r) (items_hidden-the_row-Stmt-0 body)) ∙
+    ap (λ b. region_stmt (expr_tree l.value) (expr_tree k.value) (ids_tree xs.items) (stmts_tree body.items) (id_tree x) b) (stmt_row_is handler (second_of r) (items_hidden-the_row-Stmt-0 handler))

@@ -172,7 +172,7 @@ abbrev mutual
   expr_form (NewArray' t p at k) = new_array_expr (type_tree t) (expr_node at (expr_form k))
   expr_form (LabelOf' shape1 s shape2 i) = label_expr (expr_row s) (expr_row i)
   expr_form (CapsOf v) = caps_expr (caps_tree v.items)
-  expr_form (Spawn' p at k f shape args) = spawn_expr (expr_node at (expr_form k)) (id_tree f) (expr_row args)
+  expr_form (Spawn' p at k f shape args) = spawn_expr (expr_node at (expr_form k)) (id_tree f.value) (expr_row args)
 
   pub expr_row : {n : _} → Row_of-Expr n → ExprList
   expr_row end_of-Expr = no_exprs
@@ -197,7 +197,7 @@ abbrev mutual
   stmt_form (Return e) = return_stmt (option_expr_tree e)
   stmt_form (Throw e) = throw_stmt (expr_tree e)
   stmt_form (Sync' e shape body) = sync_stmt (expr_tree e) (stmt_row body)
-  stmt_form (Region' l c xs shape1 body x shape2 handler) = region_stmt (expr_tree l) (expr_tree c) (ids_tree xs.items) (stmt_row body) (id_tree x) (stmt_row handler)
+  stmt_form (Region' l c xs shape1 body x shape2 handler) = region_stmt (expr_tree l.value) (expr_tree c.value) (ids_tree xs.items) (stmt_row body) (id_tree x) (stmt_row handler)
   stmt_form (Do e) = do_stmt (expr_tree e)
   stmt_form (Assign p e) = assign_stmt (expr_tree p) (expr_tree e)
 

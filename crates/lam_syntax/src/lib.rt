@@ -115,10 +115,10 @@ pub enum ExprKind {
     },
     /// `caps{..}`
     CapsOf(Vec<CapItem>),
-    /// `spawn(caps) function(args)`
+    /// `spawn(caps) function(args)`. The name stands in a box, since this form would be the largest.
     Spawn {
         caps: Box<Expr>,
-        function: Id,
+        function: Box<Id>,
         args: Vec<Expr>,
     },
 }
@@ -154,10 +154,11 @@ pub enum StmtKind {
         thing: Expr,
         body: Vec<Stmt>,
     },
-    /// `region (label, caps) [captures] { body } catch (catch_name) { catch_body }`
+    /// `region (label, caps) [captures] { body } catch (catch_name) { catch_body }`. Its expressions stand in boxes,
+    /// since this form would be the largest.
     Region {
-        label: Expr,
-        caps: Expr,
+        label: Box<Expr>,
+        caps: Box<Expr>,
         captures: Vec<Id>,
         body: Vec<Stmt>,
         catch_name: Id,
