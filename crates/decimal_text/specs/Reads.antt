@@ -4,7 +4,7 @@ use Rattle.decimal_text.specs.declared.read.NumberFault.{NumberFault}
 use Rattle.decimal_text.specs.declared.read.NumberFault.TheVariants.{NoNumber, TooLarge}
 
 -- the number, or that there is none, or that it is too large
-abbrev pub Reads : Result ℕ NumberFault → Option ℕ → Type 0
-Reads (Ok n) read = read ≡ Some n
-Reads (Err NoNumber) read = read ≡ None
-Reads (Err TooLarge) read = (n : ℕ) × (read ≡ Some n) × (2 ^ 64 ≤ n)
+abbrev pub ReadsNumber : Result ℕ NumberFault → Option ℕ → Type 0
+ReadsNumber (Ok n) read = read ≡ Some n
+ReadsNumber (Err NoNumber) read = read ≡ None
+ReadsNumber (Err TooLarge) read = (n : ℕ) × (read ≡ Some n) × (2 ^ 64 ≤ n)

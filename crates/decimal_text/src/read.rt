@@ -5,7 +5,7 @@ ghost use Rattle.std.specs.Option.{SomeIff};
 ghost use Rattle.std.specs.List.{list_all};
 ghost use Rattle.std.specs.Str.Parse.{digits_value};
 ghost use Rattle.decimal_text.specs.Decimal.{is_digit, is_plain, number_of, int_of, positive, negative};
-ghost use Rattle.decimal_text.specs.Reads.{Reads};
+ghost use Rattle.decimal_text.specs.Reads.{ReadsNumber};
 
 /// Why a text is no number of 64 bits.
 #[derive(Clone, Copy, Debug, PartialEq, Eq)]
@@ -66,7 +66,7 @@ fn with_digit(value: u64, digit: u8) -> Option<u64>
 /// `NoNumber` exactly where the text is no number in decimal; `TooLarge` exactly where it is one of more than 64
 /// bits, however many digits it has. It takes time linear in the text.
 pub fn read_number(text: &[u8]) -> Result<u64, NumberFault>
-    ensures { Reads result (number_of text.now) }
+    ensures { ReadsNumber result (number_of text.now) }
 {
     if !is_plain(text) {
         return Err(NumberFault::NoNumber);

@@ -16,11 +16,11 @@ use Rattle.lam_deeds.specs.declared.deed.Deed.{Deed}
 use Rattle.lam_deeds.specs.Meaning.{DoesAs}
 use Rattle.lam_serving.specs.Acting.{Acting}
 use Rattle.lam_serving.specs.Rows.{Serves, with_tags, with_heap, with_monitors, with_files, with_pipes, at_label, acting_by, at_depth}
-use Rattle.lam_serving.specs.Serves.{Reads}
+use Rattle.lam_serving.specs.Serves.{ReadsWorld}
 
 -- what is promised of all rows
 abbrev pub ServesAll : Ask → Stores → ℕ → Option Outcome → Acting → Deed → Type 0
-ServesAll a s n o who d = (w : World) (c : Context) → Reads w c a s n o who → DoesAs d (serve w c a)
+ServesAll a s n o who d = (w : World) (c : Context) → ReadsWorld w c a s n o who → DoesAs d (serve w c a)
 
 -- an ask that is another one is served alike
 pub moved : (a b : Ask) (s : Stores) (n : ℕ) (o : Option Outcome) (who : Acting) (d : Deed) → b ≡ a → ServesAll a s n o who d → ServesAll b s n o who d
@@ -32,7 +32,7 @@ moved_ok a b s n o who r e serves = subst (λ x. IfOk r (ServesAll x s n o who))
 module _ (a : Ask) (s : Stores) (n : ℕ) (o : Option Outcome) (who : Acting) where
   -- a world and a context have these parts
   abbrev pub Has : (World → World) → (Context → Context) → Type 0
-  Has world context = (w : World) (c : Context) → Reads w c a s n o who → (world w ≡ w) × (context c ≡ c)
+  Has world context = (w : World) (c : Context) → ReadsWorld w c a s n o who → (world w ≡ w) × (context c ≡ c)
 
   pub one : (world : World → World) (context : Context → Context) (d : Deed) → Has world context → Serves world context a d → ServesAll a s n o who d
   one world context d has serves w c h =
@@ -43,7 +43,7 @@ module _ (a : Ask) (s : Stores) (n : ℕ) (o : Option Outcome) (who : Acting) wh
   each world context (Ok d) has serves = one world context d has serves
   each world context (Err e) has serves = tt
 
-  module _ (w : World) (c : Context) (h : Reads w c a s n o who) where
+  module _ (w : World) (c : Context) (h : ReadsWorld w c a s n o who) where
     pub tags_is : with_tags s.tags w ≡ w
     tags_is = ap (λ (t : Stores). with_tags t.tags w) (sym h.stores)
 
@@ -69,7 +69,7 @@ module _ (a : Ask) (s : Stores) (n : ℕ) (o : Option Outcome) (who : Acting) wh
     depth_is p k depth e f g = (λ i. at_depth (e i) (f i) (g i) c) ∙ ap (λ (x : Acting). at_depth x.label x.caps x.depth c) (sym h.acting)
 
   -- a row that gives back the monitors of the context
-  pub released : (ns : List Name) (r : Result Deed NoMemory) → ns ≡ who.held → IfOk r (λ d. DoesAs d (does (drops ns))) → IfOk r (λ d. (w : World) (c : Context) → Reads w c a s n o who → DoesAs d (does (drops c.held)))
+  pub released : (ns : List Name) (r : Result Deed NoMemory) → ns ≡ who.held → IfOk r (λ d. DoesAs d (does (drops ns))) → IfOk r (λ d. (w : World) (c : Context) → ReadsWorld w c a s n o who → DoesAs d (does (drops c.held)))
   released ns (Ok d) e h = λ w c k. subst (λ ms. DoesAs d (does (drops ms))) (e ∙ ap (λ (x : Acting). x.held) (sym k.acting)) h
   released ns (Err e) f h = tt
 

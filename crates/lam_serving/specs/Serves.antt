@@ -15,7 +15,7 @@ Joins w (Join t) ended = result_at w t ≡ ended
 Joins w a ended = Unit {0}
 
 -- all that the serving of an ask reads of a world and of a context
-pub record Reads (w : World) (c : Context) (a : Ask) (s : Stores) (n : ℕ) (o : Option Outcome) (who : Acting) : Type 0 where
+pub record ReadsWorld (w : World) (c : Context) (a : Ask) (s : Stores) (n : ℕ) (o : Option Outcome) (who : Acting) : Type 0 where
   pub stores : stores_of w ≡ s
   pub threads : length w.threads ≡ n
   pub ended : Joins w a o

@@ -6,7 +6,7 @@ ghost use Rattle.thread_steps.specs.Threads.{Context};
 ghost use Rattle.lam_worlds.specs.Worlds.{World};
 ghost use Rattle.lam_worlds.specs.Serving.{serve};
 ghost use Rattle.lam_deeds.specs.Meaning.{DoesAs};
-ghost use Rattle.lam_serving.specs.Serves.{Reads};
+ghost use Rattle.lam_serving.specs.Serves.{ReadsWorld};
 
 use crate::acting::Acting;
 use crate::contexts::{done, enter, join, mint, release, spawn};
@@ -33,7 +33,7 @@ pub fn serve(
     who: &Acting,
     ask: &Ask,
 ) -> Result<Deed, NoMemory>
-    ensures { IfOk result (λ d. (w : World) (c : Context) → Reads w c ask.now stores.now threads (option_copied ended.entry) who.now → DoesAs d (serve w c ask.now)) }
+    ensures { IfOk result (λ d. (w : World) (c : Context) → ReadsWorld w c ask.now stores.now threads (option_copied ended.entry) who.now → DoesAs d (serve w c ask.now)) }
 {
     let p = who.label();
     let caps = who.caps();

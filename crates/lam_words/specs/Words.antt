@@ -179,10 +179,10 @@ InRange request = Unit
 
 -- What reading words answers: a command that asks what they ask, or the index at which they are in no form.
 -- Memory can run out only where they are in a form.
-abbrev pub Reads : Result Command WordFault → Result Request ℕ → Type 0
-Reads (Ok command) request = request ≡ Ok (asked command)
-Reads (Err (Word at)) request = request ≡ Err at
-Reads (Err NoMemory) request = IsOk request
+abbrev pub ReadsCommand : Result Command WordFault → Result Request ℕ → Type 0
+ReadsCommand (Ok command) request = request ≡ Ok (asked command)
+ReadsCommand (Err (Word at)) request = request ≡ Err at
+ReadsCommand (Err NoMemory) request = IsOk request
 
 -- no words; a word is wanting; a word too many; and words in a form
 no_words : request_of [] ≡ Err 0

@@ -5,7 +5,7 @@
 #![tactic(auto)]
 
 ghost use Rattle.std.specs.Prelude.{◌≡◌, ◌≤◌, IfOk, IfSome, length, map, find, string_bytes};
-ghost use Rattle.lam_words.specs.Words.{name, commands, help_lines, in_range, number_in, fits, kinds, run_kinds, forms, agreed, is_in, longest, word, number, workers_in, turns_in, requested, request_of, asked, Reads, InRange};
+ghost use Rattle.lam_words.specs.Words.{name, commands, help_lines, in_range, number_in, fits, kinds, run_kinds, forms, agreed, is_in, longest, word, number, workers_in, turns_in, requested, request_of, asked, ReadsCommand, InRange};
 ghost use Rattle.lam_words.specs.declared.WordFault.TheVariants.{NoMemory as no_memory};
 
 use decimal_text::{NumberFault, read_number};
@@ -320,7 +320,7 @@ impl<T: Drop> From<AllocFailed<T>> for WordFault {
 ///
 /// `Word` exactly where the words are in no form, tested before any memory is taken; `NoMemory` where memory runs out.
 pub fn read_words(alloc: Global, words: &[String]) -> Result<Command, WordFault>
-    ensures value { Reads result (request_of (map string_bytes words.now)) }
+    ensures value { ReadsCommand result (request_of (map string_bytes words.now)) }
     ensures ranges { IfOk result (λ c. InRange (asked c)) }
 {
     let Some(form) = form_of(words) else {
@@ -358,7 +358,7 @@ pub fn read_words(alloc: Global, words: &[String]) -> Result<Command, WordFault>
 }
 
 fn run_command(alloc: Global, words: &[String], options: Options) -> Result<Command, WordFault>
-    ensures value { Reads result (Ok (requested (map string_bytes words.now) (Form.Run options))) }
+    ensures value { ReadsCommand result (Ok (requested (map string_bytes words.now) (Form.Run options))) }
     ensures ranges { IfOk result (λ c. InRange (asked c)) }
 {
     Ok(Command::Run {
@@ -372,7 +372,7 @@ fn run_command(alloc: Global, words: &[String], options: Options) -> Result<Comm
 }
 
 fn make_command(alloc: Global, words: &[String]) -> Result<Command, WordFault>
-    ensures value { Reads result (Ok (requested (map string_bytes words.now) Form.Make)) }
+    ensures value { ReadsCommand result (Ok (requested (map string_bytes words.now) Form.Make)) }
     ensures ranges { IfOk result (λ c. InRange (asked c)) }
 {
     Ok(Command::Make {

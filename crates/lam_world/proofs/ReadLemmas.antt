@@ -10,8 +10,8 @@ use Rattle.lam_stores.specs.declared.Stores.{Stores}
 use Rattle.lam_deeds.specs.declared.deed.Deed.{Deed}
 use Rattle.lam_deeds.specs.Meaning.{DoesAs}
 use Rattle.lam_serving.specs.Acting.{Acting}
-use Rattle.lam_serving.specs.Serves.{Reads}
+use Rattle.lam_serving.specs.Serves.{ReadsWorld}
 
-pub at_one : (w : World) (c : Context) (a : Ask) (s : Stores) (n : ℕ) (o : Option Outcome) (who : Acting) (r : Result Deed NoMemory) → Reads w c a s n o who → IfOk r (λ d. (v : World) (k : Context) → Reads v k a s n o who → DoesAs d (serve v k a)) → IfOk r (λ d. DoesAs d (serve w c a))
+pub at_one : (w : World) (c : Context) (a : Ask) (s : Stores) (n : ℕ) (o : Option Outcome) (who : Acting) (r : Result Deed NoMemory) → ReadsWorld w c a s n o who → IfOk r (λ d. (v : World) (k : Context) → ReadsWorld v k a s n o who → DoesAs d (serve v k a)) → IfOk r (λ d. DoesAs d (serve w c a))
 at_one w c a s n o who (Ok d) h serves = serves w c h
 at_one w c a s n o who (Err e) h serves = tt

@@ -79,10 +79,10 @@ if_row e body (Some other) =
     ap (λ b. if_block (expr_tree e) b (other_block (stmt_row (second_of k).1))) (stmt_row_is body (body_of k) (items_hidden-the_row-Stmt-0 body)) ∙
     ap (λ b. if_block (expr_tree e) (stmts_tree body.items) (other_block b)) (stmt_row_is other (second_of k) (items_hidden-the_row-Stmt-0 other))
 
-pub region_row : (n : ℕ) (l k : Expr) (xs : Vec ℕ Global) (ts : Vec ValueType Global) (body : Vec Stmt Global) (slot : ℕ) (handler : Vec Stmt Global) →
-    stmt_tree (Region n l k xs ts body slot handler) ≡ region_block n (expr_tree l) (expr_tree k) xs.items (types_tree ts.items) (stmts_tree body.items) slot (stmts_tree handler.items)
+pub region_row : (n : ℕ) (l k : Box Expr Global) (xs : Vec ℕ Global) (ts : Vec ValueType Global) (body : Vec Stmt Global) (slot : ℕ) (handler : Vec Stmt Global) →
+    stmt_tree (Region n l k xs ts body slot handler) ≡ region_block n (expr_tree l.value) (expr_tree k.value) xs.items (types_tree ts.items) (stmts_tree body.items) slot (stmts_tree handler.items)
 region_row n l k xs ts body slot handler =
     let r = Region n l k xs ts body slot handler in
-    let whole = region_block n (expr_tree l) (expr_tree k) xs.items (types_tree ts.items) in
+    let whole = region_block n (expr_tree l.value) (expr_tree k.value) xs.items (types_tree ts.items) in
     ap (λ b. whole b slot (stmt_row (second_of r).1)) (stmt_row_is body (body_of r) (items_hidden-the_row-Stmt-0 body)) ∙
     ap (λ b. whole (stmts_tree body.items) slot b) (stmt_row_is handler (second_of r) (items_hidden-the_row-Stmt-0 handler))

@@ -165,11 +165,11 @@ abbrev mutual
   stmt_tree (Return e) = return_value (option_expr_tree e)
   stmt_tree (Throw e) = throw_value (expr_tree e)
   stmt_tree (Sync' n e shape body) = sync_block n (expr_tree e) (stmt_row body)
-  stmt_tree (Region' n l c xs ts shape1 body slot shape2 handler) = region_block n (expr_tree l) (expr_tree c) xs.items (types_tree ts.items) (stmt_row body) slot (stmt_row handler)
+  stmt_tree (Region' n l c xs ts shape1 body slot shape2 handler) = region_block n (expr_tree l.value) (expr_tree c.value) xs.items (types_tree ts.items) (stmt_row body) slot (stmt_row handler)
   stmt_tree (Do e) = do_value (expr_tree e)
   stmt_tree (SetLocal n e) = set_local n (expr_tree e)
-  stmt_tree (SetField e c n t v) = set_field (expr_tree e) c n (type_tree t) (expr_tree v)
-  stmt_tree (SetElement e i t v) = set_element (expr_tree e) (expr_tree i) (type_tree t) (expr_tree v)
+  stmt_tree (SetField e c n t v) = set_field (expr_tree e.value) c n (type_tree t) (expr_tree v)
+  stmt_tree (SetElement e i t v) = set_element (expr_tree e.value) (expr_tree i.value) (type_tree t) (expr_tree v)
 
   pub stmt_row : {n : _} → Row_of-Stmt n → Block
   stmt_row end_of-Stmt = block_end

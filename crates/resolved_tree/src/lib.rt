@@ -103,7 +103,7 @@ pub enum Expr {
     },
 }
 
-/// A statement.
+/// A statement. The expressions of the forms that would be the largest stand in boxes.
 #[cycle(stmt)]
 #[derive(Drop)]
 pub enum Stmt {
@@ -132,8 +132,8 @@ pub enum Stmt {
     /// `slots` has the types of all its own slots, and the slot `catch_slot` takes the number of a fault.
     Region {
         number: usize,
-        label: Expr,
-        caps: Expr,
+        label: Box<Expr>,
+        caps: Box<Expr>,
         captures: Vec<usize>,
         slots: Vec<ValueType>,
         body: Vec<Stmt>,
@@ -148,7 +148,7 @@ pub enum Stmt {
     },
     /// An assignment to a field, by the number of its class and its own number in it, and its type.
     SetField {
-        of: Expr,
+        of: Box<Expr>,
         class: usize,
         field: usize,
         ty: ValueType,
@@ -156,8 +156,8 @@ pub enum Stmt {
     },
     /// An assignment to an element, and its type.
     SetElement {
-        of: Expr,
-        index: Expr,
+        of: Box<Expr>,
+        index: Box<Expr>,
         ty: ValueType,
         value: Expr,
     },
