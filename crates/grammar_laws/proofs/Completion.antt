@@ -7,7 +7,7 @@ use Rattle.std.proofs.Math.Seq.{get_or-append_seam}
 use Rattle.grammar_laws.specs.Grammar.{Symbol, mark, rule, Grammar, production, enters, leaves, Reads, nothing, token, part}
 use Rattle.grammar_laws.specs.Texts.{limited, capped}
 use Rattle.grammar_laws.specs.Examples.{Examples, implies, all_empty, words, ends, closes_all, followed}
-use Rattle.grammar_laws.specs.Stopping.{Stop, unexpected, too_deep, could, reached, place, AtFirst, AfterLast, Stops, wrong, deep, there, sample, opens, skips, later, inside, after, barred}
+use Rattle.grammar_laws.specs.Stopping.{Stop, unexpected, too_deep, could, reached, stop_place, AtFirst, AfterLast, Stops, wrong, deep, there, sample, opens, skips, later, inside, after, barred}
 use Rattle.grammar_laws.proofs.Laws.{stands}
 use Rattle.grammar_laws.proofs.Sound.{Sound}
 use Rattle.grammar_laws.proofs.Spelling.{both_right, both_of, HasAt, moves, closes_after, Written, spell}
@@ -59,7 +59,7 @@ kept (could m w) = m
 kept (too_deep m) = m + 1
 kept (reached m) = m + 1
 
-keeps : {Token : Type 0} (x : Stop Token) → place x ≤ kept x
+keeps : {Token : Type 0} (x : Stop Token) → stop_place x ≤ kept x
 keeps (unexpected b m) = omega arith
 keeps (could m w) = omega arith
 keeps (too_deep m) = omega arith
@@ -77,7 +77,7 @@ abbrev pub Definite : {Token : Type 0} → Stop Token → Type 0
 Definite (unexpected b m) = ⊥
 Definite x = Unit {0}
 
-next_kept : {Token : Type 0} (x : Stop Token) (xs ys : List Token) → Next x (slice_get xs (place x)) → Next x (slice_get (xs ++ ys) (place x))
+next_kept : {Token : Type 0} (x : Stop Token) (xs ys : List Token) → Next x (slice_get xs (stop_place x)) → Next x (slice_get (xs ++ ys) (stop_place x))
 next_kept (unexpected b m) xs ys n = n
 next_kept (could m w) xs ys n = at_front xs ys m (slice_get_within xs m w n) ∙ n
 next_kept (too_deep m) xs ys n = tt
@@ -96,17 +96,17 @@ module _ (G : Grammar) (E : Examples G) (S : Sound G E) (ts : List G.Token) wher
   pub record Completes (x : Stop G.Token) (p : List (Symbol G.Class G.Rule)) (before : G.Value) (s i : ℕ) : Type 0 where
     pub others : List G.Token
     pub same : (j : ℕ) → j < kept x → slice_get others j ≡ slice_get ts j
-    pub next : Next x (slice_get others (place x))
+    pub next : Next x (slice_get others (stop_place x))
     pub long : kept x ≤ length others
     pub bound : ℕ
     pub vs : List G.Value
     pub end : ℕ
     pub sum : ℕ
     pub whole : length others ≡ end
-    pub reads : Reads G (capped G (place x) bound) (slice_get others) p before s i vs end sum
+    pub reads : Reads G (capped G (stop_place x) bound) (slice_get others) p before s i vs end sum
 
   -- other symbols in the same text
-  in_same : {x : Stop G.Token} {p q : List (Symbol G.Class G.Rule)} {before before' : G.Value} {s s' i i' : ℕ} → (k : Completes x p before s i) (vs : List G.Value) → Reads G (capped G (place x) k.bound) (slice_get k.others) q before' s' i' vs k.end k.sum → Completes x q before' s' i'
+  in_same : {x : Stop G.Token} {p q : List (Symbol G.Class G.Rule)} {before before' : G.Value} {s s' i i' : ℕ} → (k : Completes x p before s i) (vs : List G.Value) → Reads G (capped G (stop_place x) k.bound) (slice_get k.others) q before' s' i' vs k.end k.sum → Completes x q before' s' i'
   in_same k vs r = record { others = k.others; same = k.same; next = k.next; long = k.long; bound = k.bound; vs = vs; end = k.end; sum = k.sum; whole = k.whole; reads = r }
 
   followed_rest : (r : G.Rule) (rest : List (Symbol G.Class G.Rule)) → followed G E (rule r ∷ rest) ≡ true → followed G E rest ≡ true
@@ -169,7 +169,7 @@ module _ (G : Grammar) (E : Examples G) (S : Sound G E) (ts : List G.Token) wher
       }
 
   -- a text that goes on with a token that is there
-  there_on : (x : Stop G.Token) (c : G.Class) (rest : List (Symbol G.Class G.Rule)) (before : G.Value) (s i : ℕ) (w : G.Token) → kept x ≡ i + 1 → place x ≡ i → Next x (slice_get ts i) → slice_get ts i ≡ Some w → G.fits c w ≡ true → followed G E rest ≡ true → Completes x (mark c ∷ rest) before s i
+  there_on : (x : Stop G.Token) (c : G.Class) (rest : List (Symbol G.Class G.Rule)) (before : G.Value) (s i : ℕ) (w : G.Token) → kept x ≡ i + 1 → stop_place x ≡ i → Next x (slice_get ts i) → slice_get ts i ≡ Some w → G.fits c w ≡ true → followed G E rest ≡ true → Completes x (mark c ∷ rest) before s i
   there_on x c rest before s i w ke pl nx l q f =
       let within = slice_get_within ts i w l in
       let le' : i + 1 ≤ length ts = omega arith in
@@ -187,18 +187,18 @@ module _ (G : Grammar) (E : Examples G) (S : Sound G E) (ts : List G.Token) wher
         end = i + 1 + length (text rest);
         sum = a.t;
         whole = omega (arith, length-append (take (i + 1) ts) (text rest));
-        reads = token (at_i ∙ l) q (omega (arith, high G (place x) (s + a.need) i (omega arith))) (a.reads (capped G (place x) (s + a.need)) (λ m l. omega (arith, high G (place x) (s + a.need) m (omega arith))));
+        reads = token (at_i ∙ l) q (omega (arith, high G (stop_place x) (s + a.need) i (omega arith))) (a.reads (capped G (stop_place x) (s + a.need)) (λ m l. omega (arith, high G (stop_place x) (s + a.need) m (omega arith))));
       }
 
   -- a text of a body goes on with that of what follows its rule
-  pub up : (x : Stop G.Token) (r : G.Rule) (body rest : List (Symbol G.Class G.Rule)) (before : G.Value) (s i : ℕ) → followed G E (rule r ∷ rest) ≡ true → i ≤ place x → (k : Completes x body before (enters G r s) i) → production G r before (slice_get k.others i) ≡ Some body → i < length k.others → Completes x (rule r ∷ rest) before s i
+  pub up : (x : Stop G.Token) (r : G.Rule) (body rest : List (Symbol G.Class G.Rule)) (before : G.Value) (s i : ℕ) → followed G E (rule r ∷ rest) ≡ true → i ≤ stop_place x → (k : Completes x body before (enters G r s) i) → production G r before (slice_get k.others i) ≡ Some body → i < length k.others → Completes x (rule r ∷ rest) before s i
   up x r body rest before s i f st k p lt =
       let a = keeps x in
       let rest_followed = followed_rest r rest f in
       let w = after_tokens k.others k.end rest (G.act r k.vs) (leaves G r s k.sum) k.whole rest_followed in
       let big = k.bound + w.need in
-      let far : (m : ℕ) → k.end ≤ m → w.need ≤ capped G (place x) big m = (λ m l. omega (arith, high G (place x) big m (omega (arith, k.long, k.whole)))) in
-      let first : Reads G (capped G (place x) k.bound) (slice_get k.others) (rule r ∷ []) before s i (G.act r k.vs ∷ []) k.end (leaves G r s k.sum) = part p k.reads nothing in
+      let far : (m : ℕ) → k.end ≤ m → w.need ≤ capped G (stop_place x) big m = (λ m l. omega (arith, high G (stop_place x) big m (omega (arith, k.long, k.whole)))) in
+      let first : Reads G (capped G (stop_place x) k.bound) (slice_get k.others) (rule r ∷ []) before s i (G.act r k.vs ∷ []) k.end (leaves G r s k.sum) = part p k.reads nothing in
       let well = ends_well k.others k.end r rest k.whole f in
       record {
         others = k.others ++ text rest;
@@ -210,11 +210,11 @@ module _ (G : Grammar) (E : Examples G) (S : Sound G E) (ts : List G.Token) wher
         end = k.end + length (text rest);
         sum = w.t;
         whole = omega (arith, length-append k.others (text rest), k.whole);
-        reads = joins (moves G E S first (λ j h. at_front k.others (text rest) j (omega (arith, k.whole))) (inr (alone_closes r _ well)) (λ m l. wider (nat_lt m (place x)) G.limit k.bound big (omega arith))) (w.reads (capped G (place x) big) far);
+        reads = joins (moves G E S first (λ j h. at_front k.others (text rest) j (omega (arith, k.whole))) (inr (alone_closes r _ well)) (λ m l. wider (nat_lt m (stop_place x)) G.limit k.bound big (omega arith))) (w.reads (capped G (stop_place x) big) far);
       }
 
   -- a rule that stops at its first token
-  restart : (x : Stop G.Token) (r : G.Rule) (rest : List (Symbol G.Class G.Rule)) (before : G.Value) (s i : ℕ) → Definite x → i ≤ length ts → followed G E (rule r ∷ rest) ≡ true → AtFirst G E r i x → i ≤ place x → kept x ≤ i → Completes x (rule r ∷ rest) before s i
+  restart : (x : Stop G.Token) (r : G.Rule) (rest : List (Symbol G.Class G.Rule)) (before : G.Value) (s i : ℕ) → Definite x → i ≤ length ts → followed G E (rule r ∷ rest) ≡ true → AtFirst G E r i x → i ≤ stop_place x → kept x ≤ i → Completes x (rule r ∷ rest) before s i
   restart (unexpected b m) r rest before s i d le f a st ke = absurd d
   restart (could m w) r rest before s i d le f a st ke =
       let q : m ≡ i = omega arith in
@@ -226,7 +226,7 @@ module _ (G : Grammar) (E : Examples G) (S : Sound G E) (ts : List G.Token) wher
   restart (reached m) r rest before s i d le f a st ke = absurd (omega arith)
 
   -- what follows a rule that was read ends it, if it does not go on as the tokens do
-  ends_there : (x : Stop G.Token) (r : G.Rule) (k : ℕ) (others : List G.Token) → AfterLast G E r k x → k ≤ place x → Next x (slice_get others (place x)) → ((j : ℕ) → j < kept x → slice_get others j ≡ slice_get ts j) → (slice_get others k ≡ slice_get ts k) ⊎ (closes_all G E (rule r ∷ []) (slice_get others k) ≡ true)
+  ends_there : (x : Stop G.Token) (r : G.Rule) (k : ℕ) (others : List G.Token) → AfterLast G E r k x → k ≤ stop_place x → Next x (slice_get others (stop_place x)) → ((j : ℕ) → j < kept x → slice_get others j ≡ slice_get ts j) → (slice_get others k ≡ slice_get ts k) ⊎ (closes_all G E (rule r ∷ []) (slice_get others k) ≡ true)
   ends_there (unexpected b m) r k others a st n same = absurd n
   ends_there (could m w) r k others a st n same =
       elim (cases_lt k m) [
@@ -258,7 +258,7 @@ module _ (G : Grammar) (E : Examples G) (S : Sound G E) (ts : List G.Token) wher
       let a = stands h in
       let b = keeps x in
       let k = completes df (omega arith) f h in
-      in_same k (G.leaf w ∷ k.vs) (token (k.same i (omega arith) ∙ l) q (omega (arith, d, low G (place x) k.bound i (omega arith))) k.reads)
+      in_same k (G.leaf w ∷ k.vs) (token (k.same i (omega arith) ∙ l) q (omega (arith, d, low G (stop_place x) k.bound i (omega arith))) k.reads)
   completes df le f (inside {r = r} {body = body} {rest = rest} {before = before} {s = s} {i = i} {x = x} p a h) =
       elim (cases_lt i (kept x)) [
         | inr ge ↦ restart x r rest before s i df le f a (stands h) ge
@@ -271,7 +271,7 @@ module _ (G : Grammar) (E : Examples G) (S : Sound G E) (ts : List G.Token) wher
       let st = stands h in
       let ke = keeps x in
       let c = completes df (within_text ts g le) (followed_rest r rest f) h in
-      in_same c (G.act r us ∷ c.vs) (joins (moves G E S first (λ j l. c.same j (omega (arith, lower_place x j k l st))) (ends_there x r k c.others a st c.next c.same) (λ m l. low G (place x) c.bound m (omega arith))) c.reads)
+      in_same c (G.act r us ∷ c.vs) (joins (moves G E S first (λ j l. c.same j (omega (arith, lower_place x j k l st))) (ends_there x r k c.others a st c.next c.same) (λ m l. low G (stop_place x) c.bound m (omega arith))) c.reads)
     where
-      lower_place : (y : Stop G.Token) (j n : ℕ) → j < n → n ≤ place y → j < kept y
+      lower_place : (y : Stop G.Token) (j n : ℕ) → j < n → n ≤ stop_place y → j < kept y
       lower_place y j n l st = omega (arith, keeps y)

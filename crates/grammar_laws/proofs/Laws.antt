@@ -2,7 +2,7 @@
 use Rattle.std.proofs.Common.{◌≡◌, ℕ, ◌+◌, ◌<◌, ◌≤◌, Bool, true, false, cond, Option, Some, None, List, [], ◌∷◌, refl, sym, ap, ◌∙◌, subst, arith}
 use Rattle.grammar_laws.specs.Grammar.{Symbol, mark, rule, Grammar, pick, is_empty, production, leaves, Reads, nothing, token, part, free}
 use Rattle.grammar_laws.specs.Examples.{Examples}
-use Rattle.grammar_laws.specs.Stopping.{Stop, unexpected, too_deep, could, reached, place, fits_next, Stops, wrong, deep, there, sample, opens, skips, later, inside, after, barred}
+use Rattle.grammar_laws.specs.Stopping.{Stop, unexpected, too_deep, could, reached, stop_place, fits_next, Stops, wrong, deep, there, sample, opens, skips, later, inside, after, barred}
 
 -- two texts begin with the same n tokens
 abbrev pub Same : (G : Grammar) → (ℕ → Option G.Token) → (ℕ → Option G.Token) → ℕ → Type 0
@@ -70,7 +70,7 @@ Capped cap cap' (too_deep m) = cap' m ≤ cap m
 Capped cap cap' (could m w) = ⊥
 Capped cap cap' (reached m) = ⊥
 
-pub stands : {G : Grammar} {E : Examples G} {cap : ℕ → ℕ} {look : ℕ → Option G.Token} {p : List (Symbol G.Class G.Rule)} {before : G.Value} {s i : ℕ} {x : Stop G.Token} → Stops G E cap look p before s i x → i ≤ place x
+pub stands : {G : Grammar} {E : Examples G} {cap : ℕ → ℕ} {look : ℕ → Option G.Token} {p : List (Symbol G.Class G.Rule)} {before : G.Value} {s i : ℕ} {x : Stop G.Token} → Stops G E cap look p before s i x → i ≤ stop_place x
 stands (wrong f) = omega arith
 stands (deep l f d) = omega arith
 stands (there l f) = omega arith
@@ -83,7 +83,7 @@ stands (skips n c h) = omega arith
 stands (barred p) = omega arith
 
 -- What stops at a token is not read in any text that is the same as far as that token.
-pub never : {G : Grammar} {E : Examples G} {cap cap' : ℕ → ℕ} {look look' : ℕ → Option G.Token} {p : List (Symbol G.Class G.Rule)} {before : G.Value} {s i j' t' : ℕ} {vs' : List G.Value} {x : Stop G.Token} → Stops G E cap look p before s i x → Same G look look' (place x + 1) → Capped cap cap' x → Reads G cap' look' p before s i vs' j' t' → ⊥
+pub never : {G : Grammar} {E : Examples G} {cap cap' : ℕ → ℕ} {look look' : ℕ → Option G.Token} {p : List (Symbol G.Class G.Rule)} {before : G.Value} {s i j' t' : ℕ} {vs' : List G.Value} {x : Stop G.Token} → Stops G E cap look p before s i x → Same G look look' (stop_place x + 1) → Capped cap cap' x → Reads G cap' look' p before s i vs' j' t' → ⊥
 never {G} (wrong {c = c} {i = i} f) same n (token l' f' d' h') =
     let e = ap (fits_next G c) (sym l' ∙ same i (omega arith)) in
     cc

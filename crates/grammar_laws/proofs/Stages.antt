@@ -2,7 +2,7 @@
 use Rattle.std.proofs.Common.{◌≡◌, ℕ, ◌+◌, ◌<◌, ◌≤◌, Bool, true, false, cond, Option, Some, List, [], ◌∷◌, refl, sym, ap, ◌∙◌, subst, arith}
 use Rattle.grammar_laws.specs.Grammar.{Symbol, mark, rule, Grammar, production, enters, leaves, Reads, nothing, token, part}
 use Rattle.grammar_laws.specs.Examples.{Examples}
-use Rattle.grammar_laws.specs.Stopping.{Stop, unexpected, too_deep, could, reached, place, AtFirst, AfterLast, Stops, wrong, deep, there, sample, opens, skips, later, inside, after, barred}
+use Rattle.grammar_laws.specs.Stopping.{Stop, unexpected, too_deep, could, reached, stop_place, AtFirst, AfterLast, Stops, wrong, deep, there, sample, opens, skips, later, inside, after, barred}
 use Rattle.grammar_laws.proofs.Laws.{stands}
 
 -- what could stand at the place is of that sort
@@ -10,7 +10,7 @@ abbrev pub At : {Token : Type 0} → ℕ → (Token → Type 0) → Stop Token �
 At k ok (could m w) = m ≡ k → ok w
 At k ok x = Unit {0}
 
-pub at_past : {Token : Type 0} (k : ℕ) (ok : Token → Type 0) (x : Stop Token) → k < place x → At k ok x
+pub at_past : {Token : Type 0} (k : ℕ) (ok : Token → Type 0) (x : Stop Token) → k < stop_place x → At k ok x
 at_past k ok (unexpected b m) lt = tt
 at_past k ok (too_deep m) lt = tt
 at_past k ok (could m w) lt = λ e. absurd (omega arith)
@@ -93,7 +93,7 @@ at_map k ok ok' (too_deep m) f a = tt
 at_map k ok ok' (could m w) f a = λ e. f w (a e)
 at_map k ok ok' (reached m) f a = tt
 
-at_shift : {Token : Type 0} (k m : ℕ) (ok : Token → Type 0) (x : Stop Token) → k ≤ m → m ≤ place x → At m ok x → At k ok x
+at_shift : {Token : Type 0} (k m : ℕ) (ok : Token → Type 0) (x : Stop Token) → k ≤ m → m ≤ stop_place x → At m ok x → At k ok x
 at_shift k m ok (unexpected b p) le st a = tt
 at_shift k m ok (too_deep p) le st a = tt
 at_shift k m ok (could p w) le st a = λ e. a (omega arith)

@@ -5,7 +5,7 @@ use Rattle.std.proofs.lemmas.Bool.{cond_below}
 use Rattle.grammar_laws.specs.Grammar.{Symbol, mark, Grammar, pick, production, free}
 use Rattle.grammar_laws.specs.Texts.{limited, capped, Spells, Continues, CouldStand, IsUnexpected, IsTooDeep, IsBarred}
 use Rattle.grammar_laws.specs.Examples.{Examples, followed}
-use Rattle.grammar_laws.specs.Stopping.{Stop, unexpected, too_deep, could, reached, place, Stops, there, later, inside, after, barred}
+use Rattle.grammar_laws.specs.Stopping.{Stop, unexpected, too_deep, could, reached, stop_place, Stops, there, later, inside, after, barred}
 use Rattle.grammar_laws.proofs.Laws.{once, never, freed, free_pick, free_reads, never_free}
 use Rattle.grammar_laws.proofs.Sound.{Sound}
 use Rattle.grammar_laws.proofs.Spelling.{moves}
@@ -20,7 +20,7 @@ pub value_once : (G : Grammar) (top : List (Symbol G.Class G.Rule)) (none : G.Va
 value_once G top none ts vs vs' a b = ap (λ (x : List G.Value × ℕ × ℕ). x.0) (once a.reads (λ j h. refl) b.reads)
 
 module _ (G : Grammar) (E : Examples G) (S : Sound G E) (top : List (Symbol G.Class G.Rule)) (none : G.Value) (ts : List G.Token) where
-  pub continues : (x : Stop G.Token) → Definite x → followed G E top ≡ true → Stops G E (limited G) (slice_get ts) top none 0 0 x → Continues G top none ts (kept x) (place x)
+  pub continues : (x : Stop G.Token) → Definite x → followed G E top ≡ true → Stops G E (limited G) (slice_get ts) top none 0 0 x → Continues G top none ts (kept x) (stop_place x)
   continues x d f h =
       let c = completes G E S ts d (omega arith) f h in
       record { others = c.others; same = c.same; bound = c.bound; vs = c.vs; spells = record { end = c.end; sum = c.sum; reads = c.reads; whole = slice_get_past c.others c.end (omega (arith, c.whole)) } }

@@ -14,11 +14,11 @@ pub data Stop (Token : Type 0) : Type 0 where
   -- the token at the place may stand there
   reached : (place : ℕ) → Stop Token
 
-abbrev pub place : {Token : Type 0} → Stop Token → ℕ
-place (unexpected b m) = m
-place (too_deep m) = m
-place (could m w) = m
-place (reached m) = m
+abbrev pub stop_place : {Token : Type 0} → Stop Token → ℕ
+stop_place (unexpected b m) = m
+stop_place (too_deep m) = m
+stop_place (could m w) = m
+stop_place (reached m) = m
 
 abbrev pub fits_next : (G : Grammar) → G.Class → Option G.Token → Bool
 fits_next G c None = false

@@ -6,7 +6,7 @@ use Rattle.lam_lexer.specs.declared.token.Token.{Token}
 use Rattle.lam_lexer.specs.declared.token.TokenKind.{TokenKind}
 use Rattle.lam_lexer.specs.declared.token.TokenKind.TheVariants.{BraceOpen, BraceClose, ParenOpen, ParenClose, BracketOpen, BracketClose, Comma, Semicolon, Colon, Plus, Class as ClassWord, Else, Catch, Int, End}
 use Rattle.lam_grammar.specs.declared.Level.TheVariants.{Or as or_level, And as and_level, Sum as sum_level, Term as term_level}
-use Rattle.lam_grammar.specs.Table.{Rule, Sym, items, item, fields, variable, params, params_tail, result_part, typ, block, stmts, stmt, else_part, value_part, assign_part, parens, region_head, captures, names, names_tail, handler, expr, comparison, comparison_tail, unary, post, post_tail, prim, chain, chain_tail, call_part, arguments, args, args_tail, new_part, cap_items, cap_item, cap_tail, some_name, ID, type_word, sign, brace_open, brace_close, paren_open, paren_close, bracket_open, bracket_close, comma, semicolon, colon, class_word, catch_word, operand}
+use Rattle.lam_grammar.specs.Table.{Rule, Sym, items, item, fields, variable, params, params_tail, result_part, typ, block, stmts, stmt, else_part, value_part, assign_part, parens, region_head, captures, names, names_tail, handler, expr, comparison, comparison_tail, unary, post, post_tail, prim, chain, chain_tail, call_part, arguments, args, args_tail, new_part, cap_items, cap_item, cap_tail, some_name, ID, type_word, sign, brace_open, brace_close, paren_open, paren_close, bracket_open, bracket_close, comma, semicolon, colon, class_word, catch_word, operand_rule}
 use Rattle.lam_grammar.specs.Program.{lam}
 
 -- what ends a rule
@@ -121,7 +121,7 @@ short region_head = paren_open ∷ rule expr ∷ comma ∷ rule expr ∷ paren_c
 short captures = bracket_open ∷ rule names ∷ bracket_close ∷ []
 short handler = catch_word ∷ paren_open ∷ ID ∷ paren_close ∷ rule block ∷ []
 short expr = rule (chain or_level) ∷ []
-short (chain l) = rule (operand l) ∷ rule (chain_tail l) ∷ []
+short (chain l) = rule (operand_rule l) ∷ rule (chain_tail l) ∷ []
 short comparison = rule (chain sum_level) ∷ rule comparison_tail ∷ []
 short unary = rule post ∷ []
 short post = rule prim ∷ rule post_tail ∷ []

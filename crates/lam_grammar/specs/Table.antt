@@ -177,11 +177,11 @@ end_of_text = token (λ k. elim k [ End ↦ true | _ ↦ false ]) 0 End refl
 -- ---- the grammar
 
 -- the operands of each level
-abbrev pub operand : Level → Rule
-operand or_level = chain and_level
-operand and_level = comparison
-operand sum_level = chain term_level
-operand term_level = unary
+abbrev pub operand_rule : Level → Rule
+operand_rule or_level = chain and_level
+operand_rule and_level = comparison
+operand_rule sum_level = chain term_level
+operand_rule term_level = unary
 
 -- The bodies of each rule, in the order in which they are tried. `{ x }` of the printed grammar is a rule that may be empty
 -- and otherwise ends with itself, `[ x ]` a rule that may be empty; what two bodies begin with alike is read before both.
@@ -231,8 +231,8 @@ bodies names_tail = (comma ∷ ID ∷ rule names_tail ∷ []) ∷ [] ∷ []
 bodies handler = (catch_word ∷ paren_open ∷ ID ∷ paren_close ∷ rule block ∷ []) ∷ []
 -- expr = and { "||" and }, and = cmp { "&&" cmp }, sum = term { ("+" | "-") term }, term = unary { ("*" | "/" | "%") unary }
 bodies expr = (rule (chain or_level) ∷ []) ∷ []
-bodies (chain l) = (rule (operand l) ∷ rule (chain_tail l) ∷ []) ∷ []
-bodies (chain_tail l) = (operator l ∷ rule (operand l) ∷ rule (chain_tail l) ∷ []) ∷ [] ∷ []
+bodies (chain l) = (rule (operand_rule l) ∷ rule (chain_tail l) ∷ []) ∷ []
+bodies (chain_tail l) = (operator l ∷ rule (operand_rule l) ∷ rule (chain_tail l) ∷ []) ∷ [] ∷ []
 -- cmp = sum [ ("==" | "!=" | "<" | "<=" | ">" | ">=") sum ]
 bodies comparison = (rule (chain sum_level) ∷ rule comparison_tail ∷ []) ∷ []
 bodies comparison_tail = (comparing ∷ rule (chain sum_level) ∷ []) ∷ [] ∷ []

@@ -8,7 +8,7 @@ use Rattle.lam_lexer.specs.declared.fault.LexFault.TheVariants.{BadChar, BadNumb
 use Rattle.lam_lexer.specs.Text.{Part, part, end_quote, means, bad_escape, no_end, room, Means, ends, goes_on, TextFault, bad, open_end, too_long}
 use Rattle.lam_lexer.specs.Text as text
 use Rattle.lam_lexer.specs.declared.token.TokenKind.TheVariants as Kind
-use Rattle.lam_lexer.specs.Lexed.{token, Reads, a_space, a_comment, a_name, a_number, a_text, a_mark, a_long_mark, Wrong, strange, great, joined, in_text, LexedAt, at_end, then_on, FaultAt, here, later, Lexed, FirstFault}
+use Rattle.lam_lexer.specs.Lexed.{token, Lexes, a_space, a_comment, a_name, a_number, a_text, a_mark, a_long_mark, Wrong, strange, great, joined, in_text, LexedAt, at_end, then_on, FaultAt, here, later, Lexed, FirstFault}
 use Rattle.lam_lexer.specs.Reading.{IsFault}
 
 -- ---- texts
@@ -98,7 +98,7 @@ text_fault_once (text.TextFault.later p k g) (text.TextFault.later q l h) = text
 abbrev Same : List Token → ℕ → List ℕ → List Token → ℕ → List ℕ → Type 0
 Same ts to r ts' to' r' = ◌≡◌ {A = List Token × ℕ × List ℕ} (ts, to, r) (ts', to', r')
 
-reads_once : {at to to' : ℕ} {s : Start} {cs r r' : List ℕ} {ts ts' : List Token} → Reads at s cs ts to r → Reads at s cs ts' to' r' → Same ts to r ts' to' r'
+reads_once : {at to to' : ℕ} {s : Start} {cs r r' : List ℕ} {ts ts' : List Token} → Lexes at s cs ts to r → Lexes at s cs ts' to' r' → Same ts to r ts' to' r'
 reads_once a_space a_space = refl
 reads_once a_comment a_comment = refl
 reads_once a_name a_name = refl
@@ -107,7 +107,7 @@ reads_once {at} (a_text m) (a_text m') = ap (λ (x : List ℕ × ℕ × List ℕ
 reads_once a_mark a_mark = refl
 reads_once a_long_mark a_long_mark = refl
 
-reads_never : {at c : ℕ} {cs : List ℕ} {s : Start} {to : ℕ} {r : List ℕ} {ts : List Token} {f : LexFault} → Reads at s (c ∷ cs) ts to r → Wrong at s c cs f → ⊥
+reads_never : {at c : ℕ} {cs : List ℕ} {s : Start} {to : ℕ} {r : List ℕ} {ts : List Token} {f : LexFault} → Lexes at s (c ∷ cs) ts to r → Wrong at s c cs f → ⊥
 reads_never a_space x = elim x [ ]
 reads_never a_comment x = elim x [ ]
 reads_never a_name x = elim x [ ]

@@ -96,16 +96,16 @@ word_kind name = kind_or_name (reserved name) name
 abbrev pub token : ℕ → TokenKind → Token
 token at kind = record { at = at; kind = kind }
 
--- `Reads at start text tokens to rest`: a text that begins so, at a position, begins with white space, a comment or a
+-- `Lexes at start text tokens to rest`: a text that begins so, at a position, begins with white space, a comment or a
 -- token; these are its tokens, and this is left of it at the later position
-pub data Reads (at : ℕ) : Start → List ℕ → List Token → ℕ → List ℕ → Type 0 where
-  a_space : {c : ℕ} {cs : List ℕ} → Reads at Start.Space (c ∷ cs) [] (at + 1) cs
-  a_comment : {c : ℕ} {cs : List ℕ} → Reads at Start.Comment (c ∷ cs) [] (at + 1 + length (encode_utf8_all (run stays_on_line cs))) (past stays_on_line cs)
-  a_name : {c : ℕ} {cs : List ℕ} → Reads at Start.Name (c ∷ cs) (token at (word_kind (encode_utf8_all (c ∷ run continues_name cs))) ∷ []) (at + length (encode_utf8_all (c ∷ run continues_name cs))) (past continues_name cs)
-  a_number : {c : ℕ} {cs : List ℕ} → number (c ∷ run is_digit cs) < 2 ^ 63 → goes_on continues_name (past is_digit cs) ≡ false → Reads at Start.Number (c ∷ cs) (token at (Kind.Number (pos (number (c ∷ run is_digit cs)))) ∷ []) (at + 1 + length (run is_digit cs)) (past is_digit cs)
-  a_text : {c size : ℕ} {cs bytes rest : List ℕ} → Means 0 cs bytes size rest → Reads at Start.Text (c ∷ cs) (token at (Kind.Text bytes) ∷ []) (at + 1 + size) rest
-  a_mark : {c : ℕ} {cs : List ℕ} {k : TokenKind} → Reads at (Start.Mark k) (c ∷ cs) (token at k ∷ []) (at + 1) cs
-  a_long_mark : {c d : ℕ} {cs : List ℕ} {k : TokenKind} → Reads at (Start.LongMark k) (c ∷ d ∷ cs) (token at k ∷ []) (at + 2) cs
+pub data Lexes (at : ℕ) : Start → List ℕ → List Token → ℕ → List ℕ → Type 0 where
+  a_space : {c : ℕ} {cs : List ℕ} → Lexes at Start.Space (c ∷ cs) [] (at + 1) cs
+  a_comment : {c : ℕ} {cs : List ℕ} → Lexes at Start.Comment (c ∷ cs) [] (at + 1 + length (encode_utf8_all (run stays_on_line cs))) (past stays_on_line cs)
+  a_name : {c : ℕ} {cs : List ℕ} → Lexes at Start.Name (c ∷ cs) (token at (word_kind (encode_utf8_all (c ∷ run continues_name cs))) ∷ []) (at + length (encode_utf8_all (c ∷ run continues_name cs))) (past continues_name cs)
+  a_number : {c : ℕ} {cs : List ℕ} → number (c ∷ run is_digit cs) < 2 ^ 63 → goes_on continues_name (past is_digit cs) ≡ false → Lexes at Start.Number (c ∷ cs) (token at (Kind.Number (pos (number (c ∷ run is_digit cs)))) ∷ []) (at + 1 + length (run is_digit cs)) (past is_digit cs)
+  a_text : {c size : ℕ} {cs bytes rest : List ℕ} → Means 0 cs bytes size rest → Lexes at Start.Text (c ∷ cs) (token at (Kind.Text bytes) ∷ []) (at + 1 + size) rest
+  a_mark : {c : ℕ} {cs : List ℕ} {k : TokenKind} → Lexes at (Start.Mark k) (c ∷ cs) (token at k ∷ []) (at + 1) cs
+  a_long_mark : {c d : ℕ} {cs : List ℕ} {k : TokenKind} → Lexes at (Start.LongMark k) (c ∷ d ∷ cs) (token at k ∷ []) (at + 2) cs
 
 -- `Wrong at start c cs f`: the fault of what begins so
 pub data Wrong (at : ℕ) : Start → ℕ → List ℕ → LexFault → Type 0 where
@@ -117,12 +117,12 @@ pub data Wrong (at : ℕ) : Start → ℕ → List ℕ → LexFault → Type 0 w
 -- the tokens of a text that begins at a position
 pub data LexedAt : ℕ → List ℕ → List Token → Type 0 where
   at_end : {at : ℕ} → LexedAt at [] (token at Kind.End ∷ [])
-  then_on : {at to c : ℕ} {cs rest : List ℕ} {tokens others : List Token} → Reads at (start c (first cs)) (c ∷ cs) tokens to rest → LexedAt to rest others → LexedAt at (c ∷ cs) (tokens ++ others)
+  then_on : {at to c : ℕ} {cs rest : List ℕ} {tokens others : List Token} → Lexes at (start c (first cs)) (c ∷ cs) tokens to rest → LexedAt to rest others → LexedAt at (c ∷ cs) (tokens ++ others)
 
 -- its first fault
 pub data FaultAt : ℕ → List ℕ → LexFault → Type 0 where
   here : {at c : ℕ} {cs : List ℕ} {f : LexFault} → Wrong at (start c (first cs)) c cs f → FaultAt at (c ∷ cs) f
-  later : {at to c : ℕ} {cs rest : List ℕ} {tokens : List Token} {f : LexFault} → Reads at (start c (first cs)) (c ∷ cs) tokens to rest → FaultAt to rest f → FaultAt at (c ∷ cs) f
+  later : {at to c : ℕ} {cs rest : List ℕ} {tokens : List Token} {f : LexFault} → Lexes at (start c (first cs)) (c ∷ cs) tokens to rest → FaultAt to rest f → FaultAt at (c ∷ cs) f
 
 -- the tokens of the characters
 abbrev pub Lexed : List ℕ → List Token → Type 0

@@ -9,7 +9,7 @@ use Rattle.lam_lexer.specs.declared.fault.LexFault.{LexFault}
 use Rattle.lam_lexer.specs.declared.fault.LexFault.TheVariants.{BadChar, BadNumber, BadEscape, OpenText, NoMemory}
 use Rattle.lam_lexer.specs.Characters.{is_digit}
 use Rattle.lam_lexer.specs.Text.{Part, end_quote, means, bad_escape, no_end, Means}
-use Rattle.lam_lexer.specs.Lexed.{Reads, FirstFault}
+use Rattle.lam_lexer.specs.Lexed.{Lexes, FirstFault}
 
 -- the bytes of characters
 abbrev pub size : List ℕ → ℕ
@@ -63,6 +63,6 @@ tokens_of (Some t) = t ∷ []
 
 -- what was read of a text that begins with a character: what is left behind it, and the position there
 pub record IsTaken (at : ℕ) (begins : Start) (c : ℕ) (cs : List ℕ) (t : Taken) : Type 0 where
-  pub read : Reads at begins (c ∷ cs) (tokens_of t.token) t.to (chars t.rest.now)
+  pub read : Lexes at begins (c ∷ cs) (tokens_of t.token) t.to (chars t.rest.now)
   pub place : t.to + size (chars t.rest.now) ≤ at + size (c ∷ cs)
   pub utf8 : IsUtf8 t.rest.now

@@ -70,7 +70,7 @@ fn operand(
 ) -> Result<Read, Break>
     requires in_range { at ≤ length tokens.now }
     requires bounded { depth ≤ 140 }
-    ensures reads { ReadsExpr tokens.now (table.operand level) depth at result }
+    ensures reads { ReadsExpr tokens.now (table.operand_rule level) depth at result }
     ensures goes_on { IfOk result (λ x. (at < x.next) × (x.next ≤ length tokens.now)) }
     ensures depth { IfOk result (λ x. x.depth ≤ 150) }
 {

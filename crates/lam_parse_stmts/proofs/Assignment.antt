@@ -2,7 +2,7 @@
 use Rattle.std.proofs.Common.{◌≡◌, ℕ, ◌+◌, ◌<◌, Bool, true, false, cond, Option, Some, None, List, [], ◌∷◌, slice_get, refl, sym, ap, ◌∙◌, subst, arith, add-zero}
 use Rattle.grammar_laws.specs.Grammar.{rule, pick, is_empty, production, Reads, token, part}
 use Rattle.grammar_laws.specs.Texts.{limited}
-use Rattle.grammar_laws.specs.Stopping.{Stop, unexpected, too_deep, could, reached, place, fits_next, AtFirst, AfterLast, Stops, sample, skips, later, inside, after, barred}
+use Rattle.grammar_laws.specs.Stopping.{Stop, unexpected, too_deep, could, reached, stop_place, fits_next, AtFirst, AfterLast, Stops, sample, skips, later, inside, after, barred}
 use Rattle.grammar_laws.proofs.Laws.{stands}
 use Rattle.grammar_laws.proofs.Stages.{At, at_past}
 use Rattle.lam_lexer.specs.declared.token.Token.{Token}
@@ -44,7 +44,7 @@ present look k v y f = ap (λ (b : Bool). body_by b (pick lam (bodies assign_par
 shut : (look : ℕ → Option Token) (k : ℕ) (v : Value) → permits assign_part v ≡ false → fits_at m.Assign (look k) ≡ true → production lam assign_part v (look k) ≡ None
 shut look k v n f = ap (λ (b : Bool). body_by b (pick lam (bodies assign_part) (look k))) n ∙ ap (body_by false) (assign_pick (look k) f)
 
-first_past : (r : Rule) (k : ℕ) (x : Stop Token) → k < place x → AtFirst lam examples r k x
+first_past : (r : Rule) (k : ℕ) (x : Stop Token) → k < stop_place x → AtFirst lam examples r k x
 first_past r k (unexpected b m) lt = tt
 first_past r k (too_deep m) lt = tt
 first_past r k (could m w) lt = λ e. absurd (omega arith)
@@ -72,7 +72,7 @@ module _ (tokens : List Token) (s i k u : ℕ) (v : Value) (done : List Value �
     -- what the value comes to the statement comes to
     stops_past : (x : Stop Token) → Stops lam examples (limited lam) (slice_get tokens) (rule expr ∷ []) (word w) u (k + 1) x → (before : Value) → Stops lam examples (limited lam) (slice_get tokens) (rule stmt ∷ []) before s i x
     stops_past x h before =
-        let lt : k < place x = omega (arith, stands h) in
+        let lt : k < stop_place x = omega (arith, stands h) in
         let e = sym (add-zero u) in
         g.stops before x (at_past k (λ z. examples.closes expr z ≡ true) x lt) (inside (present (slice_get tokens) k v y fits) (first_past assign_part k x lt) (later t.is t.fit t.within (subst (λ n. Stops lam examples (limited lam) (slice_get tokens) (rule expr ∷ []) (word w) n (k + 1) x) e h)))
 

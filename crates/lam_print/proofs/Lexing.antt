@@ -16,7 +16,7 @@ use Rattle.lam_lexer.specs.declared.start.Start.{Start}
 use Rattle.lam_lexer.specs.Characters.{is_space, is_digit, starts_name, continues_name, run, past, goes_on, first, number, number_after}
 use Rattle.lam_lexer.specs.Text.{Part, part, means, end_quote, hex_value, hex_part, room, Means, ends}
 use Rattle.lam_lexer.specs.Text as text
-use Rattle.lam_lexer.specs.Lexed.{start, marks, reserved, kind_or_name, word_kind, Reads, a_space, a_name, a_number, a_text, a_mark, a_long_mark, LexedAt, at_end, then_on, Lexed}
+use Rattle.lam_lexer.specs.Lexed.{start, marks, reserved, kind_or_name, word_kind, Lexes, a_space, a_name, a_number, a_text, a_mark, a_long_mark, LexedAt, at_end, then_on, Lexed}
 use Rattle.lam_lexer.specs.Lexed as lexed
 use Rattle.lam_lexer.proofs.Runs.{at_true, at_false}
 use Rattle.lam_print.specs.Pieces.{Piece, token, blank, line, hex_digit, spell_byte, spell_text, spelling, indent, written, kinds}
@@ -36,8 +36,8 @@ lexed_end : LexedTo [] (Kind.End ∷ [])
 lexed_end = record { tokens = λ at. (lexed.token at Kind.End ∷ [], at_end, refl) }
 
 -- one step before the rest
-begun : {at to c : ℕ} {cs rest : List ℕ} {ts : List Token} {s : Start} → start c (first cs) ≡ s → Reads at s (c ∷ cs) ts to rest → Reads at (start c (first cs)) (c ∷ cs) ts to rest
-begun {at} {to} {c} {cs} {rest} {ts} q r = subst (λ (s : Start). Reads at s (c ∷ cs) ts to rest) (sym q) r
+begun : {at to c : ℕ} {cs rest : List ℕ} {ts : List Token} {s : Start} → start c (first cs) ≡ s → Lexes at s (c ∷ cs) ts to rest → Lexes at (start c (first cs)) (c ∷ cs) ts to rest
+begun {at} {to} {c} {cs} {rest} {ts} q r = subst (λ (s : Start). Lexes at s (c ∷ cs) ts to rest) (sym q) r
 
 lexed_space : (c : ℕ) (cs : List ℕ) (ks : List TokenKind) → is_space c ≡ true → LexedTo cs ks → LexedTo (c ∷ cs) ks
 lexed_space c cs ks q h = record { tokens = λ at. let r = h.tokens (at + 1) in (r.0, then_on (begun (at_true (is_space c) _ _ q) a_space) r.1, r.2) }
@@ -105,9 +105,9 @@ lexed_name (c ∷ ns) cs ks q o h =
     let word = encode_utf8_all (c ∷ ns) in
     record {
       tokens = λ at.
-          let step : Reads at Start.Name (c ∷ (ns ++ cs)) (lexed.token at (word_kind (encode_utf8_all (c ∷ run continues_name (ns ++ cs)))) ∷ []) (at + length (encode_utf8_all (c ∷ run continues_name (ns ++ cs)))) (past continues_name (ns ++ cs)) = a_name in
-          let step1 = subst (λ (x : List ℕ). Reads at Start.Name (c ∷ (ns ++ cs)) (lexed.token at (word_kind (encode_utf8_all (c ∷ x))) ∷ []) (at + length (encode_utf8_all (c ∷ x))) (past continues_name (ns ++ cs))) r.0 step in
-          let step2 = subst (λ (x : List ℕ). Reads at Start.Name (c ∷ (ns ++ cs)) (lexed.token at (word_kind word) ∷ []) (at + length word) x) r.1 step1 in
+          let step : Lexes at Start.Name (c ∷ (ns ++ cs)) (lexed.token at (word_kind (encode_utf8_all (c ∷ run continues_name (ns ++ cs)))) ∷ []) (at + length (encode_utf8_all (c ∷ run continues_name (ns ++ cs)))) (past continues_name (ns ++ cs)) = a_name in
+          let step1 = subst (λ (x : List ℕ). Lexes at Start.Name (c ∷ (ns ++ cs)) (lexed.token at (word_kind (encode_utf8_all (c ∷ x))) ∷ []) (at + length (encode_utf8_all (c ∷ x))) (past continues_name (ns ++ cs))) r.0 step in
+          let step2 = subst (λ (x : List ℕ). Lexes at Start.Name (c ∷ (ns ++ cs)) (lexed.token at (word_kind word) ∷ []) (at + length word) x) r.1 step1 in
           let t = h.tokens (at + length word) in
           (lexed.token at (word_kind word) ∷ t.0, then_on (begun (begins_name c (first (ns ++ cs)) p.0) step2) t.1, ap (λ (ks : List TokenKind). word_kind word ∷ ks) t.2);
     }
@@ -158,9 +158,9 @@ lexed_number n cs ks small o h =
     let body : LexedTo (x.d ∷ (x.more ++ cs)) (Kind.Number (pos n) ∷ ks) = record {
       tokens = λ at.
           let to = at + 1 + length (run is_digit (x.more ++ cs)) in
-          let step : Reads at Start.Number (x.d ∷ (x.more ++ cs)) (lexed.token at (Kind.Number (pos (number (x.d ∷ run is_digit (x.more ++ cs))))) ∷ []) to (past is_digit (x.more ++ cs)) = a_number (omega (arith, v)) (ap (goes_on continues_name) r.1 ∙ o.0) in
-          let step1 = subst (λ (m : ℕ). Reads at Start.Number (x.d ∷ (x.more ++ cs)) (lexed.token at (Kind.Number (pos m)) ∷ []) to (past is_digit (x.more ++ cs))) v step in
-          let step2 = subst (λ (r : List ℕ). Reads at Start.Number (x.d ∷ (x.more ++ cs)) (lexed.token at (Kind.Number (pos n)) ∷ []) to r) r.1 step1 in
+          let step : Lexes at Start.Number (x.d ∷ (x.more ++ cs)) (lexed.token at (Kind.Number (pos (number (x.d ∷ run is_digit (x.more ++ cs))))) ∷ []) to (past is_digit (x.more ++ cs)) = a_number (omega (arith, v)) (ap (goes_on continues_name) r.1 ∙ o.0) in
+          let step1 = subst (λ (m : ℕ). Lexes at Start.Number (x.d ∷ (x.more ++ cs)) (lexed.token at (Kind.Number (pos m)) ∷ []) to (past is_digit (x.more ++ cs))) v step in
+          let step2 = subst (λ (r : List ℕ). Lexes at Start.Number (x.d ∷ (x.more ++ cs)) (lexed.token at (Kind.Number (pos n)) ∷ []) to r) r.1 step1 in
           let t = h.tokens to in
           (lexed.token at (Kind.Number (pos n)) ∷ t.0, then_on (begun (begins_number x.d (first (x.more ++ cs)) are.0) step2) t.1, ap (λ (ks : List TokenKind). Kind.Number (pos n) ∷ ks) t.2);
     } in

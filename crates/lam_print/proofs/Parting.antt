@@ -9,7 +9,7 @@ use Rattle.lam_operators.specs.declared.UnaryOp.{UnaryOp}
 use Rattle.lam_operators.specs.declared.UnaryOp.TheVariants as Sign
 use Rattle.lam_syntax.specs.Tree.{IdTree, TypeTree, type_node, TypeForm, int_type, bool_type, bytes_type, tag_type, label_type, caps_type, file_type, dir_type, pipe_type, thread_type, class_type, array_type, VarTree, CapTree, ExprTree, expr_node, ExprForm, binary_expr, unary_expr, field_expr, element_expr, number_expr, text_expr, bool_expr, null_expr, name_expr, call_expr, new_class_expr, new_array_expr, label_expr, caps_expr, spawn_expr, ExprList, no_exprs, exprs, StmtTree, stmt_node, StmtForm, let_stmt, if_stmt, while_stmt, return_stmt, throw_stmt, sync_stmt, region_stmt, do_stmt, assign_stmt, StmtList, no_stmts, stmts, ElseTree, no_else, else_block, ClassTree, FunctionTree, ItemTree, class_item, function_item, ProgramTree}
 use Rattle.lam_print.specs.Pieces.{Piece, token, blank, line}
-use Rattle.lam_print.specs.Canon.{name, operator, sign, truth, weight, left_place, right_place, prefixed, operand, whole as anywhere, opened, closed, comma, spaced, gap, lay_type_form, lay_type, lay_var, lay_names, lay_vars, lay_cap, lay_caps, lay_form, lay, lay_args, lay_tags, lay_value, lay_stmt_form, lay_stmt, lay_block, lay_stmts, lay_else, lay_fields, lay_class_body, lay_result, lay_class, lay_function, lay_item, lay_items, pieces}
+use Rattle.lam_print.specs.Canon.{name, operator, sign, truth, weight, left_place, right_place, prefixed, before_postfix, whole as anywhere, opened, closed, comma, spaced, gap, lay_type_form, lay_type, lay_var, lay_names, lay_vars, lay_cap, lay_caps, lay_form, lay, lay_args, lay_tags, lay_value, lay_stmt_form, lay_stmt, lay_block, lay_stmts, lay_else, lay_fields, lay_class_body, lay_result, lay_class, lay_function, lay_item, lay_items, pieces}
 use Rattle.lam_print.specs.Law.{TextLaw}
 use Rattle.lam_print.proofs.Sides.{Side, wordy, half, whole, left, right, joins, parted}
 use Rattle.lam_print.proofs.Lexing.{parted_are_lexed}
@@ -157,9 +157,9 @@ mutual
       let x = ex e prefixed whole (closed b ps) refl g in
       let y = ex e prefixed half (closed b ps) refl g in
       on b s (token (sign o) ∷ rest) (sg o s rest x y) (sg o whole rest x y)
-  ef (field_expr e x) k s ps q h = ex e operand s (token Kind.Dot ∷ name x ps) q (mk wordy Kind.Dot (name x ps) refl refl (nm x whole ps refl h))
+  ef (field_expr e x) k s ps q h = ex e before_postfix s (token Kind.Dot ∷ name x ps) q (mk wordy Kind.Dot (name x ps) refl refl (nm x whole ps refl h))
   ef (element_expr e i) k s ps q h =
-      ex e operand s (token Kind.BracketOpen ∷ lay i anywhere (token Kind.BracketClose ∷ ps)) q
+      ex e before_postfix s (token Kind.BracketOpen ∷ lay i anywhere (token Kind.BracketClose ∷ ps)) q
       (mk wordy Kind.BracketOpen (lay i anywhere (token Kind.BracketClose ∷ ps)) refl refl (ex i anywhere whole (token Kind.BracketClose ∷ ps) refl (mk wordy Kind.BracketClose ps refl refl (loosen ps h))))
   ef (number_expr n) k s ps q h = before s (Kind.Number n) ps q h
   ef (text_expr bs) k s ps q h = mk s (Kind.Text bs) ps refl refl (loosen ps h)

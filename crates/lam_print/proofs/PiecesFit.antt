@@ -8,7 +8,7 @@ use Rattle.lam_operators.specs.declared.UnaryOp.TheVariants as Sign
 use Rattle.lam_syntax.specs.Tree.{IdTree, TypeTree, TypeForm, type_node, int_type, bool_type, bytes_type, tag_type, label_type, caps_type, file_type, dir_type, pipe_type, thread_type, class_type, array_type, VarTree, CapTree, ExprTree, ExprForm, ExprList, expr_node, binary_expr, unary_expr, field_expr, element_expr, number_expr, text_expr, bool_expr, null_expr, name_expr, call_expr, new_class_expr, new_array_expr, label_expr, caps_expr, spawn_expr, no_exprs, exprs, StmtTree, StmtForm, StmtList, ElseTree, stmt_node, let_stmt, if_stmt, while_stmt, return_stmt, throw_stmt, sync_stmt, region_stmt, do_stmt, assign_stmt, no_stmts, stmts, no_else, else_block, ClassTree, FunctionTree, ItemTree, class_item, function_item, ProgramTree}
 use Rattle.lam_print.specs.Law.{Fits, AllFit}
 use Rattle.lam_print.specs.Pieces.{Piece, token, blank, line, kinds}
-use Rattle.lam_print.specs.Canon.{operator, sign, opened, closed, grouped, weight, operand, prefixed, whole, left_place, right_place, comma, spaced, lay_type_form, lay_type, lay_var, lay_names, lay_vars, lay_cap, lay_caps, truth, lay_form, lay, lay_args, lay_tags, lay_value, lay_stmt_form, lay_stmt, lay_block, lay_stmts, lay_else, lay_fields, lay_class_body, lay_result, lay_class, lay_function, lay_item, gap, lay_items}
+use Rattle.lam_print.specs.Canon.{operator, sign, opened, closed, grouped, weight, before_postfix, prefixed, whole, left_place, right_place, comma, spaced, lay_type_form, lay_type, lay_var, lay_names, lay_vars, lay_cap, lay_caps, truth, lay_form, lay, lay_args, lay_tags, lay_value, lay_stmt_form, lay_stmt, lay_block, lay_stmts, lay_else, lay_fields, lay_class_body, lay_result, lay_class, lay_function, lay_item, gap, lay_items}
 use Rattle.lam_print.specs.Fitting.{NamesFit, TypeFormFits, TypeFits, ResultFits, VarFits, VarsFit, CapsFit, FormFits, ExprFits, ExprsFit, ValueFits, StmtFormFits, StmtFits, BlockFits, ElseFits, ClassFits, FunctionFits, ItemFits, FitsTree, PiecesFit}
 
 abbrev Fit : List Piece → Type 0
@@ -107,8 +107,8 @@ mutual
       (λ qs g. fits l (left_place op) (blank ∷ token (operator op) ∷ blank ∷ lay r (right_place op) qs) f.0 (operator_fits op, fits r (right_place op) qs f.1 g))
       h
   form_fits (unary_expr op e) place ps f h = grouped_fits prefixed place (λ ps. token (sign op) ∷ lay e prefixed ps) ps (λ qs g. (sign_fits op, fits e prefixed qs f g)) h
-  form_fits (field_expr e x) place ps f h = fits e operand (token Kind.Dot ∷ token (Kind.Id x.word) ∷ ps) f.0 (tt, (f.1, h))
-  form_fits (element_expr e i) place ps f h = fits e operand (token Kind.BracketOpen ∷ lay i whole (token Kind.BracketClose ∷ ps)) f.0 (tt, fits i whole (token Kind.BracketClose ∷ ps) f.1 (tt, h))
+  form_fits (field_expr e x) place ps f h = fits e before_postfix (token Kind.Dot ∷ token (Kind.Id x.word) ∷ ps) f.0 (tt, (f.1, h))
+  form_fits (element_expr e i) place ps f h = fits e before_postfix (token Kind.BracketOpen ∷ lay i whole (token Kind.BracketClose ∷ ps)) f.0 (tt, fits i whole (token Kind.BracketClose ∷ ps) f.1 (tt, h))
   form_fits (number_expr n) place ps f h = (f, h)
   form_fits (text_expr bytes) place ps f h = (f, h)
   form_fits (bool_expr b) place ps f h = (truth_fits b, h)

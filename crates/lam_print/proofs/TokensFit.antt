@@ -10,7 +10,7 @@ use Rattle.lam_lexer.specs.declared.token.TokenKind.TheVariants as Kind
 use Rattle.lam_lexer.specs.declared.start.Start.{Start}
 use Rattle.lam_lexer.specs.Characters.{is_digit, starts_name, continues_name, is_space, run, past, first}
 use Rattle.lam_lexer.specs.Text.{letter, hex_value, Part, end_quote, means, bad_escape, no_end, hex_part, letter_part, after_x, after_backslash, part, room, Means, ends, goes_on}
-use Rattle.lam_lexer.specs.Lexed.{one_mark, two_marks, marks, start, reserved, kind_or_name, word_kind, Reads, a_space, a_comment, a_name, a_number, a_text, a_mark, a_long_mark, LexedAt, at_end, then_on}
+use Rattle.lam_lexer.specs.Lexed.{one_mark, two_marks, marks, start, reserved, kind_or_name, word_kind, Lexes, a_space, a_comment, a_name, a_number, a_text, a_mark, a_long_mark, LexedAt, at_end, then_on}
 use Rattle.lam_print.specs.Law.{all_continue, is_identifier, AllBytes, Fits, AllFit, kind_of, TokensFit}
 
 -- a choice has what both branches have
@@ -244,7 +244,7 @@ text_fits {n} {cs = cs} (goes_on {size = size} {between = between} {bytes = byte
 
 -- ---- whole texts
 
-reads_fit : {at c : ℕ} {s : Start} {cs : List ℕ} {to : ℕ} {rest : List ℕ} {ts : List Token} → Reads at s (c ∷ cs) ts to rest → Suits c s → scalars (c ∷ cs) ≡ true → AllFit (map kind_of ts) × (scalars rest ≡ true)
+reads_fit : {at c : ℕ} {s : Start} {cs : List ℕ} {to : ℕ} {rest : List ℕ} {ts : List Token} → Lexes at s (c ∷ cs) ts to rest → Suits c s → scalars (c ∷ cs) ≡ true → AllFit (map kind_of ts) × (scalars rest ≡ true)
 reads_fit {c = c} {cs = cs} a_space s v = (tt, scalars_tail c cs v)
 reads_fit {c = c} {cs = cs} a_comment s v = (tt, past_scalars _ cs (scalars_tail c cs v))
 reads_fit {c = c} {cs = cs} a_name s v = ((name_fits c cs v s, tt), past_scalars continues_name cs (scalars_tail c cs v))

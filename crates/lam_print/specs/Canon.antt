@@ -15,8 +15,8 @@ name x ps = token (Kind.Id x.word) ∷ ps
 
 -- ---- how tightly a form binds: an operand, a prefix, and the lines of operators
 
-abbrev pub operand : ℕ
-operand = 0
+abbrev pub before_postfix : ℕ
+before_postfix = 0
 
 abbrev pub prefixed : ℕ
 prefixed = 1
@@ -124,8 +124,8 @@ abbrev mutual
   lay_form (binary_expr op l r) place ps =
       grouped (weight op) place (λ ps. lay l (left_place op) (blank ∷ token (operator op) ∷ blank ∷ lay r (right_place op) ps)) ps
   lay_form (unary_expr op e) place ps = grouped prefixed place (λ ps. token (sign op) ∷ lay e prefixed ps) ps
-  lay_form (field_expr e x) place ps = lay e operand (token Kind.Dot ∷ name x ps)
-  lay_form (element_expr e i) place ps = lay e operand (token Kind.BracketOpen ∷ lay i whole (token Kind.BracketClose ∷ ps))
+  lay_form (field_expr e x) place ps = lay e before_postfix (token Kind.Dot ∷ name x ps)
+  lay_form (element_expr e i) place ps = lay e before_postfix (token Kind.BracketOpen ∷ lay i whole (token Kind.BracketClose ∷ ps))
   lay_form (number_expr n) place ps = token (Kind.Number n) ∷ ps
   lay_form (text_expr bytes) place ps = token (Kind.Text bytes) ∷ ps
   lay_form (bool_expr b) place ps = token (truth b) ∷ ps

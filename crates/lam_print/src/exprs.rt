@@ -180,7 +180,7 @@ fn put_caps(out: &mut String, caps: &[CapItem]) -> Result<(), NoMemory>
 
 /// The capabilities in braces.
 fn put_caps_of(out: &mut String, caps: &[CapItem]) -> Result<(), NoMemory>
-    ensures { OnOk result (Puts (string_bytes out.old) (string_bytes out.new) (canon.lay_form (view.caps_expr (view.caps_tree caps.now)) canon.operand)) }
+    ensures { OnOk result (Puts (string_bytes out.old) (string_bytes out.new) (canon.lay_form (view.caps_expr (view.caps_tree caps.now)) canon.before_postfix)) }
 {
     put(out, "caps{")?;
     put_caps(out, caps)?;
@@ -188,7 +188,7 @@ fn put_caps_of(out: &mut String, caps: &[CapItem]) -> Result<(), NoMemory>
 }
 
 fn put_new_class(out: &mut String, class: &Id) -> Result<(), NoMemory>
-    ensures { OnOk result (Puts (string_bytes out.old) (string_bytes out.new) (canon.lay_form (view.new_class_expr (view.id_tree class.now)) canon.operand)) }
+    ensures { OnOk result (Puts (string_bytes out.old) (string_bytes out.new) (canon.lay_form (view.new_class_expr (view.id_tree class.now)) canon.before_postfix)) }
 {
     put(out, "new ")?;
     put_name(out, class)?;
@@ -294,7 +294,7 @@ fn put_unary(out: &mut String, op: UnaryOp, of: &Expr, place: u8) -> Result<(), 
 /// A call. As every form below, it is an operand, and has no parentheses at any place.
 #[cycle(expr)]
 fn put_call(out: &mut String, name: &Id, args: &[Expr]) -> Result<(), NoMemory>
-    ensures { OnOk result (Puts (string_bytes out.old) (string_bytes out.new) (canon.lay_form (view.call_expr (view.id_tree name.now) (view.exprs_tree args.now)) canon.operand)) }
+    ensures { OnOk result (Puts (string_bytes out.old) (string_bytes out.new) (canon.lay_form (view.call_expr (view.id_tree name.now) (view.exprs_tree args.now)) canon.before_postfix)) }
 {
     put_name(out, name)?;
     put(out, "(")?;
@@ -304,7 +304,7 @@ fn put_call(out: &mut String, name: &Id, args: &[Expr]) -> Result<(), NoMemory>
 
 #[cycle(expr)]
 fn put_new_array(out: &mut String, element: &TypeExpr, length: &Expr) -> Result<(), NoMemory>
-    ensures { OnOk result (Puts (string_bytes out.old) (string_bytes out.new) (canon.lay_form (view.new_array_expr (view.type_tree element.now) (view.expr_tree length.now)) canon.operand)) }
+    ensures { OnOk result (Puts (string_bytes out.old) (string_bytes out.new) (canon.lay_form (view.new_array_expr (view.type_tree element.now) (view.expr_tree length.now)) canon.before_postfix)) }
 {
     put(out, "new [")?;
     put_type(out, element)?;
@@ -315,7 +315,7 @@ fn put_new_array(out: &mut String, element: &TypeExpr, length: &Expr) -> Result<
 
 #[cycle(expr)]
 fn put_label(out: &mut String, s: &[Expr], i: &[Expr]) -> Result<(), NoMemory>
-    ensures { OnOk result (Puts (string_bytes out.old) (string_bytes out.new) (canon.lay_form (view.label_expr (view.exprs_tree s.now) (view.exprs_tree i.now)) canon.operand)) }
+    ensures { OnOk result (Puts (string_bytes out.old) (string_bytes out.new) (canon.lay_form (view.label_expr (view.exprs_tree s.now) (view.exprs_tree i.now)) canon.before_postfix)) }
 {
     put(out, "label{")?;
     put_args(out, s)?;
@@ -326,7 +326,7 @@ fn put_label(out: &mut String, s: &[Expr], i: &[Expr]) -> Result<(), NoMemory>
 
 #[cycle(expr)]
 fn put_spawn(out: &mut String, caps: &Expr, function: &Id, args: &[Expr]) -> Result<(), NoMemory>
-    ensures { OnOk result (Puts (string_bytes out.old) (string_bytes out.new) (canon.lay_form (view.spawn_expr (view.expr_tree caps.now) (view.id_tree function.now) (view.exprs_tree args.now)) canon.operand)) }
+    ensures { OnOk result (Puts (string_bytes out.old) (string_bytes out.new) (canon.lay_form (view.spawn_expr (view.expr_tree caps.now) (view.id_tree function.now) (view.exprs_tree args.now)) canon.before_postfix)) }
 {
     put(out, "spawn(")?;
     put_expr(out, caps, WHOLE)?;

@@ -8,7 +8,7 @@ use Rattle.lam_syntax.specs.Tree.{ExprTree, expr_node, binary_expr}
 use Rattle.lam_syntax.specs.Unplaced.{unplaced_expr}
 use Rattle.lam_grammar.specs.declared.Level.{Level}
 use Rattle.lam_grammar.specs.declared.Level.TheVariants.{Or as or_level, And as and_level, Sum as sum_level, Term as term_level}
-use Rattle.lam_grammar.specs.Table.{Rule, expr, comparison, comparison_tail, unary, post, post_tail, prim, chain, chain_tail, parens, operand, operator, operates, comparing, compares, prefix, paren_open, paren_close, begins, begins_prim, begins_expr}
+use Rattle.lam_grammar.specs.Table.{Rule, expr, comparison, comparison_tail, unary, post, post_tail, prim, chain, chain_tail, parens, operand_rule, operator, operates, comparing, compares, prefix, paren_open, paren_close, begins, begins_prim, begins_expr}
 use Rattle.lam_grammar.specs.Meaning.{Value, word, expr_value, operations_value, postfixes_value, Operations, no_more, operation, Postfixes, no_postfix, combine, extend, binary_op}
 use Rattle.lam_print.specs.Pieces.{Piece, token as piece}
 use Rattle.lam_print.specs.Canon.{grouped}
@@ -34,7 +34,7 @@ module _ (look : ℕ → Option Token) where
     pub begin : ℕ
     pub head : ExprTree
     pub middle : ℕ
-    pub gives : (before : Value) → Gives look (operand l) before i (expr_value begin head) middle
+    pub gives : (before : Value) → Gives look (operand_rule l) before i (expr_value begin head) middle
     pub end : ℕ
     pub rest : Here look end ks
     pub grow : Operations → Operations
@@ -112,7 +112,7 @@ module _ (look : ℕ → Option Token) where
     opens = prim_expr r.first.kind r.opens;
   }
 
-  pub left : (l : Level) (e : ExprTree) (i : ℕ) (ks : List TokenKind) → (r : Read (operand l) e i ks) → begins_expr r.first.kind ≡ true → Left l e i ks
+  pub left : (l : Level) (e : ExprTree) (i : ℕ) (ks : List TokenKind) → (r : Read (operand_rule l) e i ks) → begins_expr r.first.kind ≡ true → Left l e i ks
   left l e i ks r o = record {
     begin = r.begin;
     head = r.tree;
@@ -134,12 +134,12 @@ module _ (look : ℕ → Option Token) where
   pub chained : (l : Level) (e : ExprTree) (i : ℕ) (ks : List TokenKind) → Left l e i ks → Follow (stage l) ks → Read (chain l) e i ks
   chained l e i [] c f = absurd f
   chained l e i (k ∷ ks) c f =
-      let t : (before : Value) → Gives look (chain_tail l) before c.middle (operations_value (c.grow no_more)) c.end = c.tail no_more c.end (λ before. made (chain_tail l) before [] [] c.rest.1 (ap (λ (b : Bool). Some (cond b (operator l ∷ rule (operand l) ∷ rule (chain_tail l) ∷ []) [])) (no_operator l k f)) nothing) in
+      let t : (before : Value) → Gives look (chain_tail l) before c.middle (operations_value (c.grow no_more)) c.end = c.tail no_more c.end (λ before. made (chain_tail l) before [] [] c.rest.1 (ap (λ (b : Bool). Some (cond b (operator l ∷ rule (operand_rule l) ∷ rule (chain_tail l) ∷ []) [])) (no_operator l k f)) nothing) in
       record {
         begin = c.begin;
         tree = c.tree;
         end = c.end;
-        gives = λ before. subst (λ (x : ExprTree). Gives look (chain l) before i (expr_value c.begin x) c.end) (c.whole no_more) (made (chain l) before (rule (operand l) ∷ rule (chain_tail l) ∷ []) (expr_value c.begin c.head ∷ operations_value (c.grow no_more) ∷ []) c.there refl (joins (c.gives before) (t (expr_value c.begin c.head))));
+        gives = λ before. subst (λ (x : ExprTree). Gives look (chain l) before i (expr_value c.begin x) c.end) (c.whole no_more) (made (chain l) before (rule (operand_rule l) ∷ rule (chain_tail l) ∷ []) (expr_value c.begin c.head ∷ operations_value (c.grow no_more) ∷ []) c.there refl (joins (c.gives before) (t (expr_value c.begin c.head))));
         rest = c.rest;
         same = c.same;
         first = c.first;
@@ -148,7 +148,7 @@ module _ (look : ℕ → Option Token) where
       }
 
   -- one more operation
-  pub operated : (l : Level) (k : TokenKind) (at : ℕ) (a b : ExprTree) (i : ℕ) (kr ks : List TokenKind) → operates l k ≡ true → (c : Left l a i (k ∷ kr)) → Read (operand l) b (c.end + 1) ks → Left l (expr_node at (binary_expr (binary_op k) a b)) i ks
+  pub operated : (l : Level) (k : TokenKind) (at : ℕ) (a b : ExprTree) (i : ℕ) (kr ks : List TokenKind) → operates l k ≡ true → (c : Left l a i (k ∷ kr)) → Read (operand_rule l) b (c.end + 1) ks → Left l (expr_node at (binary_expr (binary_op k) a b)) i ks
   operated l k at a b i kr ks o c r =
       let w : Token = tok c.rest.0 k in
       record {
@@ -159,7 +159,7 @@ module _ (look : ℕ → Option Token) where
         end = r.end;
         rest = r.rest;
         grow = λ more. c.grow (operation (binary_op k) r.tree more);
-        tail = λ more j t. c.tail (operation (binary_op k) r.tree more) j (λ before. made (chain_tail l) before (operator l ∷ rule (operand l) ∷ rule (chain_tail l) ∷ []) (word w ∷ expr_value r.begin r.tree ∷ operations_value more ∷ []) c.rest.1 (ap (λ (x : Bool). Some (cond x (operator l ∷ rule (operand l) ∷ rule (chain_tail l) ∷ []) [])) o) (token c.rest.1 o (joins (r.gives (word w)) (t (expr_value r.begin r.tree)))));
+        tail = λ more j t. c.tail (operation (binary_op k) r.tree more) j (λ before. made (chain_tail l) before (operator l ∷ rule (operand_rule l) ∷ rule (chain_tail l) ∷ []) (word w ∷ expr_value r.begin r.tree ∷ operations_value more ∷ []) c.rest.1 (ap (λ (x : Bool). Some (cond x (operator l ∷ rule (operand_rule l) ∷ rule (chain_tail l) ∷ []) [])) o) (token c.rest.1 o (joins (r.gives (word w)) (t (expr_value r.begin r.tree)))));
         tree = expr_node c.begin (binary_expr (binary_op k) c.tree r.tree);
         whole = λ more. c.whole (operation (binary_op k) r.tree more);
         same = ap₂ (λ (x y : ExprTree). expr_node 0 (binary_expr (binary_op k) x y)) c.same r.same;

@@ -5,7 +5,7 @@ use Rattle.lam_lexer.specs.declared.token.Token.{Token}
 use Rattle.lam_lexer.specs.declared.token.TokenKind.TheVariants as Kind
 use Rattle.lam_lexer.specs.declared.start.Start.{Start}
 use Rattle.lam_lexer.specs.Characters.{is_digit, continues_name, run, past, first, goes_on, number}
-use Rattle.lam_lexer.specs.Lexed.{start, word_kind, token, Reads, a_space, a_name, a_number, a_mark, LexedAt, at_end, then_on}
+use Rattle.lam_lexer.specs.Lexed.{start, word_kind, token, Lexes, a_space, a_name, a_number, a_mark, LexedAt, at_end, then_on}
 use Rattle.make_laws.proofs.Given.{some_same, if_true}
 
 abbrev Lex : Type 0
@@ -42,23 +42,23 @@ not_true true e = absurd (cc)
 not_true false e = refl
 
 module _ (more : Lex) (is : (at : ℕ) (cs : List ℕ) (ts : List Token) → more at cs ≡ Some ts → LexedAt at cs ts) where
-  one_token : (at to c : ℕ) (cs rest : List ℕ) (t : Token) (ts : List Token) → Reads at (start c (first cs)) (c ∷ cs) (t ∷ []) to rest → put t (more to rest) ≡ Some ts → LexedAt at (c ∷ cs) ts
+  one_token : (at to c : ℕ) (cs rest : List ℕ) (t : Token) (ts : List Token) → Lexes at (start c (first cs)) (c ∷ cs) (t ∷ []) to rest → put t (more to rest) ≡ Some ts → LexedAt at (c ∷ cs) ts
   one_token at to c cs rest t ts r e =
       let p = taken t (more to rest) ts e in
       subst (λ (us : List Token). LexedAt at (c ∷ cs) us) p.2 (then_on r (is to rest p.0 p.1))
 
   is_lexed : (at c : ℕ) (cs : List ℕ) (ts : List Token) (s : Start) → s ≡ start c (first cs) → by_start more at s c cs ≡ Some ts → LexedAt at (c ∷ cs) ts
-  is_lexed at c cs ts Start.Space e h = then_on (subst (λ (s : Start). Reads at s (c ∷ cs) [] (at + 1) cs) e a_space) (is (at + 1) cs ts h)
+  is_lexed at c cs ts Start.Space e h = then_on (subst (λ (s : Start). Lexes at s (c ∷ cs) [] (at + 1) cs) e a_space) (is (at + 1) cs ts h)
   is_lexed at c cs ts Start.Name e h =
       let name : List ℕ = encode_utf8_all (c ∷ run continues_name cs) in
-      one_token at (at + length name) c cs (past continues_name cs) (token at (word_kind name)) ts (subst (λ (s : Start). Reads at s (c ∷ cs) (token at (word_kind name) ∷ []) (at + length name) (past continues_name cs)) e a_name) h
+      one_token at (at + length name) c cs (past continues_name cs) (token at (word_kind name)) ts (subst (λ (s : Start). Lexes at s (c ∷ cs) (token at (word_kind name) ∷ []) (at + length name) (past continues_name cs)) e a_name) h
   is_lexed at c cs ts Start.Number e h =
       let t : Token = token at (Kind.Number (pos (number (c ∷ run is_digit cs)))) in
       let to : ℕ = at + 1 + length (run is_digit cs) in
       let p = if_true (is_number c cs) (put t (more to (past is_digit cs))) ts h in
       let q = and_parts (nat_lt (number (c ∷ run is_digit cs)) (2 ^ 63)) (not (goes_on continues_name (past is_digit cs))) p.0 in
-      one_token at to c cs (past is_digit cs) t ts (subst (λ (s : Start). Reads at s (c ∷ cs) (t ∷ []) to (past is_digit cs)) e (a_number (ltb-true _ _ q.0) (not_true _ q.1))) p.1
-  is_lexed at c cs ts (Start.Mark k) e h = one_token at (at + 1) c cs cs (token at k) ts (subst (λ (s : Start). Reads at s (c ∷ cs) (token at k ∷ []) (at + 1) cs) e a_mark) h
+      one_token at to c cs (past is_digit cs) t ts (subst (λ (s : Start). Lexes at s (c ∷ cs) (t ∷ []) to (past is_digit cs)) e (a_number (ltb-true _ _ q.0) (not_true _ q.1))) p.1
+  is_lexed at c cs ts (Start.Mark k) e h = one_token at (at + 1) c cs cs (token at k) ts (subst (λ (s : Start). Lexes at s (c ∷ cs) (token at k ∷ []) (at + 1) cs) e a_mark) h
   is_lexed at c cs ts _ e h = absurd (cc)
 
 pub lexed_as : (n at : ℕ) (cs : List ℕ) (ts : List Token) → lexed_by n at cs ≡ Some ts → LexedAt at cs ts

@@ -2,7 +2,7 @@ use Rattle.std.proofs.Common.{◌≡◌, refl, slice_get, arith, ◌∙◌, ◌+
 use Rattle.std.proofs.lemmas.Result.{err_from_is_err_and}
 use Rattle.lam_grammar.specs.declared.Level.{Level}
 use Rattle.lam_grammar.specs.declared.Level.TheVariants.{Or as or_level, And as and_level, Sum as sum_level, Term as term_level}
-use Rattle.lam_grammar.specs.Table.{expr, chain, chain_tail, operand, comparison, comparison_tail, unary, post, post_tail, prim, parens, call_part, arguments, args, args_tail, new_part}
+use Rattle.lam_grammar.specs.Table.{expr, chain, chain_tail, operand_rule, comparison, comparison_tail, unary, post, post_tail, prim, parens, call_part, arguments, args, args_tail, new_part}
 use Rattle.lam_grammar.specs.Meaning.{no_more, no_postfix, exprs_value}
 use Rattle.lam_grammar.specs.Examples.{examples}
 use Rattle.lam_reading.proofs.Rules.{begun, counted_taken, rule_taken, maybe_taken, rule_read, rule_fails, token_deep_fails, present, deep_present, body_of, second_body_of, last_of_two, no_body_of, neither_body_of, opened, counted_opened, left_out, deep_fails, rule_fails_inside, loop_begins, loop_goes_on, loop_ends, loop_strict, loop_deep_fails, loop_mark_fails, loop_rule_fails, part_begun, mark_taken, mark_fails, rule_unwanted, rule_body_of, no_rule_body_of}
@@ -15,7 +15,7 @@ use Rattle.lam_reading.specs.declared.breaks.Wanted.TheVariants as wanted
 use Rattle.lam_parse_parts.specs.declared.primary.Form.TheVariants as form
 use Rattle.lam_parse_exprs.proofs.+expression.Goals as goal
 
-first_operand : (l : Level) → examples.first (operand l) ≡ examples.first (chain l)
+first_operand : (l : Level) → examples.first (operand_rule l) ≡ examples.first (chain l)
 first_operand or_level = refl
 first_operand and_level = refl
 first_operand sum_level = refl

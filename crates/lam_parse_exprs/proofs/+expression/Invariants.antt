@@ -1,6 +1,6 @@
 use Rattle.std.proofs.Common.{◌≡◌, true, ◌<◌, ◌≤◌, ◌-◌, length, slice_get}
 use Rattle.lam_syntax.specs.Tree.{expr_tree, ExprList, exprs_tree}
-use Rattle.lam_grammar.specs.Table.{chain, chain_tail, operand, post, post_tail, expr, args, args_tail}
+use Rattle.lam_grammar.specs.Table.{chain, chain_tail, operand_rule, post, post_tail, expr, args, args_tail}
 use Rattle.lam_grammar.specs.Meaning.{Operations, operations_value, combine, Postfixes, postfixes_value, extend, expr_value, exprs_value}
 use Rattle.lam_grammar.specs.Examples.{examples}
 use Rattle.lam_reading.proofs.Rules.{Loop}
@@ -31,7 +31,7 @@ decreases-operators::indexed l = measure (length l.tokens.now) l.of.next 5
 
 abbrev pub invariant-operators::chain-loop-left : goal.invariant-operators::chain-loop-left
 invariant-operators::chain-loop-left l = record {
-  goes : Loop Operations operations_value (slice_get l.tokens) (chain l.level) (chain_tail l.level) l.depth l.at (λ os. expr_value l.left.begin (combine l.left.begin (expr_tree l.left.expr.value) os)) l.left.next l.left.depth (λ w. examples.closes (operand l.level) w ≡ true);
+  goes : Loop Operations operations_value (slice_get l.tokens) (chain l.level) (chain_tail l.level) l.depth l.at (λ os. expr_value l.left.begin (combine l.left.begin (expr_tree l.left.expr.value) os)) l.left.next l.left.depth (λ w. examples.closes (operand_rule l.level) w ≡ true);
   after : l.at < l.left.next;
   within : l.left.next ≤ length l.tokens;
   low : l.left.depth ≤ 150;
