@@ -7,6 +7,10 @@
 //! which command is asked, `lam_commands`, `lam_replay` and `thread_commands` read the files that it names, run its threads and
 //! make its text, and `print` prints that or the line of a refusal. The program `lam` calls it with the current folder and standard output, and
 //! tests with a store and a stream in memory (`lam_io`).
+//!
+//! What `format` prints is read again as the same program, and printed the same, under two conditions: the depth sum of
+//! the printed text passes its limit at no token, and its length does not pass that of a program file
+//! (docs/LANGUAGE.md has both, and how far a text can grow).
 #![tactic(auto)]
 
 mod print;
