@@ -113,7 +113,7 @@ pub fn make_spawn(
 ) -> Result<Box<Expr>, NoMemory>
     ensures { IfOk result (λ e. view.expr_tree e.value ≡ view.expr_node at (view.spawn_expr (view.expr_tree caps.value) (id_of function.now) (view.exprs_tree args.items))) }
 {
-    let function = name_of(alloc, function)?;
+    let function = Box::new(alloc, name_of(alloc, function)?)?;
     let kind = ExprKind::Spawn {
         caps,
         function,
