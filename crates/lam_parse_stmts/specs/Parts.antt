@@ -16,7 +16,7 @@ abbrev pub ReadsStmt : List Token → ℕ → ℕ → Result (Stmt × ℕ) Break
 ReadsStmt tokens s i x = ReadsPart Stmt (λ v. stmt_value (stmt_tree v)) tokens stmt s i x
 
 abbrev pub ReadsHead : List Token → ℕ → ℕ → Result Head Break → Type 0
-ReadsHead tokens s i (Ok x) = Gives (slice_get tokens) region_head s i (two_exprs (expr_tree x.label) (expr_tree x.caps)) x.next s
+ReadsHead tokens s i (Ok x) = Gives (slice_get tokens) region_head s i (two_exprs (expr_tree x.label.value) (expr_tree x.caps.value)) x.next s
 ReadsHead tokens s i (Err b) = Fails (slice_get tokens) (rule region_head ∷ []) s i b
 
 -- The token there is no word with which a statement begins.

@@ -120,7 +120,7 @@ pub fn make_region(
     body: Vec<Stmt>,
     handler: Handler,
 ) -> Stmt
-    ensures { view.stmt_tree result ≡ view.stmt_node at (view.region_stmt (view.expr_tree head.label) (view.expr_tree head.caps) (view.ids_tree captures.items) (view.stmts_tree body.items) (view.id_tree handler.name) (view.stmts_tree handler.body.items)) }
+    ensures { view.stmt_tree result ≡ view.stmt_node at (view.region_stmt (view.expr_tree head.label.value) (view.expr_tree head.caps.value) (view.ids_tree captures.items) (view.stmts_tree body.items) (view.id_tree handler.name) (view.stmts_tree handler.body.items)) }
 {
     Stmt {
         at,

@@ -89,8 +89,8 @@ pub fn throw_statement(
 /// The head of a region that was read, and the token after it.
 #[derive(Drop)]
 pub struct Head {
-    pub label: Expr,
-    pub caps: Expr,
+    pub label: Box<Expr>,
+    pub caps: Box<Expr>,
     pub next: usize,
 }
 
@@ -107,8 +107,8 @@ pub fn region_head(alloc: Global, tokens: &[Token], at: usize, depth: u64) -> Re
     let caps = expression(alloc, tokens, label.next + 1, depth)?;
     take(tokens, caps.next, depth, Mark::ParenClose)?;
     Ok(Head {
-        label: Box::into_inner(label.expr),
-        caps: Box::into_inner(caps.expr),
+        label: label.expr,
+        caps: caps.expr,
         next: caps.next + 1,
     })
 }

@@ -52,4 +52,4 @@ returns-clause-reads c =
     let label = rule_taken (with_sum c.in_ok-label.ensures.depth c.in_ok-label.ensures.reads) c.in_ok-label.ensures.goes_on.0 paren in
     let comma = mark_taken c.in_ok-take-2.ensures.takes refl label in
     let caps = rule_taken (with_sum c.in_ok-caps.ensures.depth c.in_ok-caps.ensures.reads) c.in_ok-caps.ensures.goes_on.0 comma in
-    rw (c.into_inner.ensures, c.into_inner-2.ensures) (rule_read (mark_taken c.in_ok-take-3.ensures.takes refl caps))
+    rule_read (mark_taken c.in_ok-take-3.ensures.takes refl caps)
