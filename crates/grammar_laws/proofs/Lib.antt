@@ -6,3 +6,4 @@ pub mod Theorem
 pub mod Stages
 pub mod Bodies
 pub mod Tests
+pub mod Shifted
