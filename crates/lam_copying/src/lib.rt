@@ -8,7 +8,10 @@ ghost use Rattle.std.specs.Prelude.{◌≡◌, IfOk};
 ghost use Rattle.lam_syntax.specs.Tree as view;
 
 use lam_operators::BinaryOp;
-use lam_syntax::{CapItem, Class, Expr, ExprKind, Function, Id, Item, Program, Stmt, StmtKind, TypeExpr, TypeKind, Var, };
+use lam_syntax::{
+    CapItem, Class, Expr, ExprKind, Function, Id, Item, Program, Stmt, StmtKind, TypeExpr,
+    TypeKind, Var,
+};
 use std::alloc::Global;
 use want_of_memory::NoMemory;
 
@@ -269,7 +272,7 @@ fn copy_spawn(
 {
     Ok(ExprKind::Spawn {
         caps: copy_boxed(alloc, caps)?,
-        function: copy_id(function)?,
+        function: Box::new(alloc, copy_id(function)?)?,
         args: copy_exprs(alloc, args)?,
     })
 }
@@ -330,8 +333,8 @@ fn assign_kind(alloc: Global, place: &Expr, value: &Expr) -> Result<StmtKind, No
 /// A region without its blocks.
 #[derive(Drop)]
 struct Head {
-    label: Expr,
-    caps: Expr,
+    label: Box<Expr>,
+    caps: Box<Expr>,
     captures: Vec<Id>,
     catch_name: Id,
 }
@@ -343,21 +346,21 @@ fn copy_head(
     captures: &[Id],
     catch_name: &Id,
 ) -> Result<Head, NoMemory>
-    ensures label { IfOk result (λ h. view.expr_tree h.label ≡ view.expr_tree label.now) }
-    ensures caps { IfOk result (λ h. view.expr_tree h.caps ≡ view.expr_tree caps.now) }
+    ensures label { IfOk result (λ h. view.expr_tree h.label.value ≡ view.expr_tree label.now) }
+    ensures caps { IfOk result (λ h. view.expr_tree h.caps.value ≡ view.expr_tree caps.now) }
     ensures captures { IfOk result (λ h. view.ids_tree h.captures.items ≡ view.ids_tree captures.now) }
     ensures catch_name { IfOk result (λ h. view.id_tree h.catch_name ≡ view.id_tree catch_name.now) }
 {
     Ok(Head {
-        label: copy_expr(alloc, label)?,
-        caps: copy_expr(alloc, caps)?,
+        label: copy_boxed(alloc, label)?,
+        caps: copy_boxed(alloc, caps)?,
         captures: copy_ids(alloc, captures)?,
         catch_name: copy_id(catch_name)?,
     })
 }
 
 fn region_kind(head: Head, body: Vec<Stmt>, catch_body: Vec<Stmt>) -> StmtKind
-    ensures { view.stmt_form result ≡ view.region_stmt (view.expr_tree head.label) (view.expr_tree head.caps) (view.ids_tree head.captures.items) (view.stmts_tree body.items) (view.id_tree head.catch_name) (view.stmts_tree catch_body.items) }
+    ensures { view.stmt_form result ≡ view.region_stmt (view.expr_tree head.label.value) (view.expr_tree head.caps.value) (view.ids_tree head.captures.items) (view.stmts_tree body.items) (view.id_tree head.catch_name) (view.stmts_tree catch_body.items) }
 {
     StmtKind::Region {
         label: head.label,

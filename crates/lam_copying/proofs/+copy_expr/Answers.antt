@@ -16,7 +16,7 @@ copy_expr_kind-returns-in_ok-copy_exprs-in-LabelOf-2 t c =
 
 pub copy_spawn-returns : goal.copy_spawn-returns
 copy_spawn-returns t c =
-    spawn_row c.in_ok-copy_boxed.field-0 c.in_ok-copy_id.field-0 c.in_ok-copy_exprs.field-0 ∙ (search rules)
+    spawn_row c.in_ok-copy_boxed.field-0 c.in_ok-new.field-0 c.in_ok-copy_exprs.field-0 ∙ (search rules)
 
 pub copy_expr_kind-returns-in-Spawn : goal.copy_expr_kind-returns-in-Spawn
 copy_expr_kind-returns-in-Spawn t c = of_expr_form c.copy_spawn.result c.args.kind.now _ _ c.copy_spawn.ensures (search rules) (ap expr_form c.in-Spawn.is ∙ spawn_row c.in-Spawn.caps c.in-Spawn.function c.in-Spawn.args)
