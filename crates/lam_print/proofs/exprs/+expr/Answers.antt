@@ -1,6 +1,7 @@
 use Rattle.std.proofs.Common.{◌∙◌, ◌∷◌, List, false, sym, ap, arith}
 use Rattle.lam_lexer.specs.declared.token.TokenKind.TheVariants as Kind
 use Rattle.lam_syntax.specs.declared.Expr.{Expr}
+use Rattle.lam_syntax.specs.declared.Id.{Id}
 use Rattle.lam_syntax.specs.Tree.{ExprForm, call_expr, label_expr, spawn_expr, id_tree, expr_form, expr_tree, exprs_tree}
 use Rattle.lam_syntax.proofs.Rows.{call_row, label_row, spawn_row}
 use Rattle.lam_print.specs.Pieces.{Piece, token}
@@ -31,7 +32,7 @@ put_kind-returns-in-LabelOf t c =
 
 pub put_kind-returns-in-Spawn : goal.put_kind-returns-in-Spawn
 put_kind-returns-in-Spawn t c =
-    arm_of (λ (k : ExprForm) (ps : List Piece). canon.lay_form k c.args.place ps) _ _ c.put_spawn.result (ap expr_form c.in-Spawn.is ∙ spawn_row c.in-Spawn.caps c.in-Spawn.function c.in-Spawn.args ∙ ap (λ (e : Expr). spawn_expr (expr_tree e) (id_tree c.in-Spawn.function) (exprs_tree c.in-Spawn.args.items)) (sym c.deref-in-Spawn.ensures) ∙ ap (λ (xs : List Expr). spawn_expr (expr_tree c.deref-in-Spawn.result.now) (id_tree c.in-Spawn.function) (exprs_tree xs)) (sym c.deref-in-Spawn-2.ensures.value)) c.put_spawn.ensures
+    arm_of (λ (k : ExprForm) (ps : List Piece). canon.lay_form k c.args.place ps) _ _ c.put_spawn.result (ap expr_form c.in-Spawn.is ∙ spawn_row c.in-Spawn.caps c.in-Spawn.function c.in-Spawn.args ∙ ap (λ (e : Expr). spawn_expr (expr_tree e) (id_tree c.in-Spawn.function.value) (exprs_tree c.in-Spawn.args.items)) (sym c.deref-in-Spawn.ensures) ∙ ap (λ (f : Id). spawn_expr (expr_tree c.deref-in-Spawn.result.now) (id_tree f) (exprs_tree c.in-Spawn.args.items)) (sym c.deref-in-Spawn-2.ensures) ∙ ap (λ (xs : List Expr). spawn_expr (expr_tree c.deref-in-Spawn.result.now) (id_tree c.deref-in-Spawn-2.result.now) (exprs_tree xs)) (sym c.deref-in-Spawn-3.ensures.value)) c.put_spawn.ensures
 
 pub put_call-returns : goal.put_call-returns
 put_call-returns t c =

@@ -1,10 +1,12 @@
-use Rattle.std.proofs.Common.{◌∙◌, ◌∷◌, List, false, sym, ap, refl, rules, arith, Option, Vec, Global}
+use Rattle.std.proofs.Common.{◌≡◌, ℕ, ◌∙◌, ◌∷◌, List, false, sym, ap, refl, rules, arith, Option, Vec, Global}
 use Rattle.lam_lexer.specs.declared.token.TokenKind.TheVariants as Kind
 use Rattle.lam_syntax.specs.declared.Stmt.{Stmt}
 use Rattle.lam_syntax.specs.declared.Id.{Id}
+use Rattle.lam_syntax.specs.declared.Expr.{Expr}
 use Rattle.lam_syntax.specs.Tree.{StmtForm, if_stmt, while_stmt, sync_stmt, id_tree, ids_tree, expr_tree, stmt_form, stmts_tree, else_tree}
 use Rattle.lam_syntax.proofs.Rows.{if_row, while_row, sync_row, region_row}
 use Rattle.lam_print.specs.Pieces.{Piece, token, blank}
+use Rattle.lam_print.specs.Printing.{Puts}
 use Rattle.lam_print.specs.Canon as canon
 use Rattle.lam_print.proofs.Steps.{said, arm_of, arm_text, arm_puts, last_puts, puts_of, on_ok, each_last}
 use Rattle.lam_print.proofs.Views.{stmts-each}
@@ -44,9 +46,18 @@ pub put_kind-returns-in-Sync : goal.put_kind-returns-in-Sync
 put_kind-returns-in-Sync t c =
     arm_of (λ (k : StmtForm) (ps : List Piece). canon.lay_stmt_form k c.args.depth ps) _ _ c.put_sync.result (ap stmt_form c.in-Sync.is ∙ sync_row c.in-Sync.thing c.in-Sync.body ∙ ap (λ (b : List Stmt). sync_stmt (expr_tree c.in-Sync.thing) (stmts_tree b)) (sym c.deref-in-Sync.ensures.value)) c.put_sync.ensures
 
+-- The head of a region, whose expressions are read through their boxes and whose names through their list.
+abbrev region_head : Expr → Expr → List Id → List Piece → List Piece
+region_head label caps xs ps =
+    token Kind.Region ∷ blank ∷ token Kind.ParenOpen ∷ canon.lay (expr_tree label) canon.whole (token Kind.Comma ∷ blank ∷ canon.lay (expr_tree caps) canon.whole (token Kind.ParenClose ∷ blank ∷ token Kind.BracketOpen ∷ canon.lay_names false (ids_tree xs) (token Kind.BracketClose ∷ blank ∷ ps)))
+
+head_puts : {old new : List ℕ} {l m k n : Expr} {xs ys : List Id} → l ≡ m → k ≡ n → xs ≡ ys → Puts old new (region_head m n ys) → Puts old new (region_head l k xs)
+head_puts {old} {new} {l} {m} {k} {n} {xs} {ys} e f g p =
+    puts_of (λ (x : Expr). region_head x k xs) e (puts_of (λ (x : Expr). region_head m x xs) f (puts_of (region_head m n) g p))
+
 pub put_kind-returns-in_ok-put_block-in-Region : goal.put_kind-returns-in_ok-put_block-in-Region
 put_kind-returns-in_ok-put_block-in-Region t c =
-    arm_puts (λ (k : StmtForm) (ps : List Piece). canon.lay_stmt_form k c.args.depth ps) _ _ _ (λ (ps : List Piece). blank ∷ token Kind.Catch ∷ blank ∷ token Kind.ParenOpen ∷ canon.name (id_tree c.in-Region.catch_name) (token Kind.ParenClose ∷ blank ∷ canon.lay_block (stmts_tree c.in-Region.catch_body.items) c.args.depth ps)) c.put_catch.result (ap stmt_form c.in-Region.is ∙ region_row c.in-Region.label c.in-Region.caps c.in-Region.captures c.in-Region.body c.in-Region.catch_name c.in-Region.catch_body) (λ ps. (puts_of (λ (xs : List Id) (ps : List Piece). token Kind.Region ∷ blank ∷ token Kind.ParenOpen ∷ canon.lay (expr_tree c.in-Region.label) canon.whole (token Kind.Comma ∷ blank ∷ canon.lay (expr_tree c.in-Region.caps) canon.whole (token Kind.ParenClose ∷ blank ∷ token Kind.BracketOpen ∷ canon.lay_names false (ids_tree xs) (token Kind.BracketClose ∷ blank ∷ ps)))) (sym c.deref-in-Region.ensures.value) c.in_ok-put_region_head-in-Region.ensures).gives (canon.lay_block (stmts_tree c.in-Region.body.items) c.args.depth (blank ∷ token Kind.Catch ∷ blank ∷ token Kind.ParenOpen ∷ canon.name (id_tree c.in-Region.catch_name) (token Kind.ParenClose ∷ blank ∷ canon.lay_block (stmts_tree c.in-Region.catch_body.items) c.args.depth ps))) ∙ (puts_of (λ (b : List Stmt) (ps : List Piece). canon.lay_block (stmts_tree b) c.args.depth ps) (sym c.deref-in-Region-2.ensures.value) c.in_ok-put_block-in-Region.ensures).gives (blank ∷ token Kind.Catch ∷ blank ∷ token Kind.ParenOpen ∷ canon.name (id_tree c.in-Region.catch_name) (token Kind.ParenClose ∷ blank ∷ canon.lay_block (stmts_tree c.in-Region.catch_body.items) c.args.depth ps))) (on_ok c.put_catch.result (puts_of (λ (b : List Stmt) (ps : List Piece). blank ∷ token Kind.Catch ∷ blank ∷ token Kind.ParenOpen ∷ canon.name (id_tree c.in-Region.catch_name) (token Kind.ParenClose ∷ blank ∷ canon.lay_block (stmts_tree b) c.args.depth ps)) (sym c.deref-in-Region-3.ensures.value)) c.put_catch.ensures)
+    arm_puts (λ (k : StmtForm) (ps : List Piece). canon.lay_stmt_form k c.args.depth ps) _ _ _ (λ (ps : List Piece). blank ∷ token Kind.Catch ∷ blank ∷ token Kind.ParenOpen ∷ canon.name (id_tree c.in-Region.catch_name) (token Kind.ParenClose ∷ blank ∷ canon.lay_block (stmts_tree c.in-Region.catch_body.items) c.args.depth ps)) c.put_catch.result (ap stmt_form c.in-Region.is ∙ region_row c.in-Region.label c.in-Region.caps c.in-Region.captures c.in-Region.body c.in-Region.catch_name c.in-Region.catch_body) (λ ps. (head_puts (sym c.deref-in-Region.ensures) (sym c.deref-in-Region-2.ensures) (sym c.deref-in-Region-3.ensures.value) c.in_ok-put_region_head-in-Region.ensures).gives (canon.lay_block (stmts_tree c.in-Region.body.items) c.args.depth (blank ∷ token Kind.Catch ∷ blank ∷ token Kind.ParenOpen ∷ canon.name (id_tree c.in-Region.catch_name) (token Kind.ParenClose ∷ blank ∷ canon.lay_block (stmts_tree c.in-Region.catch_body.items) c.args.depth ps))) ∙ (puts_of (λ (b : List Stmt) (ps : List Piece). canon.lay_block (stmts_tree b) c.args.depth ps) (sym c.deref-in-Region-4.ensures.value) c.in_ok-put_block-in-Region.ensures).gives (blank ∷ token Kind.Catch ∷ blank ∷ token Kind.ParenOpen ∷ canon.name (id_tree c.in-Region.catch_name) (token Kind.ParenClose ∷ blank ∷ canon.lay_block (stmts_tree c.in-Region.catch_body.items) c.args.depth ps))) (on_ok c.put_catch.result (puts_of (λ (b : List Stmt) (ps : List Piece). blank ∷ token Kind.Catch ∷ blank ∷ token Kind.ParenOpen ∷ canon.name (id_tree c.in-Region.catch_name) (token Kind.ParenClose ∷ blank ∷ canon.lay_block (stmts_tree b) c.args.depth ps)) (sym c.deref-in-Region-5.ensures.value)) c.put_catch.ensures)
 
 pub put_kind-returns-in_ok-put_expr-in-Do : goal.put_kind-returns-in_ok-put_expr-in-Do
 put_kind-returns-in_ok-put_expr-in-Do t c =
