@@ -1,17 +1,35 @@
-use Rattle.std.proofs.Common.{◌≡◌, ℕ, List, length, get_or, refl, sym, ap, ◌∙◌, arith}
+use Rattle.std.proofs.Common.{◌≡◌, ℕ, List, length, get_or, refl, sym, ap, ◌∙◌, arith, Box, Vec, Global, Option, Result, subst}
 use Rattle.std.proofs.lemmas.Result.{err_from_is_err_and}
 use Rattle.lam_syntax.proofs.Rows.{call_row, label_row, spawn_row}
-use Rattle.lam_syntax.specs.Tree.{ExprTree, unary_expr, field_expr, new_array_expr, expr_form, expr_tree, exprs_tree, type_tree, id_tree}
-use Rattle.lam_kinds.specs.Values.{decls, names, places, given, value_type, option_signature, answer}
+use Rattle.lam_syntax.specs.Tree.{ExprTree, ExprList, unary_expr, field_expr, new_array_expr, spawn_expr, expr_form, expr_tree, exprs_tree, type_tree, id_tree}
+use Rattle.lam_builtins.specs.Builtins.{Signature}
+use Rattle.lam_kinds.specs.Breaks.{Fine}
+use Rattle.lam_kinds.specs.Tables.{Names, Decls, find}
+use Rattle.lam_kinds.specs.Values.{Gives, decls, names, places, given, value_type, option_signature, answer}
+use Rattle.lam_kinds.specs.declared.types.Got.{Got}
+use Rattle.lam_kinds.specs.declared.fault.TypeFault.{TypeFault}
 use Rattle.lam_kinds.proofs.Steps.{stops}
-use Rattle.lam_exprs.specs.Exprs.{given_of, placed}
+use Rattle.lam_exprs.specs.Exprs.{given_of, args_given, placed, spawnable, started}
 use Rattle.lam_exprs.proofs.Arms
 use Rattle.lam_exprs.proofs.Loops.{args_stop, args_next, tags_stop, count_exprs, called_count, called_args, called_fine}
 use Rattle.lam_syntax.specs.declared.Expr.{Expr}
+use Rattle.lam_syntax.specs.declared.Id.{Id}
+use Rattle.lam_syntax.specs.declared.ExprKind.{ExprKind}
+use Rattle.lam_syntax.specs.declared.ExprKind.TheVariants.{Spawn}
 use Rattle.lam_exprs.proofs.+expr.Goals as goal
 
 through : (xs ys : List Expr) (i : ℕ) (x : Expr) → xs ≡ ys → x ≡ get_or xs i x → x ≡ get_or ys i x
 through xs ys i x e h = h ∙ ap (λ (l : List Expr). get_or l i x) e
+
+-- the name in a spawn was reached as x
+spawned : (k : ExprKind) (c : Box Expr Global) (f : Box Id Global) (args : Vec Expr Global) (x : Id) → k ≡ Spawn c f args → x ≡ f.value → expr_form k ≡ spawn_expr (expr_tree c.value) (id_tree x) (exprs_tree args.items)
+spawned k c f args x e h = ap expr_form e ∙ spawn_row c f args ∙ ap (λ (x : Id). spawn_expr (expr_tree c.value) (id_tree x) (exprs_tree args.items)) (sym h)
+
+spawned_head : (d : Decls) (at : ℕ) (x y : Id) (n : ℕ) (o : Option Signature) → x ≡ y → spawnable at (find (id_tree x).word d.functions) n ≡ Fine o → spawnable at (find (id_tree y).word d.functions) n ≡ Fine o
+spawned_head d at x y n o e h = ap (λ (x : Id). spawnable at (find (id_tree x).word d.functions) n) (sym e) ∙ h
+
+spawned_rest : (d : Decls) (env : Names) (x y : Id) (args : ExprList) (o : Option Signature) (r : Result Got TypeFault) → x ≡ y → Gives r (started x.at o (λ ps. args_given d env ps args)) → Gives r (started y.at o (λ ps. args_given d env ps args))
+spawned_rest d env x y args o r e h = subst (λ (x : Id). Gives r (started x.at o (λ ps. args_given d env ps args))) e h
 
 pub check_expr-returns-in_err-first-in-Binary : goal.check_expr-returns-in_err-first-in-Binary
 check_expr-returns-in_err-first-in-Binary t c =
@@ -46,12 +64,12 @@ check_expr-returns-in_err-check_tags-in-LabelOf-2 t c =
 pub check_expr-returns-in_err-call-in-Spawn : goal.check_expr-returns-in_err-call-in-Spawn
 check_expr-returns-in_err-call-in-Spawn t c =
     let p = err_from_is_err_and c.from_residual-in_err-call-in-Spawn.result c.from_residual-in_err-call-in-Spawn.ensures.1 in
-    rw (p.1, p.2) (Arms.spawn_head (decls c.args.known.now) (names c.args.env.now.entries) c.args.e.now.at (expr_form c.args.e.now.kind) c.in_err-call-in-Spawn.field-0.0 (expr_tree c.in-Spawn.caps.value) (id_tree c.in-Spawn.function) (exprs_tree c.in-Spawn.args.items) (length c.in-Spawn.args.items) (ap expr_form c.in-Spawn.is ∙ spawn_row c.in-Spawn.caps c.in-Spawn.function c.in-Spawn.args) (sym (count_exprs c.in-Spawn.args.items)) c.in_err-call-in-Spawn.ensures.meets)
+    rw (p.1, p.2) (Arms.spawn_head (decls c.args.known.now) (names c.args.env.now.entries) c.args.e.now.at (expr_form c.args.e.now.kind) c.in_err-call-in-Spawn.field-0.0 (expr_tree c.in-Spawn.caps.value) (id_tree c.deref-in-Spawn.result.now) (exprs_tree c.in-Spawn.args.items) (length c.in-Spawn.args.items) (spawned c.args.e.now.kind c.in-Spawn.caps c.in-Spawn.function c.in-Spawn.args c.deref-in-Spawn.result.now c.in-Spawn.is c.deref-in-Spawn.ensures) (sym (count_exprs c.in-Spawn.args.items)) c.in_err-call-in-Spawn.ensures.meets)
 
 pub check_expr-returns-in_err-check_at-in-Spawn : goal.check_expr-returns-in_err-check_at-in-Spawn
 check_expr-returns-in_err-check_at-in-Spawn t c =
     let p = err_from_is_err_and c.from_residual-in_err-check_at-in-Spawn.result c.from_residual-in_err-check_at-in-Spawn.ensures.1 in
-    rw (p.1, p.2) (Arms.spawn_caps (decls c.args.known.now) (names c.args.env.now.entries) c.args.e.now.at (expr_form c.args.e.now.kind) c.in_err-check_at-in-Spawn.field-0.0 (option_signature c.in_ok-call-in-Spawn.call) c.deref-in-Spawn.result.now c.in-Spawn.caps.value (id_tree c.in-Spawn.function) (exprs_tree c.in-Spawn.args.items) (length c.in-Spawn.args.items) (ap expr_form c.in-Spawn.is ∙ spawn_row c.in-Spawn.caps c.in-Spawn.function c.in-Spawn.args) (sym (count_exprs c.in-Spawn.args.items)) c.in_ok-call-in-Spawn.ensures.meets c.deref-in-Spawn.ensures c.in_err-check_at-in-Spawn.ensures)
+    rw (p.1, p.2) (Arms.spawn_caps (decls c.args.known.now) (names c.args.env.now.entries) c.args.e.now.at (expr_form c.args.e.now.kind) c.in_err-check_at-in-Spawn.field-0.0 (option_signature c.in_ok-call-in-Spawn.call) c.deref-in-Spawn-2.result.now c.in-Spawn.caps.value (id_tree c.deref-in-Spawn.result.now) (exprs_tree c.in-Spawn.args.items) (length c.in-Spawn.args.items) (spawned c.args.e.now.kind c.in-Spawn.caps c.in-Spawn.function c.in-Spawn.args c.deref-in-Spawn.result.now c.in-Spawn.is c.deref-in-Spawn.ensures) (sym (count_exprs c.in-Spawn.args.items)) c.in_ok-call-in-Spawn.ensures.meets c.deref-in-Spawn-2.ensures c.in_err-check_at-in-Spawn.ensures)
 
 pub check_expr-returns-in-Unary : goal.check_expr-returns-in-Unary
 check_expr-returns-in-Unary t c = Arms.gives_through (decls c.args.known.now) (names c.args.env.now.entries) c.args.e.now.at (expr_form c.args.e.now.kind) c.check_prefix.result (unary_expr c.in-Unary.op) c.deref-in-Unary.result.now c.in-Unary.of.value (ap expr_form c.in-Unary.is) c.deref-in-Unary.ensures c.check_prefix.ensures
@@ -70,7 +88,8 @@ check_expr-returns-in_ok-check_tags-in-LabelOf-2 t c = Arms.label_fine (decls c.
 
 pub check_expr-returns-in_ok-check_at-in-Spawn : goal.check_expr-returns-in_ok-check_at-in-Spawn
 check_expr-returns-in_ok-check_at-in-Spawn t c =
-    Arms.spawn_rest (decls c.args.known.now) (names c.args.env.now.entries) c.args.e.now.at (expr_form c.args.e.now.kind) c.check_started.result (option_signature c.in_ok-call-in-Spawn.call) (given c.in_ok-check_at-in-Spawn.field-0) c.deref-in-Spawn.result.now c.in-Spawn.caps.value (id_tree c.in-Spawn.function) (exprs_tree c.in-Spawn.args.items) (length c.in-Spawn.args.items) (ap expr_form c.in-Spawn.is ∙ spawn_row c.in-Spawn.caps c.in-Spawn.function c.in-Spawn.args) (sym (count_exprs c.in-Spawn.args.items)) c.in_ok-call-in-Spawn.ensures.meets c.deref-in-Spawn.ensures c.in_ok-check_at-in-Spawn.ensures c.check_started.ensures
+    Arms.spawn_rest (decls c.args.known.now) (names c.args.env.now.entries) c.args.e.now.at (expr_form c.args.e.now.kind) c.check_started.result (option_signature c.in_ok-call-in-Spawn.call) (given c.in_ok-check_at-in-Spawn.field-0) c.deref-in-Spawn-2.result.now c.in-Spawn.caps.value (id_tree c.in-Spawn.function.value) (exprs_tree c.in-Spawn.args.items) (length c.in-Spawn.args.items) (ap expr_form c.in-Spawn.is ∙ spawn_row c.in-Spawn.caps c.in-Spawn.function c.in-Spawn.args) (sym (count_exprs c.in-Spawn.args.items)) (spawned_head (decls c.args.known.now) c.args.e.now.at c.deref-in-Spawn.result.now c.in-Spawn.function.value (length c.in-Spawn.args.items) (option_signature c.in_ok-call-in-Spawn.call) c.deref-in-Spawn.ensures c.in_ok-call-in-Spawn.ensures.meets) c.deref-in-Spawn-2.ensures c.in_ok-check_at-in-Spawn.ensures
+    (spawned_rest (decls c.args.known.now) (names c.args.env.now.entries) c.deref-in-Spawn-3.result.now c.in-Spawn.function.value (exprs_tree c.in-Spawn.args.items) (option_signature c.in_ok-call-in-Spawn.call) c.check_started.result c.deref-in-Spawn-3.ensures c.check_started.ensures)
 
 pub check_prefix-returns-in_err-check_at : goal.check_prefix-returns-in_err-check_at
 check_prefix-returns-in_err-check_at t c =

@@ -24,5 +24,5 @@ check_expr-returns-in_ok-check_exprs-in-LabelOf t c =
 
 pub check_expr-returns-in_ok-check_expr-in-Spawn : goal.check_expr-returns-in_ok-check_expr-in-Spawn
 check_expr-returns-in_ok-check_expr-in-Spawn t c =
-    spawn_rest c.args.inside (texts c.args.own.now.keys) c.args.e.now.at (expr_form c.args.e.now.kind) c.check_exprs-in-Spawn.result c.deref-in-Spawn.result.now c.in-Spawn.caps.value (id_tree c.in-Spawn.function) (exprs_tree c.in-Spawn.args.items) (ap expr_form c.in-Spawn.is ∙ spawn_row c.in-Spawn.caps c.in-Spawn.function c.in-Spawn.args)
+    spawn_rest c.args.inside (texts c.args.own.now.keys) c.args.e.now.at (expr_form c.args.e.now.kind) c.check_exprs-in-Spawn.result c.deref-in-Spawn.result.now c.in-Spawn.caps.value (id_tree c.in-Spawn.function.value) (exprs_tree c.in-Spawn.args.items) (ap expr_form c.in-Spawn.is ∙ spawn_row c.in-Spawn.caps c.in-Spawn.function c.in-Spawn.args)
     c.deref-in-Spawn.ensures c.in_ok-check_expr-in-Spawn.ensures c.check_exprs-in-Spawn.ensures

@@ -1,14 +1,26 @@
-use Rattle.std.proofs.Common.{◌≡◌, List, sym, ap, ◌∙◌, Some, None, Option, Vec, Global}
+use Rattle.std.proofs.Common.{◌≡◌, List, sym, ap, ◌∙◌, Some, None, Option, Box, Vec, Global}
 use Rattle.std.proofs.lemmas.Result.{err_from_is_err_and}
+use Rattle.lam_syntax.specs.declared.Id.{Id}
+use Rattle.lam_syntax.specs.declared.Expr.{Expr}
 use Rattle.lam_syntax.specs.declared.Stmt.{Stmt}
+use Rattle.lam_syntax.specs.declared.StmtKind.{StmtKind}
+use Rattle.lam_syntax.specs.declared.StmtKind.TheVariants.{Region}
 use Rattle.lam_syntax.proofs.Rows.{while_row, sync_row, if_row, region_row}
-use Rattle.lam_syntax.specs.Tree.{stmt_form, if_stmt, expr_tree, stmts_tree, else_tree, ids_tree, id_tree}
+use Rattle.lam_syntax.specs.Tree.{stmt_form, if_stmt, region_stmt, expr_tree, stmts_tree, else_tree, ids_tree, id_tree}
 use Rattle.lam_operators.specs.Words.{Word}
 use Rattle.region_check.specs.Breaks.{closed, stmts_checked, expr_checked, with_name}
 use Rattle.region_check.specs.Values.{texts}
 use Rattle.region_check.proofs.Arms
 use Rattle.region_check.proofs.Steps.{both_first}
 use Rattle.region_check.proofs.+stmt.Goals as goal
+
+-- a region, the expressions of whose head were reached as a and b
+headed : (k : StmtKind) (l m : Box Expr Global) (xs : Vec Id Global) (body : Vec Stmt Global) (x : Id) (handler : Vec Stmt Global) (a b : Expr) → k ≡ Region l m xs body x handler → a ≡ l.value → b ≡ m.value →
+    stmt_form k ≡ region_stmt (expr_tree a) (expr_tree b) (ids_tree xs.items) (stmts_tree body.items) (id_tree x) (stmts_tree handler.items)
+headed k l m xs body x handler a b e p q =
+    ap stmt_form e ∙ region_row l m xs body x handler ∙
+    ap (λ (a : Expr). region_stmt (expr_tree a) (expr_tree m.value) (ids_tree xs.items) (stmts_tree body.items) (id_tree x) (stmts_tree handler.items)) (sym p) ∙
+    ap (λ (b : Expr). region_stmt (expr_tree a) (expr_tree b) (ids_tree xs.items) (stmts_tree body.items) (id_tree x) (stmts_tree handler.items)) (sym q)
 
 pub check_block-returns-in_err-check_stmts-clause-meets : goal.check_block-returns-in_err-check_stmts-clause-meets
 check_block-returns-in_err-check_stmts-clause-meets t c =
@@ -52,7 +64,7 @@ check_stmt-returns-in-Sync-clause-meets t c =
 pub check_stmt-returns-in_err-check_block-in-Region-clause-meets : goal.check_stmt-returns-in_err-check_block-in-Region-clause-meets
 check_stmt-returns-in_err-check_block-in-Region-clause-meets t c =
     let p = err_from_is_err_and c.from_residual-in_err-check_block-in-Region.result c.from_residual-in_err-check_block-in-Region.ensures.1 in
-    rw (p.1, p.2) (Arms.body_stop c.args.inside c.args.s.now.at (stmt_form c.args.s.now.kind) c.args.own.now.keys c.in_err-check_block-in-Region.field-0.0 (texts c.in_ok-inner-in-Region.inner.keys) (expr_tree c.in-Region.label) (expr_tree c.in-Region.caps) (ids_tree c.in-Region.captures.items) (stmts_tree c.in-Region.body.items) (id_tree c.in-Region.catch_name) (stmts_tree c.in-Region.catch_body.items) (ap stmt_form c.in-Region.is ∙ region_row c.in-Region.label c.in-Region.caps c.in-Region.captures c.in-Region.body c.in-Region.catch_name c.in-Region.catch_body) c.in_ok-inner-in-Region.ensures c.in_err-check_block-in-Region.ensures.meets)
+    rw (p.1, p.2) (Arms.body_stop c.args.inside c.args.s.now.at (stmt_form c.args.s.now.kind) c.args.own.now.keys c.in_err-check_block-in-Region.field-0.0 (texts c.in_ok-inner-in-Region.inner.keys) (expr_tree c.deref-in-Region.result.now) (expr_tree c.deref-in-Region-2.result.now) (ids_tree c.in-Region.captures.items) (stmts_tree c.in-Region.body.items) (id_tree c.in-Region.catch_name) (stmts_tree c.in-Region.catch_body.items) (headed c.args.s.now.kind c.in-Region.label c.in-Region.caps c.in-Region.captures c.in-Region.body c.in-Region.catch_name c.in-Region.catch_body c.deref-in-Region.result.now c.deref-in-Region-2.result.now c.in-Region.is c.deref-in-Region.ensures c.deref-in-Region-2.ensures) c.in_ok-inner-in-Region.ensures c.in_err-check_block-in-Region.ensures.meets)
 
 pub check_stmt-returns-in_err-check_place-in-Assign-clause-meets : goal.check_stmt-returns-in_err-check_place-in-Assign-clause-meets
 check_stmt-returns-in_err-check_place-in-Assign-clause-meets t c =
@@ -68,5 +80,5 @@ set_after new mid old w v e f g = e ∙ ap (λ (l : List Word). with_name l w) f
 
 pub check_stmt-returns-in_ok-add_name-in-Region-clause-meets : goal.check_stmt-returns-in_ok-add_name-in-Region-clause-meets
 check_stmt-returns-in_ok-add_name-in-Region-clause-meets t c =
-    Arms.region_arm c.args.inside c.args.s.now.at (stmt_form c.args.s.now.kind) c.args.own.now.keys c.check_block-in-Region-2.result (texts c.in_ok-inner-in-Region.inner.keys) (texts c.add_name-in-Region.new.own.keys) (expr_tree c.in-Region.label) (expr_tree c.in-Region.caps) (ids_tree c.in-Region.captures.items) (stmts_tree c.in-Region.body.items) (id_tree c.in-Region.catch_name) (stmts_tree c.in-Region.catch_body.items) (ap stmt_form c.in-Region.is ∙ region_row c.in-Region.label c.in-Region.caps c.in-Region.captures c.in-Region.body c.in-Region.catch_name c.in-Region.catch_body) c.in_ok-inner-in-Region.ensures c.in_ok-check_block-in-Region.ensures.meets
+    Arms.region_arm c.args.inside c.args.s.now.at (stmt_form c.args.s.now.kind) c.args.own.now.keys c.check_block-in-Region-2.result (texts c.in_ok-inner-in-Region.inner.keys) (texts c.add_name-in-Region.new.own.keys) (expr_tree c.deref-in-Region.result.now) (expr_tree c.deref-in-Region-2.result.now) (ids_tree c.in-Region.captures.items) (stmts_tree c.in-Region.body.items) (id_tree c.in-Region.catch_name) (stmts_tree c.in-Region.catch_body.items) (headed c.args.s.now.kind c.in-Region.label c.in-Region.caps c.in-Region.captures c.in-Region.body c.in-Region.catch_name c.in-Region.catch_body c.deref-in-Region.result.now c.deref-in-Region-2.result.now c.in-Region.is c.deref-in-Region.ensures c.deref-in-Region-2.ensures) c.in_ok-inner-in-Region.ensures c.in_ok-check_block-in-Region.ensures.meets
     (set_after _ _ (texts c.in_ok-inner-in-Region.inner.keys) _ _ c.in_ok-add_name-in-Region.ensures.adds (ap texts c.in_ok-check_block-in-Region.ensures.keeps) c.as_str-in-Region.ensures.value) c.check_block-in-Region-2.ensures.meets
