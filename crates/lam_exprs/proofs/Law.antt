@@ -6,7 +6,8 @@ use Rattle.lam_syntax.specs.Tree.{CapTree, TypeTree, type_node, TypeForm, int_ty
 use Rattle.lam_operators.specs.Words.{Word}
 use Rattle.lam_builtins.specs.Types.{ValueType, int, bool, bytes, tag, label, caps, file, dir, pipe, thread, object, array, Given, a_value, a_null, nothing, given_type, Place, exactly, any_class, any_array, suits, wanted_type, comparable, same_type}
 use Rattle.lam_kinds.specs.Written.{written}
-use Rattle.lam_kinds.specs.Breaks.{Break, no_name, arity, Verdict, Fine, Stop, then_on, fit, unequal, mismatch_of}
+use Rattle.first_breaks.specs.Verdicts.{Fine, Stop, then_on}
+use Rattle.lam_kinds.specs.Breaks.{Break, no_name, arity, Verdict, fit, unequal, mismatch_of}
 use Rattle.lam_builtins.specs.Builtins.{Answer, answers, no_answer, as_first, Signature, answered}
 use Rattle.lam_kinds.specs.Tables.{Names, Fields, Decls, find, signature_named, type_known, form_known, named_if}
 use Rattle.lam_kinds.specs.Values.{Gives, Breaks, given}
@@ -15,7 +16,7 @@ use Rattle.lam_kinds.specs.declared.fault.TypeFault.{TypeFault}
 use Rattle.lam_exprs.specs.Exprs.{at_of, placed, operate, field_in, field_type, found_field, element_of, known, count, counted, called, spawnable, started, cap_tag, cap_tags, given_of, form_given, args_given, rest_given, tags_given}
 use Rattle.lam_builtins.specs.Operators.{operand, operator_type, unary_type}
 use Rattle.lam_exprs.specs.Judgement.{IsDeclared, IsDeclaredForm, Fits, Operates, AreTagNames, IsGiven, IsFormGiven, AreArgs, AreRest, AreTags}
-use Rattle.lam_exprs.specs.Meets.{HasNoBreak}
+use Rattle.lam_kinds.specs.Meets.{HasNoBreak}
 
 -- ---- what is typed has no break
 

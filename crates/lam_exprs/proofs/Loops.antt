@@ -6,7 +6,8 @@ use Rattle.lam_syntax.specs.declared.Expr.{Expr}
 use Rattle.lam_syntax.specs.declared.CapItem.{CapItem}
 use Rattle.lam_syntax.specs.Tree.{ExprTree, ExprList, no_exprs, exprs, exprs_tree, expr_tree, caps_tree, cap_tree}
 use Rattle.lam_builtins.specs.Types.{Given, nothing, Place, exactly, tag}
-use Rattle.lam_kinds.specs.Breaks.{Verdict, Fine, Stop, then_on}
+use Rattle.first_breaks.specs.Verdicts.{Fine, Stop, then_on}
+use Rattle.lam_kinds.specs.Breaks.{Verdict}
 use Rattle.lam_builtins.specs.Builtins.{Answer, answered}
 use Rattle.lam_kinds.specs.Tables.{Names, Decls}
 use Rattle.lam_kinds.specs.Values.{Breaks, places, place}

@@ -1,27 +1,21 @@
 -- How the code meets the definitions.
-use Rattle.std.specs.Prelude.{zero, suc, ◌≡◌, ℕ, List, length, Option, Some, None, Result, Ok, Err}
+use Rattle.std.specs.Prelude.{zero, suc, ◌≡◌, ℕ, List, length, Option, Some, None, Result}
 use Rattle.std.specs.Borrow.{Bor}
-use Rattle.lam_kinds.specs.Breaks.{Verdict, Fine}
+use Rattle.lam_kinds.specs.Breaks.{Verdict}
 use Rattle.lam_builtins.specs.Builtins.{Signature, Answer}
 use Rattle.lam_builtins.specs.Types.{Place, Given}
-use Rattle.lam_kinds.specs.Values.{Breaks, option_signature}
+use Rattle.lam_kinds.specs.Values.{option_signature}
+use Rattle.lam_kinds.specs.Meets.{Makes}
 use Rattle.lam_kinds.specs.declared.tables.Callable.{Callable}
 use Rattle.lam_kinds.specs.declared.fault.TypeFault.{TypeFault}
-use Rattle.lam_kinds.specs.declared.fault.TypeFault.TheVariants.{NoMemory}
 
 abbrev pub GivesSignature : Result (Option (Bor Callable)) TypeFault → Verdict (Option Signature) → Type 0
-GivesSignature (Ok o) v = v ≡ Fine (option_signature o)
-GivesSignature (Err f) v = Breaks f v
+GivesSignature r v = Makes option_signature r v
 
 -- a function with n parameters, where there is one
 abbrev pub TakesAsMany : ℕ → Option (Bor Callable) → Type 0
 TakesAsMany n None = Unit {0}
 TakesAsMany n (Some c) = length c.now.takes.items ≡ n
-
--- no break; only memory may have run out
-abbrev pub HasNoBreak : {A : Type 0} → Result A TypeFault → Type 0
-HasNoBreak (Ok a) = Unit {0}
-HasNoBreak (Err f) = f ≡ NoMemory
 
 abbrev pub signature_as : List Place → Answer → Signature
 signature_as takes answer = record { takes = takes; answer = answer }

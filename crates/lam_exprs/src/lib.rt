@@ -13,12 +13,13 @@ ghost use Rattle.lam_syntax.specs.Tree.{expr_tree, exprs_tree, id_tree, cap_tree
 ghost use Rattle.lam_builtins.specs.Types.{Given, a_value, int, caps, object, array, exactly, any_class};
 ghost use Rattle.lam_kinds.specs.Written.{written};
 ghost use Rattle.lam_kinds.specs.Tables.{find, named_if, type_known};
-ghost use Rattle.lam_kinds.specs.Breaks.{Fine, then_on};
+ghost use Rattle.first_breaks.specs.Verdicts.{Fine, then_on};
 ghost use Rattle.lam_kinds.specs.Values.{decls, names, value_type, option_type, given, place, places, answer, option_signature, Gives, Passes};
 ghost use Rattle.lam_exprs.specs.Exprs.{at_of, placed, operate, field_type, found_field, element_of, known as known_name, count, counted, called, spawnable, started, cap_tag, cap_tags, given_of, form_given, args_given, tags_given};
 ghost use Rattle.lam_builtins.specs.Operators.{operand, operator_type, unary_type};
 ghost use Rattle.lam_exprs.specs.Judgement.{IsGiven};
-ghost use Rattle.lam_exprs.specs.Meets.{first_of, signature_as, GivesSignature, TakesAsMany, HasNoBreak};
+ghost use Rattle.lam_exprs.specs.Meets.{first_of, signature_as, GivesSignature, TakesAsMany};
+ghost use Rattle.lam_kinds.specs.Meets.{HasNoBreak};
 
 use lam_kinds::builtins::{answered, builtin_returns, builtin_wants};
 use lam_kinds::fault::{fit, unequal};

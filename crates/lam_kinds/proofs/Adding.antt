@@ -2,7 +2,8 @@
 use Rattle.std.proofs.Common.{◌≡◌, ℕ, Bool, true, false, cond, List, [], ◌∷◌, ◌++◌, map, Option, Some, None, is_some, Result, Ok, Err, OnOk, IfErr, refl, sym, ap, ◌∙◌, subst, Bor}
 use Rattle.lam_syntax.specs.Tree.{IdTree}
 use Rattle.lam_operators.specs.Words.{Word}
-use Rattle.lam_kinds.specs.Breaks.{Verdict, Fine, Stop, then_on}
+use Rattle.first_breaks.specs.Verdicts.{Fine, Stop, then_on}
+use Rattle.lam_kinds.specs.Breaks.{Verdict}
 use Rattle.lam_builtins.specs.Builtins.{builtin_named}
 use Rattle.lam_kinds.specs.Tables.{find, new_name, function_name, twice_if}
 use Rattle.lam_kinds.specs.Values.{keyed, Breaks, Passes, function_entries, signature}

@@ -12,7 +12,8 @@ use Rattle.lam_operators.specs.Words.{Word}
 use Rattle.lam_builtins.specs.Types.{ValueType}
 use Rattle.lam_kinds.specs.Written.{written}
 use Rattle.lam_kinds.specs.Meets.{or_else, IsAddedField}
-use Rattle.lam_kinds.specs.Breaks.{Verdict, Fine, Stop, then_on}
+use Rattle.first_breaks.specs.Verdicts.{Fine, Stop, then_on}
+use Rattle.lam_kinds.specs.Breaks.{Verdict}
 use Rattle.lam_kinds.specs.Tables.{Names, Decls, typed_name, find, fresh, new_name, room, twice_if, with_var, vars_known}
 use Rattle.lam_kinds.specs.Values.{keyed, Breaks}
 use Rattle.lam_kinds.specs.declared.fault.TypeFault.{TypeFault}

@@ -1,5 +1,7 @@
--- Breaks of the typing rules, and checks that stop at the first.
+-- Breaks of the typing rules.
 use Rattle.std.specs.Prelude.{ℕ, Bool, if◌then◌else◌, List, Option, Some, None}
+use Rattle.first_breaks.specs.Verdicts as verdicts
+use Rattle.first_breaks.specs.Verdicts.{Fine, Stop}
 use Rattle.lam_syntax.specs.Tree.{TypeTree}
 use Rattle.lam_builtins.specs.Types.{ValueType, Given, a_value, a_null, nothing, given_type, Place, suits, wanted_type}
 use Rattle.lam_kinds.specs.Written.{plain}
@@ -14,17 +16,8 @@ pub data Break : Type 0 where
   mismatch : (at : ℕ) (want got : Option TypeTree) → Break
 
 -- the answer of a check: a value, or the first break
-pub data Verdict (A : Type 0) : Type 0 where
-  Fine : (a : A) → Verdict A
-  Stop : (b : Break) → Verdict A
-
-abbrev pub then_on : {A B : Type 0} → Verdict A → (A → Verdict B) → Verdict B
-then_on (Fine a) next = next a
-then_on (Stop b) next = Stop b
-
-abbrev pub first_break : {A : Type 0} → Verdict A → Option Break
-first_break (Fine a) = None
-first_break (Stop b) = Some b
+abbrev pub Verdict : Type 0 → Type 0
+Verdict A = verdicts.Verdict Break A
 
 abbrev pub plain_option : Option ValueType → Option TypeTree
 plain_option None = None

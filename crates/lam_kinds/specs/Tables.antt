@@ -5,7 +5,8 @@ use Rattle.lam_syntax.specs.Tree.{IdTree, TypeTree, type_node, TypeForm, int_typ
 use Rattle.lam_operators.specs.Words.{Word}
 use Rattle.lam_builtins.specs.Types.{ValueType, Place, exactly}
 use Rattle.lam_kinds.specs.Written.{written}
-use Rattle.lam_kinds.specs.Breaks.{Break, no_name, twice, too_many, Verdict, Fine, Stop, then_on}
+use Rattle.first_breaks.specs.Verdicts.{Fine, Stop, then_on}
+use Rattle.lam_kinds.specs.Breaks.{Break, no_name, twice, too_many, Verdict}
 use Rattle.lam_builtins.specs.declared.Builtin.{Builtin}
 use Rattle.lam_builtins.specs.Builtins.{Answer, answers, no_answer, Signature, row, builtin_named}
 

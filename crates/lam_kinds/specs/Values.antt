@@ -1,5 +1,5 @@
 -- What the definitions see of the code's values.
-use Rattle.std.specs.Prelude.{◌≡◌, ℕ, List, [], ◌∷◌, ◌++◌, map, take, length, Option, Some, None, Result, Ok, Err, string_bytes}
+use Rattle.std.specs.Prelude.{◌≡◌, ℕ, List, [], ◌∷◌, ◌++◌, map, take, length, Option, Some, None, Result, string_bytes}
 use Rattle.std.specs.Borrow.{Bor}
 use Rattle.std.specs.declared.hash.FoldHasher.{FoldHasher}
 use Rattle.std.specs.declared.hash.BuildHasherDefault.{BuildHasherDefault}
@@ -9,7 +9,8 @@ use Rattle.lam_syntax.specs.Tree.{type_tree, option_type_tree}
 use Rattle.lam_operators.specs.Words.{Word}
 use Rattle.lam_builtins.specs.Types.{ValueType, int, bool, bytes, tag, label, caps, file, dir, pipe, thread, object, array, Given, a_value, a_null, nothing, Place, exactly, any_class, any_array, any_object, any_labelled}
 use Rattle.lam_kinds.specs.Written.{written}
-use Rattle.lam_kinds.specs.Breaks.{Break, no_name, twice, arity, no_field, no_return, too_many, mismatch, Verdict, Fine, Stop}
+use Rattle.first_breaks.specs.Meets.{BreaksBy, PassesBy, MakesBy}
+use Rattle.lam_kinds.specs.Breaks.{Break, no_name, twice, arity, no_field, no_return, too_many, mismatch, Verdict}
 use Rattle.lam_builtins.specs.Builtins.{Answer, answers, no_answer, as_first, Signature}
 use Rattle.lam_kinds.specs.Tables.{Names, Fields, Decls, find}
 use Rattle.lam_kinds.specs.declared.types.TypeRef.{TypeRef}
@@ -112,16 +113,13 @@ IsFault (Mismatch at want got) b = b ≡ mismatch at (option_type_tree want) (op
 IsFault NoMemory b = Unit {0}
 
 abbrev pub Breaks : {A : Type 0} → TypeFault → Verdict A → Type 0
-Breaks f (Fine a) = f ≡ NoMemory
-Breaks f (Stop b) = IsFault f b
+Breaks f v = BreaksBy IsFault NoMemory f v
 
 abbrev pub Passes : Result (Unit {0}) TypeFault → Verdict (Unit {0}) → Type 0
-Passes (Ok u) v = v ≡ Fine tt
-Passes (Err f) v = Breaks f v
+Passes r v = PassesBy IsFault NoMemory r v
 
 abbrev pub Gives : Result Got TypeFault → Verdict Given → Type 0
-Gives (Ok g) v = v ≡ Fine (given g)
-Gives (Err f) v = Breaks f v
+Gives r v = MakesBy IsFault NoMemory given r v
 
 -- names were added at the end, and the others stand as before
 abbrev pub Extends : {A : Type 0} → List A → List A → Type 0

@@ -4,7 +4,8 @@ use Rattle.lam_syntax.specs.declared.Var.{Var}
 use Rattle.lam_syntax.specs.Tree.{FunctionTree, VarTree, vars_tree}
 use Rattle.lam_operators.specs.Words.{Word}
 use Rattle.lam_builtins.specs.Types.{ValueType}
-use Rattle.lam_kinds.specs.Breaks.{Verdict, Fine, Stop, then_on}
+use Rattle.first_breaks.specs.Verdicts.{Fine, Stop, then_on}
+use Rattle.lam_kinds.specs.Breaks.{Verdict}
 use Rattle.lam_kinds.specs.Tables.{Names, Decls, vars_known}
 use Rattle.lam_kinds.specs.Values.{Breaks, names}
 use Rattle.lam_kinds.specs.declared.types.TypeRef.{TypeRef}

@@ -5,7 +5,8 @@ use Rattle.lam_syntax.specs.Tree.{IdTree, VarTree, ExprTree, StmtTree, stmt_node
 use Rattle.lam_operators.specs.Words.{Word}
 use Rattle.lam_builtins.specs.Types.{ValueType, int, bool, label, caps, Given, a_value, a_null, nothing, given_type, Place, exactly, any_object}
 use Rattle.lam_kinds.specs.Written.{written}
-use Rattle.lam_kinds.specs.Breaks.{Break, twice, too_many, Verdict, Fine, Stop, then_on, mismatch_of}
+use Rattle.first_breaks.specs.Verdicts.{Fine, Stop, then_on}
+use Rattle.lam_kinds.specs.Breaks.{Break, twice, too_many, Verdict, mismatch_of}
 use Rattle.lam_kinds.specs.Tables.{Names, Decls, find, fresh, twice_if, room, named_if, type_known}
 use Rattle.lam_exprs.specs.Exprs.{at_of, placed, given_of}
 use Rattle.lam_exprs.specs.Judgement.{IsDeclared, Fits, IsGiven}

@@ -4,7 +4,8 @@ use Rattle.lam_syntax.specs.declared.Stmt.{Stmt}
 use Rattle.lam_syntax.specs.Tree.{IdTree, ExprTree, stmts_tree}
 use Rattle.lam_operators.specs.Words.{Word}
 use Rattle.lam_builtins.specs.Types.{ValueType, Given, given_type, exactly}
-use Rattle.lam_kinds.specs.Breaks.{Verdict, Fine, Stop, then_on, mismatch_of}
+use Rattle.first_breaks.specs.Verdicts.{Fine, Stop, then_on}
+use Rattle.lam_kinds.specs.Breaks.{Verdict, mismatch_of}
 use Rattle.lam_kinds.specs.Tables.{Names, Decls, find, fresh, twice_if}
 use Rattle.lam_kinds.specs.Values.{Breaks, Passes, names, keyed, value_type}
 use Rattle.lam_kinds.specs.declared.types.TypeRef.{TypeRef}

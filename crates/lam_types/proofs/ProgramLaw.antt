@@ -4,7 +4,8 @@ use Rattle.lam_syntax.specs.Tree.{IdTree, TypeTree, VarTree, ClassTree, Function
 use Rattle.lam_operators.specs.Words.{Word}
 use Rattle.lam_builtins.specs.Types.{ValueType}
 use Rattle.lam_kinds.specs.Written.{written}
-use Rattle.lam_kinds.specs.Breaks.{Break, no_return, twice, Verdict, Fine, Stop, then_on, first_break}
+use Rattle.first_breaks.specs.Verdicts.{Fine, Stop, then_on, first_break}
+use Rattle.lam_kinds.specs.Breaks.{Break, no_return, twice, Verdict}
 use Rattle.lam_builtins.specs.Builtins.{Signature, builtin_named}
 use Rattle.lam_kinds.specs.Tables.{Names, Fields, Decls, find, typed_name, typed_names, fresh, room, twice_if, new_name, with_class, class_table, function_name, with_function, function_table, tables_of, with_var, vars_known, type_known, fields_of, signature_of, declared, declared_classes, declared_functions}
 use Rattle.lam_exprs.specs.Judgement.{IsDeclared}

@@ -1,5 +1,6 @@
 pub mod Endings
 pub mod Stmts
+pub mod Parts
 pub mod Program
 pub mod Judgement
 pub mod Meets

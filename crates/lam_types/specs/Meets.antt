@@ -3,11 +3,11 @@ use Rattle.std.specs.Prelude.{◌≡◌, ℕ, List, ◌++◌, ◌∷◌, [], Opt
 use Rattle.std.specs.Borrow.{Bor}
 use Rattle.lam_operators.specs.Words.{Word}
 use Rattle.lam_builtins.specs.Types.{ValueType}
-use Rattle.lam_kinds.specs.Breaks.{Break, Verdict, Fine, Stop}
+use Rattle.first_breaks.specs.Verdicts.{Fine}
+use Rattle.lam_kinds.specs.Breaks.{Verdict}
 use Rattle.lam_kinds.specs.Tables.{Names}
-use Rattle.lam_kinds.specs.Values.{Breaks, IsFault}
+use Rattle.lam_kinds.specs.Values.{Breaks}
 use Rattle.lam_kinds.specs.declared.fault.TypeFault.{TypeFault}
-use Rattle.lam_kinds.specs.declared.fault.TypeFault.TheVariants.{NoMemory}
 use Rattle.lam_types.specs.declared.stmts.Counts.{Counts}
 use Rattle.lam_types.specs.Stmts.{State}
 
@@ -24,8 +24,3 @@ Steps (Err f) env v = Breaks f v
 abbrev pub CountedRegions : Result ℕ TypeFault → Verdict ℕ → Type 0
 CountedRegions (Ok n) v = v ≡ Fine n
 CountedRegions (Err f) v = Breaks f v
-
--- the refusal is the first break; where there is none, only memory may have run out
-abbrev pub IsFirst : TypeFault → Option Break → Type 0
-IsFirst f (Some b) = IsFault f b
-IsFirst f None = f ≡ NoMemory

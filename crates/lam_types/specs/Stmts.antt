@@ -4,7 +4,8 @@ use Rattle.lam_syntax.specs.Tree.{IdTree, VarTree, ExprTree, expr_node, ExprForm
 use Rattle.lam_operators.specs.Words.{Word}
 use Rattle.lam_builtins.specs.Types.{ValueType, int, bool, label, caps, Given, given_type, Place, exactly, any_object}
 use Rattle.lam_kinds.specs.Written.{written}
-use Rattle.lam_kinds.specs.Breaks.{Verdict, Fine, Stop, then_on, mismatch_of}
+use Rattle.first_breaks.specs.Verdicts.{Fine, Stop, then_on}
+use Rattle.lam_kinds.specs.Breaks.{Verdict, mismatch_of}
 use Rattle.lam_kinds.specs.Tables.{Names, Decls, find, fresh, room, named_if, type_known}
 use Rattle.lam_exprs.specs.Exprs.{at_of, placed, given_of}
 use Rattle.lam_types.specs.declared.stmts.Counts.{Counts}
@@ -110,18 +111,3 @@ abbrev mutual
 
 abbrev pub block_checked : Decls → Option ValueType → Names → Counts → StmtList → Verdict Counts
 block_checked d res env c body = closed (stmts_checked d res env c body)
-
--- a test and a block
-abbrev pub guarded : Decls → Option ValueType → Names → Counts → ExprTree → StmtList → Verdict Counts
-guarded d res env c e body = then_on (stands d env (exactly bool) e) (λ _. block_checked d res env c body)
-
--- a monitor and a block
-abbrev pub synced : Decls → Option ValueType → Names → Counts → ℕ → ExprTree → StmtList → Verdict Counts
-synced d res env c at e body = then_on (one_slot at c) (λ c. then_on (stands d env any_object e) (λ _. block_checked d res env c body))
-
-abbrev pub opened : Decls → Option ValueType → Names → Counts → ℕ → ExprTree → ExprTree → List IdTree → StmtList → Verdict Counts
-opened d res env c at l k xs body = then_on (head_checked d env c at l k xs) (λ c. block_checked d res env c body)
-
--- a catch block with its name
-abbrev pub caught : Decls → Option ValueType → Names → Counts → IdTree → StmtList → Verdict Counts
-caught d res env c x handler = then_on (new_local env c x) (λ c. block_checked d res (with_local env x.word int) c handler)

@@ -6,8 +6,8 @@ ghost use Rattle.lam_kinds.specs.Values.{decls, option_type, Passes};
 ghost use Rattle.lam_types.specs.Program.{result_type, result_known, returns, class_checked, function_checked, item_checked, items_checked, program_checked, first_type_break};
 ghost use Rattle.lam_types.specs.Judgement.{IsTyped};
 ghost use Rattle.lam_types.specs.Seen.{tree_of};
-ghost use Rattle.lam_types.specs.Meets.{CountedRegions, IsFirst};
-ghost use Rattle.lam_exprs.specs.Meets.{HasNoBreak};
+ghost use Rattle.lam_types.specs.Meets.{CountedRegions};
+ghost use Rattle.lam_kinds.specs.Meets.{IsFirst, HasNoBreak};
 
 use crate::endings::block_ends;
 use crate::stmts::{Counts, check_block};

@@ -1,7 +1,8 @@
 -- A program without a break keeps the region rules, as the code meets it.
 use Rattle.std.proofs.Common.{◌≡◌, Bool, true, false, Option, Some, None, is_none, IsTrue, Result, Ok, Err, refl, sym, ap, ◌∙◌, subst}
 use Rattle.lam_syntax.specs.Tree.{ProgramTree}
-use Rattle.region_check.specs.Breaks.{Break, Verdict, Fine, Stop, first_break, program_checked, first_region_break}
+use Rattle.first_breaks.specs.Verdicts.{Fine, Stop, first_break}
+use Rattle.region_check.specs.Breaks.{Break, Verdict, program_checked, first_region_break}
 use Rattle.region_check.specs.Legal.{IsRegionLegal}
 use Rattle.region_check.specs.Values.{Breaks, IsFirst, HasNoBreak}
 use Rattle.region_check.specs.declared.RegionFault.{RegionFault}

@@ -1,6 +1,7 @@
 -- Breaks go through checks that follow one another.
 use Rattle.std.proofs.Common.{◌≡◌, refl, sym, ap, ◌∙◌, subst}
-use Rattle.region_check.specs.Breaks.{Verdict, Fine, Stop, then_on, both}
+use Rattle.first_breaks.specs.Verdicts.{Fine, Stop, then_on}
+use Rattle.region_check.specs.Breaks.{Verdict, both}
 use Rattle.region_check.specs.Values.{Breaks, IsFault}
 use Rattle.region_check.specs.declared.RegionFault.{RegionFault}
 use Rattle.region_check.specs.declared.RegionFault.TheVariants.{NoMemory}

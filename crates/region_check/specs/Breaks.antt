@@ -4,6 +4,8 @@
 use Rattle.std.specs.Prelude.{◌≡◌, ℕ, Bool, true, false, if◌then◌else◌, ◌||◌, not, List, [], ◌∷◌, ◌++◌, Option, Some, None}
 use Rattle.std.specs.Str.{bytes_eq}
 use Rattle.std.specs.List.{list_any}
+use Rattle.first_breaks.specs.Verdicts as verdicts
+use Rattle.first_breaks.specs.Verdicts.{Fine, Stop, then_on, first_break}
 use Rattle.lam_syntax.specs.Tree.{IdTree, CapTree, ExprTree, expr_node, ExprForm, binary_expr, unary_expr, field_expr, element_expr, number_expr, text_expr, bool_expr, null_expr, name_expr, call_expr, new_class_expr, new_array_expr, label_expr, caps_expr, spawn_expr, ExprList, no_exprs, exprs, StmtTree, stmt_node, StmtForm, let_stmt, if_stmt, while_stmt, return_stmt, throw_stmt, sync_stmt, region_stmt, do_stmt, assign_stmt, StmtList, no_stmts, stmts, ElseTree, no_else, else_block, ItemTree, class_item, function_item, ProgramTree}
 use Rattle.lam_operators.specs.Words.{Word}
 
@@ -14,17 +16,8 @@ pub data Break : Type 0 where
   capture_twice : (at : ℕ) → Break
 
 -- the answer of a check: a value, or the first break
-pub data Verdict (A : Type 0) : Type 0 where
-  Fine : (a : A) → Verdict A
-  Stop : (b : Break) → Verdict A
-
-abbrev pub then_on : {A B : Type 0} → Verdict A → (A → Verdict B) → Verdict B
-then_on (Fine a) next = next a
-then_on (Stop b) next = Stop b
-
-abbrev pub first_break : {A : Type 0} → Verdict A → Option Break
-first_break (Fine a) = None
-first_break (Stop b) = Some b
+abbrev pub Verdict : Type 0 → Type 0
+Verdict A = verdicts.Verdict Break A
 
 abbrev pub test : Bool → Break → Verdict (Unit {0})
 test b s = if b then Fine tt else Stop s
@@ -133,14 +126,6 @@ abbrev mutual
   pub stmts_checked : Bool → List Word → StmtList → Verdict (List Word)
   stmts_checked inside own no_stmts = Fine own
   stmts_checked inside own (stmts s rest) = then_on (stmt_checked inside own s) (λ own. stmts_checked inside own rest)
-
--- an expression and a block
-abbrev pub guarded : Bool → List Word → ExprTree → StmtList → Verdict (Unit {0})
-guarded inside own e body = both (expr_checked inside own e) (closed (stmts_checked inside own body))
-
--- the body of a region and its catch block
-abbrev pub region_checked : List Word → StmtList → IdTree → StmtList → Verdict (Unit {0})
-region_checked inner body x handler = both (closed (stmts_checked true inner body)) (closed (stmts_checked true (with_name inner x.word) handler))
 
 abbrev pub program_checked : ProgramTree → Verdict (Unit {0})
 program_checked [] = Fine tt

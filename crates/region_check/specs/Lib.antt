@@ -1,4 +1,5 @@
 pub mod Breaks
+pub mod Parts
 pub mod Legal
 pub mod Values
 pub mod Sees

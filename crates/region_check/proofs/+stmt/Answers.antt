@@ -64,7 +64,7 @@ check_stmt-returns-in-Sync-clause-meets t c =
 pub check_stmt-returns-in_err-check_block-in-Region-clause-meets : goal.check_stmt-returns-in_err-check_block-in-Region-clause-meets
 check_stmt-returns-in_err-check_block-in-Region-clause-meets t c =
     let p = err_from_is_err_and c.from_residual-in_err-check_block-in-Region.result c.from_residual-in_err-check_block-in-Region.ensures.1 in
-    rw (p.1, p.2) (Arms.body_stop c.args.inside c.args.s.now.at (stmt_form c.args.s.now.kind) c.args.own.now.keys c.in_err-check_block-in-Region.field-0.0 (texts c.in_ok-inner-in-Region.inner.keys) (expr_tree c.deref-in-Region.result.now) (expr_tree c.deref-in-Region-2.result.now) (ids_tree c.in-Region.captures.items) (stmts_tree c.in-Region.body.items) (id_tree c.in-Region.catch_name) (stmts_tree c.in-Region.catch_body.items) (headed c.args.s.now.kind c.in-Region.label c.in-Region.caps c.in-Region.captures c.in-Region.body c.in-Region.catch_name c.in-Region.catch_body c.deref-in-Region.result.now c.deref-in-Region-2.result.now c.in-Region.is c.deref-in-Region.ensures c.deref-in-Region-2.ensures) c.in_ok-inner-in-Region.ensures c.in_err-check_block-in-Region.ensures.meets)
+    rw (p.1, p.2) (Arms.body_stop c.args.inside c.args.s.now.at (stmt_form c.args.s.now.kind) c.args.own.now.keys c.in_err-check_block-in-Region.field-0.0 (texts c.in_ok-inner-in-Region.inner.keys) (expr_tree c.deref.result.now) (expr_tree c.deref-in-Region.result.now) (ids_tree c.in-Region.captures.items) (stmts_tree c.in-Region.body.items) (id_tree c.in-Region.catch_name) (stmts_tree c.in-Region.catch_body.items) (headed c.args.s.now.kind c.in-Region.label c.in-Region.caps c.in-Region.captures c.in-Region.body c.in-Region.catch_name c.in-Region.catch_body c.deref.result.now c.deref-in-Region.result.now c.in-Region.is c.deref.ensures c.deref-in-Region.ensures) c.in_ok-inner-in-Region.ensures c.in_err-check_block-in-Region.ensures.meets)
 
 pub check_stmt-returns-in_err-check_place-in-Assign-clause-meets : goal.check_stmt-returns-in_err-check_place-in-Assign-clause-meets
 check_stmt-returns-in_err-check_place-in-Assign-clause-meets t c =
@@ -80,5 +80,5 @@ set_after new mid old w v e f g = e ∙ ap (λ (l : List Word). with_name l w) f
 
 pub check_stmt-returns-in_ok-add_name-in-Region-clause-meets : goal.check_stmt-returns-in_ok-add_name-in-Region-clause-meets
 check_stmt-returns-in_ok-add_name-in-Region-clause-meets t c =
-    Arms.region_arm c.args.inside c.args.s.now.at (stmt_form c.args.s.now.kind) c.args.own.now.keys c.check_block-in-Region-2.result (texts c.in_ok-inner-in-Region.inner.keys) (texts c.add_name-in-Region.new.own.keys) (expr_tree c.deref-in-Region.result.now) (expr_tree c.deref-in-Region-2.result.now) (ids_tree c.in-Region.captures.items) (stmts_tree c.in-Region.body.items) (id_tree c.in-Region.catch_name) (stmts_tree c.in-Region.catch_body.items) (headed c.args.s.now.kind c.in-Region.label c.in-Region.caps c.in-Region.captures c.in-Region.body c.in-Region.catch_name c.in-Region.catch_body c.deref-in-Region.result.now c.deref-in-Region-2.result.now c.in-Region.is c.deref-in-Region.ensures c.deref-in-Region-2.ensures) c.in_ok-inner-in-Region.ensures c.in_ok-check_block-in-Region.ensures.meets
+    Arms.region_arm c.args.inside c.args.s.now.at (stmt_form c.args.s.now.kind) c.args.own.now.keys c.check_block-in-Region-2.result (texts c.in_ok-inner-in-Region.inner.keys) (texts c.add_name-in-Region.new.own.keys) (expr_tree c.deref.result.now) (expr_tree c.deref-in-Region.result.now) (ids_tree c.in-Region.captures.items) (stmts_tree c.in-Region.body.items) (id_tree c.in-Region.catch_name) (stmts_tree c.in-Region.catch_body.items) (headed c.args.s.now.kind c.in-Region.label c.in-Region.caps c.in-Region.captures c.in-Region.body c.in-Region.catch_name c.in-Region.catch_body c.deref.result.now c.deref-in-Region.result.now c.in-Region.is c.deref.ensures c.deref-in-Region.ensures) c.in_ok-inner-in-Region.ensures c.in_ok-check_block-in-Region.ensures.meets
     (set_after _ _ (texts c.in_ok-inner-in-Region.inner.keys) _ _ c.in_ok-add_name-in-Region.ensures.adds (ap texts c.in_ok-check_block-in-Region.ensures.keeps) c.as_str-in-Region.ensures.value) c.check_block-in-Region-2.ensures.meets

@@ -3,7 +3,7 @@ use Rattle.std.proofs.lemmas.Result.{err_from_is_err_and}
 use Rattle.lam_syntax.specs.declared.Var.{Var}
 use Rattle.lam_syntax.specs.Tree.{class_tree, vars_tree}
 use Rattle.lam_operators.specs.Words.{Word}
-use Rattle.lam_kinds.specs.Breaks.{Fine}
+use Rattle.first_breaks.specs.Verdicts.{Fine}
 use Rattle.lam_kinds.specs.Tables.{with_class, fields_of, Fields, find, typed_names}
 use Rattle.lam_kinds.specs.Values.{fields, class_entries}
 use Rattle.lam_kinds.proofs.Adding.{stops_seen, fine_seen, added, to_leaves}

@@ -2,7 +2,8 @@ use Rattle.std.proofs.Common.{◌≡◌, sym, ap, ◌∙◌, subst, refl, ◌++�
 use Rattle.std.proofs.lemmas.Result.{err_from_is_err_and}
 use Rattle.lam_syntax.specs.Tree.{function_tree}
 use Rattle.lam_operators.specs.Words.{Word}
-use Rattle.lam_kinds.specs.Breaks.{Verdict, Fine, then_on}
+use Rattle.first_breaks.specs.Verdicts.{Fine, then_on}
+use Rattle.lam_kinds.specs.Breaks.{Verdict}
 use Rattle.lam_kinds.specs.Tables.{with_function, function_name, signature_of, find}
 use Rattle.lam_kinds.specs.Values.{signature, function_entries, keyed}
 use Rattle.lam_kinds.proofs.Adding.{added, to_leaves, new_function}

@@ -37,12 +37,12 @@ check_stmt-returns-in_err-c-in-If-clause-meets t c =
 pub check_stmt-returns-in_err-inner-in-Region-clause-meets : goal.check_stmt-returns-in_err-inner-in-Region-clause-meets
 check_stmt-returns-in_err-inner-in-Region-clause-meets t c =
     let p = err_from_is_err_and c.from_residual-in_err-inner-in-Region.result c.from_residual-in_err-inner-in-Region.ensures.1 in
-    rw (p.1, p.2) (Arms.region_stop (decls c.args.known.now) (option_type c.args.want) c.args.c c.args.s.now.at (stmt_form c.args.s.now.kind) c.args.env.now.entries c.in_err-inner-in-Region.field-0.0 (expr_tree c.deref-in-Region.result.now) (expr_tree c.deref-in-Region-2.result.now) (ids_tree c.in-Region.captures.items) (stmts_tree c.in-Region.body.items) (id_tree c.in-Region.catch_name) (stmts_tree c.in-Region.catch_body.items) (headed c.args.s.now.kind c.in-Region.label c.in-Region.caps c.in-Region.captures c.in-Region.body c.in-Region.catch_name c.in-Region.catch_body c.deref-in-Region.result.now c.deref-in-Region-2.result.now c.in-Region.is c.deref-in-Region.ensures c.deref-in-Region-2.ensures) c.in_err-inner-in-Region.ensures.meets)
+    rw (p.1, p.2) (Arms.region_stop (decls c.args.known.now) (option_type c.args.want) c.args.c c.args.s.now.at (stmt_form c.args.s.now.kind) c.args.env.now.entries c.in_err-inner-in-Region.field-0.0 (expr_tree c.deref.result.now) (expr_tree c.deref-in-Region.result.now) (ids_tree c.in-Region.captures.items) (stmts_tree c.in-Region.body.items) (id_tree c.in-Region.catch_name) (stmts_tree c.in-Region.catch_body.items) (headed c.args.s.now.kind c.in-Region.label c.in-Region.caps c.in-Region.captures c.in-Region.body c.in-Region.catch_name c.in-Region.catch_body c.deref.result.now c.deref-in-Region.result.now c.in-Region.is c.deref.ensures c.deref-in-Region.ensures) c.in_err-inner-in-Region.ensures.meets)
 
 pub check_stmt-returns-in_err-inner-in-Region-2-clause-meets : goal.check_stmt-returns-in_err-inner-in-Region-2-clause-meets
 check_stmt-returns-in_err-inner-in-Region-2-clause-meets t c =
     let p = err_from_is_err_and c.from_residual-in_err-inner-in-Region-2.result c.from_residual-in_err-inner-in-Region-2.ensures.1 in
-    rw (p.1, p.2) (Arms.catch_stop (decls c.args.known.now) (option_type c.args.want) c.args.c c.args.s.now.at (stmt_form c.args.s.now.kind) c.args.env.now.entries c.in_err-inner-in-Region-2.field-0.0 c.in_ok-inner-in-Region.inner c.check_opened.new.env.entries (expr_tree c.deref-in-Region.result.now) (expr_tree c.deref-in-Region-2.result.now) (ids_tree c.in-Region.captures.items) (stmts_tree c.in-Region.body.items) (id_tree c.in-Region.catch_name) (stmts_tree c.in-Region.catch_body.items) (headed c.args.s.now.kind c.in-Region.label c.in-Region.caps c.in-Region.captures c.in-Region.body c.in-Region.catch_name c.in-Region.catch_body c.deref-in-Region.result.now c.deref-in-Region-2.result.now c.in-Region.is c.deref-in-Region.ensures c.deref-in-Region-2.ensures) c.in_ok-inner-in-Region.ensures.meets c.in_ok-inner-in-Region.ensures.keeps c.in_err-inner-in-Region-2.ensures.meets)
+    rw (p.1, p.2) (Arms.catch_stop (decls c.args.known.now) (option_type c.args.want) c.args.c c.args.s.now.at (stmt_form c.args.s.now.kind) c.args.env.now.entries c.in_err-inner-in-Region-2.field-0.0 c.in_ok-inner-in-Region.inner c.check_opened.new.env.entries (expr_tree c.deref.result.now) (expr_tree c.deref-in-Region.result.now) (ids_tree c.in-Region.captures.items) (stmts_tree c.in-Region.body.items) (id_tree c.in-Region.catch_name) (stmts_tree c.in-Region.catch_body.items) (headed c.args.s.now.kind c.in-Region.label c.in-Region.caps c.in-Region.captures c.in-Region.body c.in-Region.catch_name c.in-Region.catch_body c.deref.result.now c.deref-in-Region.result.now c.in-Region.is c.deref.ensures c.deref-in-Region.ensures) c.in_ok-inner-in-Region.ensures.meets c.in_ok-inner-in-Region.ensures.keeps c.in_err-inner-in-Region-2.ensures.meets)
 
 pub check_stmt-returns-in-None-clause-meets : goal.check_stmt-returns-in-None-clause-meets
 check_stmt-returns-in-None-clause-meets t c =
@@ -62,7 +62,7 @@ check_stmt-returns-in-Sync-clause-meets t c =
 
 pub check_stmt-returns-in_ok-inner-in-Region-2-clause-meets : goal.check_stmt-returns-in_ok-inner-in-Region-2-clause-meets
 check_stmt-returns-in_ok-inner-in-Region-2-clause-meets t c =
-    Arms.region_fine (decls c.args.known.now) (option_type c.args.want) c.args.c c.args.s.now.at (stmt_form c.args.s.now.kind) c.args.env.now.entries c.in_ok-inner-in-Region.inner c.in_ok-inner-in-Region-2.inner c.check_opened.new.env.entries c.check_catch.new.env.entries (expr_tree c.deref-in-Region.result.now) (expr_tree c.deref-in-Region-2.result.now) (ids_tree c.in-Region.captures.items) (stmts_tree c.in-Region.body.items) (id_tree c.in-Region.catch_name) (stmts_tree c.in-Region.catch_body.items) (headed c.args.s.now.kind c.in-Region.label c.in-Region.caps c.in-Region.captures c.in-Region.body c.in-Region.catch_name c.in-Region.catch_body c.deref-in-Region.result.now c.deref-in-Region-2.result.now c.in-Region.is c.deref-in-Region.ensures c.deref-in-Region-2.ensures) c.in_ok-inner-in-Region.ensures.meets c.in_ok-inner-in-Region.ensures.keeps c.in_ok-inner-in-Region-2.ensures.meets c.in_ok-inner-in-Region-2.ensures.keeps
+    Arms.region_fine (decls c.args.known.now) (option_type c.args.want) c.args.c c.args.s.now.at (stmt_form c.args.s.now.kind) c.args.env.now.entries c.in_ok-inner-in-Region.inner c.in_ok-inner-in-Region-2.inner c.check_opened.new.env.entries c.check_catch.new.env.entries (expr_tree c.deref.result.now) (expr_tree c.deref-in-Region.result.now) (ids_tree c.in-Region.captures.items) (stmts_tree c.in-Region.body.items) (id_tree c.in-Region.catch_name) (stmts_tree c.in-Region.catch_body.items) (headed c.args.s.now.kind c.in-Region.label c.in-Region.caps c.in-Region.captures c.in-Region.body c.in-Region.catch_name c.in-Region.catch_body c.deref.result.now c.deref-in-Region.result.now c.in-Region.is c.deref.ensures c.deref-in-Region.ensures) c.in_ok-inner-in-Region.ensures.meets c.in_ok-inner-in-Region.ensures.keeps c.in_ok-inner-in-Region-2.ensures.meets c.in_ok-inner-in-Region-2.ensures.keeps
 
 pub check_stmt-returns-in-Return-clause-meets : goal.check_stmt-returns-in-Return-clause-meets
 check_stmt-returns-in-Return-clause-meets t c = Arms.steps_form (decls c.args.known.now) (option_type c.args.want) c.args.c c.args.s.now.at (stmt_form c.args.s.now.kind) c.args.env.now.entries c.check_return.result c.args.env.now.entries (return_stmt (option_expr_tree c.in-Return.e)) (ap stmt_form c.in-Return.is) c.check_return.ensures
