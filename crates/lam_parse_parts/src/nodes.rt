@@ -57,7 +57,16 @@ pub fn make_call(alloc: Global, name: &Token, args: Vec<Expr>) -> Result<Box<Exp
 {
     let at = name.at;
     let name = name_of(alloc, name)?;
+    let args = fitted(args);
     Ok(make_node(alloc, at, ExprKind::Call { name, args })?)
+}
+
+/// Arguments in no more room than they take: they stand as long as the program, and most calls have one or two.
+fn fitted(mut args: Vec<Expr>) -> Vec<Expr>
+    ensures { result.items ≡ args.items }
+{
+    args.shrink_to_fit();
+    args
 }
 
 /// A node at a position.
