@@ -1,19 +1,14 @@
 -- What reading a part of a program gives.
-use Rattle.std.specs.Prelude.{ℕ, List, [], ◌∷◌, Option, Some, None, Vec, Result, Ok, Err, slice_get}
+use Rattle.std.specs.Prelude.{ℕ, List, Option, Some, None, Vec, Result}
 use Rattle.std.specs.declared.alloc.Global.{Global}
-use Rattle.grammar_laws.specs.Grammar.{Reads}
-use Rattle.grammar_laws.specs.Texts.{limited}
 use Rattle.lam_lexer.specs.declared.token.Token.{Token}
 use Rattle.lam_syntax.specs.declared.TypeExpr.{TypeExpr}
 use Rattle.lam_syntax.specs.declared.Stmt.{Stmt}
 use Rattle.lam_syntax.specs.declared.Item.{Item}
-use Rattle.lam_syntax.specs.declared.Program.{Program}
-use Rattle.lam_syntax.specs.Tree.{id_tree, type_tree, stmts_tree, else_tree, item_tree, program_tree}
+use Rattle.lam_syntax.specs.Tree.{id_tree, type_tree, stmts_tree, else_tree, item_tree}
 use Rattle.lam_grammar.specs.Table.{block, handler, else_part, result_part, item}
-use Rattle.lam_grammar.specs.Meaning.{Value, nothing, word, type_value, stmts_value, else_value, handler_value, item_value, items_value}
-use Rattle.lam_grammar.specs.Program.{lam, program}
+use Rattle.lam_grammar.specs.Meaning.{Value, nothing, type_value, stmts_value, else_value, handler_value, item_value}
 use Rattle.lam_reading.specs.declared.breaks.Break.{Break}
-use Rattle.lam_reading.specs.Reading.{Fails}
 use Rattle.lam_parse_parts.specs.Variables.{ReadsPart}
 use Rattle.lam_parse_stmts.specs.declared.nodes.Handler.{Handler}
 
@@ -36,8 +31,3 @@ ReadsResult tokens i x = ReadsPart (Option TypeExpr) type_or_nothing tokens resu
 
 abbrev pub ReadsItem : List Token → ℕ → Result (Item × ℕ) Break → Type 0
 ReadsItem tokens i x = ReadsPart Item (λ v. item_value (item_tree v)) tokens item 0 i x
-
--- items and the end of the text
-abbrev pub ReadsProgram : List Token → Result (Program × ℕ) Break → Type 0
-ReadsProgram tokens (Ok x) = (w : Token) × Reads lam (limited lam) (slice_get tokens) program nothing 0 0 (items_value (program_tree x.0) ∷ word w ∷ []) x.1 0
-ReadsProgram tokens (Err b) = Fails (slice_get tokens) program 0 0 b

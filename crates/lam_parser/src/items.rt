@@ -4,7 +4,8 @@ ghost use Rattle.std.specs.Prelude.{◌≡◌, true, ◌<◌, ◌≤◌, length,
 ghost use Rattle.lam_grammar.specs.Table as table;
 ghost use Rattle.lam_reading.specs.Classes.{begins_at};
 ghost use Rattle.lam_reading.specs.Reading.{Taken};
-ghost use Rattle.lam_parser.specs.Parts.{ReadsItem, ReadsProgram, ReadsResult};
+ghost use Rattle.lam_parser.specs.Left.{IsFreed, ReadsProgram};
+ghost use Rattle.lam_parser.specs.Parts.{ReadsItem, ReadsResult};
 
 use crate::stmts::block;
 use lam_lexer::Token;
@@ -16,25 +17,42 @@ use std::alloc::Global;
 /// An item that was read, and the token after it.
 type ReadItem = (Item, usize);
 
-/// Items and the end of the text, and the token after it, of which a text has none.
-pub(crate) fn program(alloc: Global, tokens: &[Token]) -> Result<(Program, usize), Break>
-    ensures reads { ReadsProgram tokens.now result }
-    ensures within { IfOk result (λ x. x.1 ≤ length tokens.now) }
+/// Items and the end of the text, and the place behind it. The tokens of what was read are let go of on the way: places
+/// count from the first token that is left.
+pub(crate) fn program(alloc: Global, tokens: &mut Vec<Token>) -> Result<(Program, usize), Break>
+    ensures reads { ReadsProgram tokens.old.items tokens.new.items result }
+    ensures within { IfOk result (λ x. x.1 ≤ length tokens.new.items) }
 {
     let mut items = Vec::new(alloc);
     let mut next = 0;
-    while begins_item(tokens, next) {
-        let (item, end) = item(alloc, tokens, next)?;
+    while begins_item(tokens.as_slice(), next) {
+        let (item, end) = item(alloc, tokens.as_slice(), next)?;
         items.push(item)?;
-        next = end;
+        next = let_go(tokens, end);
     }
-    let Some(_) = take_if(tokens, next, 0, Mark::End)? else {
+    let Some(_) = take_if(tokens.as_slice(), next, 0, Mark::End)? else {
         return Err(Break::Unexpected {
             at: next,
             wanted: Wanted::Item,
         });
     };
     Ok((Program { items }, next + 1))
+}
+
+/// Frees the tokens before an index, where they are as many as the others or more: so all moves together are linear.
+/// Answers the index that the token there has now. One token at least is left, for the place of a fault.
+fn let_go(tokens: &mut Vec<Token>, end: usize) -> usize
+    requires { end ≤ length tokens.old.items }
+    ensures { IsFreed tokens.old.items tokens.new.items end result }
+{
+    let kept = tokens.len() - end;
+    if 0 < kept && kept <= end {
+        tokens.rotate_left(end);
+        tokens.truncate(kept);
+        tokens.shrink_to_fit();
+        return 0;
+    }
+    end
 }
 
 fn begins_item(tokens: &[Token], at: usize) -> bool

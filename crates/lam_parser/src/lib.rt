@@ -2,19 +2,21 @@
 //!
 //! `parse` is the plain descent over the grammar's rules, one small function for each: items and their parts in `items`,
 //! statements with blocks in `stmts`. What contains no block is read by `lam_parse_stmts`, expressions by
-//! `lam_parse_exprs`, types and names by `lam_parse_parts`. It looks at one token ahead and copies no tokens. Items, statements and the other lists
-//! are read by loops; blocks within blocks are read by calls within calls, at most 128 deep, since each counts in the
-//! depth sum.
+//! `lam_parse_exprs`, types and names by `lam_parse_parts`. It looks at one token ahead, copies no tokens, and lets go of
+//! those of the items that it has read. Items, statements and the other lists are read by loops; blocks within blocks are
+//! read by calls within calls, at most 128 deep, since each counts in the depth sum.
 //!
 //! What an answer says is `Parses`, in `specs/Answers.antt`: the tree is exactly the one that the tokens spell,
 //! positions included; the token named as unexpected is the first that continues no program, and something of the
 //! wanted kind could stand in its place; the token named as too deep is the first at which the depth sum passes 128.
 #![tactic(auto)]
 
-ghost use Rattle.std.specs.Prelude.{◌≡◌, slice_get};
+ghost use Rattle.std.specs.Prelude.{◌≡◌, ℕ, List, slice_get};
 ghost use Rattle.lam_grammar.specs.Program as table;
 ghost use Rattle.lam_reading.specs.Reading.{Fails};
 ghost use Rattle.lam_parser.specs.Answers.{Parses, position_at};
+ghost use Rattle.lam_lexer.specs.declared.token.Token.{Token};
+ghost use Rattle.lam_parser.specs.Left.{IsLeft, later};
 
 mod items;
 mod stmts;
@@ -38,21 +40,21 @@ pub enum ParseFault {
     NoMemory,
 }
 
-/// The program that the tokens spell, or the first fault.
-pub fn parse(alloc: Global, tokens: &[Token]) -> Result<Program, ParseFault>
-    ensures { Parses tokens.now result }
+/// The program that the tokens spell, or the first fault. Tokens are let go of as the items that they spell are read.
+pub fn parse(alloc: Global, mut tokens: Vec<Token>) -> Result<Program, ParseFault>
+    ensures { Parses tokens.entry.items result }
 {
-    match program(alloc, tokens) {
+    match program(alloc, &mut tokens) {
         Ok((program, end)) => {
             if end < tokens.len() {
                 return Err(ParseFault::Unexpected {
-                    at: position(tokens, end),
+                    at: position(tokens.as_slice(), end),
                     wanted: Wanted::Mark(Mark::End),
                 });
             }
             Ok(program)
         }
-        Err(stopped) => Err(fault_of(tokens, stopped)),
+        Err(stopped) => Err(fault_of(tokens.as_slice(), stopped)),
     }
 }
 
@@ -69,8 +71,9 @@ fn position(tokens: &[Token], index: usize) -> u64
     }
 }
 
+/// What a break in the tokens that are left says of all of them.
 fn fault_of(tokens: &[Token], stopped: Break) -> ParseFault
-    ensures { Fails (slice_get tokens.now) table.program 0 0 stopped → Parses tokens.now (Err result) }
+    ensures { (all : List Token) → (gone : ℕ) → IsLeft all tokens.now gone → Fails (slice_get all) table.program 0 0 (later gone stopped) → Parses all (Err result) }
 {
     match stopped {
         Break::Unexpected { at, wanted } => ParseFault::Unexpected {
