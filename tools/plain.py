@@ -14,8 +14,8 @@ import sys
 import tempfile
 
 HERE = os.path.dirname(os.path.dirname(os.path.abspath(__file__)))
-CRATES = ['want_of_memory', 'lam_syntax', 'lam_lexer', 'lam_grammar', 'lam_reading', 'lam_parse_parts',
-          'lam_parse_exprs', 'lam_parse_stmts', 'lam_parser', 'lam_print']
+CRATES = ['want_of_memory', 'lam_operators', 'lam_syntax', 'lam_lexer', 'lam_grammar', 'lam_reading',
+          'lam_parse_parts', 'lam_parse_exprs', 'lam_parse_stmts', 'lam_parser', 'lam_print']
 GHOST = re.compile(r'ghost |#!?\[tactic|#\[cycle|(requires|ensures)\b.*\{')
 
 # What the crates call that Rust's standard library has not, or has with other parameters.
@@ -46,8 +46,7 @@ fn main() {
     let bytes = std::fs::read(std::env::args().nth(2).unwrap()).unwrap();
     let text = std::str::from_utf8(&bytes).unwrap();
     let Ok(tokens) = lam_lexer::lex(shim::Global, text) else { panic!() };
-    let Ok(program) = lam_parser::parse(shim::Global, &tokens) else { panic!() };
-    drop(tokens);
+    let Ok(program) = lam_parser::parse(shim::Global, tokens) else { panic!() };
     let Ok(out) = lam_print::print(&program) else { panic!() };
     std::mem::forget(program);
     std::io::Write::write_all(&mut std::io::stdout(), out.as_bytes()).unwrap();

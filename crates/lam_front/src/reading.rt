@@ -48,7 +48,7 @@ fn read_text(alloc: Global, bytes: &[u8]) -> Result<Program, ProgramFault>
         return Err(ProgramFault::NotUtf8);
     };
     let tokens = lex(alloc, text)?;
-    Ok(parse(alloc, tokens.as_slice())?)
+    Ok(parse(alloc, tokens)?)
 }
 
 fn check_text(alloc: Global, bytes: &[u8]) -> Result<Checked, ProgramFault>

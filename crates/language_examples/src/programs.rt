@@ -11,7 +11,7 @@ fn items_of(rt: &HostRuntime, text: &str) -> Result<usize, ParseFault> {
     let Ok(tokens) = lex(rt.alloc(), text) else {
         return Err(ParseFault::NoMemory);
     };
-    let program = parse(rt.alloc(), &tokens)?;
+    let program = parse(rt.alloc(), tokens)?;
     Ok(program.items.len())
 }
 
@@ -80,9 +80,9 @@ fn tokens_beyond_their_end(rt: HostRuntime) -> Result<(), Fail> {
         at: 5,
         kind: TokenKind::Comma,
     })?;
-    let answer = parse(rt.alloc(), &tokens).map(|program| program.items.len());
+    let answer = parse(rt.alloc(), tokens).map(|program| program.items.len());
     assert_eq!(rt; answer, unexpected(5, Wanted::Mark(Mark::End)));
-    let answer = parse(rt.alloc(), &tokens[..0]).map(|program| program.items.len());
+    let answer = parse(rt.alloc(), Vec::new(rt.alloc())).map(|program| program.items.len());
     assert_eq!(rt; answer, unexpected(0, Wanted::Item));
     Ok(())
 }
@@ -90,7 +90,7 @@ fn tokens_beyond_their_end(rt: HostRuntime) -> Result<(), Fail> {
 #[test]
 fn statements_keep_their_places(rt: HostRuntime) -> Result<(), Fail> {
     let tokens = lex(rt.alloc(), "fn f() { (1); }")?;
-    let program = parse(rt.alloc(), &tokens)?;
+    let program = parse(rt.alloc(), tokens)?;
     assert_eq!(rt; program.items.len(), 1);
     let kept = match &program.items[0] {
         Item::Function(f) => match f.body.as_slice() {

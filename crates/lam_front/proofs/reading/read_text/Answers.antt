@@ -1,9 +1,7 @@
-use Rattle.std.proofs.Common.{ℕ, List, Err, chars, subst}
+use Rattle.std.proofs.Common.{ℕ, List, chars, subst}
 use Rattle.std.proofs.lemmas.Result.{err_from_is_err_and}
-use Rattle.lam_lexer.specs.declared.token.Token.{Token}
 use Rattle.lam_lexer.specs.Lexed.{Lexed}
 use Rattle.lam_lexer.specs.Reading.{IsFault}
-use Rattle.lam_parser.specs.Answers.{Parses}
 use Rattle.lam_front.proofs.Found.{not_lexed, not_parsed}
 use Rattle.lam_front.proofs.reading.read_text.Goals as goal
 
@@ -21,4 +19,4 @@ returns-in_err-parse c =
     let f = c.in_err-parse.field-0.0 in
     let ts = c.in_ok-tokens.tokens.items in
     rw p.1
-    (not_parsed c.args.bytes.now ts (record { utf8 = k.1; lexed = subst (λ (t : List ℕ). Lexed (chars t) ts) k.0 c.in_ok-tokens.ensures.exact }) f (subst (λ (x : List Token). Parses x (Err f)) c.as_slice.ensures.value c.in_err-parse.ensures) p.0 p.2)
+    (not_parsed c.args.bytes.now ts (record { utf8 = k.1; lexed = subst (λ (t : List ℕ). Lexed (chars t) ts) k.0 c.in_ok-tokens.ensures.exact }) f c.in_err-parse.ensures p.0 p.2)
