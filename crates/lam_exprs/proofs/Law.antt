@@ -9,7 +9,7 @@ use Rattle.lam_kinds.specs.Written.{written}
 use Rattle.first_breaks.specs.Verdicts.{Fine, Stop, then_on}
 use Rattle.lam_kinds.specs.Breaks.{Break, no_name, arity, Verdict, fit, unequal, mismatch_of}
 use Rattle.lam_builtins.specs.Builtins.{Answer, answers, no_answer, as_first, Signature, answered}
-use Rattle.lam_kinds.specs.Tables.{Names, Fields, Decls, find, signature_named, type_known, form_known, named_if}
+use Rattle.lam_kinds.specs.Tables.{Names, Decls, find, signature_named, type_known, form_known, named_if}
 use Rattle.lam_kinds.specs.Values.{Gives, Breaks, given}
 use Rattle.lam_kinds.specs.declared.types.Got.{Got}
 use Rattle.lam_kinds.specs.declared.fault.TypeFault.{TypeFault}
@@ -65,8 +65,8 @@ operate_fine (Some u) t la ra v w L R p q (l, r) =
 counted_fine : (at m n : ℕ) → m ≡ n → counted at m n ≡ Fine tt
 counted_fine at m n e = ap (λ b. cond b (Fine tt) (Stop (arity at))) (eq-eqb m n e)
 
-field_fine : (d : Decls) (at : ℕ) (c f : Word) (fields : Fields) (t : ValueType) → find c d.classes ≡ Some fields → fields f ≡ Some t → found_field at (field_type d (a_value (object c)) f) ≡ Fine (a_value t)
-field_fine d at c f fields t e h = ap (λ (o : Option Fields). found_field at (field_in o f)) e ∙ ap (found_field at) h
+field_fine : (d : Decls) (at : ℕ) (c f : Word) (fields : Names) (t : ValueType) → find c d.classes ≡ Some fields → find f fields ≡ Some t → found_field at (field_type d (a_value (object c)) f) ≡ Fine (a_value t)
+field_fine d at c f fields t e h = ap (λ (o : Option Names). found_field at (field_in o f)) e ∙ ap (found_field at) h
 
 cap_fine : (env : Names) (x : CapTree) → find x.name.word env ≡ Some tag → cap_tag env x ≡ Fine (a_value tag)
 cap_fine env x e = placed_fine x.name.at (exactly tag) (known x.name.at (find x.name.word env)) (a_value tag) (ap (known x.name.at) e) refl
@@ -221,16 +221,16 @@ pub known_back : (at : ℕ) (o : Option ValueType) (g : Given) → known at o �
 known_back at None g e = absurd cc
 known_back at (Some t) g e = (t, refl, sym (fine_is (a_value t) g e))
 
-class_in_back : (at : ℕ) (o : Option Fields) (f : Word) (k : Given) → found_field at (field_in o f) ≡ Fine k → (fields : Fields) × (t : ValueType) × (o ≡ Some fields) × (fields f ≡ Some t) × (k ≡ a_value t)
+class_in_back : (at : ℕ) (o : Option Names) (f : Word) (k : Given) → found_field at (field_in o f) ≡ Fine k → (fields : Names) × (t : ValueType) × (o ≡ Some fields) × (find f fields ≡ Some t) × (k ≡ a_value t)
 class_in_back at None f k e = absurd cc
-class_in_back at (Some fields) f k e = let p = found_back (fields f) e in (fields, p.0, refl, p.1, p.2)
+class_in_back at (Some fields) f k e = let p = found_back (find f fields) e in (fields, p.0, refl, p.1, p.2)
   where
     found_back : (o : Option ValueType) → found_field at o ≡ Fine k → (t : ValueType) × (o ≡ Some t) × (k ≡ a_value t)
     found_back None e = absurd cc
     found_back (Some t) e = (t, refl, sym (fine_is (a_value t) k e))
 
 field_back : (d : Decls) (at : ℕ) (g : Given) (f : Word) (k : Given) → suits any_class g ≡ true → found_field at (field_type d g f) ≡ Fine k →
-    (c : Word) × (fields : Fields) × (t : ValueType) × (g ≡ a_value (object c)) × (find c d.classes ≡ Some fields) × (fields f ≡ Some t) × (k ≡ a_value t)
+    (c : Word) × (fields : Names) × (t : ValueType) × (g ≡ a_value (object c)) × (find c d.classes ≡ Some fields) × (find f fields ≡ Some t) × (k ≡ a_value t)
 field_back d at (a_value (object c)) f k s e = let p = class_in_back at (find c d.classes) f k e in (c, p.0, p.1, refl, p.2, p.3, p.4)
 field_back d at _ f k s e = absurd cc
 

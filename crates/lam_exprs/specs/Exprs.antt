@@ -8,7 +8,7 @@ use Rattle.lam_builtins.specs.Operators.{operand, operator_type, unary_type}
 use Rattle.first_breaks.specs.Verdicts.{Fine, Stop, then_on}
 use Rattle.lam_kinds.specs.Breaks.{no_name, arity, no_field, Verdict, fit, unequal}
 use Rattle.lam_builtins.specs.Builtins.{Signature, answered}
-use Rattle.lam_kinds.specs.Tables.{Names, Fields, Decls, find, signature_named, type_known, named_if}
+use Rattle.lam_kinds.specs.Tables.{Names, Decls, find, signature_named, type_known, named_if}
 
 abbrev pub at_of : ExprTree → ℕ
 at_of (expr_node at form) = at
@@ -23,9 +23,9 @@ operate None t left right g h = if comparable g h then Fine (a_value t) else Sto
 operate (Some u) t left right g h = then_on (fit left (exactly u) g) (λ _. then_on (fit right (exactly u) h) (λ _. Fine (a_value t)))
 
 -- the field of a class; a class that is not declared has none
-abbrev pub field_in : Option Fields → Word → Option ValueType
+abbrev pub field_in : Option Names → Word → Option ValueType
 field_in None f = None
-field_in (Some fields) f = fields f
+field_in (Some fields) f = find f fields
 
 abbrev pub field_type : Decls → Given → Word → Option ValueType
 field_type d (a_value (object c)) f = field_in (find c d.classes) f

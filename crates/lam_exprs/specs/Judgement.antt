@@ -5,7 +5,7 @@ use Rattle.lam_operators.specs.Words.{Word}
 use Rattle.lam_builtins.specs.Types.{ValueType, int, bool, bytes, tag, label, caps, thread, object, array, Given, a_value, a_null, nothing, Place, exactly, suits, comparable}
 use Rattle.lam_kinds.specs.Written.{written}
 use Rattle.lam_builtins.specs.Builtins.{Signature, answers, answered}
-use Rattle.lam_kinds.specs.Tables.{Names, Fields, Decls, find, signature_named}
+use Rattle.lam_kinds.specs.Tables.{Names, Decls, find, signature_named}
 use Rattle.lam_builtins.specs.Operators.{operand, operator_type, unary_type}
 
 -- the classes in a written type are declared
@@ -14,7 +14,7 @@ abbrev mutual
   IsDeclared d (type_node at form) = IsDeclaredForm d form
 
   pub IsDeclaredForm : Decls → TypeForm → Type 0
-  IsDeclaredForm d (class_type c) = (fields : Fields) × (find c d.classes ≡ Some fields)
+  IsDeclaredForm d (class_type c) = (fields : Names) × (find c d.classes ≡ Some fields)
   IsDeclaredForm d (array_type t) = IsDeclared d t
   IsDeclaredForm d int_type = Unit {0}
   IsDeclaredForm d bool_type = Unit {0}
@@ -50,7 +50,7 @@ abbrev mutual
   IsFormGiven d env (binary_expr op l r) g = Operates (operand op) (λ h. IsGiven d env l h) (λ h. IsGiven d env r h) × (g ≡ a_value (operator_type op))
   IsFormGiven d env (unary_expr op e) g = Fits (exactly (unary_type op)) (λ h. IsGiven d env e h) × (g ≡ a_value (unary_type op))
   IsFormGiven d env (field_expr e f) g =
-      (c : Word) × (fields : Fields) × (t : ValueType) × IsGiven d env e (a_value (object c)) × (find c d.classes ≡ Some fields) × (fields f.word ≡ Some t) × (g ≡ a_value t)
+      (c : Word) × (fields : Names) × (t : ValueType) × IsGiven d env e (a_value (object c)) × (find c d.classes ≡ Some fields) × (find f.word fields ≡ Some t) × (g ≡ a_value t)
   IsFormGiven d env (element_expr e i) g = (t : ValueType) × IsGiven d env e (a_value (array t)) × Fits (exactly int) (λ h. IsGiven d env i h) × (g ≡ a_value t)
   IsFormGiven d env (number_expr n) g = g ≡ a_value int
   IsFormGiven d env (text_expr t) g = g ≡ a_value bytes
@@ -59,7 +59,7 @@ abbrev mutual
   IsFormGiven d env (name_expr x) g = (t : ValueType) × (find x env ≡ Some t) × (g ≡ a_value t)
   IsFormGiven d env (call_expr f args) g =
       (s : Signature) × (first : Given) × (signature_named d f.word ≡ Some s) × AreArgs d env s.takes args first × (g ≡ answered s.answer first)
-  IsFormGiven d env (new_class_expr c) g = (fields : Fields) × (find c.word d.classes ≡ Some fields) × (g ≡ a_value (object c.word))
+  IsFormGiven d env (new_class_expr c) g = (fields : Names) × (find c.word d.classes ≡ Some fields) × (g ≡ a_value (object c.word))
   IsFormGiven d env (new_array_expr t n) g = IsDeclared d t × Fits (exactly int) (λ h. IsGiven d env n h) × (g ≡ a_value (array (written t)))
   IsFormGiven d env (label_expr s i) g = AreTags d env s × AreTags d env i × (g ≡ a_value label)
   IsFormGiven d env (caps_expr items) g = AreTagNames env items × (g ≡ a_value caps)

@@ -1,12 +1,12 @@
 -- One more entry in a table.
-use Rattle.std.proofs.Common.{◌≡◌, ℕ, Bool, true, false, cond, List, [], ◌∷◌, ◌++◌, map, Option, Some, None, is_some, Result, Ok, Err, OnOk, IfErr, refl, sym, ap, ◌∙◌, subst, Bor}
+use Rattle.std.proofs.Common.{◌≡◌, ℕ, Bool, true, false, List, [], ◌∷◌, ◌++◌, map, is_some, Result, Ok, Err, OnOk, IfErr, sym, ap, ◌∙◌, subst, Bor}
 use Rattle.lam_syntax.specs.Tree.{IdTree}
 use Rattle.lam_operators.specs.Words.{Word}
-use Rattle.first_breaks.specs.Verdicts.{Fine, Stop, then_on}
+use Rattle.first_breaks.specs.Verdicts.{Fine, then_on}
 use Rattle.lam_kinds.specs.Breaks.{Verdict}
 use Rattle.lam_builtins.specs.Builtins.{builtin_named}
-use Rattle.lam_kinds.specs.Tables.{find, new_name, function_name, twice_if}
-use Rattle.lam_kinds.specs.Values.{keyed, Breaks, Passes, function_entries, signature}
+use Rattle.lam_kinds.specs.Tables.{new_name, function_name, twice_if}
+use Rattle.lam_kinds.specs.Values.{keyed, Breaks, function_entries, signature}
 use Rattle.lam_kinds.specs.Meets.{Leaves}
 use Rattle.lam_kinds.specs.declared.tables.Callable.{Callable}
 use Rattle.lam_kinds.specs.declared.fault.TypeFault.{TypeFault}

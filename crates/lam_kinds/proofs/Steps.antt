@@ -1,8 +1,8 @@
 -- Breaks go through checks that follow one another.
-use Rattle.std.proofs.Common.{◌≡◌, refl, sym, ap, subst, Result, Ok, Err}
+use Rattle.std.proofs.Common.{◌≡◌, sym, subst}
 use Rattle.first_breaks.specs.Verdicts.{Fine, Stop, then_on}
 use Rattle.lam_kinds.specs.Breaks.{Verdict}
-use Rattle.lam_kinds.specs.Values.{Breaks, IsFault, Passes}
+use Rattle.lam_kinds.specs.Values.{Breaks, IsFault}
 use Rattle.lam_kinds.specs.declared.fault.TypeFault.{TypeFault}
 use Rattle.lam_kinds.specs.declared.fault.TypeFault.TheVariants.{NoMemory}
 

@@ -1,7 +1,6 @@
 -- Look-up in a table is look-up in the list of its entries.
-use Rattle.std.proofs.Common.{◌≡◌, ℕ, suc, ◌+◌, ◌<◌, Bool, true, false, cond, if◌then◌else◌, nat_lt, List, [], ◌∷◌, ◌++◌, length, map, drop, get_or, Option, Some, None, is_some, refl, sym, ap, ◌∙◌, subst, Bor, add-one, arith}
+use Rattle.std.proofs.Common.{◌≡◌, ℕ, suc, ◌+◌, ◌<◌, Bool, true, false, cond, List, [], ◌∷◌, ◌++◌, length, map, drop, get_or, Option, Some, None, is_some, refl, sym, ap, ◌∙◌, subst, Bor, add-one}
 use Rattle.std.proofs.Math.Seq.{drop-cons}
-use Rattle.std.proofs.lemmas.List.{length-map}
 use Rattle.std.specs.Str.{bytes_eq}
 use Rattle.std.specs.Map.{lookup}
 use Rattle.std.specs.Option.{option_map}
@@ -11,10 +10,10 @@ use Rattle.lam_syntax.specs.Tree.{IdTree, VarTree, var_tree, vars_tree}
 use Rattle.lam_operators.specs.Words.{Word}
 use Rattle.lam_builtins.specs.Types.{ValueType}
 use Rattle.lam_kinds.specs.Written.{written}
-use Rattle.lam_kinds.specs.Meets.{or_else, IsAddedField}
-use Rattle.first_breaks.specs.Verdicts.{Fine, Stop, then_on}
+use Rattle.lam_kinds.specs.Meets.{or_else}
+use Rattle.first_breaks.specs.Verdicts.{Fine, then_on}
 use Rattle.lam_kinds.specs.Breaks.{Verdict}
-use Rattle.lam_kinds.specs.Tables.{Names, Decls, typed_name, find, fresh, new_name, room, twice_if, with_var, vars_known}
+use Rattle.lam_kinds.specs.Tables.{Names, Decls, typed_name, typed_names, with_field, with_fields, find, fresh, new_name, room, twice_if, with_var, vars_known}
 use Rattle.lam_kinds.specs.Values.{keyed, Breaks}
 use Rattle.lam_kinds.specs.declared.fault.TypeFault.{TypeFault}
 use Rattle.lam_kinds.proofs.Steps.{stops}
@@ -82,6 +81,10 @@ or_assoc : {A : Type 0} (o p q : Option A) → or_else (or_else o p) q ≡ or_el
 or_assoc None p q = refl
 or_assoc (Some a) p q = refl
 
+or_none : {A : Type 0} (o : Option A) → or_else o None ≡ o
+or_none None = refl
+or_none (Some a) = refl
+
 pub see_push : {V A : Type 0} (see : V → A) (es : List (Bor Word × V)) (k : Bor Word) (v : V) →
     ◌≡◌ {A = List (Word × A)} (map (λ e. (e.0.now, see e.1)) (es ++ (k, v) ∷ [])) (map (λ e. (e.0.now, see e.1)) es ++ (k.now, see v) ∷ [])
 see_push see [] k v = refl
@@ -92,12 +95,11 @@ see_push see (e ∷ es) k v = ap (λ l. (e.0.now, see e.1) ∷ l) (see_push see 
 one_field : (x : Word) (v : Word × ValueType) (rest : Names) → or_else (find x (v ∷ [])) (find x rest) ≡ find x (v ∷ rest)
 one_field x v rest = sym (find_both x (v ∷ []) rest)
 
-pub field_step : (x : Word) (old new : Names) (v : VarTree) (rest : Names) → IsAddedField old v new → or_else (find x new) (find x rest) ≡ or_else (find x old) (find x (typed_name v ∷ rest))
-field_step x old new v rest h =
-    ap (λ o. or_else o (find x rest)) (h x) ∙ or_assoc (find x old) (find x (typed_name v ∷ [])) (find x rest) ∙ ap (or_else (find x old)) (one_field x (typed_name v) rest)
+pub field_new : (old : Names) (v : VarTree) → is_some (find v.name.word old) ≡ false → with_field old v ≡ old ++ typed_name v ∷ []
+field_new old v h = ap (λ b. cond b old (old ++ typed_name v ∷ [])) h
 
-pub field_added : (old new : Names) (v : VarTree) → new ≡ old ++ typed_name v ∷ [] → IsAddedField old v new
-field_added old new v e = λ x. ap (find x) e ∙ find_both x old (typed_name v ∷ [])
+pub field_there : (old : Names) (v : VarTree) → is_some (find v.name.word old) ≡ true → with_field old v ≡ old
+field_there old v h = ap (λ b. cond b old (old ++ typed_name v ∷ [])) h
 
 there : {A : Type 0} (o : Option A) (p : Option A) → is_some o ≡ true → o ≡ or_else o p
 there None p e = absurd cc
@@ -108,13 +110,30 @@ not_there None true v e = absurd cc
 not_there None false v e = refl
 not_there (Some a) b v e = refl
 
--- a name that is there is not added
-pub field_there : (old : Names) (v : VarTree) → is_some (find v.name.word old) ≡ true → IsAddedField old v old
-field_there old v h = λ x. by x (bytes_eq x v.name.word) refl
+-- a name that is there is not found elsewhere
+stays : (old : Names) (v : VarTree) → is_some (find v.name.word old) ≡ true → (x : Word) → find x old ≡ or_else (find x old) (find x (typed_name v ∷ []))
+stays old v h x = by (bytes_eq x v.name.word) refl
   where
-    by : (x : Word) (b : Bool) → bytes_eq x v.name.word ≡ b → find x old ≡ or_else (find x old) (find x (typed_name v ∷ []))
-    by x true e = there (find x old) (find x (typed_name v ∷ [])) (ap (λ w. is_some (find w old)) ((bytes_eq-Decides x v.name.word).0 e) ∙ h)
-    by x false e = not_there (find x old) (bytes_eq x v.name.word) (written v.ty) e
+    by : (b : Bool) → bytes_eq x v.name.word ≡ b → find x old ≡ or_else (find x old) (find x (typed_name v ∷ []))
+    by true e = there (find x old) (find x (typed_name v ∷ [])) (ap (λ w. is_some (find w old)) ((bytes_eq-Decides x v.name.word).0 e) ∙ h)
+    by false e = not_there (find x old) (bytes_eq x v.name.word) (written v.ty) e
+
+find_field : (x : Word) (old : Names) (v : VarTree) → find x (with_field old v) ≡ or_else (find x old) (find x (typed_name v ∷ []))
+find_field x old v = by (is_some (find v.name.word old)) refl
+  where
+    by : (b : Bool) → is_some (find v.name.word old) ≡ b → find x (with_field old v) ≡ or_else (find x old) (find x (typed_name v ∷ []))
+    by true e = ap (find x) (field_there old v e) ∙ stays old v e x
+    by false e = ap (find x) (field_new old v e) ∙ find_both x old (typed_name v ∷ [])
+
+find_fields : (x : Word) (old : Names) (vs : List VarTree) → find x (with_fields old vs) ≡ or_else (find x old) (find x (typed_names vs))
+find_fields x old [] = sym (or_none (find x old))
+find_fields x old (v ∷ vs) =
+    find_fields x (with_field old v) vs ∙ ap (λ o. or_else o (find x (typed_names vs))) (find_field x old v) ∙
+    or_assoc (find x old) (find x (typed_name v ∷ [])) (find x (typed_names vs)) ∙ ap (or_else (find x old)) (one_field x (typed_name v) (typed_names vs))
+
+-- a field of a class has the type with which its name is declared first
+pub find_declared : (x : Word) (vs : List VarTree) → find x (with_fields [] vs) ≡ find x (typed_names vs)
+find_declared x vs = find_fields x [] vs
 
 pub names_step : (vs : List Var) (i : ℕ) (v : Var) → i < length vs → v ≡ get_or vs i v → vars_tree (drop i vs) ≡ var_tree v ∷ vars_tree (drop (i + 1) vs)
 names_step vs i v lt is = ap vars_tree (drop-cons vs i v lt ∙ ap (λ w. w ∷ drop (suc i) vs) (sym is) ∙ ap (λ k. v ∷ drop k vs) (sym (add-one i)))

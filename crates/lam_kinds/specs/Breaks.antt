@@ -1,5 +1,5 @@
 -- Breaks of the typing rules.
-use Rattle.std.specs.Prelude.{ℕ, Bool, if◌then◌else◌, List, Option, Some, None}
+use Rattle.std.specs.Prelude.{ℕ, if◌then◌else◌, Option, Some, None}
 use Rattle.first_breaks.specs.Verdicts as verdicts
 use Rattle.first_breaks.specs.Verdicts.{Fine, Stop}
 use Rattle.lam_syntax.specs.Tree.{TypeTree}

@@ -1,11 +1,10 @@
 -- How the code meets the definitions.
-use Rattle.std.specs.Prelude.{◌≡◌, List, [], ◌∷◌, ◌++◌, Option, Some, None, Result}
-use Rattle.lam_syntax.specs.Tree.{VarTree}
+use Rattle.std.specs.Prelude.{List, Option, Some, None, Result}
 use Rattle.lam_operators.specs.Words.{Word}
 use Rattle.first_breaks.specs.Meets.{LeavesBy, MakesBy, IsFirstBy, HasNoBreakBy}
 use Rattle.lam_kinds.specs.Breaks.{Break, Verdict}
 use Rattle.lam_builtins.specs.Builtins.{Signature}
-use Rattle.lam_kinds.specs.Tables.{Names, Fields, find, typed_name}
+use Rattle.lam_kinds.specs.Tables.{Names}
 use Rattle.lam_kinds.specs.Values.{IsFault, Table, class_entries, function_entries}
 use Rattle.lam_kinds.specs.declared.types.TypeRef.{TypeRef}
 use Rattle.lam_kinds.specs.declared.tables.Callable.{Callable}
@@ -28,7 +27,7 @@ IsFirst f o = IsFirstBy IsFault NoMemory f o
 abbrev pub HasNoBreak : {A : Type 0} → Result A TypeFault → Type 0
 HasNoBreak r = HasNoBreakBy NoMemory r
 
-abbrev pub see_classes : Table (Table TypeRef) → List (Word × Fields)
+abbrev pub see_classes : Table (Table TypeRef) → List (Word × Names)
 see_classes m = class_entries m.entries
 
 abbrev pub see_functions : Table Callable → List (Word × Signature)
@@ -37,7 +36,3 @@ see_functions m = function_entries m.entries
 abbrev pub or_else : {A : Type 0} → Option A → Option A → Option A
 or_else (Some a) o = Some a
 or_else None o = o
-
--- a field was added, unless its name was there
-abbrev pub IsAddedField : Names → VarTree → Names → Type 0
-IsAddedField old v new = (x : Word) → find x new ≡ or_else (find x old) (find x (typed_name v ∷ []))

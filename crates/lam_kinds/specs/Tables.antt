@@ -1,12 +1,12 @@
 -- The declared classes and functions, and names that are declared once.
-use Rattle.std.specs.Prelude.{ℕ, Bool, true, false, if◌then◌else◌, nat_lt, List, [], ◌∷◌, ◌++◌, length, map, Option, Some, None, is_some}
+use Rattle.std.specs.Prelude.{ℕ, Bool, if◌then◌else◌, nat_lt, List, [], ◌∷◌, ◌++◌, length, map, Option, Some, None, is_some}
 use Rattle.std.specs.Str.{bytes_eq}
-use Rattle.lam_syntax.specs.Tree.{IdTree, TypeTree, type_node, TypeForm, int_type, bool_type, bytes_type, tag_type, label_type, caps_type, file_type, dir_type, pipe_type, thread_type, class_type, array_type, VarTree, ClassTree, FunctionTree, ItemTree, class_item, function_item, ProgramTree}
+use Rattle.lam_syntax.specs.Tree.{IdTree, TypeTree, type_node, TypeForm, int_type, bool_type, bytes_type, tag_type, label_type, caps_type, file_type, dir_type, pipe_type, thread_type, class_type, array_type, VarTree, ClassTree, FunctionTree, class_item, function_item, ProgramTree}
 use Rattle.lam_operators.specs.Words.{Word}
 use Rattle.lam_builtins.specs.Types.{ValueType, Place, exactly}
 use Rattle.lam_kinds.specs.Written.{written}
 use Rattle.first_breaks.specs.Verdicts.{Fine, Stop, then_on}
-use Rattle.lam_kinds.specs.Breaks.{Break, no_name, twice, too_many, Verdict}
+use Rattle.lam_kinds.specs.Breaks.{no_name, twice, too_many, Verdict}
 use Rattle.lam_builtins.specs.declared.Builtin.{Builtin}
 use Rattle.lam_builtins.specs.Builtins.{Answer, answers, no_answer, Signature, row, builtin_named}
 
@@ -19,12 +19,8 @@ find x (e ∷ es) = if bytes_eq x e.0 then Some e.1 else find x es
 abbrev pub Names : Type 0
 Names = List (Word × ValueType)
 
--- the fields of a class, as a map from names to types
-abbrev pub Fields : Type 0
-Fields = Word → Option ValueType
-
 pub record Decls : Type 0 where
-  pub classes : List (Word × Fields)
+  pub classes : List (Word × Names)
   pub functions : List (Word × Signature)
 
 abbrev pub typed_name : VarTree → Word × ValueType
@@ -33,8 +29,18 @@ typed_name v = (v.name.word, written v.ty)
 abbrev pub typed_names : List VarTree → Names
 typed_names vs = map typed_name vs
 
-abbrev pub fields_of : ClassTree → Fields
-fields_of c = λ x. find x (typed_names c.fields)
+-- one more field; where its name is there, the first counts
+abbrev pub with_field : Names → VarTree → Names
+with_field es v = if is_some (find v.name.word es) then es else es ++ typed_name v ∷ []
+
+-- fields, after those before them
+abbrev pub with_fields : Names → List VarTree → Names
+with_fields es [] = es
+with_fields es (v ∷ vs) = with_fields (with_field es v) vs
+
+-- the fields of a class, in the order of their declaration
+abbrev pub fields_of : ClassTree → Names
+fields_of c = with_fields [] c.fields
 
 abbrev pub answer_of : Option TypeTree → Answer
 answer_of None = no_answer
@@ -46,7 +52,7 @@ places_of vs = map (λ v. exactly (written v.ty)) vs
 abbrev pub signature_of : FunctionTree → Signature
 signature_of f = record { takes = places_of f.params; answer = answer_of f.result }
 
-abbrev pub declared_classes : ProgramTree → List (Word × Fields)
+abbrev pub declared_classes : ProgramTree → List (Word × Names)
 declared_classes [] = []
 declared_classes (class_item c ∷ p) = (c.name.word, fields_of c) ∷ declared_classes p
 declared_classes (function_item f ∷ p) = declared_classes p
@@ -86,11 +92,11 @@ abbrev pub new_name : {A : Type 0} → ℕ → List (Word × A) → IdTree → V
 new_name limit es x = then_on (fresh es x) (λ _. room x.at limit (length es))
 
 -- one more class
-unfoldable pub with_class : List (Word × Fields) → ClassTree → Verdict (List (Word × Fields))
+unfoldable pub with_class : List (Word × Names) → ClassTree → Verdict (List (Word × Names))
 with_class es c = then_on (new_name 1024 es c.name) (λ _. Fine (es ++ (c.name.word, fields_of c) ∷ []))
 
 -- the classes of a program, after those before it
-abbrev pub class_table : List (Word × Fields) → ProgramTree → Verdict (List (Word × Fields))
+abbrev pub class_table : List (Word × Names) → ProgramTree → Verdict (List (Word × Names))
 class_table es [] = Fine es
 class_table es (class_item c ∷ p) = then_on (with_class es c) (λ es. class_table es p)
 class_table es (function_item f ∷ p) = class_table es p

@@ -1,5 +1,5 @@
 -- What the definitions see of the code's values.
-use Rattle.std.specs.Prelude.{◌≡◌, ℕ, List, [], ◌∷◌, ◌++◌, map, take, length, Option, Some, None, Result, string_bytes}
+use Rattle.std.specs.Prelude.{◌≡◌, List, map, take, length, Option, Some, None, Result}
 use Rattle.std.specs.Borrow.{Bor}
 use Rattle.std.specs.declared.hash.FoldHasher.{FoldHasher}
 use Rattle.std.specs.declared.hash.BuildHasherDefault.{BuildHasherDefault}
@@ -12,7 +12,7 @@ use Rattle.lam_kinds.specs.Written.{written}
 use Rattle.first_breaks.specs.Meets.{BreaksBy, PassesBy, MakesBy}
 use Rattle.lam_kinds.specs.Breaks.{Break, no_name, twice, arity, no_field, no_return, too_many, mismatch, Verdict}
 use Rattle.lam_builtins.specs.Builtins.{Answer, answers, no_answer, as_first, Signature}
-use Rattle.lam_kinds.specs.Tables.{Names, Fields, Decls, find}
+use Rattle.lam_kinds.specs.Tables.{Names, Decls}
 use Rattle.lam_kinds.specs.declared.types.TypeRef.{TypeRef}
 use Rattle.lam_kinds.specs.declared.types.TypeRef.TheVariants.{Int, Bool, Bytes, Tag, Label, Caps, File, Dir, Pipe, Thread, Class, Array}
 use Rattle.lam_kinds.specs.declared.types.Got.{Got}
@@ -85,14 +85,14 @@ keyed es = map (λ e. (e.0.now, e.1)) es
 abbrev pub names : List (Bor Word × TypeRef) → Names
 names es = map (λ e. (e.0.now, value_type e.1)) es
 
-abbrev pub fields : Table TypeRef → Fields
-fields m = λ x. find x (names m.entries)
+abbrev pub fields : Table TypeRef → Names
+fields m = names m.entries
 
-abbrev pub option_fields : Option (Bor (Table TypeRef)) → Option Fields
+abbrev pub option_fields : Option (Bor (Table TypeRef)) → Option Names
 option_fields None = None
 option_fields (Some m) = Some (fields m.now)
 
-abbrev pub class_entries : List (Bor Word × Table TypeRef) → List (Word × Fields)
+abbrev pub class_entries : List (Bor Word × Table TypeRef) → List (Word × Names)
 class_entries es = map (λ e. (e.0.now, fields e.1)) es
 
 abbrev pub function_entries : List (Bor Word × Callable) → List (Word × Signature)

@@ -2,10 +2,9 @@
 
 ghost use Rattle.std.specs.Prelude.{◌≡◌, ◌++◌, ◌∷◌, [], IfOk, IfErr, OnOk, None, Some};
 ghost use Rattle.lam_syntax.specs.Tree.{id_tree, type_tree, var_tree, vars_tree, class_tree, function_tree, items_tree, option_type_tree};
-ghost use Rattle.lam_operators.specs.Words.{Word};
-ghost use Rattle.lam_kinds.specs.Tables.{find, fresh, new_name as new_name_break, with_class, class_table as class_table_break, function_name as function_name_break, with_function, function_table as function_table_break, tables_of, type_known, with_var, vars_known, typed_names, signature_of, places_of, answer_of};
-ghost use Rattle.lam_kinds.specs.Values.{keyed, names, fields as field_map, class_entries, function_entries, decls, signature, answer, places, value_type, option_type, option_fields, option_signature, Passes};
-ghost use Rattle.lam_kinds.specs.Meets.{Makes, Leaves, see_classes, see_functions, IsAddedField};
+ghost use Rattle.lam_kinds.specs.Tables.{find, fresh, new_name as new_name_break, with_class, class_table as class_table_break, function_name as function_name_break, with_function, function_table as function_table_break, tables_of, type_known, with_var, vars_known, with_field, with_fields, signature_of, places_of, answer_of};
+ghost use Rattle.lam_kinds.specs.Values.{keyed, names, fields as seen_fields, class_entries, function_entries, decls, signature, answer, places, value_type, option_type, option_fields, option_signature, Passes};
+ghost use Rattle.lam_kinds.specs.Meets.{Makes, Leaves, see_classes, see_functions};
 ghost use Rattle.lam_kinds.specs.declared.fault.TypeFault.TheVariants.{NoMemory as no_memory};
 
 use crate::builtins::Returns;
@@ -104,7 +103,7 @@ pub fn add_name<'a, V: Drop>(
 }
 
 fn add_field<'a>(all: &mut Fields<'a>, v: &'a Var) -> Result<(), TypeFault>
-    ensures ok { OnOk result (IsAddedField (names all.old.entries) (var_tree v.now) (names all.new.entries)) }
+    ensures ok { OnOk result (names all.new.entries ≡ with_field (names all.old.entries) (var_tree v.now)) }
     ensures err { IfErr result (λ f. f ≡ no_memory) }
 {
     if !all.contains_key(v.name.name.as_str()) {
@@ -115,7 +114,7 @@ fn add_field<'a>(all: &mut Fields<'a>, v: &'a Var) -> Result<(), TypeFault>
 
 // The fields of a class, of which the first of a name counts.
 fn fields_of<'a>(alloc: Global, vars: &'a [Var]) -> Result<Fields<'a>, TypeFault>
-    ensures ok { IfOk result (λ m. (x : Word) → field_map m x ≡ find x (typed_names (vars_tree vars.now))) }
+    ensures ok { IfOk result (λ m. seen_fields m ≡ with_fields [] (vars_tree vars.now)) }
     ensures err { IfErr result (λ f. f ≡ no_memory) }
 {
     let mut all = IndexMap::new(alloc);

@@ -7,7 +7,8 @@ use Rattle.lam_operators.specs.Words.{Word}
 use Rattle.lam_builtins.specs.Types.{ValueType}
 use Rattle.lam_kinds.specs.Written.{written}
 use Rattle.lam_builtins.specs.Builtins.{Signature}
-use Rattle.lam_kinds.specs.Tables.{Fields, find, typed_names, fields_of, answer_of, places_of, signature_of, declared, declared_classes, declared_functions}
+use Rattle.lam_kinds.specs.Tables.{Names, find, typed_names, fields_of, answer_of, places_of, signature_of, declared, declared_classes, declared_functions}
+use Rattle.lam_kinds.proofs.TableLemmas.{find_declared}
 use Rattle.lam_exprs.specs.Judgement.{IsDeclared}
 use Rattle.lam_types.specs.Judgement.{AllDeclared, IsResult, AllItems}
 use Rattle.resolved_tree.specs.Tree.{ResolvedType}
@@ -57,7 +58,7 @@ var_found cs (v ∷ vs) (u ∷ us) n x ty (e, k, h) f = by (bytes_eq x u.0) (ap 
 
 -- ---- the tables exist
 
-class_found : (p : ProgramTree) (n : ℕ) (c : Word) (fields : Fields) → find c (declared_classes p) ≡ Some fields → Has (found_from n c (class_names p)) (λ k. Unit {0})
+class_found : (p : ProgramTree) (n : ℕ) (c : Word) (fields : Names) → find c (declared_classes p) ≡ Some fields → Has (found_from n c (class_names p)) (λ k. Unit {0})
 class_found [] n c fields f = absurd cc
 class_found (function_item q ∷ p) n c fields f = class_found p n c fields f
 class_found (class_item k ∷ p) n c fields f = by (bytes_eq c k.name.word) f (λ f. class_found p (n + 1) c fields f)
@@ -124,16 +125,16 @@ tables_exist p h =
 
 -- ---- and tie what is declared to its number
 
-record ClassPlace (cs : List (Word × Unit {0})) (p : ProgramTree) (css : List (List (Word × ResolvedType))) (n : ℕ) (c : Word) (fields : Fields) (k : Found (Unit {0})) : Type 0 where
+record ClassPlace (cs : List (Word × Unit {0})) (p : ProgramTree) (css : List (List (Word × ResolvedType))) (n : ℕ) (c : Word) (fields : Names) (k : Found (Unit {0})) : Type 0 where
   at : ℕ
   number : k.number ≡ n + at
   vars : List (Word × ResolvedType)
   in_tables : slice_get css at ≡ Some vars
   named : slice_get (class_words p) at ≡ Some c
   fields_named : slice_get (field_words p) at ≡ Some (map (λ v. v.0) vars)
-  typed : (f : Word) (ty : ValueType) → fields f ≡ Some ty → Has (found f vars) (λ k. numbered cs ty ≡ Some k.it)
+  typed : (f : Word) (ty : ValueType) → find f fields ≡ Some ty → Has (found f vars) (λ k. numbered cs ty ≡ Some k.it)
 
-class_place : (cs : List (Word × Unit {0})) (p : ProgramTree) (css : List (List (Word × ResolvedType))) (n : ℕ) (c : Word) (fields : Fields) → resolve_classes cs p ≡ Some css → find c (declared_classes p) ≡ Some fields →
+class_place : (cs : List (Word × Unit {0})) (p : ProgramTree) (css : List (List (Word × ResolvedType))) (n : ℕ) (c : Word) (fields : Names) → resolve_classes cs p ≡ Some css → find c (declared_classes p) ≡ Some fields →
     Has (found_from n c (class_names p)) (λ k. ClassPlace cs p css n c fields k)
 class_place cs [] css n c fields e f = absurd cc
 class_place cs (function_item q ∷ p) css n c fields e f =
@@ -158,7 +159,7 @@ class_place cs (class_item q ∷ p) css n c fields e f =
           in_tables = refl;
           named = ap (λ (x : Word). Some x) (sym (same_word c q.name.word m));
           fields_named = ap (λ (l : List Word). Some l) (sym (vars_named_same cs q.fields us same));
-          typed = λ x ty g. var_found cs q.fields us 0 x ty same (ap (λ (fs : Fields). fs x) is ∙ g);
+          typed = λ x ty g. var_found cs q.fields us 0 x ty same (sym (find_declared x q.fields) ∙ ap (find x) is ∙ g);
         })
     by us css same false m f again =
         weaker (again f)

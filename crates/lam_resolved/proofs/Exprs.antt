@@ -168,8 +168,8 @@ module _ (d : Decls) (t : Tables) (p : Heads) (w : Words) (tied : AreTied d t p 
           reads = ap (λ y. record { name = id_as y; plus = x.plus } ∷ caps_named ws cs) (word_is ws l.slot x.name.word k.named) ∙ ap (λ rest. record { name = unplaced_id x.name; plus = x.plus } ∷ rest) ks.reads;
         })))
 
-    field_is : (at : ℕ) (e : ExprTree) (f : IdTree) (x : Word) (n : ℕ) (v : Value) (fields : Word → Option ValueType) (ty : ValueType) (g : Given) →
-        IsValue e (a_value (object x)) v → v.gives ≡ a_value (object n) → IsClassAt t p w.classes w.fields x fields n → fields f.word ≡ Some ty → g ≡ a_value ty →
+    field_is : (at : ℕ) (e : ExprTree) (f : IdTree) (x : Word) (n : ℕ) (v : Value) (fields : Names) (ty : ValueType) (g : Given) →
+        IsValue e (a_value (object x)) v → v.gives ≡ a_value (object n) → IsClassAt t p w.classes w.fields x fields n → find f.word fields ≡ Some ty → g ≡ a_value ty →
         Has (field_read t v.it v.gives f.word) (λ v. IsValue (expr_node at (field_expr e f)) g v)
     field_is at x' f x n v fields ty g h is k found_field gives =
         subst (λ (q : ResolvedGiven). Has (field_read t v.it q f.word) (λ v. IsValue (expr_node at (field_expr x' f)) g v)) (sym is)

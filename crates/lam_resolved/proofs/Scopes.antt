@@ -4,7 +4,7 @@ use Rattle.std.specs.Prelude.{slice_get}
 use Rattle.lam_operators.specs.Words.{Word}
 use Rattle.lam_builtins.specs.Types.{ValueType}
 use Rattle.lam_builtins.specs.Builtins.{Signature, Answer, answers, no_answer, as_first}
-use Rattle.lam_kinds.specs.Tables.{Names, Fields, Decls, find}
+use Rattle.lam_kinds.specs.Tables.{Names, Decls, find}
 use Rattle.region_check.specs.Legal.{IsReached}
 use Rattle.resolved_tree.specs.Tree.{ResolvedType}
 use Rattle.resolved_tree.specs.Typing.{Head, Heads, Use, a_local, Scope, exact_places}
@@ -13,13 +13,13 @@ use Rattle.lam_resolved.proofs.Has.{Has}
 use Rattle.lam_resolved.proofs.SameTypes.{SamePlaces}
 
 -- class c has the number n, by all tables and in the names that are put back
-pub record IsClassAt (t : Tables) (p : Heads) (classes : List Word) (all_fields : List (List Word)) (c : Word) (fields : Fields) (n : ℕ) : Type 0 where
+pub record IsClassAt (t : Tables) (p : Heads) (classes : List Word) (all_fields : List (List Word)) (c : Word) (fields : Names) (n : ℕ) : Type 0 where
   pub vars : List (Word × ResolvedType)
   pub in_tables : slice_get t.classes n ≡ Some vars
   pub in_heads : slice_get p.classes n ≡ Some (types_of vars)
   pub named : slice_get classes n ≡ Some c
   pub fields_named : slice_get all_fields n ≡ Some (map (λ v. v.0) vars)
-  pub typed : (f : Word) (ty : ValueType) → fields f ≡ Some ty → Has (found f vars) (λ k. numbered t.names ty ≡ Some k.it)
+  pub typed : (f : Word) (ty : ValueType) → find f fields ≡ Some ty → Has (found f vars) (λ k. numbered t.names ty ≡ Some k.it)
 
 abbrev pub SameResult : List (Word × Unit {0}) → Answer → Option ResolvedType → Type 0
 SameResult cs (answers t) r = (u : ResolvedType) × (numbered cs t ≡ Some u) × (r ≡ Some u)
@@ -34,7 +34,7 @@ pub record IsFunctionAt (t : Tables) (p : Heads) (functions : List Word) (f : Wo
   pub named : slice_get functions h.number ≡ Some f
 
 pub record AreTied (d : Decls) (t : Tables) (p : Heads) (classes : List Word) (all_fields : List (List Word)) (functions : List Word) : Type 0 where
-  pub class_at : (c : Word) (fields : Fields) → find c d.classes ≡ Some fields → Has (found c t.names) (λ n. IsClassAt t p classes all_fields c fields n.number)
+  pub class_at : (c : Word) (fields : Names) → find c d.classes ≡ Some fields → Has (found c t.names) (λ n. IsClassAt t p classes all_fields c fields n.number)
   pub function_at : (f : Word) (s : Signature) → find f d.functions ≡ Some s → Has (found f t.functions) (λ h. IsFunctionAt t p functions f s h)
 
 -- a local of slot l.slot: its type, its use, its name

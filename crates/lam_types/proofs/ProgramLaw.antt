@@ -1,21 +1,19 @@
 -- A program is typed exactly where there is no break in it.
-use Rattle.std.proofs.Common.{◌≡◌, ℕ, suc, ◌+◌, ◌<◌, ◌≤◌, Bool, true, false, cond, not, ◌&&◌, List, [], ◌∷◌, ◌++◌, length, map, Option, Some, None, is_some, refl, sym, ap, ◌∙◌, subst, arith, append_assoc, length-append}
-use Rattle.lam_syntax.specs.Tree.{IdTree, TypeTree, VarTree, ClassTree, FunctionTree, ItemTree, class_item, function_item, ProgramTree, StmtList}
+use Rattle.std.proofs.Common.{◌≡◌, ℕ, ◌+◌, ◌<◌, ◌≤◌, Bool, true, false, cond, not, ◌&&◌, List, [], ◌∷◌, ◌++◌, length, Option, Some, None, is_some, refl, sym, ap, ◌∙◌, arith, append_assoc}
+use Rattle.lam_syntax.specs.Tree.{IdTree, TypeTree, VarTree, ClassTree, FunctionTree, class_item, function_item, ProgramTree, StmtList}
 use Rattle.lam_operators.specs.Words.{Word}
-use Rattle.lam_builtins.specs.Types.{ValueType}
-use Rattle.lam_kinds.specs.Written.{written}
 use Rattle.first_breaks.specs.Verdicts.{Fine, Stop, then_on, first_break}
-use Rattle.lam_kinds.specs.Breaks.{Break, no_return, twice, Verdict}
+use Rattle.lam_kinds.specs.Breaks.{no_return, Verdict}
 use Rattle.lam_builtins.specs.Builtins.{Signature, builtin_named}
-use Rattle.lam_kinds.specs.Tables.{Names, Fields, Decls, find, typed_name, typed_names, fresh, room, twice_if, new_name, with_class, class_table, function_name, with_function, function_table, tables_of, with_var, vars_known, type_known, fields_of, signature_of, declared, declared_classes, declared_functions}
-use Rattle.lam_exprs.specs.Judgement.{IsDeclared}
+use Rattle.lam_kinds.specs.Tables.{Names, Decls, typed_name, typed_names, fresh, room, twice_if, new_name, with_class, class_table, function_name, with_function, function_table, tables_of, with_var, vars_known, type_known, with_fields, fields_of, signature_of, declared, declared_classes, declared_functions}
+use Rattle.lam_kinds.proofs.TableLemmas.{field_new}
 use Rattle.lam_exprs.proofs.Law.{on, then_back, fine_is, declared_fine, declared_back}
 use Rattle.lam_types.specs.declared.stmts.Counts.{Counts}
 use Rattle.lam_types.specs.Endings.{ends}
-use Rattle.lam_types.specs.Stmts.{block_checked, stmts_checked, closed, State}
-use Rattle.lam_types.specs.Program.{result_type, result_known, returns, at_head, function_checked, class_checked, item_checked, items_checked, program_checked, first_type_break}
-use Rattle.lam_types.specs.Judgement.{slots_of, regions_of, regions_of_program, IsNew, IsBlock, Differ, AllDeclared, AreVars, IsResult, EndsWith, IsFunction, IsItem, AllItems, NoBuiltin, AreTables, IsTyped}
-use Rattle.lam_types.proofs.Law.{fresh_fine, fresh_back, room_fine, room_back, more, same_counts, closed_fine, closed_back, after_all, block_fine, block_back, Fit, Sound}
+use Rattle.lam_types.specs.Stmts.{block_checked, stmts_checked}
+use Rattle.lam_types.specs.Program.{result_type, result_known, returns, at_head, function_checked, class_checked, items_checked, program_checked, first_type_break}
+use Rattle.lam_types.specs.Judgement.{slots_of, regions_of, regions_of_program, IsNew, Differ, AllDeclared, AreVars, IsResult, EndsWith, IsFunction, AllItems, NoBuiltin, AreTables, IsTyped}
+use Rattle.lam_types.proofs.Law.{fresh_fine, fresh_back, room_fine, room_back, more, closed_fine, closed_back, after_all, block_fine, block_back}
 
 -- ---- names that are declared once
 
@@ -61,9 +59,18 @@ vars_back d limit es (v ∷ vs) new l e =
 pub vars_few : (d : Decls) (limit : ℕ) (vs : List VarTree) (new : Names) → vars_known d limit [] vs ≡ Fine new → length vs ≤ limit
 vars_few d limit vs new e = let w = vars_back d limit [] vs new (omega arith) e in omega (arith, w.1)
 
+-- in a typed program the fields of a class are those that it declares, in their order
+in_order : (es : Names) (vs : List VarTree) → Differ es (typed_names vs) → with_fields es vs ≡ es ++ typed_names vs
+in_order es [] n = sym (no_more es)
+in_order es (v ∷ vs) (n, m) =
+    ap (λ (l : Names). with_fields l vs) (field_new es v (ap is_some n)) ∙ in_order (es ++ typed_name v ∷ []) vs m ∙ append_assoc es (typed_name v ∷ []) (typed_names vs)
+
+pub fields_in_order : (d : Decls) (c : ClassTree) → AreVars d 256 c.fields → fields_of c ≡ typed_names c.fields
+fields_in_order d c (n, l, h) = in_order [] c.fields n
+
 -- classes
 
-classes_fine : (es : List (Word × Fields)) (p : ProgramTree) → Differ es (declared_classes p) → length es + length (declared_classes p) ≤ 1024 → class_table es p ≡ Fine (es ++ declared_classes p)
+classes_fine : (es : List (Word × Names)) (p : ProgramTree) → Differ es (declared_classes p) → length es + length (declared_classes p) ≤ 1024 → class_table es p ≡ Fine (es ++ declared_classes p)
 unfolding with_class
 classes_fine es [] n l = ap Fine (sym (no_more es))
 classes_fine es (class_item c ∷ p) (n, m) l =
@@ -72,16 +79,16 @@ classes_fine es (class_item c ∷ p) (n, m) l =
     (classes_fine (es ++ (c.name.word, fields_of c) ∷ []) p m (omega (arith, length_push es (c.name.word, fields_of c))) ∙ ap Fine (append_assoc es ((c.name.word, fields_of c) ∷ []) (declared_classes p)))
 classes_fine es (function_item f ∷ p) n l = classes_fine es p n l
 
-classes_back : (es : List (Word × Fields)) (p : ProgramTree) (new : List (Word × Fields)) → length es ≤ 1024 → class_table es p ≡ Fine new →
+classes_back : (es : List (Word × Names)) (p : ProgramTree) (new : List (Word × Names)) → length es ≤ 1024 → class_table es p ≡ Fine new →
     Differ es (declared_classes p) × (length es + length (declared_classes p) ≤ 1024) × (new ≡ es ++ declared_classes p)
 unfolding with_class
 classes_back es [] new l e = (tt, omega arith, sym (fine_is es new e) ∙ sym (no_more es))
 classes_back es (class_item c ∷ p) new l e =
-    let one : Word × Fields = (c.name.word, fields_of c) in
+    let one : Word × Names = (c.name.word, fields_of c) in
     let q = then_back (with_class es c) (λ es. class_table es p) new e in
     let r = then_back (new_name 1024 es c.name) (λ _. Fine (es ++ one ∷ [])) q.0 q.1 in
     let n = new_back 1024 es c.name r.0 r.1 in
-    let w = classes_back (es ++ one ∷ []) p new (omega (arith, n.1, length_push es one)) (ap (λ (l : List (Word × Fields)). class_table l p) (fine_is (es ++ one ∷ []) q.0 r.2) ∙ q.2) in
+    let w = classes_back (es ++ one ∷ []) p new (omega (arith, n.1, length_push es one)) (ap (λ (l : List (Word × Names)). class_table l p) (fine_is (es ++ one ∷ []) q.0 r.2) ∙ q.2) in
     ((n.0, w.0), omega (arith, w.1, length_push es one), w.2 ∙ append_assoc es (one ∷ []) (declared_classes p))
 classes_back es (function_item f ∷ p) new l e = classes_back es p new l e
 
@@ -134,7 +141,7 @@ tables_back p d e =
     let c = classes_back [] p q.0 (omega arith) q.1 in
     let f = functions_back [] p r.0 (omega arith) r.1 in
     let i : d ≡ declared p =
-    sym (fine_is (record { classes = q.0; functions = r.0 }) d r.2) ∙ ap (λ (cs : List (Word × Fields)). record { classes = cs; functions = r.0 }) c.2 ∙ ap (λ (fs : List (Word × Signature)). record { classes = declared_classes p; functions = fs }) f.3 in
+    sym (fine_is (record { classes = q.0; functions = r.0 }) d r.2) ∙ ap (λ (cs : List (Word × Names)). record { classes = cs; functions = r.0 }) c.2 ∙ ap (λ (fs : List (Word × Signature)). record { classes = declared_classes p; functions = fs }) f.3 in
     ((c.0, omega (arith, c.1), f.0, f.1, omega (arith, f.2)), i)
 
 -- ---- items

@@ -1,10 +1,9 @@
-use Rattle.std.proofs.Common.{◌≡◌, sym, ap, ◌∙◌, subst, refl, ◌++◌, ◌∷◌, [], List}
+use Rattle.std.proofs.Common.{◌≡◌, ap, ◌∙◌, ◌++◌, ◌∷◌, [], List}
 use Rattle.std.proofs.lemmas.Result.{err_from_is_err_and}
 use Rattle.lam_syntax.specs.declared.Var.{Var}
 use Rattle.lam_syntax.specs.Tree.{class_tree, vars_tree}
-use Rattle.lam_operators.specs.Words.{Word}
 use Rattle.first_breaks.specs.Verdicts.{Fine}
-use Rattle.lam_kinds.specs.Tables.{with_class, fields_of, Fields, find, typed_names}
+use Rattle.lam_kinds.specs.Tables.{Names, with_class, with_fields, fields_of}
 use Rattle.lam_kinds.specs.Values.{fields, class_entries}
 use Rattle.lam_kinds.proofs.Adding.{stops_seen, fine_seen, added, to_leaves}
 use Rattle.lam_kinds.proofs.tables.add_class.Goals as goal
@@ -15,8 +14,8 @@ returns-in_err-new_name c =
     let p = err_from_is_err_and c.from_residual.result c.from_residual.ensures.1 in
     rw (p.1, p.2) (stops_seen fields _ 1024 c.args.classes.now.entries (class_tree c.args.c.now).name _ c.in_err-new_name.ensures)
 
-same_fields : (f : Fields) (vs ws : List Var) → vs ≡ ws → ((x : Word) → f x ≡ find x (typed_names (vars_tree vs))) → f ≡ (λ x. find x (typed_names (vars_tree ws)))
-same_fields f vs ws e h = λ i x. (h x ∙ ap (λ (l : List Var). find x (typed_names (vars_tree l))) e) i
+same_fields : (f : Names) (vs ws : List Var) → vs ≡ ws → f ≡ with_fields [] (vars_tree vs) → f ≡ with_fields [] (vars_tree ws)
+same_fields f vs ws e h = h ∙ ap (λ (l : List Var). with_fields [] (vars_tree l)) e
 
 pub returns : goal.returns
 unfolding with_class

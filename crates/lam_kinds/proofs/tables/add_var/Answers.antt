@@ -1,6 +1,6 @@
-use Rattle.std.proofs.Common.{◌≡◌, sym, ap, ◌∙◌, subst, refl, ◌++◌, ◌∷◌, []}
+use Rattle.std.proofs.Common.{ap, ◌∙◌, ◌++◌, ◌∷◌, []}
 use Rattle.std.proofs.lemmas.Result.{err_from_is_err_and}
-use Rattle.lam_syntax.specs.Tree.{var_tree, id_tree}
+use Rattle.lam_syntax.specs.Tree.{var_tree}
 use Rattle.first_breaks.specs.Verdicts.{Fine, then_on}
 use Rattle.lam_kinds.specs.Breaks.{Verdict}
 use Rattle.lam_kinds.specs.Tables.{with_var, type_known, typed_name}

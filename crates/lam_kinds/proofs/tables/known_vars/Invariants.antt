@@ -1,4 +1,4 @@
-use Rattle.std.proofs.Common.{◌≡◌, drop, []}
+use Rattle.std.proofs.Common.{◌≡◌, drop}
 use Rattle.lam_syntax.specs.Tree.{vars_tree}
 use Rattle.lam_kinds.specs.Tables.{vars_known}
 use Rattle.lam_kinds.specs.Values.{decls, names}
