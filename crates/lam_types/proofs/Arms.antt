@@ -1,11 +1,11 @@
 -- The statements that hold blocks.
-use Rattle.std.proofs.Common.{◌≡◌, ℕ, List, Option, Some, None, Result, Ok, Err, OnOk, Bor, refl, sym, ap, ◌∙◌, subst}
+use Rattle.std.proofs.Common.{◌≡◌, ℕ, List, Option, Result, Ok, Err, OnOk, Bor, sym, ap, ◌∙◌, subst}
 use Rattle.lam_syntax.specs.Tree.{ExprTree, StmtForm, StmtList, ElseTree, no_else, else_block, IdTree, while_stmt, sync_stmt, if_stmt, region_stmt, return_stmt, do_stmt, assign_stmt}
 use Rattle.lam_operators.specs.Words.{Word}
-use Rattle.lam_builtins.specs.Types.{ValueType, Given, int}
-use Rattle.first_breaks.specs.Verdicts.{Fine, Stop, then_on}
+use Rattle.lam_builtins.specs.Types.{ValueType, Given}
+use Rattle.first_breaks.specs.Verdicts.{Fine, then_on}
 use Rattle.lam_kinds.specs.Breaks.{Verdict}
-use Rattle.lam_kinds.specs.Tables.{Names, Decls}
+use Rattle.lam_kinds.specs.Tables.{Decls}
 use Rattle.lam_kinds.specs.Values.{Breaks, names}
 use Rattle.lam_kinds.specs.declared.types.TypeRef.{TypeRef}
 use Rattle.lam_kinds.specs.declared.fault.TypeFault.{TypeFault}

@@ -1,5 +1,5 @@
 -- The last statement of a block.
-use Rattle.std.proofs.Common.{◌≡◌, refl, sym, ap, ◌∙◌, ℕ, suc, zero, ◌+◌, ◌-◌, List, [], ◌∷◌, length, slice_get, arith, Bool, true, false, ◌&&◌, Option, Some, None}
+use Rattle.std.proofs.Common.{◌≡◌, sym, ap, ◌∙◌, ℕ, suc, zero, ◌+◌, ◌-◌, List, [], ◌∷◌, length, slice_get, arith, Bool, true, false, ◌&&◌, Some}
 use Rattle.lam_syntax.specs.declared.Stmt.{Stmt}
 use Rattle.lam_syntax.specs.Tree.{stmts_tree, stmt_tree, StmtForm, if_stmt, ExprTree, StmtList, else_block}
 use Rattle.lam_types.specs.Endings.{ends, ends_stmt, ends_form}

@@ -1,16 +1,16 @@
 -- A function, as the code meets it: xs are its parameters as the code reached them.
-use Rattle.std.proofs.Common.{◌≡◌, ℕ, suc, ◌+◌, ◌≤◌, List, [], ◌∷◌, length, Option, Some, None, Bor, refl, sym, ap, ◌∙◌, subst, arith}
+use Rattle.std.proofs.Common.{◌≡◌, ℕ, suc, ◌≤◌, List, [], ◌∷◌, length, Option, Bor, refl, sym, ap, ◌∙◌, subst, arith}
 use Rattle.lam_syntax.specs.declared.Var.{Var}
 use Rattle.lam_syntax.specs.Tree.{FunctionTree, VarTree, vars_tree}
 use Rattle.lam_operators.specs.Words.{Word}
 use Rattle.lam_builtins.specs.Types.{ValueType}
-use Rattle.first_breaks.specs.Verdicts.{Fine, Stop, then_on}
+use Rattle.first_breaks.specs.Verdicts.{Fine, then_on}
 use Rattle.lam_kinds.specs.Breaks.{Verdict}
 use Rattle.lam_kinds.specs.Tables.{Names, Decls, vars_known}
 use Rattle.lam_kinds.specs.Values.{Breaks, names}
 use Rattle.lam_kinds.specs.declared.types.TypeRef.{TypeRef}
 use Rattle.lam_kinds.specs.declared.fault.TypeFault.{TypeFault}
-use Rattle.lam_kinds.proofs.Steps.{stops, goes_on}
+use Rattle.lam_kinds.proofs.Steps.{stops}
 use Rattle.lam_types.specs.declared.stmts.Counts.{Counts}
 use Rattle.lam_types.specs.Stmts.{block_checked}
 use Rattle.lam_types.specs.Program.{function_checked, returns, result_known, result_type, at_head}

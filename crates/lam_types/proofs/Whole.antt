@@ -1,5 +1,5 @@
 -- A program without a break is typed, as the code meets it.
-use Rattle.std.proofs.Common.{◌≡◌, ℕ, List, Bool, true, false, Option, Some, None, is_none, IsTrue, Result, Ok, Err, IfOk, IfErr, OnOk, refl, sym, ap, ◌∙◌, subst}
+use Rattle.std.proofs.Common.{◌≡◌, ℕ, List, Option, Some, None, is_none, IsTrue, Err, refl, sym, ap, subst}
 use Rattle.lam_syntax.specs.declared.Item.{Item}
 use Rattle.lam_syntax.specs.Tree.{ProgramTree, items_tree}
 use Rattle.first_breaks.specs.Verdicts.{Fine, Stop, first_break}

@@ -1,11 +1,11 @@
 -- Which programs are typed: one rule for each form of the grammar, without positions and without order.
-use Rattle.std.specs.Prelude.{◌≡◌, ℕ, ◌+◌, ◌≤◌, Bool, true, false, is_some, List, [], ◌∷◌, ◌++◌, length, map, Option, Some, None}
-use Rattle.lam_syntax.specs.Tree.{IdTree, TypeTree, VarTree, ClassTree, FunctionTree, ItemTree, class_item, function_item, ProgramTree, ExprTree, StmtTree, stmt_node, StmtForm, let_stmt, if_stmt, while_stmt, return_stmt, throw_stmt, sync_stmt, region_stmt, do_stmt, assign_stmt, StmtList, no_stmts, stmts, ElseTree, no_else, else_block}
+use Rattle.std.specs.Prelude.{◌≡◌, ℕ, ◌+◌, ◌≤◌, true, List, [], ◌∷◌, ◌++◌, length, Option, Some, None}
+use Rattle.lam_syntax.specs.Tree.{IdTree, TypeTree, VarTree, FunctionTree, ItemTree, class_item, function_item, ProgramTree, ExprTree, stmt_node, StmtForm, let_stmt, if_stmt, while_stmt, return_stmt, throw_stmt, sync_stmt, region_stmt, do_stmt, assign_stmt, StmtList, no_stmts, stmts, ElseTree, no_else, else_block}
 use Rattle.lam_operators.specs.Words.{Word}
 use Rattle.lam_builtins.specs.Types.{ValueType, int, bool, label, caps, Given, a_value, Place, exactly, any_object}
 use Rattle.lam_kinds.specs.Written.{written}
 use Rattle.lam_builtins.specs.Builtins.{builtin_named}
-use Rattle.lam_kinds.specs.Tables.{Names, Decls, find, typed_names, declared, declared_classes, declared_functions}
+use Rattle.lam_kinds.specs.Tables.{Names, Decls, find, typed_names, declared}
 use Rattle.lam_exprs.specs.Judgement.{IsDeclared, Fits, IsGiven}
 use Rattle.lam_types.specs.Endings.{ends}
 use Rattle.lam_types.specs.Stmts.{with_local, is_place}

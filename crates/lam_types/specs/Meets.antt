@@ -1,8 +1,5 @@
 -- How the code meets the definitions.
-use Rattle.std.specs.Prelude.{◌≡◌, ℕ, List, ◌++◌, ◌∷◌, [], Option, Some, None, Result, Ok, Err}
-use Rattle.std.specs.Borrow.{Bor}
-use Rattle.lam_operators.specs.Words.{Word}
-use Rattle.lam_builtins.specs.Types.{ValueType}
+use Rattle.std.specs.Prelude.{◌≡◌, ℕ, Result, Ok, Err}
 use Rattle.first_breaks.specs.Verdicts.{Fine}
 use Rattle.lam_kinds.specs.Breaks.{Verdict}
 use Rattle.lam_kinds.specs.Tables.{Names}

@@ -4,13 +4,13 @@
 --   fn f(): int { let x: int = 1; let x: int = 2; return x; }        twice at 34
 --   fn f(): int { }                                                  no return at 3
 --   fn f(x:int):int{return (x+1)*2;}                                 none
-use Rattle.std.specs.Prelude.{◌≡◌, ℕ, Bool, true, false, ◌&&◌, not, if◌then◌else◌, is_some, List, [], ◌∷◌, length, Option, Some, None}
+use Rattle.std.specs.Prelude.{ℕ, ◌&&◌, not, if◌then◌else◌, is_some, [], ◌∷◌, length, Option, Some, None}
 use Rattle.lam_syntax.specs.Tree.{TypeTree, ClassTree, FunctionTree, ItemTree, class_item, function_item, ProgramTree}
 use Rattle.lam_builtins.specs.Types.{ValueType}
 use Rattle.lam_kinds.specs.Written.{written}
 use Rattle.first_breaks.specs.Verdicts.{Fine, Stop, then_on, first_break}
 use Rattle.lam_kinds.specs.Breaks.{Break, no_return, Verdict}
-use Rattle.lam_kinds.specs.Tables.{Decls, Names, type_known, vars_known, tables_of}
+use Rattle.lam_kinds.specs.Tables.{Decls, type_known, vars_known, tables_of}
 use Rattle.lam_types.specs.declared.stmts.Counts.{Counts}
 use Rattle.lam_types.specs.Endings.{ends}
 use Rattle.lam_types.specs.Stmts.{block_checked}

@@ -1,6 +1,6 @@
 -- The first break in a statement, from left to right, and what a statement leaves: the names in scope and the counts.
-use Rattle.std.specs.Prelude.{◌≡◌, ℕ, ◌+◌, ◌++◌, Bool, true, false, if◌then◌else◌, is_some, List, [], ◌∷◌, Option, Some, None}
-use Rattle.lam_syntax.specs.Tree.{IdTree, VarTree, ExprTree, expr_node, ExprForm, field_expr, element_expr, name_expr, StmtTree, stmt_node, StmtForm, let_stmt, if_stmt, while_stmt, return_stmt, throw_stmt, sync_stmt, region_stmt, do_stmt, assign_stmt, StmtList, no_stmts, stmts, ElseTree, no_else, else_block}
+use Rattle.std.specs.Prelude.{ℕ, ◌+◌, ◌++◌, Bool, true, false, is_some, List, [], ◌∷◌, Option, Some, None}
+use Rattle.lam_syntax.specs.Tree.{IdTree, VarTree, ExprTree, expr_node, field_expr, element_expr, name_expr, StmtTree, stmt_node, StmtForm, let_stmt, if_stmt, while_stmt, return_stmt, throw_stmt, sync_stmt, region_stmt, do_stmt, assign_stmt, StmtList, no_stmts, stmts, ElseTree, no_else, else_block}
 use Rattle.lam_operators.specs.Words.{Word}
 use Rattle.lam_builtins.specs.Types.{ValueType, int, bool, label, caps, Given, given_type, Place, exactly, any_object}
 use Rattle.lam_kinds.specs.Written.{written}

@@ -1,5 +1,5 @@
 -- A program without a break keeps the region rules, as the code meets it.
-use Rattle.std.proofs.Common.{◌≡◌, Bool, true, false, Option, Some, None, is_none, IsTrue, Result, Ok, Err, refl, sym, ap, ◌∙◌, subst}
+use Rattle.std.proofs.Common.{◌≡◌, Option, Some, None, is_none, IsTrue, Err, refl, sym, ap, subst}
 use Rattle.lam_syntax.specs.Tree.{ProgramTree}
 use Rattle.first_breaks.specs.Verdicts.{Fine, Stop, first_break}
 use Rattle.region_check.specs.Breaks.{Break, Verdict, program_checked, first_region_break}

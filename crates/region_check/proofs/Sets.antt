@@ -1,5 +1,5 @@
 -- A table of names is the set of its texts.
-use Rattle.std.proofs.Common.{◌≡◌, ℕ, suc, Bool, true, false, cond, ◌||◌, ◌+◌, ◌<◌, List, [], ◌∷◌, ◌++◌, length, take, drop, get_or, map, Option, Some, None, is_some, if◌then◌else◌, refl, sym, ap, ◌∙◌, subst, Bor, add-one, arith}
+use Rattle.std.proofs.Common.{◌≡◌, ℕ, suc, Bool, true, false, cond, ◌||◌, ◌+◌, ◌<◌, List, [], ◌∷◌, ◌++◌, length, take, drop, get_or, if◌then◌else◌, refl, sym, ap, ◌∙◌, subst, Bor, add-one}
 use Rattle.std.proofs.Math.Seq.{drop-cons}
 use Rattle.std.specs.List.{list_any}
 use Rattle.std.specs.Str.{bytes_eq}
@@ -11,7 +11,7 @@ use Rattle.lam_syntax.specs.declared.CapItem.{CapItem}
 use Rattle.lam_syntax.specs.declared.Expr.{Expr}
 use Rattle.lam_syntax.specs.Tree.{ids_tree, id_tree, caps_tree, cap_tree, exprs_tree, expr_tree}
 use Rattle.lam_operators.specs.Words.{Word}
-use Rattle.first_breaks.specs.Verdicts.{Fine, Stop, then_on}
+use Rattle.first_breaks.specs.Verdicts.{Fine, then_on}
 use Rattle.region_check.specs.Breaks.{Verdict, has, with_name, read_checked, caps_checked, capture_checked, captures_checked, expr_checked, exprs_checked}
 use Rattle.region_check.specs.Values.{texts, Breaks, Extends}
 use Rattle.region_check.specs.declared.RegionFault.{RegionFault}

@@ -1,5 +1,5 @@
 -- Breaks go through checks that follow one another.
-use Rattle.std.proofs.Common.{◌≡◌, refl, sym, ap, ◌∙◌, subst}
+use Rattle.std.proofs.Common.{◌≡◌, sym, ap, ◌∙◌, subst}
 use Rattle.first_breaks.specs.Verdicts.{Fine, Stop, then_on}
 use Rattle.region_check.specs.Breaks.{Verdict, both}
 use Rattle.region_check.specs.Values.{Breaks, IsFault}

@@ -1,5 +1,5 @@
 -- What the definitions see of the code's values.
-use Rattle.std.specs.Prelude.{◌≡◌, ℕ, List, map, Option, Result, take, length}
+use Rattle.std.specs.Prelude.{◌≡◌, List, map, Option, Result, take, length}
 use Rattle.std.specs.Borrow.{Bor}
 use Rattle.lam_operators.specs.Words.{Word}
 use Rattle.first_breaks.specs.Meets.{BreaksBy, PassesBy, LeavesBy, MakesBy, IsFirstBy, HasNoBreakBy}

@@ -1,7 +1,7 @@
-use Rattle.std.proofs.Common.{◌≡◌, ap, ◌∙◌}
+use Rattle.std.proofs.Common.{ap, ◌∙◌}
 use Rattle.std.proofs.lemmas.Result.{err_from_is_err_and}
 use Rattle.lam_syntax.proofs.Rows.{call_row, label_row, spawn_row}
-use Rattle.lam_syntax.specs.Tree.{expr_form, expr_tree, exprs_tree, id_tree, label_expr, call_expr}
+use Rattle.lam_syntax.specs.Tree.{expr_form, exprs_tree, id_tree, label_expr, call_expr}
 use Rattle.region_check.specs.Breaks.{exprs_checked}
 use Rattle.region_check.specs.Values.{texts}
 use Rattle.region_check.proofs.Arms.{passes_form, breaks_form, then_passes, spawn_rest}

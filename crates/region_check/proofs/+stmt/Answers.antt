@@ -1,4 +1,4 @@
-use Rattle.std.proofs.Common.{◌≡◌, List, sym, ap, ◌∙◌, Some, None, Option, Box, Vec, Global}
+use Rattle.std.proofs.Common.{◌≡◌, List, sym, ap, ◌∙◌, Option, Box, Vec, Global}
 use Rattle.std.proofs.lemmas.Result.{err_from_is_err_and}
 use Rattle.lam_syntax.specs.declared.Id.{Id}
 use Rattle.lam_syntax.specs.declared.Expr.{Expr}

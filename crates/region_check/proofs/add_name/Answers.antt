@@ -1,4 +1,4 @@
-use Rattle.std.proofs.Common.{◌≡◌, ◌∙◌, sym, refl, ap, subst, List, Bor}
+use Rattle.std.proofs.Common.{◌∙◌, sym, ap, subst, List, Bor}
 use Rattle.std.specs.List.{list_any}
 use Rattle.std.specs.Str.{bytes_eq}
 use Rattle.lam_operators.specs.Words.{Word}

@@ -1,4 +1,4 @@
-use Rattle.std.proofs.Common.{◌≡◌, ◌∙◌, sym, refl, ap}
+use Rattle.std.proofs.Common.{◌∙◌}
 use Rattle.region_check.proofs.Sets.{contains_texts}
 use Rattle.region_check.proofs.has_name.Goals as goal
 

@@ -1,4 +1,4 @@
-use Rattle.std.proofs.Common.{◌≡◌, sym, ap, ◌∙◌, Option, Vec, Global}
+use Rattle.std.proofs.Common.{sym, ap, ◌∙◌, Option, Vec, Global}
 use Rattle.lam_syntax.specs.declared.Stmt.{Stmt}
 use Rattle.lam_syntax.proofs.Rows.{if_row}
 use Rattle.lam_syntax.specs.Tree.{stmt_form, if_stmt, expr_tree, stmts_tree, else_tree}
