@@ -8,8 +8,8 @@ ghost use Rattle.lam_parse_parts.specs.Parts.{IsMember};
 
 use crate::nodes::make_node;
 use lam_lexer::{Token, TokenKind};
-use lam_reading::{Break, Mark, Read, name_of, take};
 use lam_operators::{BinaryOp, UnaryOp};
+use lam_reading::{Break, Mark, Read, name_of, take};
 use lam_syntax::{Expr, ExprKind, Id};
 use std::alloc::{AllocError, Global};
 
