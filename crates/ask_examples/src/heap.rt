@@ -1,7 +1,7 @@
 //! Objects and arrays: the rules of reading, writing, copying and locking.
 
-use crate::run::{Given, notes, sees};
 use std::test::Fail;
+use tool_calls::{Recorded, notes, sees};
 
 const BARRED_WORLD: &str =
     "{\"version\":1,\"tags\":[\"a\",\"v\"],\"tree\":[],\"pipes\":[],\"threads\":[
@@ -21,7 +21,7 @@ fn main(a: tag, v: tag): int {
 }
 ";
 
-const BARRED: Given<'static> = Given {
+const BARRED: Recorded<'static> = Recorded {
     program: BARRED_PROGRAM,
     world: BARRED_WORLD,
     book: "lam book 1\n0 46\n",
@@ -88,7 +88,7 @@ fn main(a: tag): int {
 }
 ";
 
-const SECRECY: Given<'static> = Given {
+const SECRECY: Recorded<'static> = Recorded {
     program: SECRECY_PROGRAM,
     world: SECRECY_WORLD,
     book: "lam book 1\n0 42\n",
@@ -110,7 +110,7 @@ const INTEGRITY_PROGRAM: &str = "fn main(v: tag): int {
 }
 ";
 
-const INTEGRITY: Given<'static> = Given {
+const INTEGRITY: Recorded<'static> = Recorded {
     program: INTEGRITY_PROGRAM,
     world: INTEGRITY_WORLD,
     book: "lam book 1\n0 42\n",
@@ -180,7 +180,7 @@ fn main(a: tag, v: tag): int {
 }
 ";
 
-const LOCKS: Given<'static> = Given {
+const LOCKS: Recorded<'static> = Recorded {
     program: LOCKS_PROGRAM,
     world: BARRED_WORLD,
     book: "lam book 1\n0 45\n",
@@ -202,7 +202,7 @@ fn main(): int {
 }
 ";
 
-const FAULTS: Given<'static> = Given {
+const FAULTS: Recorded<'static> = Recorded {
     program: FAULTS_PROGRAM,
     world: FAULTS_WORLD,
     book: "lam book 1\n0 27\n1 7\n0 20\n",

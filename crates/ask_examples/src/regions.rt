@@ -1,7 +1,7 @@
 //! Regions, faults and capabilities: what may be entered, what is caught, and what goes with a context.
 
-use crate::run::{Given, notes, sees};
 use std::test::Fail;
+use tool_calls::{Recorded, notes, sees};
 
 const ENTERED_WORLD: &str =
     "{\"version\":1,\"tags\":[\"a\",\"v\"],\"tree\":[],\"pipes\":[],\"threads\":[
@@ -19,7 +19,7 @@ fn ask_plus(a: tag): int { region (label{;}, caps{a+}) [] { } catch (e) { } retu
 fn ask_minus(a: tag): int { region (label{;}, caps{a+, a-}) [] { } catch (e) { } return 0; }
 ";
 
-const ENTERED: Given<'static> = Given {
+const ENTERED: Recorded<'static> = Recorded {
     program: ENTERED_PROGRAM,
     world: ENTERED_WORLD,
     book: "lam book 1\n0 6\n1 5\n2 6\n3 8\n",
@@ -42,7 +42,7 @@ fn forget(v: tag): int {
 }
 ";
 
-const LEFT: Given<'static> = Given {
+const LEFT: Recorded<'static> = Recorded {
     program: LEFT_PROGRAM,
     world: LEFT_WORLD,
     book: "lam book 1\n0 18\n1 16\n",
@@ -112,7 +112,7 @@ fn main(): int {
 }
 ";
 
-const NUMBERS: Given<'static> = Given {
+const NUMBERS: Recorded<'static> = Recorded {
     program: NUMBERS_PROGRAM,
     world: NUMBERS_WORLD,
     book: "lam book 1\n0 1303\n",
@@ -125,7 +125,7 @@ fn main(): int {
 }
 ";
 
-const FRAMES: Given<'static> = Given {
+const FRAMES: Recorded<'static> = Recorded {
     program: FRAMES_PROGRAM,
     world: NUMBERS_WORLD,
     book: "lam book 1\n0 6644\n",
@@ -148,7 +148,7 @@ const DEPTH_PROGRAM: &str = "fn down(a: tag, more: int): int {
 fn main(a: tag): int { return down(a, 61); }
 ";
 
-const DEPTH: Given<'static> = Given {
+const DEPTH: Recorded<'static> = Recorded {
     program: DEPTH_PROGRAM,
     world: DEPTH_WORLD,
     book: "lam book 1\n0 1374\n",
@@ -229,7 +229,7 @@ const MINTED_PROGRAM: &str = "fn main(): int {
 }
 ";
 
-const MINTED: Given<'static> = Given {
+const MINTED: Recorded<'static> = Recorded {
     program: MINTED_PROGRAM,
     world: MINTED_WORLD,
     book: "lam book 1\n0 26\n",
@@ -248,7 +248,7 @@ const UNMINTED_PROGRAM: &str = "fn main(a: tag, v: tag): int {
 }
 ";
 
-const UNMINTED: Given<'static> = Given {
+const UNMINTED: Recorded<'static> = Recorded {
     program: UNMINTED_PROGRAM,
     world: UNMINTED_WORLD,
     book: "lam book 1\n0 19\n",

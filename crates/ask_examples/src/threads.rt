@@ -1,7 +1,7 @@
 //! Threads: who is started and joined, and who waits for whom.
 
-use crate::run::{Given, sees, waits};
 use std::test::Fail;
+use tool_calls::{Recorded, sees, waits};
 
 const LOCKED_WORLD: &str = "{\"version\":1,\"tags\":[],\"tree\":[],\"pipes\":[],\"threads\":[
 {\"run\":\"main\",\"args\":[],\"caps\":{\"plus\":[],\"minus\":[]}}
@@ -18,19 +18,19 @@ fn main(): int {
 }
 ";
 
-const LOCKED: Given<'static> = Given {
+const LOCKED: Recorded<'static> = Recorded {
     program: LOCKED_PROGRAM,
     world: LOCKED_WORLD,
     book: "lam book 1\n0 11\n1 4\n",
 };
 
-const JOINED: Given<'static> = Given {
+const JOINED: Recorded<'static> = Recorded {
     program: LOCKED_PROGRAM,
     world: LOCKED_WORLD,
     book: "lam book 1\n0 20\n1 1\n",
 };
 
-const TURNS: Given<'static> = Given {
+const TURNS: Recorded<'static> = Recorded {
     program: LOCKED_PROGRAM,
     world: LOCKED_WORLD,
     book: "lam book 1\n0 11\n1 3\n0 7\n1 15\n0 3\n",
@@ -75,7 +75,7 @@ fn main(a: tag, v: tag): int {
 }
 ";
 
-const SPAWNED: Given<'static> = Given {
+const SPAWNED: Recorded<'static> = Recorded {
     program: SPAWNED_PROGRAM,
     world: SPAWNED_WORLD,
     book: "lam book 1\n0 36\n",
@@ -92,7 +92,7 @@ fn main(a: tag, v: tag): int {
 }
 ";
 
-const REFUSED: Given<'static> = Given {
+const REFUSED: Recorded<'static> = Recorded {
     program: REFUSED_PROGRAM,
     world: SPAWNED_WORLD,
     book: "lam book 1\n0 6\n1 4\n0 23\n1 8\n0 2\n",
@@ -151,7 +151,7 @@ fn main(a: tag, v: tag): int {
 }
 ";
 
-const JOINS: Given<'static> = Given {
+const JOINS: Recorded<'static> = Recorded {
     program: JOINS_PROGRAM,
     world: SPAWNED_WORLD,
     book: "lam book 1\n0 11\n2 7\n1 6\n0 36\n",

@@ -1,8 +1,8 @@
 //! Books that are no runs, texts that are no books, and calls of the outside that fail.
 
-use crate::run::{Faults, Given, Tested, run, run_with};
 use lam_main::Status;
 use std::test::Fail;
+use tool_calls::{Calls, Faults, Recorded, reads, reads_with};
 
 const PROGRAM: &str =
     "fn main(a: tag): int {\n  let x: int = 1;\n  region (label{a;}, caps{}) [x] { say(\"in\"); } catch (e) { say(\"no\"); }\n  return x;\n}\n";
@@ -15,21 +15,21 @@ const SEEN: &str =
 
 const WORDS: [&str; 5] = ["replay", "P", "W", "B", "{}/{}"];
 
-fn with_book(book: &str) -> Given<'_> {
-    Given {
+fn with_book(book: &str) -> Recorded<'_> {
+    Recorded {
         program: PROGRAM,
         world: WORLD,
         book,
     }
 }
 
-fn refused<R: Tested>(rt: &R, book: &str, line: &str) -> Result<(), Fail> {
-    run(rt, with_book(book), &WORDS, Status::Book, line)
+fn refused<R: Calls>(rt: &R, book: &str, line: &str) -> Result<(), Fail> {
+    reads(rt, with_book(book), &WORDS, Status::Book, line)
 }
 
 #[test]
 fn a_turn_of_an_ended_thread(rt: HostRuntime) -> Result<(), Fail> {
-    run(
+    reads(
         &rt,
         with_book("lam book 1\n0 8\n"),
         &WORDS,
@@ -64,10 +64,10 @@ fn the_outside_fails(rt: HostRuntime) -> Result<(), Fail> {
         shelf: &[5],
         sink: &[],
     };
-    run_with(&rt, given, &WORDS, shelf, Status::ShelfFault, "")?;
+    reads_with(&rt, given, &WORDS, shelf, Status::ShelfFault, "")?;
     let sink = Faults {
         shelf: &[],
         sink: &[1],
     };
-    run_with(&rt, given, &WORDS, sink, Status::SinkFault, "")
+    reads_with(&rt, given, &WORDS, sink, Status::SinkFault, "")
 }

@@ -9,8 +9,6 @@ mod audits;
 #[cfg(test)]
 mod books;
 #[cfg(test)]
-mod run;
-#[cfg(test)]
 mod views;
 #[cfg(test)]
 mod worlds;

@@ -1,18 +1,18 @@
 //! Documents that are no worlds: each has the line of its first break.
 
-use crate::run::{Given, Tested, run};
 use lam_main::Status;
 use std::test::Fail;
+use tool_calls::{Calls, Recorded, reads};
 
 const PROGRAM: &str = "fn main(n: int): int { return n; }\n";
 
-fn refused<R: Tested>(rt: &R, world: &str, line: &str) -> Result<(), Fail> {
-    let given = Given {
+fn refused<R: Calls>(rt: &R, world: &str, line: &str) -> Result<(), Fail> {
+    let given = Recorded {
         program: PROGRAM,
         world,
         book: "lam book 1\n",
     };
-    run(rt, given, &["audit", "P", "W", "B"], Status::World, line)
+    reads(rt, given, &["audit", "P", "W", "B"], Status::World, line)
 }
 
 #[test]

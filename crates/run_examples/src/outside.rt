@@ -1,10 +1,9 @@
 //! Calls of the outside that fail.
 
-use crate::given::{ENTERS, ENTRY_SEEN, ONE_WORKER};
-use crate::run::{Tested, has_book, shelf_of, tell};
 use lam_io::OpenGate;
 use lam_main::Status;
 use std::test::Fail;
+use tool_calls::{Calls, ENTERS, ENTRY_SEEN, ONE_WORKER, has_book, store, tell};
 
 const BOOK: &str = "lam book 1\n0 8\n";
 
@@ -13,7 +12,7 @@ const BOOK: &str = "lam book 1\n0 8\n";
 #[test]
 fn shelf_and_sink_fail_in_turn(rt: HostRuntime) -> Result<(), Fail> {
     for failing in [3, 4, 5] {
-        let mut shelf = shelf_of(&rt, ENTERS, [failing].to_vec(rt.alloc())?);
+        let mut shelf = store(&rt, ENTERS, &[failing])?;
         let told = tell(&rt, &mut shelf, &ONE_WORKER, &[], &OpenGate)?;
         assert_eq!(rt; told.text.as_str(), "", "call {failing}");
         assert_eq!(rt; told.status, Status::ShelfFault, "call {failing}");
@@ -23,13 +22,13 @@ fn shelf_and_sink_fail_in_turn(rt: HostRuntime) -> Result<(), Fail> {
 }
 
 /// A call whose output fails at these of its calls ends so, prints this, and writes the book.
-fn book_stands<R: Tested>(
+fn book_stands<R: Calls>(
     rt: &R,
     failing: &[u64],
     status: Status,
     printed: &str,
 ) -> Result<(), Fail> {
-    let mut shelf = shelf_of(rt, ENTERS, Vec::new(rt.alloc()));
+    let mut shelf = store(rt, ENTERS, &[])?;
     let told = tell(rt, &mut shelf, &ONE_WORKER, failing, &OpenGate)?;
     assert_eq!(rt; told.text.as_str(), printed);
     assert_eq!(rt; told.status, status);

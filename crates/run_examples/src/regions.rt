@@ -1,10 +1,12 @@
 //! Regions that are entered, left and refused, by one worker.
 
-use crate::given::{BARE_WORLD, ENTERS, ENTRY_SEEN, HOLDS_BOTH, HOLDS_PLUS, ONE_WORKER};
-use crate::run::{Given, Wanted, prints, run, shelf_of};
 use lam_io::OpenGate;
 use lam_main::Status;
 use std::test::Fail;
+use tool_calls::{
+    BARE_WORLD, ENTERS, ENTRY_SEEN, Given, HOLDS_BOTH, HOLDS_PLUS, ONE_WORKER, Wanted, prints, run,
+    store,
+};
 
 /// A region that the thread may not enter is refused to it, and the thread ends by that.
 #[test]
@@ -47,7 +49,7 @@ const LACKS_MINUS: Given<'static> = Given {
 /// there is none: who sees the secret region sees that the public one is refused in it.
 #[test]
 fn declassification_is_released(rt: HostRuntime) -> Result<(), Fail> {
-    let mut shelf = shelf_of(&rt, RELEASES, Vec::new(rt.alloc()));
+    let mut shelf = store(&rt, RELEASES, &[])?;
     prints(
         &rt,
         &mut shelf,
@@ -65,7 +67,7 @@ fn declassification_is_released(rt: HostRuntime) -> Result<(), Fail> {
         "12 t0 {a}/{} enter {}/{} by +{}-{a}\n",
     )?;
 
-    let mut shelf = shelf_of(&rt, LACKS_MINUS, Vec::new(rt.alloc()));
+    let mut shelf = store(&rt, LACKS_MINUS, &[])?;
     prints(
         &rt,
         &mut shelf,
@@ -92,7 +94,7 @@ const COPIES: Given<'static> = Given {
 /// A copy at a higher label is of the lower one's making, and an index past the end is a fault.
 #[test]
 fn copy_up_and_bad_index(rt: HostRuntime) -> Result<(), Fail> {
-    let mut shelf = shelf_of(&rt, COPIES, Vec::new(rt.alloc()));
+    let mut shelf = store(&rt, COPIES, &[])?;
     prints(
         &rt,
         &mut shelf,

@@ -1,10 +1,9 @@
 //! What an observer sees of runs that handle secrets.
 
-use crate::given::{ONE_WORKER, THREE, ZERO};
-use crate::run::{Given, Wanted, prints, run, shelf_of, tell};
 use lam_io::OpenGate;
 use lam_main::Status;
 use std::test::Fail;
+use tool_calls::{Given, ONE_WORKER, THREE, Wanted, ZERO, prints, run, store, tell};
 
 const LOOP_SEEN: &str =
     "t0 {}/{} enter {a}/{} caps +{}-{} region 0 () = entered\nt0 {}/{} new class 0 = obj<{}/{}|{}/{}|0>\nt0 {}/{} end value 0 = done\n";
@@ -66,7 +65,7 @@ const HOUR_SAID: &str = "t3 {}/{} say \"2\" = done";
 /// Only the hour leaves the two calendars, by one release; and the book shows the same run again.
 #[test]
 fn calendar(rt: HostRuntime) -> Result<(), Fail> {
-    let mut shelf = shelf_of(&rt, CALENDAR, Vec::new(rt.alloc()));
+    let mut shelf = store(&rt, CALENDAR, &[])?;
     let words = ["run", "P", "W", "{}/{}", "B"];
     let told = tell(&rt, &mut shelf, &words, &[], &OpenGate)?;
     assert_eq!(rt; told.status, Status::Done);

@@ -1,10 +1,9 @@
 //! Words that are in no form, and the forms.
 
-use crate::given::ENTERS;
-use crate::run::{Tested, prints, shelf_of};
 use lam_io::{MemShelf, OpenGate};
 use lam_main::Status;
 use std::test::Fail;
+use tool_calls::{Calls, ENTERS, prints, store};
 
 const HELP: &str =
     "lam play FILE OBS\nlam check P\nlam format P\nlam code P\nlam replay P W BOOK OBS\nlam run P W OBS BOOKOUT [--workers N] [--turns N]\nlam audit P W BOOK\nlam make SEED THREADS BOOKOUT\nlam help\n";
@@ -12,7 +11,7 @@ const HELP: &str =
 /// The forms are listed, and words in none of them are refused at the least index at which they agree with none.
 #[test]
 fn bad_words(rt: HostRuntime) -> Result<(), Fail> {
-    let mut shelf = shelf_of(&rt, ENTERS, Vec::new(rt.alloc()));
+    let mut shelf = store(&rt, ENTERS, &[])?;
     prints(&rt, &mut shelf, &["help"], &OpenGate, Status::Done, HELP)?;
     for (words, line) in [
         ([].as_slice(), "lam: 2 word 0\n"),
@@ -33,7 +32,7 @@ fn bad_words(rt: HostRuntime) -> Result<(), Fail> {
 }
 
 /// Numbers that are out of their range, and a word in place of one.
-fn bad_numbers<R: Tested>(rt: &R, shelf: &mut MemShelf) -> Result<(), Fail> {
+fn bad_numbers<R: Calls>(rt: &R, shelf: &mut MemShelf) -> Result<(), Fail> {
     for (option, number) in [
         ("--workers", "0"),
         ("--workers", "17"),
@@ -50,7 +49,7 @@ fn bad_numbers<R: Tested>(rt: &R, shelf: &mut MemShelf) -> Result<(), Fail> {
 }
 
 /// Options without their number, in another order, and an observer with a tag that the world has not.
-fn bad_options<R: Tested>(rt: &R, shelf: &mut MemShelf) -> Result<(), Fail> {
+fn bad_options<R: Calls>(rt: &R, shelf: &mut MemShelf) -> Result<(), Fail> {
     let half = ["run", "P", "W", "{}/{}", "B", "--turns"];
     let line = "lam: 2 word 6\n";
     prints(rt, shelf, &half, &OpenGate, Status::Words, line)?;

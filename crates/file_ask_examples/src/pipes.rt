@@ -1,7 +1,7 @@
 //! Pipes: what may be made, sent and received, and what becomes of a message.
 
-use crate::run::{Given, notes, sees};
 use std::test::Fail;
+use tool_calls::{Recorded, notes, sees};
 
 const PUBLIC_WORLD: &str = "{\"version\":1,\"tags\":[\"a\",\"v\"],\"tree\":[],\"pipes\":[
 {\"name\":\"open\",\"label\":\"{}/{}\"},
@@ -28,7 +28,7 @@ fn read_secret(secret: pipe): int { receive(secret); return 0; }
 fn read_vetted(vetted: pipe): int { receive_caps(vetted); return 0; }
 ";
 
-const PUBLIC: Given<'static> = Given {
+const PUBLIC: Recorded<'static> = Recorded {
     program: PUBLIC_PROGRAM,
     world: PUBLIC_WORLD,
     book: "lam book 1\n0 4\n1 4\n2 4\n3 4\n4 8\n5 8\n6 3\n7 3\n",
@@ -53,7 +53,7 @@ const REGIONS_PROGRAM: &str = "fn main(a: tag, v: tag, open: pipe): int {
 }
 ";
 
-const REGIONS: Given<'static> = Given {
+const REGIONS: Recorded<'static> = Recorded {
     program: REGIONS_PROGRAM,
     world: REGIONS_WORLD,
     book: "lam book 1\n0 52\n",
@@ -141,7 +141,7 @@ fn take(p: pipe, a: tag): int {
 }
 ";
 
-const MESSAGES: Given<'static> = Given {
+const MESSAGES: Recorded<'static> = Recorded {
     program: MESSAGES_PROGRAM,
     world: MESSAGES_WORLD,
     book: "lam book 1\n0 14\n1 28\n",
@@ -177,7 +177,7 @@ fn main(a: tag, p: pipe): int {
 }
 ";
 
-const FULL: Given<'static> = Given {
+const FULL: Recorded<'static> = Recorded {
     program: FULL_PROGRAM,
     world: FULL_WORLD,
     book: "lam book 1\n0 24631\n",
@@ -200,7 +200,7 @@ const LONG_PROGRAM: &str = "fn main(p: pipe): int {
 }
 ";
 
-const LONG: Given<'static> = Given {
+const LONG: Recorded<'static> = Recorded {
     program: LONG_PROGRAM,
     world: LONG_WORLD,
     book: "lam book 1\n0 93\n",

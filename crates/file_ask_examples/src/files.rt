@@ -1,7 +1,7 @@
 //! Files and directories: what may be read and changed, and the faults of entries and of contents.
 
-use crate::run::{Given, sees};
 use std::test::Fail;
+use tool_calls::{Recorded, sees};
 
 const UNREAD_WORLD: &str = "{\"version\":1,\"tags\":[\"a\",\"v\"],\"tree\":[
 {\"path\":\"secret\",\"label\":\"{a}/{}\",\"dir\":true},
@@ -30,7 +30,7 @@ fn text_of(): int { say(read(note(), 0, 9)); return 0; }
 fn size_of(): int { return length(note()); }
 ";
 
-const UNREAD: Given<'static> = Given {
+const UNREAD: Recorded<'static> = Recorded {
     program: UNREAD_PROGRAM,
     world: UNREAD_WORLD,
     book: "lam book 1\n0 9\n1 9\n2 8\n3 8\n4 8\n5 9\n6 7\n",
@@ -56,7 +56,7 @@ const VETTED_PROGRAM: &str = "fn main(v: tag): int {
 }
 ";
 
-const VETTED: Given<'static> = Given {
+const VETTED: Recorded<'static> = Recorded {
     program: VETTED_PROGRAM,
     world: VETTED_WORLD,
     book: "lam book 1\n0 54\n",
@@ -136,7 +136,7 @@ const SECRET_PROGRAM: &str = "fn main(a: tag): int {
 }
 ";
 
-const SECRET: Given<'static> = Given {
+const SECRET: Recorded<'static> = Recorded {
     program: SECRET_PROGRAM,
     world: SECRET_WORLD,
     book: "lam book 1\n0 59\n",
@@ -164,7 +164,7 @@ fn longer(v: tag): int { append(open_file(root(), \"seal\"), \"x\"); return 0; }
 fn shorter(v: tag): int { cut(open_file(root(), \"seal\"), 0); return 0; }
 ";
 
-const UNVETTED: Given<'static> = Given {
+const UNVETTED: Recorded<'static> = Recorded {
     program: UNVETTED_PROGRAM,
     world: UNVETTED_WORLD,
     book: "lam book 1\n0 9\n1 6\n2 8\n3 6\n4 6\n",
@@ -192,7 +192,7 @@ const CONTENTS_PROGRAM: &str = "fn main(a: tag, v: tag): int {
 }
 ";
 
-const CONTENTS: Given<'static> = Given {
+const CONTENTS: Recorded<'static> = Recorded {
     program: CONTENTS_PROGRAM,
     world: CONTENTS_WORLD,
     book: "lam book 1\n0 67\n",
@@ -301,7 +301,7 @@ fn no_name(): int { open_dir(root(), \"/\"); return 0; }
 fn gone(): int { remove(root(), \".\"); return 0; }
 ";
 
-const ENTRIES: Given<'static> = Given {
+const ENTRIES: Recorded<'static> = Recorded {
     program: ENTRIES_PROGRAM,
     world: ENTRIES_WORLD,
     book: "lam book 1\n0 5\n1 5\n2 5\n3 5\n4 4\n5 4\n6 4\n7 4\n",
@@ -325,7 +325,7 @@ fn cut_before(): int { cut(open_file(root(), \"f\"), -1); return 0; }
 fn null_file(): int { return size(read(null, -1, 0)); }
 ";
 
-const PLACES: Given<'static> = Given {
+const PLACES: Recorded<'static> = Recorded {
     program: PLACES_PROGRAM,
     world: PLACES_WORLD,
     book: "lam book 1\n0 9\n1 7\n2 8\n3 7\n4 6\n",
@@ -351,7 +351,7 @@ const REMOVED_PROGRAM: &str = "fn main(): int {
 }
 ";
 
-const REMOVED: Given<'static> = Given {
+const REMOVED: Recorded<'static> = Recorded {
     program: REMOVED_PROGRAM,
     world: REMOVED_WORLD,
     book: "lam book 1\n0 47\n",

@@ -1,11 +1,12 @@
 //! Workers at once: that they are, that the gate's picks are what the run is, and that the book shows the run again.
 
 use crate::gates::{Meets, Mixes, Notes};
-use crate::run::{Given, Tested, book_in, prints, shelf_of, tell};
 use lam_io::MemShelf;
 use lam_main::Status;
+use std::process::Abort;
 use std::sync::atomic::{AtomicU64, Ordering};
 use std::test::Fail;
+use tool_calls::{Calls, Given, book_in, prints, store, tell};
 use turn_book::read_book;
 
 /// Each round of a made thread's loop takes 13 turns and the rest of it 25, and the numbers of the four threads that seed 1
@@ -16,13 +17,13 @@ const TURNS: usize = 26_009;
 const TWO_WORKERS: [&str; 7] = ["run", "P", "W", "{}/{}", "B", "--workers", "2"];
 
 /// A store with the program and the world of four threads that seed 1 makes.
-fn four<R: Tested>(rt: &R) -> Result<MemShelf, Fail> {
+fn four<R: Calls>(rt: &R) -> Result<MemShelf, Fail> {
     let (program, world) = lam_make::make(rt.alloc(), 1, 4)?;
     let given = Given {
         program: program.as_str(),
         world: world.as_str(),
     };
-    Ok(shelf_of(rt, given, Vec::new(rt.alloc())))
+    store(rt, given, &[])
 }
 
 #[test]
@@ -65,13 +66,13 @@ fn picks_make_the_run(rt: HostRuntime) -> Result<(), Fail> {
 }
 
 /// A store with the program and the world of sixty-four threads that seed 1 makes.
-fn sixty_four<R: Tested>(rt: &R) -> Result<MemShelf, Fail> {
+fn sixty_four<R: Calls>(rt: &R) -> Result<MemShelf, Fail> {
     let (program, world) = lam_make::make(rt.alloc(), 1, 64)?;
     let given = Given {
         program: program.as_str(),
         world: world.as_str(),
     };
-    Ok(shelf_of(rt, given, Vec::new(rt.alloc())))
+    store(rt, given, &[])
 }
 
 /// Sixteen workers, whose turns the gate makes depend on which of them is first: whatever run comes, the book shows it
@@ -84,7 +85,7 @@ fn many_workers_one_view(rt: HostRuntime) -> Result<(), Fail> {
 }
 
 /// Runs what the store has, and compares what is printed with what is printed of the book.
-fn runs_and_replays<R: Tested>(rt: &R, shelf: &mut MemShelf) -> Result<(), Fail> {
+fn runs_and_replays<R: Calls + Abort>(rt: &R, shelf: &mut MemShelf) -> Result<(), Fail> {
     let words = [
         "run",
         "P",

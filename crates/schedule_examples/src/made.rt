@@ -1,11 +1,10 @@
 //! Runs of what a number makes.
 
 use crate::gates::Mixes;
-use crate::given::ENTERS;
-use crate::run::{prints, shelf_of};
 use lam_io::OpenGate;
 use lam_main::Status;
 use std::test::Fail;
+use tool_calls::{ENTERS, prints, store};
 
 const SUMMARY: &str = "made 1 2\nsaid 2\nreleases 2\nrefused 0\n";
 
@@ -13,7 +12,7 @@ const SUMMARY: &str = "made 1 2\nsaid 2\nreleases 2\nrefused 0\n";
 #[test]
 fn generated_run_repeats(rt: HostRuntime) -> Result<(), Fail> {
     let words = ["make", "1", "2", "B"];
-    let mut shelf = shelf_of(&rt, ENTERS, Vec::new(rt.alloc()));
+    let mut shelf = store(&rt, ENTERS, &[])?;
     prints(&rt, &mut shelf, &words, &OpenGate, Status::Done, SUMMARY)?;
     prints(&rt, &mut shelf, &words, &Mixes, Status::Done, SUMMARY)
 }
