@@ -1,17 +1,10 @@
-//! Worked examples of the language: tokens, expressions, programs, their canonical text, copies and sameness.
+//! Worked examples of the language: expressions and programs that are read, and the first fault of those that are none. Those of
+//! tokens and of canonical text are in `text_examples`.
 //!
 //! Each runs one call of the crates below. What is expected comes from the language's document, never from the tool.
 #![tactic(auto)]
 
 #[cfg(test)]
-mod copies;
-#[cfg(test)]
 mod expressions;
 #[cfg(test)]
-mod printed;
-#[cfg(test)]
 mod programs;
-#[cfg(test)]
-mod tokens;
-#[cfg(test)]
-mod trees;

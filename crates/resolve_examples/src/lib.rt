@@ -1,4 +1,5 @@
-//! Worked examples of the resolver: programs as text, and the text of the trees that they resolve to.
+//! Worked examples of the resolver: programs as text, and the text of the trees that they resolve to
+//! (`resolved_text`).
 //!
 //! What is expected comes from the language's document: slots in order of appearance, classes, fields, functions and
 //! regions by number.
@@ -6,5 +7,3 @@
 
 #[cfg(test)]
 mod programs;
-#[cfg(test)]
-mod shown;

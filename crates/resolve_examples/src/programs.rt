@@ -1,8 +1,8 @@
 //! Programs, and what they resolve to.
 
-use crate::shown::shown;
 use lam_front::check_program;
 use lam_resolve::resolve;
+use resolved_text::shown;
 use std::test::Fail;
 
 fn resolved(rt: &HostRuntime, text: &str) -> Result<String, Fail> {

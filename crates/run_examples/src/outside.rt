@@ -30,7 +30,6 @@ fn book_stands<R: Calls>(
 ) -> Result<(), Fail> {
     let mut shelf = store(rt, ENTERS, &[])?;
     let told = tell(rt, &mut shelf, &ONE_WORKER, failing, &OpenGate)?;
-    assert_eq!(rt; told.text.as_str(), printed);
-    assert_eq!(rt; told.status, status);
+    told.is_as_wanted(status, printed)?;
     has_book(rt, &mut shelf, BOOK)
 }

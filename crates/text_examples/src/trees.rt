@@ -1,7 +1,9 @@
 //! Trees made by hand.
 
 use lam_operators::BinaryOp;
-use lam_syntax::{Expr, ExprKind, Function, Id, Item, Program, Stmt, StmtKind, TypeExpr, TypeKind, Var, };
+use lam_syntax::{
+    Expr, ExprKind, Function, Id, Item, Program, Stmt, StmtKind, TypeExpr, TypeKind, Var,
+};
 use std::alloc::{AllocError, Global};
 use std::test::Fail;
 

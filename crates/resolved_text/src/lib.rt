@@ -1,12 +1,13 @@
-//! The text of a resolved program. A slot is `#n`; `cn`, `fn` and `rn` are the class, the function and the region of
-//! number n, and `c0.1` is field 1 of class 0.
+//! The text of a resolved program, for the worked examples of the resolver. A slot is `#n`; `cn`, `fn` and `rn` are the class,
+//! the function and the region of number n, and `c0.1` is field 1 of class 0.
+#![tactic(auto)]
 
 use resolved_tree::{CapItem, Class, Expr, Function, Resolved, Stmt, ValueType};
 use std::alloc::Global;
 use want_of_memory::NoMemory;
 
 /// The text of a program: a line for each class, and one for each function.
-pub(crate) fn shown(alloc: Global, r: &Resolved) -> Result<String, NoMemory> {
+pub fn shown(alloc: Global, r: &Resolved) -> Result<String, NoMemory> {
     let mut text = String::new(alloc);
     for class in &r.classes {
         push_class(&mut text, class)?;
