@@ -1,4 +1,4 @@
-mod ProductLemmas
+mod LivingLemmas
 mod TurnLemmas
 mod RunLemmas
 mod PrivateLemmas

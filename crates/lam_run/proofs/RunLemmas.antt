@@ -20,7 +20,7 @@ use Rattle.run_notes.specs.declared.Noted.{Noted}
 use Rattle.run_stops.specs.Stops.{NotReady, stopped_at}
 use Rattle.lam_run.specs.Stops.{RunsAreWhole}
 use Rattle.lam_run.specs.Turns.{seen_of, noted_of, Takes}
-use Rattle.lam_run.proofs.ProductLemmas.{products_told}
+use Rattle.turn_products.proofs.ProductLemmas.{products_told}
 use Rattle.lam_run.proofs.TurnLemmas.{seen_one, seen_by-append, noted_one}
 
 -- ---- where turns stop

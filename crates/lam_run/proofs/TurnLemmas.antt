@@ -24,7 +24,7 @@ use Rattle.run_notes.specs.declared.Content.{Content}
 use Rattle.run_notes.specs.declared.Seen.{Seen}
 use Rattle.run_notes.specs.declared.Seen.TheVariants as seen_as
 use Rattle.run_notes.specs.declared.Noted.{Noted}
-use Rattle.lam_run.specs.Told.{product_label, product, IsProduct, IsToldBy}
+use Rattle.turn_products.specs.Told.{product_label, product, IsProduct, IsToldBy}
 use Rattle.lam_run.specs.Turns.{is_private, own_turn, told, past_by, past, seen_of, taken_by, note, noted_of}
 
 -- ---- what is seen

@@ -1,4 +1,3 @@
 pub mod Stops
-pub mod Told
 pub mod Turns
 pub mod Laws

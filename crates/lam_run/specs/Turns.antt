@@ -18,7 +18,7 @@ use Rattle.run_notes.specs.declared.Content.{Content}
 use Rattle.run_notes.specs.declared.Seen.{Seen}
 use Rattle.run_notes.specs.declared.Seen.TheVariants as seen_as
 use Rattle.run_notes.specs.declared.Noted.{Noted}
-use Rattle.lam_run.specs.Told.{product_label, product}
+use Rattle.turn_products.specs.Told.{product_label, product}
 
 -- ---- what an observer sees
 

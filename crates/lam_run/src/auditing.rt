@@ -12,7 +12,6 @@ ghost use Rattle.lam_run.specs.Stops.{IsStop};
 ghost use Rattle.lam_run.specs.Turns.{taken, note, noted_of, Takes};
 
 use crate::fault::RunFault;
-use crate::telling::product_label;
 use capabilities::Caps;
 use flow_labels::flows;
 use lam_asks::Event;
@@ -22,6 +21,7 @@ use lam_world::World;
 use letting_go::let_go_event;
 use run_notes::{Noted, refusal_of};
 use std::alloc::Global;
+use turn_products::product_label;
 use want_of_memory::NoMemory;
 
 /// What an auditor notes of the turns of a start: each release and each refusal, with its turn.

@@ -2,20 +2,17 @@
 //!
 //! [`seen_by`] takes the turns of a schedule one by one and keeps what an observer sees; [`noted_in`] keeps what an
 //! auditor looks at. Both stop at the first turn whose thread is not ready, and name it. What a turn made is read from its
-//! event and the world after it ([`products_are_told`]), so that no turn copies more than what is kept of it.
+//! event and the world after it (`turn_products`), so that no turn copies more than what is kept of it.
 //!
-//! `specs/Stops` says where turns stop to be a run, `specs/Told` what a turn tells of what it made, `specs/Turns` what is
-//! seen and noted of one turn.
+//! `specs/Stops` says where turns stop to be a run, `specs/Turns` what is seen and noted of one turn.
 #![tactic(auto)]
 
 mod auditing;
 mod fault;
-mod telling;
 mod viewing;
 
 ghost use Rattle.lam_bytecode.specs.Codes.{CodeTree};
 ghost use Rattle.lam_run.specs.Stops.{RunsAreWhole};
-ghost use Rattle.lam_run.specs.Told.{ProductsAreTold};
 ghost use Rattle.lam_run.specs.Laws.{CopiesAreLiving};
 
 pub use auditing::noted_in;
@@ -30,9 +27,4 @@ pub fn runs_are_whole()
 /// A law: a turn in a valid world copies only what lives there.
 pub fn copies_are_living()
     ensures { (code : CodeTree) → CopiesAreLiving code }
-{}
-
-/// A law: the event of a turn and the world after it tell what the turn released, all of it, and by which capabilities.
-pub fn products_are_told()
-    ensures { (code : CodeTree) → ProductsAreTold code }
 {}

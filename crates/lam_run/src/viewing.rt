@@ -12,7 +12,6 @@ ghost use Rattle.lam_run.specs.Stops.{IsStop};
 ghost use Rattle.lam_run.specs.Turns.{is_private, own_turn, told, past, seen_of, Takes};
 
 use crate::fault::RunFault;
-use crate::telling::{product, product_label};
 use capabilities::Caps;
 use flow_labels::{Label, seen};
 use lam_asks::{Event, What};
@@ -22,6 +21,7 @@ use lam_world::World;
 use letting_go::let_go_event;
 use run_notes::{Content, Seen};
 use std::alloc::Global;
+use turn_products::{product, product_label};
 use want_of_memory::NoMemory;
 
 /// What an observer sees of the turns of a start: the asks of the threads whose labels flow to its own, and the releases

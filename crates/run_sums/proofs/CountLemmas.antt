@@ -5,7 +5,7 @@ use Rattle.std.proofs.lemmas.List.Sums.{sum_by-append}
 use Rattle.flow_labels.specs.declared.Label.{Label}
 use Rattle.lam_worlds.specs.Turns.{Moment}
 use Rattle.lam_worlds.specs.Views.{is_release}
-use Rattle.lam_run.specs.Told.{product_label, IsToldBy}
+use Rattle.turn_products.specs.Told.{product_label, IsToldBy}
 use Rattle.run_summary.specs.Sums.{is_said, is_refused, said, releases, refused, sums}
 use Rattle.run_sums.specs.Turns.{goes_below, tells_release, counted, with_turn}
 

@@ -15,7 +15,7 @@ use Rattle.lam_run_laws.proofs.RunLemmas.{joined_runs, stopped_runs}
 use Rattle.lam_turn_parts.specs.Turned.{IsTurn}
 use Rattle.lam_valid_steps.proofs.WholeLemmas.{stay_valid}
 use Rattle.run_stops.specs.Stops.{stopped_at}
-use Rattle.lam_run.specs.Told.{ProductsAreTold}
+use Rattle.turn_products.specs.Told.{ProductsAreTold}
 use Rattle.run_summary.specs.declared.Sums.{Sums}
 use Rattle.run_summary.specs.Sums.{is_said, is_refused, sums}
 use Rattle.run_sums.specs.Turns.{with_turn, AreBelow, CountsTurn}

@@ -13,11 +13,12 @@ ghost use Rattle.run_sums.specs.Turns.{AreBelow, CountsTurn};
 use crate::events::with_turn;
 use lam_bytecode::Code;
 use lam_machine::{step, step_privately};
-use lam_run::{RunFault, copies_are_living, products_are_told};
+use lam_run::{RunFault, copies_are_living};
 use lam_world::World;
 use letting_go::let_go_event;
 use run_summary::Sums;
 use std::alloc::Global;
+use turn_products::products_are_told;
 use want_of_memory::NoMemory;
 
 /// How often something was said, released and refused in the turns of a start.

@@ -3,7 +3,7 @@
 ghost use Rattle.std.specs.Prelude.{◌≡◌, ◌-◌, ◌^◌, ◌<◌};
 ghost use Rattle.lam_value.specs.declared.values.Value.{Value as Plain};
 ghost use Rattle.lam_asks.specs.declared.answer.Answer.TheVariants.{Entered, Val};
-ghost use Rattle.lam_run.specs.Told.{label_by};
+ghost use Rattle.turn_products.specs.Told.{label_by};
 ghost use Rattle.run_summary.specs.Sums.{is_done, says, is_said, is_refused};
 ghost use Rattle.run_sums.specs.Turns.{goes_below, tells_release, counted, with_turn, AreBelow};
 

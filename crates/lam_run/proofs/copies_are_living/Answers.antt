@@ -1,4 +1,4 @@
-use Rattle.lam_run.proofs.ProductLemmas.{copies_live}
+use Rattle.lam_run.proofs.LivingLemmas.{copies_live}
 use Rattle.lam_run.proofs.copies_are_living.Goals as goal
 
 pub returns : goal.returns

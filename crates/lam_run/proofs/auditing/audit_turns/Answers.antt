@@ -1,5 +1,5 @@
 use Rattle.lam_run.specs.Turns.{noted_of}
-use Rattle.lam_run.proofs.ProductLemmas.{copies_live}
+use Rattle.lam_run.proofs.LivingLemmas.{copies_live}
 use Rattle.lam_run.proofs.RunLemmas.{none_left, taken_stops, taken_left, taken_noted}
 use Rattle.lam_run.proofs.auditing.audit_turns.Goals as goal
 

@@ -1,5 +1,5 @@
 use Rattle.lam_run.specs.Turns.{seen_of}
-use Rattle.lam_run.proofs.ProductLemmas.{copies_live}
+use Rattle.lam_run.proofs.LivingLemmas.{copies_live}
 use Rattle.lam_run.proofs.RunLemmas.{none_left, taken_stops, taken_left, taken_seen}
 use Rattle.lam_run.proofs.viewing.view_turns.Goals as goal
 

@@ -1,8 +1,8 @@
-use Rattle.std.proofs.Common.{◌≡◌, sym, ap, ◌∙◌}
+use Rattle.std.proofs.Common.{sym, ap, ◌∙◌}
 use Rattle.std.proofs.lemmas.Result.{IfOk-weaker}
 use Rattle.lam_asks.specs.declared.answer.What.TheVariants.{Asked}
-use Rattle.lam_run.specs.Told.{product}
-use Rattle.lam_run.proofs.telling.product.Goals as goal
+use Rattle.turn_products.specs.Told.{product}
+use Rattle.turn_products.proofs.telling.product.Goals as goal
 
 pub returns-in-Val : goal.returns-in-Val
 returns-in-Val c =

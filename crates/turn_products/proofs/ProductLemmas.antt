@@ -1,5 +1,5 @@
--- What a turn made is told by its event and the world after it, and what it copies lives.
-use Rattle.std.proofs.Common.{◌≡◌, ℕ, zero, suc, ◌+◌, true, false, List, [], ◌∷◌, Option, Some, None, refl, sym, ap, ◌∙◌, subst}
+-- What a turn made is told by its event and the world after it.
+use Rattle.std.proofs.Common.{◌≡◌, ℕ, zero, suc, true, false, List, [], ◌∷◌, Some, None, refl, sym, ap, subst}
 use Rattle.std.proofs.Math.Bool.{true≢false}
 use Rattle.std.specs.Prelude.{is_some, unwrap_or, slice_get, slice_set}
 use Rattle.flow_labels.specs.declared.Label.{Label}
@@ -21,17 +21,12 @@ use Rattle.lam_worlds.specs.Worlds.{World, thread_at, contexts_in, with_thread}
 use Rattle.lam_worlds.specs.Deeds.{Deed}
 use Rattle.lam_worlds.specs.Serving.{renamed, serve}
 use Rattle.lam_worlds.specs.Turns.{is_ready, Moment, served, turn_by}
-use Rattle.lam_worlds.specs.Valid.{Lives}
 use Rattle.lam_isolation.proofs.ThreadLemmas.{some_inj}
 use Rattle.lam_isolation.proofs.RowLemmas.{under_by, unless_by, RefersTo, on_thing_by, may_release, served_proper}
 use Rattle.lam_isolation.proofs.TurnLemmas.{acts, only}
-use Rattle.lam_sound_steps.specs.Sound.{ThingLives, CopiesLiving, FindsLiving}
-use Rattle.lam_living.specs.Living.{AskLives, NextLives}
-use Rattle.lam_living.proofs.PrivateLemmas.{name_what_lives}
 use Rattle.lam_valid_steps.proofs.StoreLemmas.{there_now}
 use Rattle.run_notes.specs.declared.Content.TheVariants as content
-use Rattle.lam_run.specs.Told.{label_by, product_label, depth_in, depth_at, slots_under, IsToldBy, ProductsAreTold}
-use Rattle.lam_run.specs.Laws.{CopiesAreLiving}
+use Rattle.turn_products.specs.Told.{label_by, product_label, depth_in, depth_at, slots_under, IsToldBy, ProductsAreTold}
 
 -- ---- the world after a turn
 
@@ -105,25 +100,3 @@ pub products_told : (code : CodeTree) → ProductsAreTold code
 products_told code w t m h =
     let a = acts code w t m h in
     next_told code w t a.thread a.top a.rest (next_of code a.top) m a.at a.gives
-
--- ---- what a turn copies lives
-
-thing_lives : (w : World) (r : Value) → Lives w r → ThingLives w r
-thing_lives w (Obj n) h = h.1
-thing_lives w (Arr n len) h = h.1.0
-thing_lives w v h = tt
-
-copies_living : (w : World) (a : Ask) → AskLives w a → CopiesLiving w a
-copies_living w (CopyTo r l) h = thing_lives w r h.0
-copies_living w a h = tt
-
-next_living : (code : CodeTree) (w : World) (t : ℕ) (th : Thread) (c : Context) (rest : List Context) (nx : Next) (m : Moment) → NextLives w nx → turn_by code w t th c rest nx ≡ Some m → FindsLiving w m.event.what
-next_living code w t th c rest (goes i) m l h = subst (λ (x : Moment). FindsLiving w x.event.what) (some_inj _ m h) tt
-next_living code w t th c rest (asks a i) m l h =
-    subst (λ (x : Moment). FindsLiving w x.event.what) (only (is_ready w t c a) (served code w t th c rest a i (serve w c a)) m h).1 (copies_living w a l.0)
-next_living code w t th c rest stuck m l h = absurd cc
-
-pub copies_live : (code : CodeTree) → CopiesAreLiving code
-copies_live code is w t valid m h =
-    let a = acts code w t m h in
-    next_living code w t a.thread a.top a.rest (next_of code a.top) m (name_what_lives code is w t a.thread a.top a.rest valid a.at a.list) a.gives

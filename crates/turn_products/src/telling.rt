@@ -6,7 +6,7 @@ ghost use Rattle.lam_value.specs.declared.values.Value.{Value as Plain};
 ghost use Rattle.lam_asks.specs.declared.answer.Answer.TheVariants.{Entered, Val};
 ghost use Rattle.lam_worlds.specs.Worlds.{World};
 ghost use Rattle.run_notes.specs.declared.Content.TheVariants as Content;
-ghost use Rattle.lam_run.specs.Told.{label_by, product_label, depth_at, slots_under, product_by, product};
+ghost use Rattle.turn_products.specs.Told.{label_by, product_label, depth_at, slots_under, product_by, product};
 
 use capabilities::Caps;
 use flow_labels::Label;
