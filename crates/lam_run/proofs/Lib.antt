@@ -1,4 +1,3 @@
-mod LivingLemmas
-mod TurnLemmas
-mod RunLemmas
-mod PrivateLemmas
+pub mod LivingLemmas
+pub mod RunLemmas
+pub mod PrivateLemmas

@@ -1,10 +1,9 @@
 -- Turns one by one: what is left of them, and where they stop.
-use Rattle.std.proofs.Common.{◌≡◌, ◌⊎◌, inl, inr, ℕ, suc, ◌+◌, ◌<◌, ◌≤◌, Bool, true, false, List, [], ◌∷◌, ◌++◌, drop, get_or, length, Option, Some, None, sym, ap, subst, ◌∙◌, arith, append_assoc, drop-cons, add-one}
+use Rattle.std.proofs.Common.{◌≡◌, ◌⊎◌, inl, inr, ℕ, suc, ◌+◌, ◌<◌, ◌≤◌, Bool, true, false, List, ◌∷◌, drop, get_or, length, Option, Some, None, sym, ap, subst, ◌∙◌, arith, drop-cons, add-one}
 use Rattle.std.specs.Prelude.{slice_get}
-use Rattle.std.specs.Option.{option_map, option_to_list}
+use Rattle.std.specs.Option.{option_map}
 use Rattle.std.proofs.lemmas.Option.{slice_get_past, slice_get-get_or}
 use Rattle.std.proofs.lemmas.List.{at_drop_all}
-use Rattle.flow_labels.specs.declared.Label.{Label}
 use Rattle.lam_asks.specs.declared.answer.Event.{Event}
 use Rattle.lam_bytecode.specs.Codes.{CodeTree, IsCode}
 use Rattle.lam_worlds.specs.Worlds.{World}
@@ -14,14 +13,9 @@ use Rattle.lam_run_laws.specs.Runs.{StopsAt}
 use Rattle.lam_run_laws.proofs.RunLemmas.{stopped_runs}
 use Rattle.lam_turn_parts.specs.Turned.{IsTurn}
 use Rattle.lam_valid_steps.proofs.WholeLemmas.{stay_valid}
-use Rattle.run_notes.specs.Notes.{seen_by, noted_at, noted_from}
-use Rattle.run_notes.specs.declared.Seen.{Seen}
-use Rattle.run_notes.specs.declared.Noted.{Noted}
 use Rattle.run_stops.specs.Stops.{NotReady, stopped_at}
 use Rattle.lam_run.specs.Stops.{RunsAreWhole}
-use Rattle.lam_run.specs.Turns.{seen_of, noted_of, Takes}
-use Rattle.turn_products.proofs.ProductLemmas.{products_told}
-use Rattle.lam_run.proofs.TurnLemmas.{seen_one, seen_by-append, noted_one}
+use Rattle.lam_run.specs.Turns.{Takes}
 
 -- ---- where turns stop
 
@@ -67,10 +61,10 @@ pub record Left (code : CodeTree) (start : World) (turns : List ℕ) (n : ℕ) (
   pub count : n + length (moments code (drop n turns) w) ≡ length (moments code turns start)
 
 -- the turn at hand, and those behind it
-at_hand : (turns : List ℕ) (n : ℕ) → n < length turns → drop n turns ≡ get_or turns n 0 ∷ drop (n + 1) turns
+pub at_hand : (turns : List ℕ) (n : ℕ) → n < length turns → drop n turns ≡ get_or turns n 0 ∷ drop (n + 1) turns
 at_hand turns n h = drop-cons turns n 0 h ∙ ap (λ k. get_or turns n 0 ∷ drop k turns) (sym (add-one n))
 
-moments_next : (code : CodeTree) (turns : List ℕ) (n t : ℕ) (w : World) (m : Moment) → drop n turns ≡ t ∷ drop (n + 1) turns → step code w t ≡ Some m → moments code (drop n turns) w ≡ m ∷ moments code (drop (n + 1) turns) m.world
+pub moments_next : (code : CodeTree) (turns : List ℕ) (n t : ℕ) (w : World) (m : Moment) → drop n turns ≡ t ∷ drop (n + 1) turns → step code w t ≡ Some m → moments code (drop n turns) w ≡ m ∷ moments code (drop (n + 1) turns) m.world
 moments_next code turns n t w m at is = ap (λ ts. moments code ts w) at ∙ ap (λ x. and_then x (moments code (drop (n + 1) turns))) is
 
 one_taken : (code : CodeTree) (start : World) (turns : List ℕ) (n t : ℕ) (w : World) (e : Event) (after : World) → IsCode code → drop n turns ≡ t ∷ drop (n + 1) turns → IsTurn code t w e after → Left code start turns n w → Left code start turns (n + 1) after
@@ -103,45 +97,10 @@ module _ {X : Type 0} (code : CodeTree) (start : World) (turns : List ℕ) (n : 
       stops_here code start turns n (get_or turns n 0) w (at_hand turns n within) (slice_get-get_or turns n 0 within)
       (subst (λ b. Takes code (get_or turns n 0) keeps w before b after kept) not_taken takes) left
 
-  goes : took ≡ true → Takes code (get_or turns n 0) keeps w before true after kept
+  pub goes : took ≡ true → Takes code (get_or turns n 0) keeps w before true after kept
   goes is = subst (λ b. Takes code (get_or turns n 0) keeps w before b after kept) is takes
 
   pub taken_left : IsCode code → took ≡ true → Left code start turns n w → Left code start turns (n + 1) after
   taken_left code_is is left =
       let g = goes is in
       one_taken code start turns n (get_or turns n 0) w g.0 after code_is (at_hand turns n within) g.1 left
-
--- ---- what was seen
-
-seen_next : (code : CodeTree) (o : Label) (turns : List ℕ) (n t : ℕ) (w : World) (e : Event) (after : World) (seen more all : List Seen) → drop n turns ≡ t ∷ drop (n + 1) turns → IsTurn code t w e after → more ≡ seen ++ option_to_list (seen_of o e after) → seen ++ seen_by o (moments code (drop n turns) w) ≡ all → more ++ seen_by o (moments code (drop (n + 1) turns) after) ≡ all
-seen_next code o turns n t w e after seen more all at turn new old =
-    let m : Moment = record { event = e; made = turn.made; world = after } in
-    let rest = moments code (drop (n + 1) turns) after in
-    ap (λ (xs : List Seen). xs ++ seen_by o rest) new
-    ∙ append_assoc seen (option_to_list (seen_of o e after)) (seen_by o rest)
-    ∙ ap (λ xs. seen ++ (xs ++ seen_by o rest)) (sym (seen_one o m (products_told code w t m turn.is)))
-    ∙ ap (λ (xs : List Seen). seen ++ xs) (sym (seen_by-append o (m ∷ []) rest))
-    ∙ ap (λ ms. seen ++ seen_by o ms) (sym (moments_next code turns n t w m at turn.is))
-    ∙ old
-
-pub taken_seen : (code : CodeTree) (o : Label) (turns : List ℕ) (n : ℕ) (w : World) (before : List Seen) (took : Bool) (after : World) (kept all : List Seen) → n < length turns → Takes code (get_or turns n 0) (seen_of o) w before took after kept → took ≡ true → before ++ seen_by o (moments code (drop n turns) w) ≡ all → kept ++ seen_by o (moments code (drop (n + 1) turns) after) ≡ all
-taken_seen code o turns n w before took after kept all within takes is old =
-    let g = goes code w turns n (seen_of o) w before took after kept within takes is in
-    seen_next code o turns n (get_or turns n 0) w g.0 after before kept all (at_hand turns n within) g.1 g.2 old
-
--- ---- what was noted
-
-noted_next : (code : CodeTree) (turns : List ℕ) (n t : ℕ) (w : World) (e : Event) (after : World) (noted more all : List Noted) → drop n turns ≡ t ∷ drop (n + 1) turns → IsTurn code t w e after → more ≡ noted ++ option_to_list (noted_of n e) → noted ++ noted_from n (moments code (drop n turns) w) ≡ all → more ++ noted_from (n + 1) (moments code (drop (n + 1) turns) after) ≡ all
-noted_next code turns n t w e after noted more all at turn new old =
-    let m : Moment = record { event = e; made = turn.made; world = after } in
-    let rest = moments code (drop (n + 1) turns) after in
-    ap (λ (xs : List Noted). xs ++ noted_from (n + 1) rest) new
-    ∙ append_assoc noted (option_to_list (noted_of n e)) (noted_from (n + 1) rest)
-    ∙ ap (λ xs. noted ++ (xs ++ noted_from (n + 1) rest)) (sym (noted_one n m (products_told code w t m turn.is)))
-    ∙ ap (λ ms. noted ++ noted_from n ms) (sym (moments_next code turns n t w m at turn.is))
-    ∙ old
-
-pub taken_noted : (code : CodeTree) (turns : List ℕ) (n : ℕ) (w : World) (before : List Noted) (took : Bool) (after : World) (kept all : List Noted) → n < length turns → Takes code (get_or turns n 0) (λ e v. noted_of n e) w before took after kept → took ≡ true → before ++ noted_from n (moments code (drop n turns) w) ≡ all → kept ++ noted_from (n + 1) (moments code (drop (n + 1) turns) after) ≡ all
-taken_noted code turns n w before took after kept all within takes is old =
-    let g = goes code w turns n (λ e v. noted_of n e) w before took after kept within takes is in
-    noted_next code turns n (get_or turns n 0) w g.0 after before kept all (at_hand turns n within) g.1 g.2 old

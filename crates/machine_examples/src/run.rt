@@ -8,7 +8,6 @@ use audit_log::view_text;
 use decimal_text::push_number;
 use flow_labels::parse_label;
 use lam_bytecode::Code;
-use lam_run::seen_by;
 use lam_world::World;
 use letting_go::let_go_event;
 use machine_run::{Run, TURN_LIMIT};
@@ -16,6 +15,7 @@ use std::alloc::Global;
 use std::mem::forget;
 use std::process::Abort;
 use std::test::Fail;
+use turns_seen::seen_by;
 use world_doc::start;
 use world_laws::texts_start;
 

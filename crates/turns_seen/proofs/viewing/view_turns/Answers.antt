@@ -1,7 +1,8 @@
-use Rattle.lam_run.specs.Turns.{seen_of}
+use Rattle.turns_seen.specs.Turns.{seen_of}
 use Rattle.lam_run.proofs.LivingLemmas.{copies_live}
-use Rattle.lam_run.proofs.RunLemmas.{none_left, taken_stops, taken_left, taken_seen}
-use Rattle.lam_run.proofs.viewing.view_turns.Goals as goal
+use Rattle.lam_run.proofs.RunLemmas.{none_left, taken_stops, taken_left}
+use Rattle.turns_seen.proofs.RunLemmas.{taken_seen}
+use Rattle.turns_seen.proofs.viewing.view_turns.Goals as goal
 
 pub view_turn-requires : goal.view_turn-requires
 view_turn-requires c = copies_live c.args.code.now c.requires.code c.loop-turn.world _ c.loop-turn.invariant.left.valid

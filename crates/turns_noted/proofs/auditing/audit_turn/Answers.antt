@@ -1,16 +1,17 @@
 use Rattle.std.proofs.Common.{IfOk, subst, sym}
 use Rattle.lam_worlds.specs.Worlds.{World}
 use Rattle.lam_machine.specs.Machine.{CopiesLive}
-use Rattle.lam_run.specs.Turns.{seen_of, Takes}
+use Rattle.lam_run.specs.Turns.{Takes}
+use Rattle.turns_noted.specs.Turns.{noted_of}
 use Rattle.lam_run.proofs.PrivateLemmas.{was_not}
-use Rattle.lam_run.proofs.viewing.view_turn.Goals as goal
+use Rattle.turns_noted.proofs.auditing.audit_turn.Goals as goal
 
-pub view_step-requires : goal.view_step-requires
-view_step-requires c =
+pub audit_step-requires : goal.audit_step-requires
+audit_step-requires c =
     let same = was_not c.args.code.now c.args.thread c.args.world.now c.in_ok-step_privately.field-0 c.step_privately.new.world c.in_ok-step_privately.ensures.ok c.if-branch.false in
     subst (λ (w : World). CopiesLive c.args.code.now w c.args.thread) (sym same) c.requires
 
 pub returns : goal.returns
 returns c =
     let same = was_not c.args.code.now c.args.thread c.args.world.now c.in_ok-step_privately.field-0 c.step_privately.new.world c.in_ok-step_privately.ensures.ok c.if-branch.false in
-    rw same at c.view_step.ensures
+    rw same at c.audit_step.ensures

@@ -1,6 +1,6 @@
 use Rattle.std.proofs.Common.{subst}
 use Rattle.lam_machine.specs.Machine.{IsStep}
-use Rattle.lam_run.proofs.viewing.view_step.Goals as goal
+use Rattle.turns_seen.proofs.viewing.view_step.Goals as goal
 
 pub returns-in_ok-push_seen-in-Some : goal.returns-in_ok-push_seen-in-Some
 returns-in_ok-push_seen-in-Some c =

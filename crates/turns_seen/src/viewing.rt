@@ -9,14 +9,15 @@ ghost use Rattle.run_notes.specs.Notes.{seen_by};
 ghost use Rattle.lam_machine.specs.Machine.{CopiesLive};
 ghost use Rattle.run_stops.specs.Stops.{stopped_at};
 ghost use Rattle.lam_run.specs.Stops.{IsStop};
-ghost use Rattle.lam_run.specs.Turns.{is_private, own_turn, told, past, seen_of, Takes};
+ghost use Rattle.lam_run.specs.Turns.{Takes};
+ghost use Rattle.turns_seen.specs.Turns.{is_private, own_turn, told, past, seen_of};
 
-use crate::fault::RunFault;
 use capabilities::Caps;
 use flow_labels::{Label, seen};
 use lam_asks::{Event, What};
 use lam_bytecode::Code;
 use lam_machine::{step, step_privately};
+use lam_run::RunFault;
 use lam_world::World;
 use letting_go::let_go_event;
 use run_notes::{Content, Seen};

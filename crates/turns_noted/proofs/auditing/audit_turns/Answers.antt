@@ -1,7 +1,8 @@
-use Rattle.lam_run.specs.Turns.{noted_of}
+use Rattle.turns_noted.specs.Turns.{noted_of}
 use Rattle.lam_run.proofs.LivingLemmas.{copies_live}
-use Rattle.lam_run.proofs.RunLemmas.{none_left, taken_stops, taken_left, taken_noted}
-use Rattle.lam_run.proofs.auditing.audit_turns.Goals as goal
+use Rattle.lam_run.proofs.RunLemmas.{none_left, taken_stops, taken_left}
+use Rattle.turns_noted.proofs.RunLemmas.{taken_noted}
+use Rattle.turns_noted.proofs.auditing.audit_turns.Goals as goal
 
 pub audit_turn-requires : goal.audit_turn-requires
 audit_turn-requires c = copies_live c.args.code.now c.requires.code c.loop-turn.world _ c.loop-turn.invariant.left.valid

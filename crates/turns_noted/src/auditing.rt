@@ -9,14 +9,15 @@ ghost use Rattle.run_notes.specs.Notes.{noted_in, refusal_of};
 ghost use Rattle.lam_machine.specs.Machine.{CopiesLive};
 ghost use Rattle.run_stops.specs.Stops.{stopped_at};
 ghost use Rattle.lam_run.specs.Stops.{IsStop};
-ghost use Rattle.lam_run.specs.Turns.{taken, note, noted_of, Takes};
+ghost use Rattle.lam_run.specs.Turns.{Takes};
+ghost use Rattle.turns_noted.specs.Turns.{taken, note, noted_of};
 
-use crate::fault::RunFault;
 use capabilities::Caps;
 use flow_labels::flows;
 use lam_asks::Event;
 use lam_bytecode::Code;
 use lam_machine::{step, step_privately};
+use lam_run::RunFault;
 use lam_world::World;
 use letting_go::let_go_event;
 use run_notes::{Noted, refusal_of};

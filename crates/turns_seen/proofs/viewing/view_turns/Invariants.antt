@@ -1,12 +1,12 @@
 use Rattle.std.proofs.Common.{◌≡◌, ◌++◌, drop}
 use Rattle.lam_worlds.specs.Turns.{moments}
-use Rattle.run_notes.specs.Notes.{noted_in, noted_from}
+use Rattle.run_notes.specs.Notes.{seen_by}
 use Rattle.lam_run.proofs.RunLemmas.{Left}
-use Rattle.lam_run.proofs.auditing.audit_turns.Given as goal
+use Rattle.turns_seen.proofs.viewing.view_turns.Given as goal
 
 abbrev pub invariant-loop-turn : goal.invariant-loop-turn
 invariant-loop-turn l =
     record {
       left : Left l.code l.initial.world l.turns l.turn l.world;
-      noted : l.all.items ++ noted_from l.turn (moments l.code (drop l.turn l.turns) l.world) ≡ l.initial.all.items ++ noted_in (moments l.code l.turns l.initial.world);
+      seen : l.all.items ++ seen_by l.observer (moments l.code (drop l.turn l.turns) l.world) ≡ l.initial.all.items ++ seen_by l.observer (moments l.code l.turns l.initial.world);
     }

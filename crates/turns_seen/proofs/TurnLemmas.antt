@@ -1,4 +1,4 @@
--- What is seen and what is noted of one moment, by its event and its world.
+-- What is seen of one moment, by its event and its world.
 use Rattle.std.proofs.Common.{◌≡◌, ℕ, ◌+◌, Bool, true, false, cond, List, [], ◌∷◌, ◌++◌, Option, Some, None, refl, sym, ap, ◌∙◌}
 use Rattle.std.specs.Prelude.{not, ◌&&◌, ◌||◌, map}
 use Rattle.std.specs.List.{flat_map}
@@ -8,8 +8,7 @@ use Rattle.std.proofs.lemmas.List.Elements.{filter-append}
 use Rattle.std.proofs.lemmas.Grind.{flat_map-append}
 use Rattle.std.proofs.Math.Bool.{true≢false}
 use Rattle.flow_labels.specs.declared.Label.{Label}
-use Rattle.flow_labels.specs.declared.Denied.{Denied}
-use Rattle.flow_labels.specs.Flow.{flows, seen}
+use Rattle.flow_labels.specs.Flow.{seen}
 use Rattle.capabilities.specs.declared.Caps.{Caps}
 use Rattle.capabilities.specs.Changes.{used}
 use Rattle.lam_asks.specs.declared.answer.What.{What}
@@ -17,17 +16,14 @@ use Rattle.lam_asks.specs.declared.answer.What.TheVariants.{Private, Asked}
 use Rattle.lam_asks.specs.declared.answer.Event.{Event}
 use Rattle.lam_bytecode.specs.Codes.{CodeTree}
 use Rattle.lam_worlds.specs.Turns.{Moment}
-use Rattle.lam_worlds.specs.Views.{event, release, is_release, is_past, shows, release_of, used_by, is_noted, noted, entry_of, trace}
+use Rattle.lam_worlds.specs.Views.{event, release, is_release, shows, release_of, used_by, is_noted, noted, entry_of, trace}
 use Rattle.lam_isolation.proofs.DownLemmas.{two_release}
-use Rattle.run_notes.specs.Notes.{content_in, released, asked, shown, seen_by, refusal_of, refused, noted_at}
+use Rattle.run_notes.specs.Notes.{released, asked, shown, seen_by}
 use Rattle.run_notes.specs.declared.Content.{Content}
 use Rattle.run_notes.specs.declared.Seen.{Seen}
 use Rattle.run_notes.specs.declared.Seen.TheVariants as seen_as
-use Rattle.run_notes.specs.declared.Noted.{Noted}
 use Rattle.turn_products.specs.Told.{product_label, product, IsProduct, IsToldBy}
-use Rattle.lam_run.specs.Turns.{is_private, own_turn, told, past_by, past, seen_of, taken_by, note, noted_of}
-
--- ---- what is seen
+use Rattle.turns_seen.specs.Turns.{is_private, own_turn, told, past_by, past, seen_of}
 
 own_listed : (e : Event) (what : What) → asked e what ++ [] ≡ option_to_list (cond (is_private what) None (Some (seen_as.Event e)))
 own_listed e Private = refl
@@ -91,28 +87,3 @@ seen_by-append o ms ns =
     ap (λ xs. flat_map shown (map (entry_of o) xs)) (filter-append (is_noted o) ms ns)
     ∙ ap (λ xs. flat_map shown xs) (map-append (entry_of o) (noted o ms) (noted o ns))
     ∙ flat_map-append shown (trace o ms) (trace o ns)
-
--- ---- what is noted
-
-refused_listed : (k : ℕ) (e : Event) (d : Option Denied) → refused k e d ≡ option_to_list (note k e None d)
-refused_listed k e None = refl
-refused_listed k e (Some d) = refl
-
--- by whether a moment is a release, and what it took
-abbrev noted_as : ℕ → Moment → Bool → Option Caps → List Noted
-noted_as k m b by = cond b (record { turn = k; event = m.event; by = by } ∷ []) (refused k m.event (refusal_of m.event.what))
-
-taken_noted : (k : ℕ) (m : Moment) (by : Caps) (b : Bool) → noted_as k m (not b) (Some by) ≡ option_to_list (note k m.event (cond b None (Some by)) (refusal_of m.event.what))
-taken_noted k m by true = refused_listed k m.event (refusal_of m.event.what)
-taken_noted k m by false = refl
-
-told_noted : (k : ℕ) (m : Moment) (x : Option Label) → IsToldBy m x → noted_at k m ≡ option_to_list (note k m.event (taken_by m.event.label x) (refusal_of m.event.what))
-told_noted k m None is =
-    ap (λ b. noted_as k m b (used_by m.event.label m.made)) is ∙ refused_listed k m.event (refusal_of m.event.what)
-told_noted k m (Some own) is =
-    ap (λ b. noted_as k m b (used_by m.event.label m.made)) is.down
-    ∙ ap (λ by. noted_as k m (not (flows m.event.label own)) by) is.by
-    ∙ taken_noted k m (used m.event.label own) (flows m.event.label own)
-
-pub noted_one : (k : ℕ) (m : Moment) → IsToldBy m (product_label m.event.what) → noted_at k m ≡ option_to_list (noted_of k m.event)
-noted_one k m is = told_noted k m (product_label m.event.what) is

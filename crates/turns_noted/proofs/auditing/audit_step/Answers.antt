@@ -1,6 +1,6 @@
 use Rattle.std.proofs.Common.{subst}
 use Rattle.lam_machine.specs.Machine.{IsStep}
-use Rattle.lam_run.proofs.auditing.audit_step.Goals as goal
+use Rattle.turns_noted.proofs.auditing.audit_step.Goals as goal
 
 pub returns-in_ok-push_noted-in-Some : goal.returns-in_ok-push_noted-in-Some
 returns-in_ok-push_noted-in-Some c =

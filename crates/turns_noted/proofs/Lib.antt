@@ -1,0 +1,3 @@
+mod TurnLemmas
+mod RunLemmas
+mod PrivateLemmas
