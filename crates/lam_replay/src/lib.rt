@@ -2,9 +2,9 @@
 //!
 //! The files are read one after another, and the first refusal ends the call: the program, which is compiled
 //! (`lam_commands`); the document of the world that the run starts from (`world_doc`); then the observer's label, whose
-//! tags that world names; and the book, which says whose turn comes when (`turn_book`). The turns are taken on the machine
-//! (`lam_run`), and what is seen of them, or noted, is printed (`audit_log`). What a call answers is what the plan of these
-//! files says (`lam_plan`). The command `run` reads its files by the same calls.
+//! tags that world names; and the book, which says whose turn comes when (`turn_book`). The turns are taken on the machine,
+//! and what is seen of them (`turns_seen`), or noted (`turns_noted`), is printed (`audit_log`). What a call answers is what the
+//! plan of these files says (`lam_plan`). The command `run` reads its files by the same calls.
 #![tactic(auto)]
 
 mod document;
