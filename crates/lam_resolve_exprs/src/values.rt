@@ -17,13 +17,13 @@ ghost use Rattle.resolved_tree.specs.Typing.{given_by as result_given};
 ghost use Rattle.lam_resolve_exprs.specs.Values.{local, locals, value, args as seen_args, field_seen, function_seen, called_seen, cap_at};
 
 use lam_builtins::Builtin;
+use lam_operators::{BinaryOp, UnaryOp};
 use lam_resolve_tables::kinds::{
     Base, Given, Kind, array_of, class_of, element_of, given_kind, option_value_type, plain,
     value_type,
 };
 use lam_resolve_tables::named::Named;
 use lam_resolve_tables::tables::Tables;
-use lam_operators::{BinaryOp, UnaryOp};
 use lam_syntax::CapItem as WrittenCap;
 use resolved_tree::{CapItem, Expr, ValueType};
 use std::alloc::Global;

@@ -10,7 +10,10 @@ ghost use Rattle.lam_syntax.specs.declared.Item.TheVariants as Item;
 ghost use Rattle.lam_syntax.specs.Unplaced.{unplaced_id, unplaced_ids, unplaced_type, unplaced_type_form, unplaced_option_type, unplaced_var, unplaced_vars, unplaced_cap, unplaced_caps, unplaced_expr, unplaced_expr_form, unplaced_exprs, unplaced_option_expr, unplaced_stmt, unplaced_stmt_form, unplaced_stmts, unplaced_else, unplaced_item, unplaced};
 
 use lam_operators::{BinaryOp, UnaryOp};
-use lam_syntax::{CapItem, Class, Expr, ExprKind, Function, Id, Item, Program, Stmt, StmtKind, TypeExpr, TypeKind, Var, };
+use lam_syntax::{
+    CapItem, Class, Expr, ExprKind, Function, Id, Item, Program, Stmt, StmtKind, TypeExpr,
+    TypeKind, Var,
+};
 
 /// Whether the two programs are the same tree, positions left out.
 pub fn same_tree(a: &Program, b: &Program) -> bool
