@@ -146,7 +146,7 @@ fn resolve_args(
     requires { IsSome (resolved_args (tables t.now) (locals scope.now) (exprs_tree args.now.items)) }
     ensures { IfOk result (λ a. Some (seen_args a) ≡ resolved_args (tables t.now) (locals scope.now) (exprs_tree args.now.items)) }
 {
-    let mut it = Vec::new(alloc);
+    let mut it = Vec::with_capacity(alloc, args.len())?;
     let mut first = Given::Nothing;
     for (i, x) in args.iter().enumerate() {
         let v = resolve_expr(alloc, t, scope, x)?;

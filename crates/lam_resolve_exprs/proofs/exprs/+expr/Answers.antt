@@ -1,7 +1,10 @@
-use Rattle.std.proofs.Common.{rules, arith, refl, sym, get_or, ap, ◌∙◌}
+use Rattle.std.proofs.Common.{◌≡◌, rules, arith, refl, sym, get_or, ap, ◌∙◌, Box, Vec, Global}
 use Rattle.std.proofs.lemmas.List.{drop_all}
 use Rattle.lam_syntax.specs.Tree.{expr_form, expr_tree, new_array_expr, label_expr, spawn_expr, exprs_tree, id_tree, type_tree, caps_tree}
 use Rattle.lam_syntax.specs.declared.Expr.{Expr}
+use Rattle.lam_syntax.specs.declared.ExprKind.{ExprKind}
+use Rattle.lam_syntax.specs.declared.ExprKind.TheVariants.{Spawn}
+use Rattle.lam_syntax.specs.declared.Id.{Id}
 use Rattle.lam_syntax.proofs.Rows.{call_row, label_row, spawn_row}
 use Rattle.lam_resolved.specs.Resolved.{resolve_args}
 use Rattle.lam_resolve_tables.specs.Kinds.{kind_type, given}
@@ -112,13 +115,19 @@ resolve_expr-resolve_label-requires t c =
 pub resolve_expr-returns-in-LabelOf : goal.resolve_expr-returns-in-LabelOf
 resolve_expr-returns-in-LabelOf t c = if_ok c.resolve_label.result _ _ c.resolve_label.ensures (λ v h. Arms.form_done (tables c.args.t.now) (locals c.args.scope.now) (expr_form c.args.e.now.kind) (label_expr (exprs_tree c.in-LabelOf.s.items) (exprs_tree c.in-LabelOf.i.items)) (value v) (ap expr_form c.in-LabelOf.is ∙ label_row c.in-LabelOf.s c.in-LabelOf.i) h)
 
+-- a spawn, whose capabilities and name were reached as x and f
+spawned : {k : ExprKind} {x : Expr} {f : Id} (c : Box Expr Global) (g : Box Id Global) (args : Vec Expr Global) → k ≡ Spawn c g args → x ≡ c.value → f ≡ g.value → expr_form k ≡ spawn_expr (expr_tree x) (id_tree f) (exprs_tree args.items)
+spawned {k} {x} {f} c g args e p q =
+    ap expr_form e ∙ spawn_row c g args ∙ ap (λ (x : Expr). spawn_expr (expr_tree x) (id_tree g.value) (exprs_tree args.items)) (sym p) ∙
+    ap (λ (f : Id). spawn_expr (expr_tree x) (id_tree f) (exprs_tree args.items)) (sym q)
+
 pub resolve_expr-resolve_spawn-requires : goal.resolve_expr-resolve_spawn-requires
 resolve_expr-resolve_spawn-requires t c =
-    let h = Arms.form_needs (tables c.args.t.now) (locals c.args.scope.now) (expr_form c.args.e.now.kind) (spawn_expr (expr_tree c.deref-in-Spawn.result.now) (id_tree c.in-Spawn.function) (exprs_tree c.in-Spawn.args.items)) (ap expr_form c.in-Spawn.is ∙ spawn_row c.in-Spawn.caps c.in-Spawn.function c.in-Spawn.args ∙ ap (λ (x : Expr). spawn_expr (expr_tree x) (id_tree c.in-Spawn.function) (exprs_tree c.in-Spawn.args.items)) (sym c.deref-in-Spawn.ensures)) c.requires in
+    let h = Arms.form_needs (tables c.args.t.now) (locals c.args.scope.now) (expr_form c.args.e.now.kind) (spawn_expr (expr_tree c.deref-in-Spawn.result.now) (id_tree c.deref-in-Spawn-2.result.now) (exprs_tree c.in-Spawn.args.items)) (spawned c.in-Spawn.caps c.in-Spawn.function c.in-Spawn.args c.in-Spawn.is c.deref-in-Spawn.ensures c.deref-in-Spawn-2.ensures) c.requires in
     search rules
 
 pub resolve_expr-returns-in-Spawn : goal.resolve_expr-returns-in-Spawn
-resolve_expr-returns-in-Spawn t c = if_ok c.resolve_spawn.result _ _ c.resolve_spawn.ensures (λ v h. Arms.form_done (tables c.args.t.now) (locals c.args.scope.now) (expr_form c.args.e.now.kind) (spawn_expr (expr_tree c.deref-in-Spawn.result.now) (id_tree c.in-Spawn.function) (exprs_tree c.in-Spawn.args.items)) (value v) (ap expr_form c.in-Spawn.is ∙ spawn_row c.in-Spawn.caps c.in-Spawn.function c.in-Spawn.args ∙ ap (λ (x : Expr). spawn_expr (expr_tree x) (id_tree c.in-Spawn.function) (exprs_tree c.in-Spawn.args.items)) (sym c.deref-in-Spawn.ensures)) h)
+resolve_expr-returns-in-Spawn t c = if_ok c.resolve_spawn.result _ _ c.resolve_spawn.ensures (λ v h. Arms.form_done (tables c.args.t.now) (locals c.args.scope.now) (expr_form c.args.e.now.kind) (spawn_expr (expr_tree c.deref-in-Spawn.result.now) (id_tree c.deref-in-Spawn-2.result.now) (exprs_tree c.in-Spawn.args.items)) (value v) (spawned c.in-Spawn.caps c.in-Spawn.function c.in-Spawn.args c.in-Spawn.is c.deref-in-Spawn.ensures c.deref-in-Spawn-2.ensures) h)
 
 pub resolve_array-resolve_type-requires : goal.resolve_array-resolve_type-requires
 resolve_array-resolve_type-requires t c =
@@ -169,7 +178,7 @@ resolve_spawn-returns t c =
 
 pub resolve_args-loop-i-init : goal.resolve_args-loop-i-init
 resolve_args-loop-i-init t c =
-    args_first _ _ _ c.new-it.ensures.items refl
+    args_first _ _ _ c.in_ok-it.ensures.items refl
 
 pub resolve_args-resolve_expr-requires : goal.resolve_args-resolve_expr-requires
 resolve_args-resolve_expr-requires t c =
