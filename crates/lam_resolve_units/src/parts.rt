@@ -52,15 +52,15 @@ fn assignment(place: ResolvedExpr, value: ResolvedExpr) -> ResolvedStmt
             field,
             ty,
         } => ResolvedStmt::SetField {
-            of: Box::into_inner(of),
+            of,
             class,
             field,
             ty,
             value,
         },
         ResolvedExpr::Element { of, index, ty } => ResolvedStmt::SetElement {
-            of: Box::into_inner(of),
-            index: Box::into_inner(index),
+            of,
+            index,
             ty,
             value,
         },
@@ -135,8 +135,8 @@ pub fn sync_stmt(slot: usize, thing: ResolvedExpr, body: Vec<ResolvedStmt>) -> R
 #[derive(Drop)]
 pub struct Head {
     pub number: usize,
-    pub label: ResolvedExpr,
-    pub caps: ResolvedExpr,
+    pub label: Box<ResolvedExpr>,
+    pub caps: Box<ResolvedExpr>,
     pub captures: Vec<usize>,
 }
 
@@ -148,7 +148,7 @@ pub fn region_stmt(
     catch_slot: usize,
     catch_body: Vec<ResolvedStmt>,
 ) -> ResolvedStmt
-    ensures { stmt_tree result ≡ region_block head.number (expr_tree head.label) (expr_tree head.caps) head.captures.items (types_tree slots.items) (stmts_tree body.items) catch_slot (stmts_tree catch_body.items) }
+    ensures { stmt_tree result ≡ region_block head.number (expr_tree head.label.value) (expr_tree head.caps.value) head.captures.items (types_tree slots.items) (stmts_tree body.items) catch_slot (stmts_tree catch_body.items) }
 {
     ResolvedStmt::Region {
         number: head.number,
