@@ -20,6 +20,9 @@ module _ (t : Tables) (ls : Locals) (st : State) (k : StmtForm) where
   at_form : (form : StmtForm) → k ≡ form → IsSome (resolve_stmt_form t ls st k) → IsSome (resolve_stmt_form t ls st form)
   at_form form e h = sym (ap (λ k. is_some (resolve_stmt_form t ls st k)) e) ∙ h
 
+  pub form_enter : (form : StmtForm) → k ≡ form → IsSome (resolve_stmt_form t ls st k) → (form_size form < 1 + form_size k) × IsSome (resolve_stmt_form t ls st form)
+  form_enter form e h = (omega (arith, ap form_size e), at_form form e h)
+
   module _ (e : ExprTree) (first : StmtList) (other : ElseTree) (q : k ≡ if_stmt e first other) where
     pub if_test : IsSome (resolve_stmt_form t ls st k) → IsSome (resolve t ls e)
     if_test h = first_some (resolve t ls e) _ (at_form (if_stmt e first other) q h)
@@ -28,10 +31,10 @@ module _ (t : Tables) (ls : Locals) (st : State) (k : StmtForm) where
     if_rest v i h =
         next_some (resolve t ls e) v (λ v. then_some (resolve_stmts t ls st first) (λ a. then_some (resolve_else t ls a.state other) (λ b. Some (step_as (if_block v.it a.it b.it) ls b.state)))) i (at_form (if_stmt e first other) q h)
 
-    pub if_first : (v : Value) → Some v ≡ resolve t ls e → IsSome (resolve_stmt_form t ls st k) → (1 + stmts_size first < 1 + form_size k) × IsSome (resolve_stmts t ls st first)
+    pub if_first : (v : Value) → Some v ≡ resolve t ls e → IsSome (resolve_stmt_form t ls st k) → (1 + stmts_size first < form_size k) × IsSome (resolve_stmts t ls st first)
     if_first v i h = (omega (arith, ap form_size q), first_some (resolve_stmts t ls st first) (λ a. then_some (resolve_else t ls a.state other) (λ b. Some (step_as (if_block v.it a.it b.it) ls b.state))) (if_rest v i h))
 
-    pub if_other : (v : Value) (a : Closed Block) (new : Locals) → Some v ≡ resolve t ls e → Some a ≡ resolve_stmts t ls st first → new ≡ ls → IsSome (resolve_stmt_form t ls st k) → (else_size other < 1 + form_size k) × IsSome (resolve_else t new a.state other)
+    pub if_other : (v : Value) (a : Closed Block) (new : Locals) → Some v ≡ resolve t ls e → Some a ≡ resolve_stmts t ls st first → new ≡ ls → IsSome (resolve_stmt_form t ls st k) → (else_size other < form_size k) × IsSome (resolve_else t new a.state other)
     if_other v a new i j n h = (
       omega (arith, ap form_size q),
       ap (λ ls. is_some (resolve_else t ls a.state other)) n ∙ first_some (resolve_else t ls a.state other) (λ b. Some (step_as (if_block v.it a.it b.it) ls b.state))
@@ -51,7 +54,7 @@ module _ (t : Tables) (ls : Locals) (st : State) (k : StmtForm) where
     pub while_test : IsSome (resolve_stmt_form t ls st k) → IsSome (resolve t ls e)
     while_test h = first_some (resolve t ls e) _ (at_form (while_stmt e body) q h)
 
-    pub while_body : (v : Value) → Some v ≡ resolve t ls e → IsSome (resolve_stmt_form t ls st k) → (1 + stmts_size body < 1 + form_size k) × IsSome (resolve_stmts t ls st body)
+    pub while_body : (v : Value) → Some v ≡ resolve t ls e → IsSome (resolve_stmt_form t ls st k) → (1 + stmts_size body < form_size k) × IsSome (resolve_stmts t ls st body)
     while_body v i h = (
       omega (arith, ap form_size q),
       first_some (resolve_stmts t ls st body) (λ a. Some (step_as (while_block v.it a.it) ls a.state))
@@ -93,7 +96,7 @@ module _ (t : Tables) (ls : Locals) (st : State) (k : StmtForm) where
     pub sync_type : (v : Value) → Some v ≡ resolve t ls e → IsSome (resolve_stmt_form t ls st k) → IsSome (given_type v.gives)
     sync_type v i h = first_some (given_type v.gives) (λ u. then_some (resolve_stmts t ls (next_slot st u) body) (λ a. Some (step_as (sync_block (length st.slots) v.it a.it) ls a.state))) (sync_rest v i h)
 
-    pub sync_body : (v : Value) (u : ResolvedType) (now : State) → Some v ≡ resolve t ls e → Some u ≡ given_type v.gives → now ≡ next_slot st u → IsSome (resolve_stmt_form t ls st k) → (1 + stmts_size body < 1 + form_size k) × IsSome (resolve_stmts t ls now body)
+    pub sync_body : (v : Value) (u : ResolvedType) (now : State) → Some v ≡ resolve t ls e → Some u ≡ given_type v.gives → now ≡ next_slot st u → IsSome (resolve_stmt_form t ls st k) → (1 + stmts_size body < form_size k) × IsSome (resolve_stmts t ls now body)
     sync_body v u now i j n h = (
       omega (arith, ap form_size q),
       ap (λ st. is_some (resolve_stmts t ls st body)) n ∙ first_some (resolve_stmts t ls (next_slot st u) body) (λ a. Some (step_as (sync_block (length st.slots) v.it a.it) ls a.state))

@@ -1,7 +1,7 @@
 //! The statements of a unit.
 
 ghost use Rattle.std.specs.Prelude.{◌≡◌, IfOk, IsSome, OnOk, Some};
-ghost use Rattle.lam_syntax.specs.Tree.{stmt_tree, stmts_tree, else_tree};
+ghost use Rattle.lam_syntax.specs.Tree.{expr_tree, stmt_tree, stmts_tree, else_tree, if_stmt as written_if, while_stmt as written_while, sync_stmt as written_sync};
 ghost use Rattle.resolved_tree.specs.Tree.{stmt_tree as resolved_stmt, stmts_tree as resolved_stmts, else_tree as resolved_other};
 ghost use Rattle.lam_resolved.specs.Resolved.{step_as, closed_as, resolve_stmt as stmt_resolved, resolve_stmts as stmts_resolved, resolve_stmt_form, resolve_else as else_resolved};
 ghost use Rattle.lam_resolve_tables.specs.Tables.{tables};
@@ -49,17 +49,8 @@ fn resolve_stmt<'a>(
 {
     match &s.kind {
         StmtKind::Let { var, value } => resolve_let(alloc, t, scope, st, var, value),
-        StmtKind::If { test, yes, no } => {
-            let v = resolve_expr(alloc, t, scope, test)?;
-            let first = resolve_block(alloc, t, scope, st, yes)?;
-            let other = resolve_else(alloc, t, scope, st, no)?;
-            Ok(if_stmt(v.it, first, other))
-        }
-        StmtKind::While { test, body } => {
-            let v = resolve_expr(alloc, t, scope, test)?;
-            let block = resolve_block(alloc, t, scope, st, body)?;
-            Ok(while_stmt(v.it, block))
-        }
+        StmtKind::If { test, yes, no } => resolve_if(alloc, t, scope, st, test, yes, no),
+        StmtKind::While { test, body } => resolve_while(alloc, t, scope, st, test, body),
         StmtKind::Return(value) => {
             let v = resolve_value(alloc, t, scope, value)?;
             Ok(ResolvedStmt::Return(v))
@@ -68,15 +59,7 @@ fn resolve_stmt<'a>(
             let v = resolve_expr(alloc, t, scope, value)?;
             Ok(ResolvedStmt::Throw(v.it))
         }
-        StmtKind::Sync { thing, body } => {
-            let v = resolve_expr(alloc, t, scope, thing)?;
-            let Some(kind) = given_kind(v.gives) else {
-                unreachable!()
-            };
-            let slot = new_slot(alloc, st, kind)?;
-            let block = resolve_block(alloc, t, scope, st, body)?;
-            Ok(sync_stmt(slot, v.it, block))
-        }
+        StmtKind::Sync { thing, body } => resolve_sync(alloc, t, scope, st, thing, body),
         StmtKind::Region {
             label,
             caps,
@@ -103,6 +86,70 @@ fn resolve_stmt<'a>(
     }
 }
 
+// `if`, with what else there is.
+#[cycle(stmt)]
+fn resolve_if<'a>(
+    alloc: Global,
+    t: &Tables,
+    scope: &mut Named<'a, Local>,
+    st: &mut State,
+    test: &Expr,
+    yes: &'a Vec<Stmt>,
+    no: &'a Option<Vec<Stmt>>,
+) -> Result<ResolvedStmt, NoMemory>
+    requires { IsSome (resolve_stmt_form (tables t.now) (locals scope.old) (state st.old) (written_if (expr_tree test.now) (stmts_tree yes.now.items) (else_tree no.now))) }
+    ensures meets { IfOk result (λ r. Some (step_as (resolved_stmt r) (locals scope.new) (state st.new)) ≡ resolve_stmt_form (tables t.now) (locals scope.old) (state st.old) (written_if (expr_tree test.now) (stmts_tree yes.now.items) (else_tree no.now))) }
+    ensures keeps { OnOk result (Extends (locals scope.old) (locals scope.new)) }
+{
+    let v = resolve_expr(alloc, t, scope, test)?;
+    let first = resolve_block(alloc, t, scope, st, yes)?;
+    let other = resolve_else(alloc, t, scope, st, no)?;
+    Ok(if_stmt(v.it, first, other))
+}
+
+// `while`
+#[cycle(stmt)]
+fn resolve_while<'a>(
+    alloc: Global,
+    t: &Tables,
+    scope: &mut Named<'a, Local>,
+    st: &mut State,
+    test: &Expr,
+    body: &'a Vec<Stmt>,
+) -> Result<ResolvedStmt, NoMemory>
+    requires { IsSome (resolve_stmt_form (tables t.now) (locals scope.old) (state st.old) (written_while (expr_tree test.now) (stmts_tree body.now.items))) }
+    ensures meets { IfOk result (λ r. Some (step_as (resolved_stmt r) (locals scope.new) (state st.new)) ≡ resolve_stmt_form (tables t.now) (locals scope.old) (state st.old) (written_while (expr_tree test.now) (stmts_tree body.now.items))) }
+    ensures keeps { OnOk result (Extends (locals scope.old) (locals scope.new)) }
+{
+    let v = resolve_expr(alloc, t, scope, test)?;
+    let block = resolve_block(alloc, t, scope, st, body)?;
+    Ok(while_stmt(v.it, block))
+}
+
+// `sync`, whose thing has a slot of its own.
+#[cycle(stmt)]
+fn resolve_sync<'a>(
+    alloc: Global,
+    t: &Tables,
+    scope: &mut Named<'a, Local>,
+    st: &mut State,
+    thing: &Expr,
+    body: &'a Vec<Stmt>,
+) -> Result<ResolvedStmt, NoMemory>
+    requires { IsSome (resolve_stmt_form (tables t.now) (locals scope.old) (state st.old) (written_sync (expr_tree thing.now) (stmts_tree body.now.items))) }
+    ensures meets { IfOk result (λ r. Some (step_as (resolved_stmt r) (locals scope.new) (state st.new)) ≡ resolve_stmt_form (tables t.now) (locals scope.old) (state st.old) (written_sync (expr_tree thing.now) (stmts_tree body.now.items))) }
+    ensures keeps { OnOk result (Extends (locals scope.old) (locals scope.new)) }
+{
+    let v = resolve_expr(alloc, t, scope, thing)?;
+    let Some(kind) = given_kind(v.gives) else {
+        unreachable!()
+    };
+    let slot = new_slot(alloc, st, kind)?;
+    let block = resolve_block(alloc, t, scope, st, body)?;
+    Ok(sync_stmt(slot, v.it, block))
+}
+
+// A region, whose blocks are a unit of their own.
 #[cycle(stmt)]
 fn resolve_region<'a>(
     alloc: Global,
@@ -127,8 +174,8 @@ fn resolve_region<'a>(
     st.regions = inner.regions;
     let head = Head {
         number,
-        label: label.it,
-        caps: caps.it,
+        label: Box::new(alloc, label.it)?,
+        caps: Box::new(alloc, caps.it)?,
         captures: entered.captures,
     };
     Ok(region_stmt(head, inner.slots, body, slot, handler))
@@ -190,7 +237,7 @@ fn resolve_stmts<'a>(
     ensures meets { IfOk result (λ v. Some (closed_as (resolved_stmts v.items) (state st.new)) ≡ stmts_resolved (tables t.now) (locals scope.old) (state st.old) (stmts_tree body.now)) }
     ensures keeps { OnOk result (Extends (locals scope.old) (locals scope.new)) }
 {
-    let mut out = Vec::new(alloc);
+    let mut out = Vec::with_capacity(alloc, body.len())?;
     for s in body {
         let r = resolve_stmt(alloc, t, scope, st, s)?;
         out.push(r)?;

@@ -1,5 +1,5 @@
-use Rattle.lam_syntax.specs.Tree.{stmt_tree, stmts_tree, else_tree}
-use Rattle.lam_resolve.proofs.Sizes.{stmt_size, stmts_size, else_size}
+use Rattle.lam_syntax.specs.Tree.{expr_tree, stmt_tree, stmts_tree, else_tree, if_stmt, while_stmt, sync_stmt}
+use Rattle.lam_resolve.proofs.Sizes.{stmt_size, form_size, stmts_size, else_size}
 use Rattle.std.proofs.Common.{◌+◌, drop}
 use Rattle.lam_resolved.specs.Resolved.{resolve_stmts}
 use Rattle.lam_resolve_tables.specs.Tables.{tables}
@@ -11,6 +11,15 @@ use Rattle.lam_resolve.proofs.stmts.+stmt.Given as goal
 
 abbrev pub decreases-resolve_stmt : goal.decreases-resolve_stmt
 decreases-resolve_stmt l = stmt_size (stmt_tree l.s.now)
+
+abbrev pub decreases-resolve_if : goal.decreases-resolve_if
+decreases-resolve_if l = form_size (if_stmt (expr_tree l.test.now) (stmts_tree l.yes.now.items) (else_tree l.no.now))
+
+abbrev pub decreases-resolve_while : goal.decreases-resolve_while
+decreases-resolve_while l = form_size (while_stmt (expr_tree l.test.now) (stmts_tree l.body.now.items))
+
+abbrev pub decreases-resolve_sync : goal.decreases-resolve_sync
+decreases-resolve_sync l = form_size (sync_stmt (expr_tree l.thing.now) (stmts_tree l.body.now.items))
 
 abbrev pub decreases-resolve_region : goal.decreases-resolve_region
 decreases-resolve_region l = 2 + stmts_size (stmts_tree l.written.body.now.items) + stmts_size (stmts_tree l.written.catch_body.now.items)
