@@ -9,7 +9,7 @@ use Rattle.capabilities.specs.declared.Caps.{Caps}
 use Rattle.capabilities.specs.Changes.{used}
 use Rattle.lam_asks.specs.declared.answer.Event.{Event}
 use Rattle.lam_worlds.specs.Turns.{Moment}
-use Rattle.lam_worlds.specs.Views.{event, release, used_by}
+use Rattle.lam_worlds.specs.Views.{used_by}
 use Rattle.run_notes.specs.Notes.{refusal_of, refused, noted_at}
 use Rattle.run_notes.specs.declared.Noted.{Noted}
 use Rattle.turn_products.specs.Told.{product_label, IsToldBy}

@@ -1,8 +1,6 @@
-use Rattle.std.proofs.Common.{IfOk, subst, sym}
+use Rattle.std.proofs.Common.{subst, sym}
 use Rattle.lam_worlds.specs.Worlds.{World}
 use Rattle.lam_machine.specs.Machine.{CopiesLive}
-use Rattle.lam_run.specs.Turns.{Takes}
-use Rattle.turns_seen.specs.Turns.{seen_of}
 use Rattle.lam_run.proofs.PrivateLemmas.{was_not}
 use Rattle.turns_seen.proofs.viewing.view_turn.Goals as goal
 
