@@ -24,13 +24,13 @@ use std::alloc::Global;
 /// # Errors
 ///
 /// `CodeTooLong` with the number of the first unit that has more than 65,535 operations by the scheme; `NoMemory`.
-pub fn compile(alloc: Global, c: &Checked) -> Result<Code, CompileFault>
-    ensures ok { IfOk result (λ code. IsCompiledTo (checked_tree c.now) (Ok code)) }
+pub fn compile(alloc: Global, c: Checked) -> Result<Code, CompileFault>
+    ensures ok { IfOk result (λ code. IsCompiledTo (checked_tree c) (Ok code)) }
     ensures sound { IfOk result (λ code. IsCode code) }
-    ensures acts { ActsAsProgram (checked_tree c.now) }
-    ensures long { IfErr result (λ f. (f ≡ no_memory) ⊎ ((unit : ℕ) × (f ≡ CodeTooLong unit) × IsCompiledTo (checked_tree c.now) (Err unit))) }
+    ensures acts { ActsAsProgram (checked_tree c) }
+    ensures long { IfErr result (λ f. (f ≡ no_memory) ⊎ ((unit : ℕ) × (f ≡ CodeTooLong unit) × IsCompiledTo (checked_tree c) (Err unit))) }
 {
-    resolves(c);
+    resolves(&c);
     compiled_code_acts_as_its_source();
     let program = resolve(c)?;
     emit(alloc, &program)

@@ -1,4 +1,5 @@
-pub mod Sizes
-pub mod StmtArms
+pub mod Apart
 pub mod Blocks
 pub mod ProgramSteps
+pub mod Sizes
+pub mod StmtArms

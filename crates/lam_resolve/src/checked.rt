@@ -22,13 +22,13 @@ use want_of_memory::NoMemory;
 /// # Errors
 ///
 /// `NoMemory` where memory is refused.
-pub fn resolve(c: &Checked) -> Result<Resolved, NoMemory>
-    ensures resolved { IfOk result (λ r. Some (resolved_tree r) ≡ resolved (checked_tree c.now)) }
+pub fn resolve(c: Checked) -> Result<Resolved, NoMemory>
+    ensures resolved { IfOk result (λ r. Some (resolved_tree r) ≡ resolved (checked_tree c)) }
     ensures typed { IfOk result (λ r. IsTypedTree (resolved_tree r)) }
     ensures slots { IfOk result (λ r. SlotsDiffer (resolved_tree r)) }
     ensures regions { IfOk result (λ r. AreNumbered (resolved_tree r)) }
-    ensures reads { IfOk result (λ r. program_named (names_of (checked_tree c.now)) (resolved_tree r) ≡ unplaced (checked_tree c.now)) }
+    ensures reads { IfOk result (λ r. program_named (names_of (checked_tree c)) (resolved_tree r) ≡ unplaced (checked_tree c)) }
 {
-    resolves(c);
-    resolve_program(c.program())
+    resolves(&c);
+    resolve_program(c.into_program())
 }

@@ -120,6 +120,13 @@ impl Typed {
     {
         &self.program
     }
+
+    /// The program, by value.
+    pub fn into_program(self) -> Program
+        ensures { program_tree result ≡ tree_of self }
+    {
+        self.program
+    }
 }
 
 /// Types a program. It answers Ok with the same tree exactly where the program is typed, else the first break.

@@ -24,6 +24,13 @@ impl Checked {
     {
         self.typed.program()
     }
+
+    /// The program, by value.
+    pub fn into_program(self) -> Program
+        ensures { program_tree result ≡ checked_tree self }
+    {
+        self.typed.into_program()
+    }
 }
 
 /// Tests the region rules of a typed program. It answers Ok with the same tree exactly where the program keeps them,

@@ -7,7 +7,7 @@ use std::test::Fail;
 
 fn resolved(rt: &HostRuntime, text: &str) -> Result<String, Fail> {
     let checked = check_program(rt.alloc(), text.as_bytes())?;
-    let tree = resolve(&checked)?;
+    let tree = resolve(checked)?;
     Ok(shown(rt.alloc(), &tree)?)
 }
 
