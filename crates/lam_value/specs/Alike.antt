@@ -30,3 +30,8 @@ middle true true c e = refl
 middle true false c e = e
 middle false true c e = refl
 middle false false c e = e
+
+-- and what holds of both of the second
+pub second : (a b : Bool) → (a && b) ≡ true → b ≡ true
+second true b e = e
+second false b e = cc

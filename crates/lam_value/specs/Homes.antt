@@ -1,6 +1,6 @@
 -- A home is a pair of a maker's label and an own label, and things are numbered home by home.
-use Rattle.std.specs.Prelude.{ℕ, ◌+◌, ◌++◌, ◌&&◌, ◌≡◌, ◌<◌, ◌≤◌, Bool, cond, IsTrue, nat_eq, nat_lt, List, [], ◌∷◌, map, Option, refl, unwrap_or, option_and_then, Some, length}
-use Rattle.std.specs.Coded.{Coded, code_by, coded×, coded_ℕ}
+use Rattle.std.specs.Prelude.{ℕ, ◌+◌, ◌++◌, ◌&&◌, ◌≡◌, ◌<◌, ◌≤◌, Bool, cond, IsTrue, nat_eq, nat_lt, List, [], ◌∷◌, map, Option, unwrap_or, option_and_then, Some, length}
+use Rattle.std.specs.Coded.{Coded, coded_ℕ}
 use Rattle.std.specs.Ordering.{ordering_then}
 use Rattle.std.specs.declared.cmp.Ordering.{Ordering}
 use Rattle.std.specs.Cmp.Lexicographic.{pointwise}
@@ -11,12 +11,8 @@ use Rattle.tag_sets.specs.Tags.{tags_of}
 use Rattle.flow_labels.specs.declared.Label.{Label}
 use Rattle.flow_labels.specs.Flow.{flows}
 use Rattle.lam_value.specs.declared.names.Name.{Name}
-use Rattle.lam_value.specs.NameParts.{coded_label}
 use Rattle.lam_value.specs.Names.{label_cmp, name_cmp}
-
-pub record Home : Type 0 where
-  pub maker : Label
-  pub own : Label
+pub use Rattle.lam_value.specs.NameParts.{Home, coded_home}
 
 abbrev pub home_of : Label → Label → Home
 home_of p l = record { maker = p; own = l }
@@ -24,9 +20,6 @@ home_of p l = record { maker = p; own = l }
 -- the maker's label, then the own label
 abbrev pub home_cmp : Home → Home → Ordering
 home_cmp a b = ordering_then (label_cmp a.maker b.maker) (label_cmp a.own b.own)
-
-abbrev pub coded_home : Coded Home
-coded_home = code_by (Label × Label) (coded× coded_label coded_label) (λ h. (h.maker, h.own)) (λ p. record { maker = p.0; own = p.1 }) (λ _. refl)
 
 -- the name of a home's thing with a number
 abbrev pub name_of : Home → ℕ → Name

@@ -4,11 +4,12 @@
 //! name tells all that a reference monitor asks about a thing, so no test on a reference reads the thing.
 //! A *value* is what a local, a field or an array's element holds; references among them are names.
 //!
-//! - `names` has names and their order, by which stores are maps from names.
+//! - `homes` has homes, each a pair of a maker's label and an own label, and `names` names and their order, by which
+//!   stores are maps from names.
 //! - `byte_text` and `values` have the values; `shapes` what a new thing looks like.
 //! - `text` prints values.
-//! - `counters` numbers the things that are made at each *home*, a pair of a maker's label and an own
-//!   label. Numbers are counted for each home and never over all, so that none tells of another label.
+//! - `counters` numbers the things that are made at each home. Numbers are counted for each home and never over
+//!   all, so that none tells of another label.
 //!
 //! Contracts see all of these as plain data: equal values are equal in every respect. The laws by which a
 //! store's hash map is such a map (`Maps`, `Keys` in `proofs/`) stand here once for all stores.
@@ -17,6 +18,7 @@
 
 mod byte_text;
 mod counters;
+mod homes;
 mod names;
 mod same_lists;
 mod sameness;
@@ -26,6 +28,7 @@ mod values;
 
 pub use byte_text::ByteText;
 pub use counters::Counters;
+pub use homes::Home;
 pub use names::Name;
 pub use same_lists::same_values;
 pub use sameness::{Labelled, Same, Whole, same_maps};

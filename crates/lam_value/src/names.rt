@@ -1,20 +1,21 @@
 //! The names of things.
 
-ghost use Rattle.std.specs.Prelude.{◌≡◌, ◌++◌, nat_eq, IsTrue, ◌↔◌, IfOk};
-ghost use Rattle.std.proofs.Common.{rules, refl, ap};
+ghost use Rattle.std.specs.Prelude.{◌≡◌, nat_eq, IsTrue, ◌↔◌, IfOk};
+ghost use Rattle.std.proofs.Common.{rules, refl};
 ghost use Rattle.std.specs.Cmp.{partial_order_from_own_ties};
 ghost use Rattle.std.specs.Cmp.Rules.{comparing, hashing};
 ghost use Rattle.std.specs.Cmp.Lexicographic.{pointwise, slice_cmp};
 ghost use Rattle.std.specs.Ordering.{on, eq_of_both, then_cmp, nat_cmp, as_partial_cmp};
-ghost use Rattle.std.specs.Hash as fed;
 ghost use Rattle.tag_sets.specs.Tags.{tags_of};
-ghost use Rattle.lam_value.specs.NameParts.{writes, folded};
+ghost use Rattle.lam_value.specs.NameParts.{name_input, same_input};
 ghost use Rattle.lam_value.specs.Names.{name_cmp};
+ghost use Rattle.lam_value.specs.Homes.{home_of};
 
+use crate::homes::Home;
 use flow_labels::{Label, same};
 use std::alloc::Global;
 use std::cmp::Ordering;
-use std::hash::{FoldHasher, Hash, Hasher};
+use std::hash::{Hash, Hasher};
 use std::marker::Model;
 use std::sync::Arc;
 use tag_sets::NoMemory;
@@ -22,8 +23,8 @@ use tag_sets::NoMemory;
 /// The name of a thing: the label of its maker, its own label, and a number that no other thing of these
 /// two labels and of its kind has.
 ///
-/// A name is made once, and copied and looked up often. So its copies share one block with the three parts and
-/// their hash: a copy takes no memory, and a look-up hashes one number. Contracts see the record of the parts.
+/// A name is made once, and copied and looked up often. So its copies share one block with its home and number:
+/// a copy takes no memory, and a look-up hashes two numbers. Contracts see the record of the three parts.
 ///
 /// Names are ordered by the maker's label, then the own label, then the number.
 #[derive(Debug, Drop)]
@@ -31,27 +32,22 @@ pub struct Name {
     parts: Arc<Parts>,
 }
 
-/// The parts that the copies of a name share, with their hash, which is taken once.
+/// The parts that the copies of a name share.
 #[derive(Debug, Drop)]
 struct Parts {
-    maker: Label,
-    own: Label,
+    home: Home,
     n: u64,
-    digest: u64,
 }
 
 impl Model for Name {
     ghost use Rattle.std.specs.Arc.{arc_value};
-    ghost use Rattle.std.specs.Prelude.{◌≡◌};
-    ghost use Rattle.lam_value.specs.NameParts.{NameParts, coded_parts, writes, folded};
+    ghost use Rattle.lam_value.specs.NameParts.{NameParts, coded_parts};
 
     ghost Value = { NameParts };
 
     ghost coded = { coded_parts };
 
-    ghost view = { λ m. record { maker = (arc_value m.parts).maker; own = (arc_value m.parts).own; n = (arc_value m.parts).n } };
-
-    ghost invariant = { λ m. (arc_value m.parts).digest ≡ folded (writes (record { maker = (arc_value m.parts).maker; own = (arc_value m.parts).own; n = (arc_value m.parts).n })) };
+    ghost view = { λ m. record { maker = (arc_value m.parts).home.maker; own = (arc_value m.parts).home.own; n = (arc_value m.parts).n } };
 }
 
 impl PartialEq for Name {
@@ -96,12 +92,13 @@ impl Ord for Name {
 }
 
 impl Hash for Name {
-    ghost hash_input = { λ m. fed.u64 (folded (writes m)) };
+    ghost hash_input = { name_input };
 
-    ghost respects_eq = { λ x y h. ap (λ ws. fed.u64 (folded ws)) (Prim.search (hashing, rules) depth 9) };
+    ghost respects_eq = { λ x y h. same_input (home_of x.maker x.own) (home_of y.maker y.own) x.n y.n (Prim.search (hashing, rules) depth 9) (Prim.search (hashing, rules) depth 9) };
 
     fn hash<H: Hasher>(&self, state: &mut H) {
-        state.write_u64(self.parts.digest);
+        self.parts.home.hash(state);
+        self.parts.n.hash(state);
     }
 }
 
@@ -115,12 +112,9 @@ impl Name {
         ensures { IfOk result (λ m. m ≡ record { maker = maker; own = own; n = n }) }
     {
         let alloc = own.allocator();
-        let digest = digest_of(&maker, &own, n);
         let parts = Parts {
-            maker,
-            own,
+            home: Home::new(maker, own),
             n,
-            digest,
         };
         let parts = Arc::new(alloc, parts)?;
         Ok(Name { parts })
@@ -139,18 +133,25 @@ impl Name {
         Name::new(maker, own, n)
     }
 
+    /// The home of the thing: its maker's label and its own.
+    pub fn home(&self) -> &Home
+        ensures { result.now ≡ home_of self.now.maker self.now.own }
+    {
+        &self.parts.home
+    }
+
     /// The label of the thing's maker.
     pub fn maker(&self) -> &Label
         ensures { result.now ≡ self.now.maker }
     {
-        &self.parts.maker
+        self.parts.home.maker()
     }
 
     /// The thing's own label.
     pub fn own(&self) -> &Label
         ensures { result.now ≡ self.now.own }
     {
-        &self.parts.own
+        self.parts.home.own()
     }
 
     /// The thing's number among those of its two labels and its kind.
@@ -190,16 +191,4 @@ impl Name {
     {
         self.n() == other.n() && same(self.own(), other.own()) && same(self.maker(), other.maker())
     }
-}
-
-/// The hash of the parts of a name.
-#[tactic(auto, unfolding(crate::specs::NameParts::folded))]
-fn digest_of(maker: &Label, own: &Label, n: u64) -> u64
-    ensures { result ≡ folded (writes (record { maker = maker.now; own = own.now; n = n })) }
-{
-    let mut state = FoldHasher::default();
-    maker.hash(&mut state);
-    own.hash(&mut state);
-    n.hash(&mut state);
-    state.finish()
 }

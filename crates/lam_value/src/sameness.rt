@@ -5,9 +5,10 @@ ghost use Rattle.std.specs.Option.{option_copied};
 ghost use Rattle.std.specs.HashMap.{IsUnique, get as at_key};
 ghost use Rattle.std.specs.List.{filter};
 ghost use Rattle.flow_labels.specs.declared.Label.{Label};
-ghost use Rattle.lam_value.specs.Alike.{is_shown, AreAlike, AreAlikeWhere, HasAlike, middle};
+ghost use Rattle.lam_value.specs.Alike.{is_shown, AreAlike, AreAlikeWhere, HasAlike, middle, second};
 ghost use Rattle.lam_value.specs.Homes.{label_eq};
 
+use crate::homes::Home;
 use crate::names::Name;
 use flow_labels::{Label, flows};
 use indexmap::IndexMap;
@@ -43,6 +44,16 @@ impl Labelled for Label {
     }
 
     ghost label_follows = { λ _ _ e. e };
+}
+
+impl Labelled for Home {
+    ghost label_of = { λ h. h.own };
+
+    fn label(&self) -> &Label {
+        self.own()
+    }
+
+    ghost label_follows = { λ x y e. second (label_eq x.maker y.maker) (label_eq x.own y.own) e };
 }
 
 impl Labelled for Name {

@@ -1,0 +1,125 @@
+//! The homes of things.
+
+ghost use Rattle.std.specs.Prelude.{◌≡◌, ◌++◌, nat_eq, IfOk};
+ghost use Rattle.std.proofs.Common.{rules, ap};
+ghost use Rattle.std.specs.Cmp.Rules.{comparing, hashing};
+ghost use Rattle.std.specs.Cmp.Lexicographic.{pointwise};
+ghost use Rattle.std.specs.Ordering.{on, eq_of_both};
+ghost use Rattle.std.specs.Hash as fed;
+ghost use Rattle.tag_sets.specs.Tags.{tags_of};
+ghost use Rattle.lam_value.specs.NameParts.{home_writes, home_input, folded};
+
+use flow_labels::Label;
+use std::hash::{FoldHasher, Hash, Hasher};
+use std::marker::Model;
+use tag_sets::NoMemory;
+
+/// A home: the label of a maker and an own label. What is made at a home is numbered there, from 0.
+///
+/// A home is made once and looked up often, so it keeps its hash. Contracts see the record of its two labels.
+#[derive(Debug, Drop)]
+pub struct Home {
+    maker: Label,
+    own: Label,
+    digest: u64,
+}
+
+impl Model for Home {
+    ghost use Rattle.std.specs.Prelude.{◌≡◌};
+    ghost use Rattle.lam_value.specs.NameParts.{Home as Labels, coded_home, home_writes, folded};
+
+    ghost Value = { Labels };
+
+    ghost coded = { coded_home };
+
+    ghost view = { λ h. record { maker = h.maker; own = h.own } };
+
+    ghost invariant = { λ h. h.digest ≡ folded (home_writes (record { maker = h.maker; own = h.own })) };
+}
+
+impl PartialEq for Home {
+    ghost eq = { eq_of_both (eq_of_both (on (λ h. tags_of h.maker.s) (pointwise nat_eq)) (on (λ h. tags_of h.maker.i) (pointwise nat_eq))) (eq_of_both (on (λ h. tags_of h.own.s) (pointwise nat_eq)) (on (λ h. tags_of h.own.i) (pointwise nat_eq))) };
+
+    ghost laws = { Prim.search (comparing, rules) depth 9 };
+
+    fn eq(&self, other: &Home) -> bool {
+        self.maker == other.maker && self.own == other.own
+    }
+}
+
+impl Eq for Home {
+    ghost laws = { Prim.search (comparing, rules) depth 9 };
+}
+
+impl Hash for Home {
+    ghost hash_input = { home_input };
+
+    ghost respects_eq = { λ x y h. ap (λ ws. fed.u64 (folded ws)) (Prim.search (hashing, rules) depth 9) };
+
+    fn hash<H: Hasher>(&self, state: &mut H) {
+        state.write_u64(self.digest);
+    }
+}
+
+impl Home {
+    /// The home of a maker's label and an own label.
+    pub fn new(maker: Label, own: Label) -> Home
+        ensures { result ≡ record { maker = maker; own = own } }
+    {
+        let digest = digest_of(&maker, &own);
+        Home { maker, own, digest }
+    }
+
+    /// The home of a maker's label and an own label, which are copied.
+    ///
+    /// # Errors
+    ///
+    /// `NoMemory` where memory is refused.
+    pub fn of(maker: &Label, own: &Label) -> Result<Home, NoMemory>
+        ensures { IfOk result (λ h. h ≡ record { maker = maker.now; own = own.now }) }
+    {
+        Ok(Home::new(maker.copy()?, own.copy()?))
+    }
+
+    /// The label of the maker.
+    pub fn maker(&self) -> &Label
+        ensures { result.now ≡ self.now.maker }
+    {
+        &self.maker
+    }
+
+    /// The label of what is made.
+    pub fn own(&self) -> &Label
+        ensures { result.now ≡ self.now.own }
+    {
+        &self.own
+    }
+
+    /// An equal home.
+    ///
+    /// # Errors
+    ///
+    /// `NoMemory` where memory is refused.
+    pub fn copy(&self) -> Result<Home, NoMemory>
+        ensures { IfOk result (λ h. h ≡ self.now) }
+    {
+        let maker = self.maker.copy()?;
+        let own = self.own.copy()?;
+        Ok(Home {
+            maker,
+            own,
+            digest: self.digest,
+        })
+    }
+}
+
+/// The hash of the labels of a home.
+#[tactic(auto, unfolding(crate::specs::NameParts::folded))]
+fn digest_of(maker: &Label, own: &Label) -> u64
+    ensures { result ≡ folded (home_writes (record { maker = maker.now; own = own.now })) }
+{
+    let mut state = FoldHasher::default();
+    maker.hash(&mut state);
+    own.hash(&mut state);
+    state.finish()
+}
