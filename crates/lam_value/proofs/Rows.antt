@@ -1,5 +1,5 @@
 -- Laws of look-ups in entries: what a copy keeps, and how a map of maps is one map.
-use Rattle.std.proofs.Common.{◌≡◌, ℕ, ◌+◌, ◌<◌, ◌≤◌, Bool, true, false, cond, List, [], ◌∷◌, ◌++◌, map, length, IsSome, is_some, IsTrue, take, drop, get_or, slice_get, Option, Some, None, suc, zero, refl, sym, ap, subst, ◌∙◌, arith, add-one}
+use Rattle.std.proofs.Common.{◌≡◌, ℕ, ◌+◌, ◌<◌, ◌≤◌, Bool, true, false, cond, List, [], ◌∷◌, ◌++◌, map, length, IsSome, is_some, IsTrue, take, drop, slice_get, Option, Some, None, suc, zero, refl, sym, ap, subst, ◌∙◌, arith, add-one}
 use Rattle.std.specs.Prelude.{◌&&◌, option_and_then, unwrap_or}
 use Rattle.std.specs.Option.{option_or}
 use Rattle.std.specs.Ordering.{eq_by_cmp}
@@ -9,10 +9,9 @@ use Rattle.std.specs.Map.{lookup, keys_of}
 use Rattle.std.specs.HashMap.{HashMap, IsUnique}
 use Rattle.std.specs.List.{IsDistinct, AllByRecursion}
 use Rattle.std.proofs.lemmas.List.{take-append-drop, take_all}
-use Rattle.std.specs.FinMap.{FinMap, find, get, insert, from_entries, get-insert, get-from_entries, same_map, IsAntisymmetric}
+use Rattle.std.specs.FinMap.{find, get, insert, from_entries, get-insert, get-from_entries, same_map, IsAntisymmetric}
 use Rattle.flow_labels.specs.declared.Label.{Label}
-use Rattle.lam_value.specs.Names.{label_cmp}
-use Rattle.lam_value.specs.Homes.{Home, home_of, home_cmp, label_eq, home_eq, homes_in, home_in, count_in, Counts, AreHomes}
+use Rattle.lam_value.specs.Homes.{Home, home_of, label_eq, home_eq, homes_in, home_in, count_in, Counts, AreHomes}
 use Rattle.lam_value.specs.Alike.{AreAlike, AreAlikeWhere}
 use Rattle.lam_value.proofs.Keys.{label_exact, label_total, label_ties, home_exact, home_total, home_ties}
 
@@ -95,7 +94,7 @@ in_row m (e ∷ es) h =
     ∙ elim (label_eq h.maker m) as (λ b. cond (b && label_eq h.own e.0) (Some e.1) (cond b (lookup (label_eq h.own) es) None) ≡ cond b (cond (label_eq h.own e.0) (Some e.1) (lookup (label_eq h.own) es)) None) [ true ↦ refl | false ↦ refl ]
 
 module _ {S : Type 0} where
-  absent : (k : Label) (rows : List (Label × HashMap Label ℕ S)) → AllByRecursion (λ y. label_eq k y ≡ false) (keys_of rows) → lookup (label_eq k) rows ≡ None
+  pub absent : (k : Label) (rows : List (Label × HashMap Label ℕ S)) → AllByRecursion (λ y. label_eq k y ≡ false) (keys_of rows) → lookup (label_eq k) rows ≡ None
   absent k [] none = refl
   absent k (row ∷ rows) none = (λ i. cond (none.0 i) (Some row.1) (lookup (label_eq k) rows)) ∙ absent k rows none.1
 
@@ -176,16 +175,23 @@ filled_same [] fs same some = absurd (omega arith)
 filled_same (e ∷ es) fs same some = filled_put fs e.0 e.1 (lookup (label_eq e.0) es) (same e.0)
 
 module _ {S : Type 0} where
+  -- a maker's row, of which holds what holds of each, put in
+  pub each_set : (P : HashMap Label ℕ S → Type 0) (old new : List (Label × HashMap Label ℕ S)) (maker : Label) (row : HashMap Label ℕ S)
+      → ((m : Label) (r : HashMap Label ℕ S) → lookup (label_eq m) old ≡ Some r → P r)
+      → ((q : Label) → lookup (label_eq q) new ≡ cond (label_eq maker q) (Some row) (lookup (label_eq q) old))
+      → P row → (m : Label) (r : HashMap Label ℕ S) → lookup (label_eq m) new ≡ Some r → P r
+  each_set P old new maker row each outer this m r e = by (label_eq maker m) (sym (outer m) ∙ e)
+    where
+      by : (b : Bool) → cond b (Some row) (lookup (label_eq m) old) ≡ Some r → P r
+      by true is = let same : row ≡ r = cc in subst P same this
+      by false is = each m r is
+
   -- a maker's row, with a number at least, put in
   pub filled_set : (old new : List (Label × HashMap Label ℕ S)) (maker : Label) (row : HashMap Label ℕ S)
       → ((m : Label) (r : HashMap Label ℕ S) → lookup (label_eq m) old ≡ Some r → 0 < length r.entries)
       → ((q : Label) → lookup (label_eq q) new ≡ cond (label_eq maker q) (Some row) (lookup (label_eq q) old))
       → 0 < length row.entries → (m : Label) (r : HashMap Label ℕ S) → lookup (label_eq m) new ≡ Some r → 0 < length r.entries
-  filled_set old new maker row filled outer some m r e = by (label_eq maker m) (sym (outer m) ∙ e)
-    where
-      by : (b : Bool) → cond b (Some row) (lookup (label_eq m) old) ≡ Some r → 0 < length r.entries
-      by true is = let same : row ≡ r = cc in subst (λ (x : HashMap Label ℕ S). 0 < length x.entries) same some
-      by false is = filled m r is
+  filled_set = each_set (λ r. 0 < length r.entries)
 
   -- a number that is not 0, set
   pub above_set : (old new : List (Label × HashMap Label ℕ S)) (k : Home) (count : ℕ) → ((h : Home) (n : ℕ) → home_in old h ≡ Some n → 0 < n)
@@ -202,9 +208,10 @@ module _ {S : Type 0} where
   pub homes_put : {T : Type 0} (old new : HashMap Label (HashMap Label ℕ S) T) (maker own : Label) (count : ℕ) (row : HashMap Label ℕ S)
       → AreHomes old → IsUnique label_eq new
       → ((q : Label) → lookup (label_eq q) new.entries ≡ cond (label_eq maker q) (Some row) (lookup (label_eq q) old.entries))
-      → 0 < length row.entries → 0 < count → ((h : Home) → home_in new.entries h ≡ cond (home_eq (home_of maker own) h) (Some count) (home_in old.entries h)) → AreHomes new
-  homes_put old new maker own count row homes unique outer filled some set = record {
+      → IsUnique label_eq row → 0 < length row.entries → 0 < count → ((h : Home) → home_in new.entries h ≡ cond (home_eq (home_of maker own) h) (Some count) (home_in old.entries h)) → AreHomes new
+  homes_put old new maker own count row homes unique outer once filled some set = record {
     unique = unique;
+    once = each_set (IsUnique label_eq) old.entries new.entries maker row homes.once outer once;
     filled = filled_set old.entries new.entries maker row homes.filled outer filled;
     above = above_set old.entries new.entries (home_of maker own) count homes.above set some;
   }
@@ -212,9 +219,10 @@ module _ {S : Type 0} where
   pub homes_kept : {T : Type 0} (old new : HashMap Label (HashMap Label ℕ S) T) (maker : Label) (row : HashMap Label ℕ S)
       → AreHomes old → IsUnique label_eq new
       → ((q : Label) → lookup (label_eq q) new.entries ≡ cond (label_eq maker q) (Some row) (lookup (label_eq q) old.entries))
-      → 0 < length row.entries → ((h : Home) → home_in new.entries h ≡ home_in old.entries h) → AreHomes new
-  homes_kept old new maker row homes unique outer filled same = record {
+      → IsUnique label_eq row → 0 < length row.entries → ((h : Home) → home_in new.entries h ≡ home_in old.entries h) → AreHomes new
+  homes_kept old new maker row homes unique outer once filled same = record {
     unique = unique;
+    once = each_set (IsUnique label_eq) old.entries new.entries maker row homes.once outer once;
     filled = filled_set old.entries new.entries maker row homes.filled outer filled;
     above = above_kept old.entries new.entries homes.above same;
   }
@@ -222,6 +230,7 @@ module _ {S : Type 0} where
   pub homes_unchanged : {T : Type 0} (old new : HashMap Label (HashMap Label ℕ S) T) → AreHomes old → IsUnique label_eq new → new.entries ≡ old.entries → AreHomes new
   homes_unchanged old new homes unique e = record {
     unique = unique;
+    once = λ m r is. homes.once m r (ap (lookup (label_eq m)) (sym e) ∙ is);
     filled = λ m r is. homes.filled m r (ap (lookup (label_eq m)) (sym e) ∙ is);
     above = λ h n is. homes.above h n (ap (λ es. home_in es h) (sym e) ∙ is);
   }

@@ -1,10 +1,11 @@
 //! How many things each home has made.
 
-ghost use Rattle.std.specs.Prelude.{◌≡◌, ◌+◌, ◌^◌, ◌<◌, ◌↔◌, IsTrue, cond, Some, unwrap_or, IfOk, OnOk, OnErr};
+ghost use Rattle.std.specs.Prelude.{◌≡◌, ◌+◌, ◌^◌, ◌<◌, ◌↔◌, IsTrue, cond, Some, unwrap_or, slice_get, IfOk, OnOk, OnErr};
+ghost use Rattle.std.specs.Option.{option_map};
 ghost use Rattle.std.specs.FinMap as map;
 ghost use Rattle.std.specs.HashMap.{IsUnique, IsUnchanged, Updates, get as at_key};
 ghost use Rattle.flow_labels.specs.declared.Label.{Label};
-ghost use Rattle.lam_value.specs.Homes.{Home, home_of, count_in, counted, raised, IsAboveZero, AreSeenAlike, label_eq, home_eq, home_in, AreHomes};
+ghost use Rattle.lam_value.specs.Homes.{Home, home_of, count_in, counted, raised, IsAboveZero, IsListing, AreSeenAlike, label_eq, home_eq, homes_in, home_in, AreHomes};
 
 use crate::sameness::{Same, Whole, same_maps};
 use flow_labels::Label;
@@ -101,6 +102,13 @@ impl Counters {
         same_maps::<_, _, Whole>(&self.rows, &other.rows, Some(observer))
     }
 
+    /// The homes that are counted, each once, with their counters. No memory is taken.
+    pub fn homes(&self) -> HomeCounts<'_>
+        ensures { IsListing result self.now }
+    {
+        HomeCounts { rows: &self.rows }
+    }
+
     /// What holds of all counters. The call does nothing: its clause is for its caller's proof.
     pub fn facts(&self)
         ensures { IsAboveZero self.now }
@@ -118,6 +126,39 @@ impl Counters {
     {
         let rows = copied_rows(&self.rows)?;
         Ok(Counters { rows })
+    }
+}
+
+/// The homes that are counted, with their counters, as a list.
+///
+/// The order of the list means nothing, and no contract tells it. So one list is read from its first place to its
+/// last, and places of two lists are not compared.
+#[derive(Drop)]
+pub struct HomeCounts<'a> {
+    rows: &'a Rows,
+}
+
+impl<'a> Model for HomeCounts<'a> {
+    ghost use Rattle.std.specs.Prelude.{ℕ, List};
+    ghost use Rattle.std.specs.Coded.{coded×, coded_list, coded_ℕ};
+    ghost use Rattle.lam_value.specs.Homes.{Home, coded_home, homes_in};
+
+    ghost Value = { List (Home × ℕ) };
+
+    ghost coded = { coded_list (coded× coded_home coded_ℕ) };
+
+    ghost view = { λ c. homes_in c.rows.now.entries };
+}
+
+impl<'a> HomeCounts<'a> {
+    /// The home at a place, as its maker's label and its own label, with its counter, or `None` exactly past the
+    /// last.
+    ///
+    /// It goes over the makers, so a place far back takes as many steps as there are makers.
+    pub fn get(&self, at: u64) -> Option<(&'a Label, &'a Label, u64)>
+        ensures { option_map (λ e. (home_of e.0.now e.1.now, e.2)) result ≡ slice_get self.now at }
+    {
+        home_at(self.rows, at as usize)
     }
 }
 
@@ -142,6 +183,23 @@ fn row_count(row: &Row, own: &Label) -> u64
     ensures { result ≡ unwrap_or (at_key label_eq row.now own.now) 0 }
 {
     row.get(own).copied().unwrap_or(0)
+}
+
+/// The home at a place among those of all makers, one maker's after another's, with its counter.
+fn home_at(rows: &Rows, at: usize) -> Option<(&Label, &Label, u64)>
+    ensures { option_map (λ e. (home_of e.0.now e.1.now, e.2)) result ≡ slice_get (homes_in rows.now.entries) at }
+{
+    let mut rest = at;
+    for place in 0..rows.len() {
+        let Some((maker, row)) = rows.get_index(place) else {
+            unreachable!()
+        };
+        if let Some((own, count)) = row.get_index(rest) {
+            return Some((maker, own, *count));
+        }
+        rest -= row.len();
+    }
+    None
 }
 
 /// Sets the counter of a home.
@@ -169,6 +227,7 @@ fn set_count(rows: &mut Rows, maker: &Label, own: &Label, count: u64) -> Result<
 fn set_row(row: &mut Row, own: &Label, count: u64) -> Result<(), NoMemory>
     ensures ok { OnOk result ((q : Label) → at_key label_eq row.new q ≡ cond (label_eq own.now q) (Some count) (at_key label_eq row.old q)) }
     ensures err { OnErr result ((q : Label) → at_key label_eq row.new q ≡ at_key label_eq row.old q) }
+    ensures unique { IsUnique label_eq row.new }
 {
     match row.get_mut(own) {
         Some(number) => {
@@ -198,7 +257,8 @@ fn copied_rows(rows: &Rows) -> Result<Rows, NoMemory>
 }
 
 fn copied_row(row: &Row) -> Result<Row, NoMemory>
-    ensures { IfOk result (λ new. (q : Label) → at_key label_eq new q ≡ at_key label_eq row.now q) }
+    ensures same { IfOk result (λ new. (q : Label) → at_key label_eq new q ≡ at_key label_eq row.now q) }
+    ensures unique { IfOk result (λ new. IsUnique label_eq new) }
 {
     let mut copy = IndexMap::new(*row.allocator());
     for at in 0..row.len() {

@@ -27,7 +27,7 @@ mod text;
 mod values;
 
 pub use byte_text::ByteText;
-pub use counters::Counters;
+pub use counters::{Counters, HomeCounts};
 pub use homes::Home;
 pub use names::Name;
 pub use same_lists::same_values;

@@ -1,15 +1,17 @@
-use Rattle.std.proofs.Common.{◌≡◌, ◌<◌, ◌∙◌, ap, sym, cond, Some, refl, arith}
+use Rattle.std.proofs.Common.{◌∙◌, ap, sym, cond, Some, arith}
+use Rattle.std.specs.HashMap.{IsUnique}
 use Rattle.std.specs.Map.{lookup}
 use Rattle.lam_value.specs.Homes.{Home, home_of, home_in, label_eq}
 use Rattle.lam_value.proofs.Keys.{label_total, label_exact, label_ties}
 use Rattle.lam_value.proofs.Maps.{not_none}
-use Rattle.lam_value.proofs.Rows.{copy_more, taken_all, filled_set, filled_same, above_kept}
+use Rattle.lam_value.proofs.Rows.{copy_more, taken_all, each_set, filled_set, filled_same, above_kept}
 use Rattle.lam_value.proofs.counters.copied_rows.Goals as goal
 
 pub loop-at-init : goal.loop-at-init
 loop-at-init c = record {
   unique = c.new-copy.ensures.unique;
   same = λ h. ap (λ es. home_in es h) c.new-copy.ensures.empty;
+  once = λ m row e. let none = sym (ap (lookup (label_eq m)) c.new-copy.ensures.empty) ∙ e in cc;
   filled = λ m row e. let none = sym (ap (lookup (label_eq m)) c.new-copy.ensures.empty) ∙ e in cc;
 }
 
@@ -18,12 +20,16 @@ loop-at-preserved c = record {
   unique = c.in_ok-insert.ensures.unique;
   same = λ h.
       copy_more label_eq label_total label_exact label_ties (λ row. lookup (label_eq h.own) row.entries) c.args.rows.now.entries c.loop-at.copy.entries c.insert.new.self.entries c.loop-at.at c.in-Some.maker.now c.in-Some.row.now c.in_ok-copied_row.field-0
-      (sym c.in-Some.ensures.entry) c.in-Some.ensures.value (c.in_ok-copied_row.ensures h.own) (λ q. c.loop-at.invariant.same (home_of q h.own))
+      (sym c.in-Some.ensures.entry) c.in-Some.ensures.value (c.in_ok-copied_row.ensures.same h.own) (λ q. c.loop-at.invariant.same (home_of q h.own))
       (λ q. c.in_ok-insert.ensures.updates.0 q ∙ ap (λ k. cond (label_eq k q) (Some c.in_ok-copied_row.field-0) (lookup (label_eq q) c.loop-at.copy.entries)) c.in_ok-copy.ensures) h.maker;
+  once =
+      each_set (IsUnique label_eq) c.loop-at.copy.entries c.insert.new.self.entries c.in-Some.maker.now c.in_ok-copied_row.field-0 c.loop-at.invariant.once
+      (λ q. c.in_ok-insert.ensures.updates.0 q ∙ ap (λ k. cond (label_eq k q) (Some c.in_ok-copied_row.field-0) (lookup (label_eq q) c.loop-at.copy.entries)) c.in_ok-copy.ensures)
+      c.in_ok-copied_row.ensures.unique;
   filled =
       filled_set c.loop-at.copy.entries c.insert.new.self.entries c.in-Some.maker.now c.in_ok-copied_row.field-0 c.loop-at.invariant.filled
       (λ q. c.in_ok-insert.ensures.updates.0 q ∙ ap (λ k. cond (label_eq k q) (Some c.in_ok-copied_row.field-0) (lookup (label_eq q) c.loop-at.copy.entries)) c.in_ok-copy.ensures)
-      (filled_same c.in-Some.row.now.entries c.in_ok-copied_row.field-0.entries c.in_ok-copied_row.ensures (c.requires.filled c.in-Some.maker.now c.in-Some.row.now c.in-Some.ensures.value));
+      (filled_same c.in-Some.row.now.entries c.in_ok-copied_row.field-0.entries c.in_ok-copied_row.ensures.same (c.requires.filled c.in-Some.maker.now c.in-Some.row.now c.in-Some.ensures.value));
 }
 
 pub returns : goal.returns
@@ -33,6 +39,7 @@ returns c =
       same = same;
       homes = record {
         unique = c.loop-at.invariant.unique;
+        once = c.loop-at.invariant.once;
         filled = c.loop-at.invariant.filled;
         above = above_kept c.args.rows.now.entries c.loop-at.copy.entries c.requires.above same;
       };

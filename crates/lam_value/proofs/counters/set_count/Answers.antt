@@ -1,10 +1,10 @@
-use Rattle.std.proofs.Common.{◌≡◌, ◌∙◌, sym, ap, cond, Some, None}
+use Rattle.std.proofs.Common.{◌∙◌, sym, ap, cond, Some}
 use Rattle.std.specs.Prelude.{option_and_then}
-use Rattle.std.specs.Option.{option_copied, option_copied_mut}
-use Rattle.std.specs.HashMap.{HashMap, get}
+use Rattle.std.specs.Option.{option_copied_mut}
+use Rattle.std.specs.HashMap.{get}
 use Rattle.std.specs.Map.{lookup}
 use Rattle.flow_labels.specs.declared.Label.{Label}
-use Rattle.lam_value.specs.Homes.{Home, home_of, home_eq, home_in, label_eq}
+use Rattle.lam_value.specs.Homes.{label_eq}
 use Rattle.lam_value.proofs.Maps.{on_err, some_is}
 use Rattle.lam_value.proofs.Rows.{home_set, home_kept, homes_put, homes_kept, homes_unchanged, filled_put, filled_same}
 use Rattle.lam_value.proofs.counters.set_count.Goals as goal
@@ -36,7 +36,7 @@ returns-in_ok-set_row-in-Some-clause-homes c =
     let there = sym c.get_mut.ensures.value ∙ ap option_copied_mut c.in-Some.is in
     let wrote = c.get_mut.follows.holds c.set_row.new.row in
     let outer = (wrote.3 (some_is _ c.in-Some.row.now there)).0 in
-    homes_put c.args.rows.now _ c.args.maker.now c.args.own.now c.args.count c.set_row.new.row c.requires.homes wrote.4 outer
+    homes_put c.args.rows.now _ c.args.maker.now c.args.own.now c.args.count c.set_row.new.row c.requires.homes wrote.4 outer c.in_ok-set_row-in-Some.ensures.unique
     (filled_put c.set_row.new.row.entries c.args.own.now c.args.count _ (c.in_ok-set_row-in-Some.ensures.ok c.args.own.now)) c.requires.some
     (home_set c.args.rows.now.entries _ c.set_row.new.row c.args.maker.now c.args.own.now c.args.count outer
     (λ q. c.in_ok-set_row-in-Some.ensures.ok q ∙ ap (λ o. cond (label_eq c.args.own.now q) (Some c.args.count) (option_and_then (λ r. get label_eq r q) o)) (sym there)))
@@ -46,7 +46,7 @@ returns-in_err-set_row-in-Some-clause-homes c =
     let there = sym c.get_mut.ensures.value ∙ ap option_copied_mut c.in-Some.is in
     let wrote = c.get_mut.follows.holds c.set_row.new.row in
     let outer = (wrote.3 (some_is _ c.in-Some.row.now there)).0 in
-    homes_kept c.args.rows.now _ c.args.maker.now c.set_row.new.row c.requires.homes wrote.4 outer
+    homes_kept c.args.rows.now _ c.args.maker.now c.set_row.new.row c.requires.homes wrote.4 outer c.in_err-set_row-in-Some.ensures.unique
     (filled_same c.in-Some.row.now.entries c.set_row.new.row.entries c.in_err-set_row-in-Some.ensures.err (c.requires.homes.filled c.args.maker.now c.in-Some.row.now there))
     (home_kept c.args.rows.now.entries _ c.set_row.new.row c.args.maker.now outer
     (λ q. c.in_err-set_row-in-Some.ensures.err q ∙ ap (λ o. option_and_then (λ r. get label_eq r q) o) (sym there)))
@@ -58,7 +58,7 @@ pub returns-in_ok-insert-in-None-clause-homes : goal.returns-in_ok-insert-in-Non
 returns-in_ok-insert-in-None-clause-homes c =
     let none = sym c.get_mut.ensures.value ∙ ap option_copied_mut c.in-None.is in
     let outer = λ (q : Label). c.in_ok-insert-in-None.ensures.updates.0 q ∙ (λ i. cond (label_eq (c.in_ok-copy-in-None.ensures i) q) (Some c.set_row-in-None.new.row) (get label_eq (c.get_mut.follows.holds-at-none i) q)) in
-    homes_put c.args.rows.now c.insert.new.self c.args.maker.now c.args.own.now c.args.count c.set_row-in-None.new.row c.requires.homes c.in_ok-insert-in-None.ensures.unique outer
+    homes_put c.args.rows.now c.insert.new.self c.args.maker.now c.args.own.now c.args.count c.set_row-in-None.new.row c.requires.homes c.in_ok-insert-in-None.ensures.unique outer c.in_ok-set_row-in-None.ensures.unique
     (filled_put c.set_row-in-None.new.row.entries c.args.own.now c.args.count _ (c.in_ok-set_row-in-None.ensures.ok c.args.own.now)) c.requires.some
     (home_set c.args.rows.now.entries c.insert.new.self.entries c.set_row-in-None.new.row c.args.maker.now c.args.own.now c.args.count outer
     (λ q. c.in_ok-set_row-in-None.ensures.ok q ∙ ap (λ es. cond (label_eq c.args.own.now q) (Some c.args.count) (lookup (label_eq q) es)) c.new-row.ensures.empty
