@@ -61,6 +61,7 @@ IsAboveZero m = (h : Home) (n : ℕ) → get m h ≡ Some n → 0 < n
 abbrev pub AreSeenAlike : Label → Counts → Counts → Type 0
 AreSeenAlike o m k = (h : Home) → IsTrue (flows h.maker o) → get m h ≡ get k h
 
+-- whether two labels have the same tags, and two homes the same labels
 abbrev pub label_eq : Label → Label → Bool
 label_eq a b = pointwise nat_eq (tags_of a.s) (tags_of b.s) && pointwise nat_eq (tags_of a.i) (tags_of b.i)
 
