@@ -1,13 +1,13 @@
 //! Directories and files by name.
 
-ghost use Rattle.std.specs.Prelude.{◌≡◌, ◌≤◌, ◌<◌, ◌+◌, ◌↔◌, IsTrue, [], IfOk, OnOk, OnErr, Some, None, length, take, drop, is_some, unwrap_or, slice_get, false};
+ghost use Rattle.std.specs.Prelude.{◌≡◌, ◌≤◌, ◌<◌, ◌+◌, ◌↔◌, ℕ, IsTrue, List, [], IfOk, IfSome, OnOk, OnErr, Some, None, length, take, drop, is_some, unwrap_or, slice_get, false};
 ghost use Rattle.std.specs.Result.{MatchResult};
 ghost use Rattle.std.specs.Option.{option_copied, option_map};
 ghost use Rattle.std.specs.Map.{lookup};
 ghost use Rattle.std.specs.FinMap.{insert};
 ghost use Rattle.indexmap.specs.IndexMap.{spare};
 ghost use Rattle.lam_value.specs.Homes as homes;
-ghost use Rattle.lam_value.specs.Homes.{home_of, count_in, raised};
+ghost use Rattle.lam_value.specs.Homes.{Home, home_of, count_in, raised, IsAboveZero, IsListing};
 ghost use Rattle.labelled_files.specs.Entries.{text_eq, name_of_kind, entry_of};
 ghost use Rattle.labelled_files.specs.Seen.{dirs_of, files_of, at, shown, held, SameDirs, SameFiles};
 ghost use Rattle.lam_value.specs.Alike.{is_shown};
@@ -19,7 +19,7 @@ use crate::contents::{Contents, first_bytes, last_bytes};
 use crate::directory::{Directory, ENTRY_LIMIT, EntryKind, Target, is_entry_name};
 use flow_labels::Label;
 use indexmap::IndexMap;
-use lam_value::{Counters, Name, Same, Whole, same_maps};
+use lam_value::{Counters, HomeCounts, Name, Same, Whole, same_maps};
 use std::alloc::{AllocError, AllocFailed, Global};
 use std::marker::Model;
 use tag_sets::NoMemory;
@@ -422,6 +422,28 @@ impl Files {
         ensures { IsTrue result ↔ homes.AreSeenAlike observer.now self.now.counts other.now.counts }
     {
         self.counters.same_seen(&other.counters, observer)
+    }
+
+    /// The homes that have made a file or directory here or whose counter was raised, each once, with their
+    /// counters.
+    pub fn counters(&self) -> HomeCounts<'_>
+        ensures list { IsListing result self.now.counts }
+        ensures above { IsAboveZero self.now.counts }
+    {
+        self.counters.facts();
+        self.counters.homes()
+    }
+
+    /// The home at a place of a list of these, as its maker's label and its own label, with its counter, or `None`
+    /// exactly past the last.
+    ///
+    /// Each call is of a list of its own, and no clause says that two of them are in one order: who goes through
+    /// all homes takes [`Files::counters`] once.
+    pub fn counter_at(&self, i: u64) -> Option<(&Label, &Label, u64)>
+        ensures value { (hs : List (Home × ℕ)) × (IsListing hs self.now.counts × (option_map (λ e. (home_of e.0.now e.1.now, e.2)) result ≡ slice_get hs i)) }
+        ensures above { IfSome result (λ e. 0 < e.2) }
+    {
+        self.counters().get(i)
     }
 
     /// What holds of all files and directories. The call does nothing: its clause is for its caller's proof.
