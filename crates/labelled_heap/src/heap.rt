@@ -4,23 +4,24 @@
 //! from names; what a thing is, an object of a class or an array of a kind, stands in a map of its own,
 //! since no observer is shown it. New things are numbered home by home: by the maker's label and the
 //! thing's own label, and never over all, so that a name tells of no other label.
+//!
+//! The numbers of a home begin at 0 and have no gap, and no thing is ever taken away. So the things of a home
+//! stand in a vector, each at its number, and a look-up by name is one look-up of the home and one index.
 
-ghost use Rattle.std.specs.Prelude.{◌≡◌, ◌≤◌, ◌<◌, ◌↔◌, IsTrue, IsSome, IfOk, OnOk, OnErr, IsErrOf, length, slice_get, slice_set, cond, Some, None};
+ghost use Rattle.std.specs.Prelude.{◌≡◌, ◌≤◌, ◌<◌, ◌++◌, ◌∷◌, [], ◌↔◌, ℕ, IsTrue, IsSome, IfOk, OnOk, OnErr, IsErrOf, length, slice_get, slice_set, cond, Some, None};
 ghost use Rattle.std.specs.Option.{option_copied};
 ghost use Rattle.std.specs.FinMap as map;
-ghost use Rattle.std.specs.HashMap.{get as at_key};
+ghost use Rattle.lam_value.specs.Alike.{AreAlike};
 ghost use Rattle.lam_value.specs.Homes as homes;
-ghost use Rattle.lam_value.specs.Homes.{home_of, name_of, count_in, counted};
+ghost use Rattle.lam_value.specs.Homes.{Home, home_of, home_eq, name_of, count_in, counted};
 ghost use Rattle.lam_value.specs.Shapes.{slots_of};
-ghost use Rattle.lam_value.specs.declared.names.Name.{Name};
-ghost use Rattle.lam_value.proofs.Keys.{name_eq};
 ghost use Rattle.labelled_heap.specs.Things.{no_things, slots_at, with_slot, with_thing, with_copy, sort_of, IsSound, AreSeenAlike};
-ghost use Rattle.labelled_heap.specs.declared.heap.Thing.{Thing};
+ghost use Rattle.labelled_heap.specs.Seen.{row_at, thing_at, slots_in, written_in, AreRows};
 ghost use Rattle.labelled_heap.specs.declared.heap.HeapFault.TheVariants.{NoMemory as no_memory};
 
 use flow_labels::Label;
 use indexmap::IndexMap;
-use lam_value::{Counters, Kind, Name, Same, Shape, Value, Values, Whole, same_maps};
+use lam_value::{Counters, Home, Kind, Name, Same, Shape, Value, Values, Whole, same_maps};
 use std::alloc::{AllocError, AllocFailed, Global};
 use std::marker::Model;
 use tag_sets::NoMemory;
@@ -77,13 +78,21 @@ struct Thing {
     slots: Values,
 }
 
+/// The things of one home; the number of each is its place.
+#[derive(Drop)]
+struct Row {
+    things: Vec<Thing>,
+}
+
+type Rows = IndexMap<Home, Row>;
+
 /// Marks that the slots of things are compared, which is what an observer sees of them.
 struct Slots;
 
 /// Objects and arrays by name, with a counter for each home.
 #[derive(Drop)]
 pub struct Heap {
-    things: IndexMap<Name, Thing>,
+    rows: Rows,
     counters: Counters,
 }
 
@@ -94,12 +103,11 @@ impl Model for Heap {
 
     ghost coded = { coded_things };
 
-    ghost use Rattle.labelled_heap.specs.Things.{IsSound};
-    ghost use Rattle.labelled_heap.specs.Seen.{things_of};
+    ghost use Rattle.labelled_heap.specs.Seen.{things_of, things_in, AreSound};
 
-    ghost view = { λ h. things_of h.things.entries h.counters };
+    ghost view = { λ h. things_of (things_in h.rows.entries) h.counters };
 
-    ghost invariant = { λ h. IsSound (things_of h.things.entries h.counters) };
+    ghost invariant = { λ h. AreSound h.rows h.counters };
 }
 
 impl Heap {
@@ -108,7 +116,7 @@ impl Heap {
         ensures { result ≡ no_things }
     {
         Heap {
-            things: IndexMap::new(alloc),
+            rows: IndexMap::new(alloc),
             counters: Counters::new(alloc),
         }
     }
@@ -117,14 +125,14 @@ impl Heap {
     pub fn lives(&self, r: &Name) -> bool
         ensures { result ≡ map.contains_key self.now.slots r.now }
     {
-        self.things.contains_key(r)
+        thing_of(&self.rows, r).is_some()
     }
 
     /// What a thing is, or `None` where it does not live.
     pub fn sort(&self, r: &Name) -> Option<Sort>
         ensures { result ≡ map.get self.now.sorts r.now }
     {
-        match self.things.get(r) {
+        match thing_of(&self.rows, r) {
             None => None,
             Some(thing) => Some(thing.sort),
         }
@@ -135,7 +143,7 @@ impl Heap {
         requires { IsTrue (map.contains_key self.now.slots r.now) }
         ensures { result ≡ length (slots_at self.now r.now) }
     {
-        match self.things.get(r) {
+        match thing_of(&self.rows, r) {
             None => 0,
             Some(thing) => thing.slots.len(),
         }
@@ -145,7 +153,7 @@ impl Heap {
     pub fn slots(&self, r: &Name) -> &[Value]
         ensures { result.now ≡ slots_at self.now r.now }
     {
-        match self.things.get(r) {
+        match thing_of(&self.rows, r) {
             None => &[],
             Some(thing) => slots_of(thing),
         }
@@ -155,7 +163,7 @@ impl Heap {
     pub fn get(&self, r: &Name, at: u64) -> Option<&Value>
         ensures { option_copied result ≡ slice_get (slots_at self.now r.now) at }
     {
-        match self.things.get(r) {
+        match thing_of(&self.rows, r) {
             None => None,
             Some(thing) => slot_of(thing, at),
         }
@@ -178,9 +186,9 @@ impl Heap {
         ensures old { result ≡ slice_get (slots_at self.old r.now) at }
         ensures new { self.new ≡ with_slot self.old r.now at v }
     {
-        match self.things.get_mut(r) {
+        match self.rows.get_mut(r.home()) {
             None => return none_of(v),
-            Some(thing) => return set_slot(thing, at, v),
+            Some(row) => return set_in_row(row, r.n(), at, v),
         }
     }
 
@@ -221,7 +229,7 @@ impl Heap {
         }
         let thing = new_thing(own.allocator(), shape)?;
         let name = add_thing(
-            &mut self.things,
+            &mut self.rows,
             &mut self.counters,
             maker,
             own,
@@ -247,12 +255,12 @@ impl Heap {
         if number == HOME_LIMIT {
             return Err(HeapFault::HomeFull);
         }
-        let Some(thing) = self.things.get(r) else {
+        let Some(thing) = thing_of(&self.rows, r) else {
             unreachable!()
         };
         let thing = thing.copy()?;
         let name = add_thing(
-            &mut self.things,
+            &mut self.rows,
             &mut self.counters,
             maker,
             own,
@@ -267,14 +275,14 @@ impl Heap {
         ensures { IsTrue result ↔ (self.now ≡ other.now) }
     {
         self.counters.same(&other.counters)
-            && same_maps::<_, _, Whole>(&self.things, &other.things, None)
+            && same_maps::<_, _, Whole>(&self.rows, &other.rows, None)
     }
 
     /// Whether two heaps have equal slots in each thing whose label flows to the observer's.
     pub fn same_seen(&self, other: &Heap, observer: &Label) -> bool
         ensures { IsTrue result ↔ AreSeenAlike observer.now self.now other.now }
     {
-        same_maps::<_, _, Slots>(&self.things, &other.things, Some(observer))
+        same_maps::<_, _, Slots>(&self.rows, &other.rows, Some(observer))
     }
 
     /// Whether two heaps have equal counters at each home whose maker's label flows to the observer's.
@@ -288,7 +296,7 @@ impl Heap {
     pub fn facts(&self)
         ensures { IsSound self.now }
     {
-        let _ = &self.things;
+        let _ = &self.rows;
     }
 
     /// An equal heap.
@@ -299,9 +307,9 @@ impl Heap {
     pub fn copy(&self) -> Result<Heap, NoMemory>
         ensures { IfOk result (λ h. h ≡ self.now) }
     {
-        let things = copied(&self.things)?;
+        let rows = copied(&self.rows)?;
         let counters = self.counters.copy()?;
-        Ok(Heap { things, counters })
+        Ok(Heap { rows, counters })
     }
 }
 
@@ -318,6 +326,54 @@ impl Same<Slots> for Thing {
 
     fn same(&self, other: &Thing) -> bool {
         self.slots.same(&other.slots)
+    }
+}
+
+impl Same<Whole> for Row {
+    ghost IsSame = { λ r s. (n : ℕ) → AreAlike (λ t u. t ≡ u) (slice_get r.things.items n) (slice_get s.things.items n) };
+
+    fn same(&self, other: &Row) -> bool {
+        same_things::<_, Whole>(&self.things, &other.things)
+    }
+}
+
+impl Same<Slots> for Row {
+    ghost IsSame = { λ r s. (n : ℕ) → AreAlike (λ t u. t.slots ≡ u.slots) (slice_get r.things.items n) (slice_get s.things.items n) };
+
+    fn same(&self, other: &Row) -> bool {
+        same_things::<_, Slots>(&self.things, &other.things)
+    }
+}
+
+/// Whether two lists have the same at each place.
+fn same_things<T: Same<Part>, Part>(a: &[T], b: &[T]) -> bool
+    ensures { IsTrue result ↔ ((n : ℕ) → AreAlike T.IsSame (slice_get a.now n) (slice_get b.now n)) }
+{
+    a.len() == b.len() && begin_alike(a, b)
+}
+
+/// Whether the first things of a list are those of another one that is as long.
+fn begin_alike<T: Same<Part>, Part>(a: &[T], b: &[T]) -> bool
+    requires { length a.now ≡ length b.now }
+    ensures { IsTrue result ↔ ((n : ℕ) → AreAlike T.IsSame (slice_get a.now n) (slice_get b.now n)) }
+{
+    for at in 0..a.len() {
+        if !a[at].same(&b[at]) {
+            return false;
+        }
+    }
+    true
+}
+
+impl Row {
+    fn copy(&self) -> Result<Row, NoMemory>
+        ensures { IfOk result (λ row. row.things.items ≡ self.now.things.items) }
+    {
+        let mut things = Vec::with_capacity(*self.things.allocator(), self.things.len())?;
+        for thing in &self.things {
+            things.push(thing.copy()?)?;
+        }
+        Ok(Row { things })
     }
 }
 
@@ -350,6 +406,16 @@ fn sort_of(shape: &Shape) -> Sort
     }
 }
 
+/// The thing of a name: the one at its number among those of its home.
+fn thing_of<'a>(rows: &'a Rows, r: &Name) -> Option<&'a Thing>
+    ensures { option_copied result ≡ thing_at rows.now.entries r.now }
+{
+    match rows.get(r.home()) {
+        None => None,
+        Some(row) => row.things.get(r.n() as usize),
+    }
+}
+
 fn slots_of(thing: &Thing) -> &[Value]
     ensures { result.now ≡ thing.now.slots }
 {
@@ -376,43 +442,109 @@ fn set_slot(thing: &mut Thing, at: u64, v: Value) -> Option<Value>
     thing.slots.set(at, v)
 }
 
-/// Gives a thing the next name of a home. The last step that can fail is the counter's, and what comes
-/// after it has its room.
+/// Puts a value into a slot of the thing at a number, and gives the one that stood there.
+fn set_in_row(row: &mut Row, number: u64, at: u64, v: Value) -> Option<Value>
+    ensures old { result ≡ slice_get (slots_in row.old.things.items number) at }
+    ensures new { row.new.things.items ≡ written_in row.old.things.items number at v }
+{
+    match row.things.get_mut(number as usize) {
+        None => return none_of(v),
+        Some(thing) => return set_slot(thing, at, v),
+    }
+}
+
+/// Gives a thing the next name of a home, which is its place in the home's row.
 fn add_thing(
-    things: &mut IndexMap<Name, Thing>,
+    rows: &mut Rows,
     counters: &mut Counters,
     maker: &Label,
     own: &Label,
     number: u64,
     thing: Thing,
 ) -> Result<Name, NoMemory>
+    requires rows { AreRows rows.old }
     requires next { number ≡ count_in counters.old (home_of maker.now own.now) }
     requires room { number < 1048576 }
+    ensures rows { AreRows rows.new }
     ensures name { IfOk result (λ n. n ≡ name_of (home_of maker.now own.now) number) }
-    ensures things { OnOk result ((q : Name) → at_key name_eq things.new q ≡ cond (name_eq (name_of (home_of maker.now own.now) number) q) (Some thing) (at_key name_eq things.old q)) }
+    ensures things { OnOk result ((h : Home) → row_at rows.new.entries h ≡ cond (home_eq (home_of maker.now own.now) h) (row_at rows.old.entries (home_of maker.now own.now) ++ thing ∷ []) (row_at rows.old.entries h)) }
     ensures counters { OnOk result (counters.new ≡ counted counters.old (home_of maker.now own.now)) }
-    ensures same_things { OnErr result ((q : Name) → at_key name_eq things.new q ≡ at_key name_eq things.old q) }
+    ensures same_things { OnErr result ((h : Home) → row_at rows.new.entries h ≡ row_at rows.old.entries h) }
     ensures same_counters { OnErr result (counters.new ≡ counters.old) }
 {
     let name = Name::of(maker, own, number)?;
-    let key = name.copy()?;
-    things.reserve(1)?;
-    counters.draw(maker, own, number)?;
-    let Ok(_) = things.insert(key, thing) else {
-        unreachable!()
-    };
+    match rows.get_mut(name.home()) {
+        Some(row) => put_last(row, counters, maker, own, number, thing)?,
+        None => put_first(rows, counters, name.home(), number, thing)?,
+    }
     Ok(name)
 }
 
-fn copied(things: &IndexMap<Name, Thing>) -> Result<IndexMap<Name, Thing>, NoMemory>
-    ensures { IfOk result (λ new. (q : Name) → at_key name_eq new q ≡ at_key name_eq things.now q) }
+/// Puts a thing at the end of a home's row, and counts it. The last step that can fail is the counter's, and
+/// what comes after it has its room.
+fn put_last(
+    row: &mut Row,
+    counters: &mut Counters,
+    maker: &Label,
+    own: &Label,
+    number: u64,
+    thing: Thing,
+) -> Result<(), NoMemory>
+    requires next { number ≡ count_in counters.old (home_of maker.now own.now) }
+    requires room { number < 1048576 }
+    ensures things { OnOk result (row.new.things.items ≡ row.old.things.items ++ thing ∷ []) }
+    ensures counters { OnOk result (counters.new ≡ counted counters.old (home_of maker.now own.now)) }
+    ensures same_things { OnErr result (row.new.things.items ≡ row.old.things.items) }
+    ensures same_counters { OnErr result (counters.new ≡ counters.old) }
 {
-    let mut copy = IndexMap::new(*things.allocator());
-    for at in 0..things.len() {
-        let Some((name, thing)) = things.get_index(at) else {
+    row.things.reserve(1)?;
+    counters.draw(maker, own, number)?;
+    let Ok(_) = row.things.push(thing) else {
+        unreachable!()
+    };
+    Ok(())
+}
+
+/// Puts a thing into a row of its own, the first of its home, and counts it. The last step that can fail is the
+/// counter's, and what comes after it has its room.
+fn put_first(
+    rows: &mut Rows,
+    counters: &mut Counters,
+    home: &Home,
+    number: u64,
+    thing: Thing,
+) -> Result<(), NoMemory>
+    requires rows { AreRows rows.old }
+    requires next { number ≡ count_in counters.old home.now }
+    requires room { number < 1048576 }
+    ensures rows { AreRows rows.new }
+    ensures things { OnOk result ((h : Home) → row_at rows.new.entries h ≡ cond (home_eq home.now h) (thing ∷ []) (row_at rows.old.entries h)) }
+    ensures counters { OnOk result (counters.new ≡ counted counters.old home.now) }
+    ensures same_things { OnErr result ((h : Home) → row_at rows.new.entries h ≡ row_at rows.old.entries h) }
+    ensures same_counters { OnErr result (counters.new ≡ counters.old) }
+{
+    let mut things = Vec::new(home.own().allocator());
+    things.push(thing)?;
+    let key = home.copy()?;
+    rows.reserve(1)?;
+    counters.draw(home.maker(), home.own(), number)?;
+    let Ok(_) = rows.insert(key, Row { things }) else {
+        unreachable!()
+    };
+    Ok(())
+}
+
+fn copied(rows: &Rows) -> Result<Rows, NoMemory>
+    requires { AreRows rows.now }
+    ensures same { IfOk result (λ new. (h : Home) → row_at new.entries h ≡ row_at rows.now.entries h) }
+    ensures rows { IfOk result (λ new. AreRows new) }
+{
+    let mut copy = IndexMap::new(*rows.allocator());
+    for at in 0..rows.len() {
+        let Some((home, row)) = rows.get_index(at) else {
             unreachable!()
         };
-        copy.insert(name.copy()?, thing.copy()?)?;
+        copy.insert(home.copy()?, row.copy()?)?;
     }
     Ok(copy)
 }

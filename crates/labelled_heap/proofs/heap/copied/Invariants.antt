@@ -1,9 +1,13 @@
-use Rattle.std.proofs.Common.{◌≡◌, take, Some}
+use Rattle.std.proofs.Common.{◌≡◌, Some, take}
 use Rattle.std.specs.Prelude.{option_and_then}
 use Rattle.std.specs.Map.{lookup}
-use Rattle.lam_value.specs.declared.names.Name.{Name}
-use Rattle.lam_value.proofs.Keys.{name_eq}
+use Rattle.lam_value.specs.Homes.{Home, home_eq}
+use Rattle.labelled_heap.specs.declared.heap.Row.{Row}
+use Rattle.labelled_heap.specs.Seen.{AreRows}
 use Rattle.labelled_heap.proofs.heap.copied.Given as goal
 
 abbrev pub invariant-loop-at : goal.invariant-loop-at
-invariant-loop-at l = (q : Name) → option_and_then (λ t. Some t) (lookup (name_eq q) l.copy.entries) ≡ option_and_then (λ t. Some t) (lookup (name_eq q) (take l.at l.things.entries))
+invariant-loop-at l = record {
+  kept : AreRows l.copy;
+  same : (h : Home) → option_and_then (λ (row : Row). Some row.things.items) (lookup (home_eq h) l.copy.entries) ≡ option_and_then (λ (row : Row). Some row.things.items) (lookup (home_eq h) (take l.at l.rows.entries));
+}
