@@ -1,6 +1,6 @@
 //! Directories and files.
 
-use flow_labels::Label;
+use flow_labels::{Label, same};
 use labelled_files::{EntryKind, FileFault, Files};
 use lam_value::Name;
 use std::alloc::Global;
@@ -120,6 +120,17 @@ fn is_alone(files: &Files, root: &Name) -> bool {
     first & files.entry_at(root, 1).is_none()
 }
 
+/// Whether the public home alone is counted, with this counter.
+fn is_counted_alone(files: &Files, public: &Label, counter: u64) -> bool {
+    let first = match files.counter_at(0) {
+        None => false,
+        Some((maker, own, number)) => {
+            same(maker, public) & same(own, public) & (number == counter)
+        }
+    };
+    first & files.counter_at(1).is_none()
+}
+
 /// Whether a file is put back under its number, after its home's counter.
 fn puts_back(files: &mut Files, public: &Label) -> Option<bool> {
     let root = files.root().copy().ok()?;
@@ -127,7 +138,7 @@ fn puts_back(files: &mut Files, public: &Label) -> Option<bool> {
     let raised = files.raise_counter(public, public, 5).is_ok();
     let lower = files.raise_counter(public, public, 2).is_ok();
     let placed = place(files, &root, name);
-    let counted = files.next(public, public) == 5;
+    let counted = files.next(public, public) == 5 && is_counted_alone(files, public, 5);
     Some(raised & lower & placed & counted & is_alone(files, &root))
 }
 
