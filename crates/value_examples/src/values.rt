@@ -2,7 +2,8 @@
 
 use flow_labels::{Label, TagNames};
 use lam_value::{
-    Kind, Name, Shape, Value, Values, bytes_text, same_value, same_values, value_text, values_text,
+    Home, Kind, Name, Shape, Value, Values, bytes_text, same_value, same_values, value_text,
+    values_text,
 };
 use std::alloc::Global;
 use tag_sets::{NoMemory, TagId, TagSet};
@@ -113,6 +114,23 @@ fn shows_numbers(alloc: Global) -> Result<bool, NoMemory> {
 #[test]
 fn tags_are_shown(rt: HostRuntime) {
     assert!(rt; shows_numbers(rt.alloc()) == Ok(true));
+}
+
+/// Whether the home of a name is the one that is made of its two labels.
+fn has_its_home(own: &Label) -> Result<bool, NoMemory> {
+    let name = name(own)?;
+    let home = Home::of(name.maker(), name.own())?.copy()?;
+    Ok((home == *name.home()) & (home.own() == own))
+}
+
+/// Whether the name of a secret thing has its home.
+fn secret_has_its_home(alloc: Global) -> Result<bool, NoMemory> {
+    has_its_home(&secret(alloc)?)
+}
+
+#[test]
+fn a_name_has_its_home(rt: HostRuntime) {
+    assert!(rt; secret_has_its_home(rt.alloc()) == Ok(true));
 }
 
 /// A copy, of which nothing is known to its caller's proof.
