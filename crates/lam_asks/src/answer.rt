@@ -4,8 +4,7 @@ ghost use Rattle.std.specs.Prelude.{◌≡◌, IfOk};
 
 use crate::ask::Ask;
 use crate::fault::Fault;
-use flow_labels::{Denied, Label};
-use lam_value::Value;
+use lam_value::{Denied, Label, Value};
 use want_of_memory::NoMemory;
 
 /// How a thread ended: with a value, or with a fault that nothing caught.

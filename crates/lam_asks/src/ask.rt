@@ -6,8 +6,7 @@ ghost use Rattle.lam_asks.specs.declared.ask.Ask.TheVariants as Ask;
 use crate::answer::Outcome;
 use crate::fault::Fault;
 use capabilities::Caps;
-use flow_labels::{Denied, Label};
-use lam_value::{ByteText, Name, Shape, Value, Values};
+use lam_value::{ByteText, Denied, Label, Name, Shape, Value, Values};
 use want_of_memory::NoMemory;
 
 /// What a thread asks of the reference monitor. A field `r` is a reference to an object or an array.

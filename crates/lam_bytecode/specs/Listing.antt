@@ -5,7 +5,7 @@
 --   0 const 1
 --   1 ret
 use Rattle.std.specs.Prelude.{ℕ, ◌+◌, List, [], ◌∷◌, ◌++◌, codes, decimal, Option, Some, None, slice_get}
-use Rattle.flow_labels.specs.TwoLists.{Text}
+use Rattle.lam_value.specs.TwoLists.{Text}
 use Rattle.lam_value.specs.declared.values.Value.{Value}
 use Rattle.lam_value.specs.declared.shapes.Kind.{Kind}
 use Rattle.lam_value.specs.declared.shapes.Kind.TheVariants.{Int, Bool, Null}

@@ -7,9 +7,7 @@ ghost use Rattle.lam_bytecode.specs.Listing.{listing_text, units_from, unit_line
 use crate::code::Code;
 use crate::op::Op;
 use crate::unit::{CodeUnit, UnitKind};
-use decimal_text::push_number;
-use flow_labels::TagNames;
-use lam_value::{Kind, Value, push_value};
+use lam_value::{Kind, TagNames, Value, push_number, push_value};
 use std::alloc::Global;
 use want_of_memory::NoMemory;
 

@@ -8,7 +8,7 @@ use Rattle.lam_front.specs.declared.fault.ProgramFault.TheVariants.{NotUtf8, At,
 use Rattle.lam_front.specs.Programs.{IsMisspelt, IsFine, IsBroken}
 use Rattle.lam_syntax.specs.Tree.{ProgramTree}
 use Rattle.lam_bytecode.specs.Codes.{CodeTree}
-use Rattle.barrier_compiler.specs.Compiled.{IsCompiledTo}
+use Rattle.lam_plan.specs.Compiled.{IsCompiledTo}
 use Rattle.barrier_emit.specs.declared.CompileFault.{CompileFault}
 use Rattle.barrier_emit.specs.declared.CompileFault.TheVariants.{CodeTooLong as too_long_code, NoMemory as no_memory_for_code}
 use Rattle.lam_words.specs.Words.{Text}

@@ -4,8 +4,8 @@ ghost use Rattle.std.specs.Prelude.{◌≡◌};
 ghost use Rattle.lam_commands.specs.Halts.{halt_of, halt_of_code};
 ghost use Rattle.lam_commands.specs.declared.halt.Halt.TheVariants.{NoMemory as no_memory};
 
-use barrier_compiler::CompileFault;
 use lam_front::{Flaw, ProgramFault};
+use lam_plan::CompileFault;
 use std::alloc::AllocError;
 use want_of_memory::NoMemory;
 

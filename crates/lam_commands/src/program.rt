@@ -11,10 +11,10 @@ ghost use Rattle.lam_commands.specs.Halts.{Says, Finds, Gives};
 
 use crate::files::read_file;
 use crate::halt::Halt;
-use barrier_compiler::compile;
 use lam_bytecode::{Code, listing};
 use lam_front::{check_program, read_program};
 use lam_io::Shelf;
+use lam_plan::compile;
 use lam_print::print;
 use lam_syntax::Program;
 use std::alloc::Global;

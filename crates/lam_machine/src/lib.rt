@@ -11,5 +11,6 @@ mod letting;
 mod privately;
 mod stepping;
 
+pub use lam_world::World;
 pub use privately::step_privately;
 pub use stepping::step;

@@ -2,3 +2,4 @@ pub mod Trees
 pub mod Means
 pub mod Plays
 pub mod Examples
+pub use Rattle.thread_steps.specs.Equal

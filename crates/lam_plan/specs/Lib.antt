@@ -5,3 +5,4 @@ pub mod Replays
 pub mod Threads
 pub mod Plan
 pub mod Answer
+pub use Rattle.barrier_compiler.specs.Compiled

@@ -10,6 +10,8 @@ ghost use Rattle.std.specs.Prelude.{◌≡◌, ◌≤◌};
 ghost use Rattle.lam_plan.specs.Codes.{code_of};
 ghost use Rattle.lam_plan.specs.Plan.{PlansAreOne};
 
+pub use barrier_compiler::{CompileFault, compile};
+
 /// How a call ended.
 #[derive(Clone, Copy, Debug, PartialEq, Eq)]
 pub enum Status {

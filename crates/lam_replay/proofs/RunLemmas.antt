@@ -20,9 +20,9 @@ use Rattle.world_reading.specs.Meaning as document_reading
 use Rattle.world_reading.specs.declared.fault.WorldFault.{WorldFault}
 use Rattle.world_reading.specs.declared.fault.WorldFault.TheVariants.{NotJson, NoMember, BadMember, NoTag, BadPath, PathTwice, NoMemory as no_memory_of_world}
 use Rattle.run_stops.specs.Stops.{NotReady, stopped_at}
-use Rattle.lam_run.specs.Stops.{IsStop}
-use Rattle.lam_run.specs.declared.fault.RunFault.{RunFault}
-use Rattle.lam_run.specs.declared.fault.RunFault.TheVariants.{NotReady as not_ready, NoMemory as no_memory_of_run}
+use Rattle.turns_seen.specs.Stops.{IsStop}
+use Rattle.turns_seen.specs.RunFault.{RunFault}
+use Rattle.turns_seen.specs.RunFault.TheVariants.{NotReady as not_ready, NoMemory as no_memory_of_run}
 use Rattle.lam_words.specs.Words.{Text}
 use Rattle.lam_plan.specs.Refusals.{Plan, prints, no_word, no_world, no_book}
 use Rattle.lam_plan.specs.Reading.{HasFile, WithFile, Never, Compiles, IsCompiled, program_limit, world_limit, book_limit, of_file, unread}

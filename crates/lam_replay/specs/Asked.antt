@@ -7,8 +7,8 @@ use Rattle.turn_book.specs.declared.BookFault.TheVariants as book
 use Rattle.world_reading.specs.declared.fault.WorldFault.{WorldFault}
 use Rattle.world_reading.specs.declared.fault.WorldFault.TheVariants as document
 use Rattle.run_stops.specs.Stops.{NotReady as NotReadyAt}
-use Rattle.lam_run.specs.declared.fault.RunFault.{RunFault}
-use Rattle.lam_run.specs.declared.fault.RunFault.TheVariants as run
+use Rattle.turns_seen.specs.RunFault.{RunFault}
+use Rattle.turns_seen.specs.RunFault.TheVariants as run
 use Rattle.lam_words.specs.Words.{Text}
 use Rattle.lam_plan.specs.Replays.{Reader as Plain, an_observer, an_auditor, RunFiles as PlainFiles}
 use Rattle.lam_commands.specs.declared.halt.WorldBreak.TheVariants as breach

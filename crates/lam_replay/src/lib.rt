@@ -27,8 +27,8 @@ pub use crate::run_text::shown_turns;
 use lam_bytecode::Code;
 use lam_commands::{Halt, read_code, read_file};
 use lam_io::Shelf;
-use lam_world::World;
 use std::alloc::Global;
+use turns_seen::World;
 
 /// The most bytes of a book.
 const BOOK_LIMIT: u64 = 16_777_216;

@@ -17,14 +17,12 @@ use audit_log::{audit_text, audits_are_read, view_text, views_are_read};
 use flow_labels::{Label, TagNames};
 use lam_bytecode::Code;
 use lam_commands::{BookBreak, Halt, Refusal};
-use lam_run::RunFault;
-use lam_world::World;
 use run_notes::{Noted, Seen};
 use std::alloc::Global;
 use std::mem::forget;
 use turn_book::{BookFault, read_book};
 use turns_noted::noted_in;
-use turns_seen::seen_by;
+use turns_seen::{RunFault, World, seen_by};
 
 /// What the reader is shown of the run of a book, by its bytes.
 pub(crate) fn shown(

@@ -13,7 +13,7 @@ use Rattle.lam_worlds.specs.Turns.{is_ready, Moment, served, turn_by}
 use Rattle.lam_worlds.specs.Valid.{Lives}
 use Rattle.lam_isolation.proofs.ThreadLemmas.{some_inj}
 use Rattle.lam_isolation.proofs.TurnLemmas.{acts, only}
-use Rattle.lam_sound_steps.specs.Sound.{ThingLives, CopiesLiving, FindsLiving}
+use Rattle.lam_machine.specs.Sound.{ThingLives, CopiesLiving, FindsLiving}
 use Rattle.lam_living.specs.Living.{AskLives, NextLives}
 use Rattle.lam_living.proofs.PrivateLemmas.{name_what_lives}
 use Rattle.lam_run.specs.Laws.{CopiesAreLiving}

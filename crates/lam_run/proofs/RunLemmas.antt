@@ -11,7 +11,7 @@ use Rattle.lam_worlds.specs.Turns.{Moment, step, and_then, moments, IsRun}
 use Rattle.lam_worlds.specs.Valid.{IsValid}
 use Rattle.lam_run_laws.specs.Runs.{StopsAt}
 use Rattle.lam_run_laws.proofs.RunLemmas.{stopped_runs}
-use Rattle.lam_turn_parts.specs.Turned.{IsTurn}
+use Rattle.lam_machine.specs.Turned.{IsTurn}
 use Rattle.lam_valid_steps.proofs.WholeLemmas.{stay_valid}
 use Rattle.run_stops.specs.Stops.{NotReady, stopped_at}
 use Rattle.lam_run.specs.Stops.{RunsAreWhole}

@@ -5,7 +5,7 @@ use Rattle.lam_asks.specs.declared.answer.Event.{Event}
 use Rattle.lam_bytecode.specs.Codes.{CodeTree}
 use Rattle.lam_worlds.specs.Worlds.{World}
 use Rattle.lam_worlds.specs.Turns.{step}
-use Rattle.lam_turn_parts.specs.Turned.{IsTurn}
+use Rattle.lam_machine.specs.Turned.{IsTurn}
 
 -- a turn is taken, and what is to be kept of it is put behind what was kept before; or its thread is not ready
 abbrev pub Takes : {X : Type 0} → CodeTree → ℕ → (Event → World → Option X) → World → List X → Bool → World → List X → Type 0

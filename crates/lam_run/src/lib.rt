@@ -14,6 +14,7 @@ ghost use Rattle.lam_run.specs.Stops.{RunsAreWhole};
 ghost use Rattle.lam_run.specs.Laws.{CopiesAreLiving};
 
 pub use fault::RunFault;
+pub use lam_machine::{World, step, step_privately};
 
 /// A law: turns are a run exactly where they do not stop at one whose thread is not ready.
 pub fn runs_are_whole()

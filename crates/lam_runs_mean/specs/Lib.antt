@@ -1,1 +1,2 @@
 pub mod Meant
+pub use Rattle.lam_typed_runs.specs.Runs

@@ -3,7 +3,7 @@ use Rattle.std.specs.Prelude.{ℕ, zero, suc, ◌+◌, Bool, true, false, if◌t
 use Rattle.lam_value.specs.declared.values.Value.{Value}
 use Rattle.lam_bytecode.specs.declared.op.Op.{Op}
 use Rattle.lam_bytecode.specs.declared.op.Op.TheVariants.{Const, Jump, JumpIfFalse}
-use Rattle.thread_steps.specs.Equal.{same_values}
+use Rattle.lam_meaning.specs.Equal.{same_values}
 
 mutual
   pub data Piece : Type 0 where

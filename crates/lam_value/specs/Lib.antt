@@ -5,3 +5,4 @@ pub mod NameParts
 pub mod Names
 pub mod Shapes
 pub mod Texts
+pub use Rattle.flow_labels.specs.TwoLists

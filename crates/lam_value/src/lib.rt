@@ -28,6 +28,8 @@ mod values;
 
 pub use byte_text::ByteText;
 pub use counters::{Counters, HomeCounts};
+pub use decimal_text::push_number;
+pub use flow_labels::{Denied, Label, TagNames};
 pub use homes::Home;
 pub use names::Name;
 pub use same_lists::same_values;

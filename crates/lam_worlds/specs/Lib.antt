@@ -4,3 +4,4 @@ pub mod Serving
 pub mod Turns
 pub mod Views
 pub mod Valid
+pub use Rattle.thread_steps.specs.Threads

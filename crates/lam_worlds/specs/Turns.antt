@@ -12,7 +12,7 @@ use Rattle.lam_asks.specs.declared.ask.Ask.TheVariants.{Leave, MonEnter, MonLeav
 use Rattle.lam_asks.specs.declared.answer.What.{What}
 use Rattle.lam_asks.specs.declared.answer.What.TheVariants.{Private, Asked}
 use Rattle.lam_asks.specs.declared.answer.Event.{Event}
-use Rattle.lam_bytecode.specs.Codes.{CodeTree}
+use Rattle.thread_steps.specs.Codes.{CodeTree}
 use Rattle.thread_steps.specs.Threads.{Inside, Phase, Bottom, Body, Catch, Context, Thread}
 use Rattle.thread_steps.specs.Ops.{is_held}
 use Rattle.thread_steps.specs.Next.{Next, goes, asks, stuck, next_of, with_inside, takes}

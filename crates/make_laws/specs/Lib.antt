@@ -1,1 +1,2 @@
 pub mod Complete
+pub use Rattle.run_laws.specs.Headline

@@ -15,6 +15,11 @@ ghost use Rattle.lam_io.specs.Outside.{Files};
 ghost use Rattle.lam_words.specs.Words.{Text};
 ghost use Rattle.make_laws.specs.Complete.{MakesAreComplete};
 
+pub use run_laws::{
+    broken_runs_are_recorded, generated_runs_are_recorded, runs_are_complete, runs_are_recorded,
+    runs_end_in_order,
+};
+
 /// A law: where words are those of `make`, the made program has a code, the made document has a start of it, and nothing
 /// but a run of them is planned. So a call ends as a run ends (`Done`, `Budget` or `AllWait`), unless memory runs out, or
 /// the file store or the output fails.

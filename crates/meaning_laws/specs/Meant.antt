@@ -6,7 +6,7 @@ use Rattle.lam_front.specs.Programs.{IsFine}
 use Rattle.resolved_tree.specs.Tree.{ResolvedTree}
 use Rattle.lam_resolved.specs.Resolved.{resolved}
 use Rattle.lam_bytecode.specs.Codes.{CodeTree}
-use Rattle.barrier_compiler.specs.Compiled.{IsCompiledTo}
+use Rattle.lam_plan.specs.Compiled.{IsCompiledTo}
 use Rattle.lam_worlds.specs.Worlds.{World}
 use Rattle.world_terms.specs.Start.{start_of}
 use Rattle.world_runs_mean.specs.Documents.{RunMeans}

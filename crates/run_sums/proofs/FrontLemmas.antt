@@ -12,7 +12,7 @@ use Rattle.lam_worlds.specs.Turns.{Moment, step, and_then, moments, replay, IsRu
 use Rattle.lam_worlds.specs.Views.{is_release}
 use Rattle.lam_worlds.specs.Valid.{IsValid}
 use Rattle.lam_run_laws.proofs.RunLemmas.{joined_runs, stopped_runs}
-use Rattle.lam_turn_parts.specs.Turned.{IsTurn}
+use Rattle.lam_run.specs.Turned.{IsTurn}
 use Rattle.lam_valid_steps.proofs.WholeLemmas.{stay_valid}
 use Rattle.run_stops.specs.Stops.{stopped_at}
 use Rattle.turn_products.specs.Told.{ProductsAreTold}

@@ -2,7 +2,7 @@
 use Rattle.std.proofs.Common.{◌≡◌, ℕ, Bool, true, false, subst, refl}
 use Rattle.lam_bytecode.specs.Codes.{CodeTree}
 use Rattle.lam_worlds.specs.Worlds.{World}
-use Rattle.lam_machine.specs.Privately.{IsPrivateStep, private_event}
+use Rattle.lam_run.specs.Privately.{IsPrivateStep, private_event}
 use Rattle.run_summary.specs.declared.Sums.{Sums}
 use Rattle.run_sums.specs.Turns.{CountsTurn}
 

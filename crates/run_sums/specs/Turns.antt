@@ -6,7 +6,7 @@ use Rattle.lam_asks.specs.declared.answer.Event.{Event}
 use Rattle.lam_bytecode.specs.Codes.{CodeTree}
 use Rattle.lam_worlds.specs.Worlds.{World}
 use Rattle.lam_worlds.specs.Turns.{step}
-use Rattle.lam_turn_parts.specs.Turned.{IsTurn}
+use Rattle.lam_run.specs.Turned.{IsTurn}
 use Rattle.turn_products.specs.Told.{product_label}
 use Rattle.run_summary.specs.declared.Sums.{Sums}
 use Rattle.run_summary.specs.Sums.{is_said, is_refused}

@@ -4,7 +4,7 @@ ghost use Rattle.std.specs.Prelude.{◌≡◌, ◌-◌, ◌^◌, None, IfOk, OnO
 ghost use Rattle.lam_bytecode.specs.Codes.{IsCode};
 ghost use Rattle.lam_worlds.specs.Turns.{moments};
 ghost use Rattle.lam_worlds.specs.Valid.{IsValid};
-ghost use Rattle.lam_machine.specs.Machine.{CopiesLive};
+ghost use Rattle.lam_run.specs.Machine.{CopiesLive};
 ghost use Rattle.run_stops.specs.Stops.{stopped_at};
 ghost use Rattle.lam_run.specs.Stops.{IsStop};
 ghost use Rattle.run_summary.specs.Sums.{sums};
@@ -12,9 +12,7 @@ ghost use Rattle.run_sums.specs.Turns.{AreBelow, CountsTurn};
 
 use crate::events::with_turn;
 use lam_bytecode::Code;
-use lam_machine::{step, step_privately};
-use lam_run::{RunFault, copies_are_living};
-use lam_world::World;
+use lam_run::{RunFault, World, copies_are_living, step, step_privately};
 use letting_go::let_go_event;
 use run_summary::Sums;
 use std::alloc::Global;

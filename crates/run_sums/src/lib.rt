@@ -9,3 +9,4 @@ mod counting;
 mod events;
 
 pub use counting::sums_of;
+pub use lam_run::{RunFault, World, runs_are_whole};

@@ -17,8 +17,7 @@ use lam_asks::{Answer, Ask, Fault, Outcome};
 use lam_bytecode::{Code, UnitKind};
 use lam_threads::{Context, Operands, Phase, filled, locals_of};
 use lam_value::{Name, Value};
-use thread_core::{Coming, next};
-use thread_ops::region_in;
+use thread_core::{Coming, next, region_in};
 use thread_sights::{Sight, same_names};
 use want_of_memory::NoMemory;
 

@@ -13,9 +13,9 @@ use Rattle.turn_book.specs.Book.{AreTurns, book}
 use Rattle.run_ends.specs.Ends.{HasEnded, Runs}
 use Rattle.run_ends.specs.declared.How.{How}
 use Rattle.run_stops.specs.Stops.{NotReady, stopped_at}
-use Rattle.lam_run.specs.Stops.{RunsAreWhole, IsStop}
-use Rattle.lam_run.specs.declared.fault.RunFault.TheVariants.{NotReady as not_ready}
-use Rattle.machine_run.specs.Runs.{Ran, IsWhole}
+use Rattle.run_sums.specs.Stops.{RunsAreWhole, IsStop}
+use Rattle.run_sums.specs.RunFault.TheVariants.{NotReady as not_ready}
+use Rattle.thread_host.specs.Runs.{Ran, IsWhole}
 use Rattle.thread_host.specs.declared.Finished.{Finished}
 use Rattle.lam_make.specs.Made.{program_text, world_text}
 use Rattle.run_summary.specs.Sums.{summary_lines}

@@ -6,7 +6,7 @@ use Rattle.lam_worlds.specs.Valid.{IsValid}
 use Rattle.turn_book.specs.Book.{AreTurns, book}
 use Rattle.run_ends.specs.Ends.{Runs}
 use Rattle.run_stops.specs.Stops.{stopped_at}
-use Rattle.machine_run.specs.Runs.{IsWhole}
+use Rattle.thread_host.specs.Runs.{IsWhole}
 use Rattle.thread_host.specs.declared.Finished.{Finished}
 use Rattle.lam_words.specs.Words.{Text}
 use Rattle.lam_plan.specs.Refusals.{Plan}

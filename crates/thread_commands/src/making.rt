@@ -24,14 +24,12 @@ use lam_bytecode::Code;
 use lam_commands::{Halt, Report, compiled};
 use lam_io::{Gate, Shelf};
 use lam_replay::start_in;
-use lam_run::RunFault;
-use lam_world::World;
-use machine_run::RunParts;
 use run_summary::summary_text;
-use run_sums::sums_of;
+use run_sums::{RunFault, World, sums_of};
 use std::alloc::Global;
 use std::sync::Wait;
 use std::thread::Threads;
+use thread_host::RunParts;
 use turn_book::write_book;
 use want_of_memory::NoMemory;
 

@@ -16,12 +16,12 @@ use lam_bytecode::Code;
 use lam_commands::Halt;
 use lam_io::Gate;
 use lam_replay::{Reader, Viewer, let_go, shown_turns, viewer_of};
-use lam_world::World;
-use machine_run::RunParts;
 use run_ends::How;
+use run_sums::World;
 use std::alloc::Global;
 use std::sync::Wait;
 use std::thread::Threads;
+use thread_host::RunParts;
 use turn_book::write_book;
 use want_of_memory::NoMemory;
 

@@ -8,14 +8,12 @@ ghost use Rattle.thread_commands.specs.Taken.{IsParted, IsRunOf, CanBeShown};
 use crate::Bounds;
 use lam_bytecode::Code;
 use lam_io::Gate;
-use lam_run::runs_are_whole;
-use lam_world::World;
-use machine_run::RunParts;
 use run_ends::How;
+use run_sums::{World, runs_are_whole};
 use std::alloc::Global;
 use std::sync::Wait;
 use std::thread::Threads;
-use thread_host::{Finished, run_on};
+use thread_host::{Finished, RunParts, run_on};
 use want_of_memory::NoMemory;
 
 /// The turns that were taken, with the code and the start that they are of, and how their run ended.

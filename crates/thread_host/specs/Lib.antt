@@ -1,1 +1,2 @@
 pub mod Visits
+pub use Rattle.machine_run.specs.Runs

@@ -13,4 +13,5 @@ mod seats;
 mod visits;
 mod workers;
 
+pub use machine_run::RunParts;
 pub use running::{Finished, run_on};

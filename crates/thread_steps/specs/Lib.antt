@@ -4,3 +4,4 @@ pub mod Threads
 pub mod Builtins
 pub mod Ops
 pub mod Next
+pub use Rattle.lam_bytecode.specs.Codes

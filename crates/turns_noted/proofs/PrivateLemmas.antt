@@ -2,7 +2,7 @@
 use Rattle.std.proofs.Common.{ℕ, true, List, refl}
 use Rattle.lam_bytecode.specs.Codes.{CodeTree}
 use Rattle.lam_worlds.specs.Worlds.{World}
-use Rattle.lam_machine.specs.Privately.{IsPrivateStep, private_event}
+use Rattle.lam_run.specs.Privately.{IsPrivateStep, private_event}
 use Rattle.run_notes.specs.declared.Noted.{Noted}
 use Rattle.lam_run.specs.Turns.{Takes}
 use Rattle.turns_noted.specs.Turns.{noted_of}

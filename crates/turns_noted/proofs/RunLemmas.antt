@@ -5,7 +5,7 @@ use Rattle.lam_asks.specs.declared.answer.Event.{Event}
 use Rattle.lam_bytecode.specs.Codes.{CodeTree}
 use Rattle.lam_worlds.specs.Worlds.{World}
 use Rattle.lam_worlds.specs.Turns.{Moment, moments}
-use Rattle.lam_turn_parts.specs.Turned.{IsTurn}
+use Rattle.lam_run.specs.Turned.{IsTurn}
 use Rattle.run_notes.specs.Notes.{noted_from}
 use Rattle.run_notes.specs.declared.Noted.{Noted}
 use Rattle.lam_run.specs.Turns.{Takes}

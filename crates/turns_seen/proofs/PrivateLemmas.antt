@@ -4,7 +4,7 @@ use Rattle.flow_labels.specs.declared.Label.{Label}
 use Rattle.flow_labels.specs.Flow.{seen}
 use Rattle.lam_bytecode.specs.Codes.{CodeTree}
 use Rattle.lam_worlds.specs.Worlds.{World}
-use Rattle.lam_machine.specs.Privately.{IsPrivateStep, private_event}
+use Rattle.lam_run.specs.Privately.{IsPrivateStep, private_event}
 use Rattle.run_notes.specs.declared.Seen.{Seen}
 use Rattle.lam_run.specs.Turns.{Takes}
 use Rattle.turns_seen.specs.Turns.{seen_of}

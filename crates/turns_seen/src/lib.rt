@@ -6,4 +6,5 @@
 
 mod viewing;
 
+pub use lam_run::{RunFault, World};
 pub use viewing::seen_by;

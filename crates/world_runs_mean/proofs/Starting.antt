@@ -12,7 +12,7 @@ use Rattle.lam_scheme.specs.Scheme.{arg_kind, scheme}
 use Rattle.lam_scheme.specs.Long.{first_long_unit, unless_long, compiled}
 use Rattle.lam_worlds.specs.Worlds.{World}
 use Rattle.lam_typed_turns.specs.Typing.{Is, Are}
-use Rattle.lam_typed_runs.specs.Runs.{nothing_known, JustStarts, ThreadsStart}
+use Rattle.lam_runs_mean.specs.Runs.{nothing_known, JustStarts, ThreadsStart}
 use Rattle.lam_runs_mean.proofs.Meaning.{runs_mean}
 use Rattle.lam_runs_mean.proofs.Sticking.{none_sticks}
 use Rattle.lam_entries.specs.Entries.{IsIntFunction}

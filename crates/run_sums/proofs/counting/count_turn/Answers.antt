@@ -1,6 +1,6 @@
 use Rattle.std.proofs.Common.{subst, sym}
 use Rattle.lam_worlds.specs.Worlds.{World}
-use Rattle.lam_machine.specs.Machine.{CopiesLive}
+use Rattle.lam_run.specs.Machine.{CopiesLive}
 use Rattle.run_sums.proofs.PrivateLemmas.{was_not}
 use Rattle.run_sums.proofs.counting.count_turn.Goals as goal
 

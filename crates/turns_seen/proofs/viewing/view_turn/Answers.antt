@@ -1,6 +1,6 @@
 use Rattle.std.proofs.Common.{subst, sym}
 use Rattle.lam_worlds.specs.Worlds.{World}
-use Rattle.lam_machine.specs.Machine.{CopiesLive}
+use Rattle.lam_run.specs.Machine.{CopiesLive}
 use Rattle.lam_run.proofs.PrivateLemmas.{was_not}
 use Rattle.turns_seen.proofs.viewing.view_turn.Goals as goal
 
