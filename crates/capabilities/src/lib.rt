@@ -18,9 +18,8 @@ ghost use Rattle.std.specs.Prelude.{◌≡◌, IsTrue, IsNone, ◌↔◌, IfOk};
 ghost use Rattle.flow_labels.specs.Failing.{first_failing};
 ghost use Rattle.capabilities.specs.Changes.{no_caps, with_both, joined, used, MayChange, Covers, change_test, covers_test};
 
-use flow_labels::{Denied, Label, Rule, denied_or};
+use flow_labels::{Denied, Label, NoMemory, Rule, TagId, TagSet, denied_or};
 use std::alloc::Global;
-use tag_sets::{NoMemory, TagId, TagSet};
 pub use texts::{
     CapsFault, caps_are_read, caps_form, caps_text, parse_caps, push_caps, texts_are_read,
 };

@@ -4,8 +4,7 @@ ghost use Rattle.std.specs.Prelude.{◌≡◌, ◌++◌, ◌↔◌, IsTrue, IfOk
 ghost use Rattle.capabilities.specs.CapsText.{IsCapsText, caps_of, caps_text, Gives, CapsAreRead, TextsAreRead};
 
 use crate::Caps;
-use flow_labels::{Form, TagFault, TagNames, bad_place, push_sets, read_sets};
-use tag_sets::NoMemory;
+use flow_labels::{Form, NoMemory, TagFault, TagNames, bad_place, push_sets, read_sets};
 
 /// Why a text is no text of capabilities.
 #[derive(Clone, Copy, Debug, PartialEq, Eq)]

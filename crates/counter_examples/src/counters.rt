@@ -1,9 +1,8 @@
 //! How many things each home has made.
 
-use flow_labels::Label;
+use flow_labels::{Label, NoMemory, TagId, TagSet};
 use lam_value::Counters;
 use std::alloc::Global;
-use tag_sets::{NoMemory, TagId, TagSet};
 
 /// The label `{#0}/{}`.
 fn secret(alloc: Global) -> Result<Label, NoMemory> {

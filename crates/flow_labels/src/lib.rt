@@ -29,7 +29,7 @@ ghost use Rattle.flow_labels.specs.Failing.{denied_or, first_failing, read_test,
 
 pub use names::{NameFault, TagNames, is_letter, is_name, is_word};
 use std::alloc::Global;
-use tag_sets::{NoMemory, TagId, TagSet};
+pub use tag_sets::{NoMemory, TagId, TagSet};
 pub use texts::{
     LabelFault, label_form, label_text, labels_are_read, parse_label, push_label, rule_text,
     texts_are_read,

@@ -3,8 +3,8 @@
 ghost use Rattle.std.specs.Prelude.{◌≡◌, ◌≤◌, [], take, drop, length, IfOk, OnOk, OnErr};
 ghost use Rattle.labelled_files.specs.Trees.{appended};
 
+use flow_labels::NoMemory;
 use std::alloc::Global;
-use tag_sets::NoMemory;
 
 /// The number of bytes that one file may have.
 pub const FILE_LIMIT: usize = 1_048_576;

@@ -8,10 +8,10 @@ ghost use Rattle.indexmap.specs.IndexMap.{IsUnique, spare};
 ghost use Rattle.labelled_files.specs.Entries as entries;
 ghost use Rattle.labelled_files.specs.Entries.{text_eq, without, vec_eq, entries_of, entry_of};
 
+use flow_labels::NoMemory;
 use indexmap::IndexMap;
 use lam_value::Name;
 use std::alloc::Global;
-use tag_sets::NoMemory;
 
 /// The number of entries that one directory may have.
 pub const ENTRY_LIMIT: usize = 4_096;

@@ -17,12 +17,11 @@ ghost use Rattle.labelled_files.specs.declared.files.FileFault.TheVariants.{NoMe
 
 use crate::contents::{Contents, first_bytes, last_bytes};
 use crate::directory::{Directory, ENTRY_LIMIT, EntryKind, Target, is_entry_name};
-use flow_labels::Label;
+use flow_labels::{Label, NoMemory};
 use indexmap::IndexMap;
 use lam_value::{Counters, HomeCounts, Name, Same, Whole, same_maps};
 use std::alloc::{AllocError, AllocFailed, Global};
 use std::marker::Model;
-use tag_sets::NoMemory;
 
 /// The number of files and directories that one home may make.
 pub const HOME_LIMIT: u64 = 65_536;

@@ -4,10 +4,9 @@ ghost use Rattle.std.specs.Prelude.{◌≡◌, ◌<◌, ◌≤◌, ◌++◌, ◌
 ghost use Rattle.std.specs.Option.{option_copied, option_map};
 ghost use Rattle.labelled_heap.specs.CellAt.{with_value};
 
-use flow_labels::Label;
+use flow_labels::{Label, NoMemory};
 use std::alloc::Global;
 use std::marker::Model;
-use tag_sets::NoMemory;
 
 /// A number with a label.
 #[derive(Debug, Drop)]
@@ -27,7 +26,7 @@ pub struct Cells {
 impl Model for Cells {
     ghost use Rattle.std.specs.Prelude.{List};
     ghost use Rattle.std.specs.Coded.{codes};
-    ghost use Rattle.tag_sets.specs.Tags.{coded_tags};
+    ghost use Rattle.flow_labels.specs.Tags.{coded_tags};
     ghost use Rattle.labelled_heap.specs.declared.cells.Cell.{Cell};
 
     ghost Value = { List Cell };

@@ -19,12 +19,11 @@ ghost use Rattle.labelled_heap.specs.Things.{no_things, slots_at, with_slot, wit
 ghost use Rattle.labelled_heap.specs.Seen.{row_at, thing_at, slots_in, written_in, AreRows};
 ghost use Rattle.labelled_heap.specs.declared.heap.HeapFault.TheVariants.{NoMemory as no_memory};
 
-use flow_labels::Label;
+use flow_labels::{Label, NoMemory};
 use indexmap::IndexMap;
 use lam_value::{Counters, Home, Kind, Name, Same, Shape, Value, Values, Whole, same_maps};
 use std::alloc::{AllocError, AllocFailed, Global};
 use std::marker::Model;
-use tag_sets::NoMemory;
 
 /// The number of things that one home may make.
 pub const HOME_LIMIT: u64 = 1_048_576;

@@ -18,12 +18,11 @@ ghost use Rattle.labelled_pipes.specs.declared.pipes.PipeFault.TheVariants.{NoMe
 
 use crate::message::{Message, MessageKind};
 use crate::queue::Queue;
-use flow_labels::Label;
+use flow_labels::{Label, NoMemory};
 use indexmap::IndexMap;
 use lam_value::{Counters, Name, Same, Whole, same_maps};
 use std::alloc::{AllocError, AllocFailed, Global};
 use std::marker::Model;
-use tag_sets::NoMemory;
 
 /// The number of pipes that one home may make.
 pub const HOME_LIMIT: u64 = 4096;

@@ -5,10 +5,10 @@ ghost use Rattle.std.specs.Option.{option_copied};
 ghost use Rattle.labelled_pipes.specs.Messages.{joined, front_of, rest_of};
 
 use crate::message::{Message, MessageKind};
+use flow_labels::NoMemory;
 use std::alloc::Global;
 use std::collections::VecDeque;
 use std::marker::Model;
-use tag_sets::NoMemory;
 
 /// The number of messages that may wait in one pipe.
 pub const QUEUE_LIMIT: u64 = 1024;

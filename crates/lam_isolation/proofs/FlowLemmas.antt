@@ -4,8 +4,8 @@ use Rattle.std.specs.Prelude.{◌&&◌, ◌||◌, not}
 use Rattle.std.proofs.Math.Bool.{true≢false}
 use Rattle.std.specs.Cmp.{nat_cmp_total}
 use Rattle.std.specs.FinSet.{contains, difference, is_subset, is_subset-contains, contains-is_subset, contains-difference, contains-union}
-use Rattle.tag_sets.specs.Tags.{Tags, least, apart}
-use Rattle.tag_sets.proofs.TagLemmas.{same_tags, least-none, none-is_subset, empty-least, subset_itself}
+use Rattle.flow_labels.specs.Tags.{Tags, least, apart}
+use Rattle.flow_labels.proofs.TagLemmas.{same_tags, least-none, none-is_subset, empty-least, subset_itself}
 use Rattle.flow_labels.specs.declared.Label.{Label}
 use Rattle.flow_labels.specs.declared.Rule.{Rule}
 use Rattle.flow_labels.specs.declared.Denied.{Denied}

@@ -20,7 +20,7 @@ pub struct Acting<'a> {
 impl<'a> Model for Acting<'a> {
     ghost use Rattle.std.specs.Prelude.{reverse};
     ghost use Rattle.std.specs.Coded.{codes};
-    ghost use Rattle.tag_sets.specs.Tags.{coded_tags};
+    ghost use Rattle.flow_labels.specs.Tags.{coded_tags};
     ghost use Rattle.lam_serving.specs.Acting.{Acting};
 
     ghost Value = { Acting };

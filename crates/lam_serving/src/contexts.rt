@@ -13,12 +13,11 @@ ghost use Rattle.lam_serving.specs.Rows.{Serves, any_world, at_label, acting_by,
 
 use crate::rules::{enter_rule, full, spawn_rule};
 use capabilities::Caps;
-use flow_labels::{Label, mint_rule, read_rule};
+use flow_labels::{Label, TagId, mint_rule, read_rule};
 use lam_asks::{Answer, Fault, Outcome};
 use lam_deeds::{Deed, Effect};
 use lam_stores::TAG_LIMIT;
 use lam_value::{Name, Value, Values};
-use tag_sets::TagId;
 use want_of_memory::NoMemory;
 
 /// The greatest depth of a region's context.

@@ -1,7 +1,7 @@
 -- How the parts of threads are stored, for what holds them.
 use Rattle.std.specs.Prelude.{◌≡◌, ℕ, List, Option, Some, None, refl}
 use Rattle.std.specs.Coded.{Coded, code_by, coded×, coded_ℕ, coded_list, coded_option}
-use Rattle.tag_sets.specs.Tags.{Tags, coded_tags}
+use Rattle.flow_labels.specs.Tags.{Tags, coded_tags}
 use Rattle.flow_labels.specs.declared.Label.{Label}
 use Rattle.capabilities.specs.declared.Caps.{Caps}
 use Rattle.lam_value.specs.declared.names.Name.{Name}

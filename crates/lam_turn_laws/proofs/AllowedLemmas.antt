@@ -2,8 +2,8 @@
 use Rattle.std.proofs.Common.{◌≡◌, ℕ, ◌+◌, true, false, List, [], ◌∷◌, ◌++◌, Option, Some, None, refl, sym, ap, ◌∙◌, subst}
 use Rattle.std.proofs.Math.Bool.{true≢false}
 use Rattle.std.specs.FinSet.{difference, is_subset}
-use Rattle.tag_sets.specs.Tags.{Tags, least}
-use Rattle.tag_sets.proofs.TagLemmas.{none-is_subset}
+use Rattle.flow_labels.specs.Tags.{Tags, least}
+use Rattle.flow_labels.proofs.TagLemmas.{none-is_subset}
 use Rattle.flow_labels.specs.declared.Label.{Label}
 use Rattle.flow_labels.specs.declared.Rule.{Rule}
 use Rattle.flow_labels.specs.declared.Rule.TheVariants.{AddS, DropS, AddI, DropI, Caps as caps_rule}

@@ -4,7 +4,7 @@ use Rattle.lam_value.specs.declared.names.Name.{Name}
 use Rattle.lam_value.specs.declared.values.Value.{Value}
 use Rattle.lam_value.specs.declared.values.Value.TheVariants.{Int, Bool as Truth, Bytes, Nothing, Obj, Arr, File, Dir, Pipe, Thread, Tag, Lab, CapV}
 use Rattle.flow_labels.specs.declared.Label.{Label}
-use Rattle.tag_sets.specs.Tags.{Tags}
+use Rattle.flow_labels.specs.Tags.{Tags}
 use Rattle.lam_builtins.specs.Types.{int, bool, file, dir, pipe, object, array, nullable, a_value, a_null, nothing, exactly, any_array, any_labelled}
 use Rattle.lam_asks.specs.Suits.{is_of, numbers, truths, byte_texts, tags, labels, capabilities, files, directories, pipes, threads, objects, arrays}
 use Rattle.resolved_tree.specs.Tree.{ResolvedType, ResolvedGiven, ResolvedPlace}

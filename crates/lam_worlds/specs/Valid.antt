@@ -4,7 +4,7 @@ use Rattle.std.specs.Prelude.{◌≡◌, ℕ, ◌+◌, ◌<◌, ◌≤◌, IsTru
 use Rattle.std.specs.List.{AllByRecursion}
 use Rattle.std.specs.FinMap.{FinMap, get, contains_key}
 use Rattle.std.specs.FinSet.{contains}
-use Rattle.tag_sets.specs.Tags.{Tags}
+use Rattle.flow_labels.specs.Tags.{Tags}
 use Rattle.flow_labels.specs.declared.Label.{Label}
 use Rattle.flow_labels.specs.Flow.{public_label}
 use Rattle.capabilities.specs.declared.Caps.{Caps}

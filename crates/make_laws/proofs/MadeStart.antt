@@ -14,7 +14,7 @@ use Rattle.serde_json.specs.Data.{Data, number, string, object, unsigned, Items,
 use Rattle.serde_json.specs.Events.{items_len}
 use Rattle.flow_labels.specs.TwoLists.{Text}
 use Rattle.flow_labels.specs.Names.{is_name, place_of}
-use Rattle.tag_sets.specs.Tags.{Tags}
+use Rattle.flow_labels.specs.Tags.{Tags}
 use Rattle.capabilities.specs.declared.Caps.{Caps}
 use Rattle.lam_value.specs.declared.values.Value.{Value}
 use Rattle.lam_value.specs.declared.values.Value.TheVariants.{Int, Tag}

@@ -18,12 +18,11 @@ ghost use Rattle.lam_value.specs.declared.names.Name.{Name};
 ghost use Rattle.lam_value.proofs.Keys.{name_eq};
 ghost use Rattle.monitor_core.specs.Held.{is_free, count_of, takings, once_more, entered, left, dropped, lowered, one_less, IsSound, AreSeenAlike};
 
-use flow_labels::Label;
+use flow_labels::{Label, NoMemory};
 use indexmap::IndexMap;
 use lam_value::{Name, Same, Whole, same_maps};
 use std::alloc::Global;
 use std::marker::Model;
-use tag_sets::NoMemory;
 
 /// How often one thread may hold one monitor.
 pub const TAKINGS_LIMIT: u64 = 1_048_576;

@@ -1,9 +1,8 @@
 //! Monitors: who holds each, and how often.
 
-use flow_labels::Label;
+use flow_labels::{Label, NoMemory};
 use lam_value::Name;
 use monitor_core::{Holder, Monitors, TAKINGS_LIMIT};
-use tag_sets::NoMemory;
 
 /// A thread takes a monitor, and it is said whether it could.
 fn take(monitors: &mut Monitors, name: &Name, thread: u32) -> bool {

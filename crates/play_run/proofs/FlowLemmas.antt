@@ -2,8 +2,8 @@
 use Rattle.std.proofs.Common.{◌≡◌, ℕ, Bool, true, false, ◌&&◌, Option, Some, None, refl}
 use Rattle.std.specs.Cmp.{nat_cmp_total}
 use Rattle.std.specs.FinSet.{difference, is_subset, is_subset-contains, contains-is_subset}
-use Rattle.tag_sets.specs.Tags.{Tags, least}
-use Rattle.tag_sets.proofs.TagLemmas.{none-is_subset}
+use Rattle.flow_labels.specs.Tags.{Tags, least}
+use Rattle.flow_labels.proofs.TagLemmas.{none-is_subset}
 use Rattle.flow_labels.specs.declared.Label.{Label}
 use Rattle.flow_labels.specs.declared.Rule.{Rule}
 use Rattle.flow_labels.specs.declared.Rule.TheVariants.{ReadS, ReadI, WriteS, WriteI}

@@ -5,8 +5,8 @@ use Rattle.std.specs.List.{AllByRecursion, cons_option}
 use Rattle.std.proofs.lemmas.Option.{slice_get-map}
 use Rattle.std.specs.Option.{option_map}
 use Rattle.std.specs.FinSet.{difference}
-use Rattle.tag_sets.specs.Tags.{least}
-use Rattle.tag_sets.proofs.TagLemmas.{none-is_subset}
+use Rattle.flow_labels.specs.Tags.{least}
+use Rattle.flow_labels.proofs.TagLemmas.{none-is_subset}
 use Rattle.flow_labels.specs.declared.Label.{Label}
 use Rattle.flow_labels.specs.declared.Rule.{Rule}
 use Rattle.flow_labels.specs.declared.Rule.TheVariants.{AddS, DropS, AddI, DropI}

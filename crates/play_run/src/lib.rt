@@ -23,12 +23,11 @@ ghost use Rattle.play_run.specs.Lines.{play_lines};
 ghost use Rattle.play_run.specs.Isolation.{IsolatedScripts};
 ghost use Rattle.play_run.specs.Laws.{NotesAreExact, ReleasesAreAllowed};
 
-use flow_labels::Label;
+use flow_labels::{Label, NoMemory};
 use play_script::Script;
 use std::alloc::Global;
 pub use steps::Outcome;
 use steps::{cells_of, take_step};
-use tag_sets::NoMemory;
 
 /// What the observer reads of the run of a script: a line for each step of an actor that it sees, and
 /// one for each release past it.

@@ -8,9 +8,8 @@ ghost use Rattle.play_run.specs.Lines.{name_of, words_of, told, answer_of};
 
 use crate::steps::Outcome;
 use capabilities::{Caps, push_caps};
-use flow_labels::{TagNames, push_tag, rule_text};
+use flow_labels::{NoMemory, TagId, TagNames, push_tag, rule_text};
 use play_script::{Script, Step};
-use tag_sets::{NoMemory, TagId};
 
 /// The name of an actor or a cell; nothing where it has none.
 fn name_of(names: &TagNames, number: u64) -> &str

@@ -12,11 +12,10 @@ ghost use Rattle.play_run.specs.Shown.{cells_from, entry_text, text_of};
 
 use crate::lines::{push_event, push_release};
 use capabilities::Caps;
-use flow_labels::{Denied, Label, flows, read_rule, write_rule};
+use flow_labels::{Denied, Label, NoMemory, flows, read_rule, write_rule};
 use labelled_heap::{Cell, Cells};
 use play_script::{Actor, Script, Step};
 use std::alloc::Global;
-use tag_sets::NoMemory;
 
 /// How a step went.
 #[derive(Clone, Copy, Debug, PartialEq, Eq)]

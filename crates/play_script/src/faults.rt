@@ -3,8 +3,8 @@
 ghost use Rattle.std.specs.Prelude.{◌≡◌};
 ghost use Rattle.play_script.specs.declared.faults.LineFault.TheVariants.{NoMemory as no_memory};
 
+use flow_labels::NoMemory;
 use std::alloc::{AllocError, AllocFailed};
-use tag_sets::NoMemory;
 
 /// Why a line was not read.
 #[derive(Clone, Copy, Debug, PartialEq, Eq)]

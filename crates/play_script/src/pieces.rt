@@ -5,8 +5,8 @@ ghost use Rattle.std.specs.Str.{IsUtf8};
 ghost use Rattle.std.specs.List.{prefix_len};
 ghost use Rattle.play_script.specs.Pieces.{pieces, texts};
 
+use flow_labels::NoMemory;
 use std::alloc::Global;
-use tag_sets::NoMemory;
 
 /// The text before the first line feed, and what follows it.
 pub fn cut_line(text: &[u8]) -> Option<(&[u8], &[u8])>

@@ -6,8 +6,7 @@
 
 ghost use Rattle.std.specs.Prelude.{◌≡◌, ◌↔◌, IsTrue, length, slice_get};
 
-use flow_labels::TagNames;
-use tag_sets::TagId;
+use flow_labels::{TagId, TagNames};
 
 /// Whether two have the same names in the same order.
 pub fn same_names(a: &TagNames, b: &TagNames) -> bool

@@ -7,11 +7,11 @@ ghost use Rattle.thread_ops.specs.Units.{unit_at};
 ghost use Rattle.thread_sights.specs.Acting.{did_of, enters, enters_with, spawns, spawns_with};
 ghost use Rattle.lam_asks.specs.declared.ask.Ask.TheVariants as ask;
 
+use flow_labels::TagSet;
 use lam_asks::Fault;
 use lam_bytecode::{CodeUnit, UnitKind};
 use lam_threads::Operands;
 use lam_value::Value;
-use tag_sets::TagSet;
 use thread_sights::{Sight, Sketch};
 
 /// How many arguments the function with a number takes, `None` where there is no such function.

@@ -1,7 +1,7 @@
 -- What the code of an operation says of it, and what it leaves of the operands.
 use Rattle.std.specs.Prelude.{ℕ, nat_lt, if◌then◌else◌, Bool, true, false, List, [], ◌∷◌, ◌++◌, map, reverse, take, drop, length, slice_get, slice_set}
 use Rattle.std.specs.FinSet.{insert, from_list}
-use Rattle.tag_sets.specs.Tags.{Tags}
+use Rattle.flow_labels.specs.Tags.{Tags}
 use Rattle.capabilities.specs.Changes.{no_caps}
 use Rattle.std.specs.Fmt.{signed_decimal}
 use Rattle.flow_labels.specs.declared.Label.{Label}

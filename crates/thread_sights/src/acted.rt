@@ -1,10 +1,9 @@
 //! What the code of an operation says of it.
 
 use capabilities::Caps;
-use flow_labels::{Denied, Label};
+use flow_labels::{Denied, Label, TagId, TagSet};
 use lam_asks::Fault;
 use lam_value::{ByteText, Kind, Name, Value};
-use tag_sets::{TagId, TagSet};
 
 /// An ask, its parts where they stand. It takes no memory.
 #[derive(Clone, Copy)]

@@ -11,12 +11,11 @@ use crate::acted::{Sketch, Worth};
 use crate::reading::tag_in;
 use capabilities::Caps;
 use decimal_text::push_int_bytes;
-use flow_labels::Label;
+use flow_labels::{Label, TagId, TagSet};
 use lam_asks::Ask;
 use lam_threads::listed;
 use lam_value::{ByteText, Kind, Name, Shape, Value, Values};
 use std::alloc::Global;
-use tag_sets::{TagId, TagSet};
 use want_of_memory::NoMemory;
 
 fn zeros(alloc: Global, kinds: &[Kind]) -> Result<Values, NoMemory>

@@ -3,10 +3,9 @@
 ghost use Rattle.std.specs.Prelude.{◌≡◌};
 ghost use Rattle.thread_steps.specs.Equal.{same_names, same_tags, same_labels, same_values};
 
-use flow_labels::Label;
+use flow_labels::{Label, TagSet};
 use lam_value::{Name, Value};
 use std::cmp::Ordering;
-use tag_sets::TagSet;
 
 /// Whether two names are equal.
 pub fn same_names(a: &Name, b: &Name) -> bool

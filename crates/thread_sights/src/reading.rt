@@ -6,8 +6,8 @@ ghost use Rattle.std.specs.List.{list_any};
 ghost use Rattle.thread_steps.specs.Operators.{is_null, some_null};
 ghost use Rattle.thread_sights.specs.Reading.{number_in, truth_in, thing_in, tag_in};
 
+use flow_labels::TagId;
 use lam_value::{Name, Value};
-use tag_sets::TagId;
 
 /// The number that a value is.
 pub fn number_in(v: &Value) -> Option<i64>

@@ -3,7 +3,7 @@ use Rattle.std.specs.Prelude.{Bool, true, false, ◌&&◌, nat_eq}
 use Rattle.std.specs.Ordering.{eq_by_cmp, int_eq, bool_cmp}
 use Rattle.std.specs.Str.{bytes_eq}
 use Rattle.std.specs.FinSet.{is_subset}
-use Rattle.tag_sets.specs.Tags.{Tags}
+use Rattle.flow_labels.specs.Tags.{Tags}
 use Rattle.flow_labels.specs.declared.Label.{Label}
 use Rattle.lam_value.specs.declared.names.Name.{Name}
 use Rattle.lam_value.specs.Names.{name_cmp}

@@ -13,11 +13,12 @@ ghost use Rattle.world_reading.specs.Seen.{members};
 use crate::fault::{WorldFault, bad_member, no_tag};
 use crate::members::{array_member, member, object_member, str_member};
 use capabilities::Caps;
-use flow_labels::{Label, LabelFault, NameFault, TagNames, is_name, is_word, parse_label};
+use flow_labels::{
+    Label, LabelFault, NameFault, TagId, TagNames, TagSet, is_name, is_word, parse_label,
+};
 use serde_json::Value;
 use std::alloc::Global;
 use std::str;
-use tag_sets::{TagId, TagSet};
 
 /// The number of tags that a document may name.
 const TAG_LIMIT: usize = 65_536;

@@ -8,7 +8,7 @@ use Rattle.std.specs.FinSet.{from_list}
 use Rattle.serde_json.specs.Data.{Data, null, string, array, object, Items, no_items, item, Members, no_members, member}
 use Rattle.serde_json.specs.Find.{as_str, as_array, as_object}
 use Rattle.serde_json.specs.Events.{items_len}
-use Rattle.tag_sets.specs.Tags.{Tags}
+use Rattle.flow_labels.specs.Tags.{Tags}
 use Rattle.flow_labels.specs.declared.Label.{Label}
 use Rattle.flow_labels.specs.declared.texts.LabelFault.{LabelFault}
 use Rattle.flow_labels.specs.declared.texts.LabelFault.TheVariants as fault
