@@ -24,7 +24,7 @@ pub enum EntryKind {
 }
 
 /// What an entry leads to.
-#[derive(Debug, Drop)]
+#[derive(Drop)]
 pub struct Target {
     pub kind: EntryKind,
     pub name: Name,
@@ -187,8 +187,17 @@ fn copied(entries: &IndexMap<Vec<u8>, Target>) -> Result<IndexMap<Vec<u8>, Targe
         let Some((entry, target)) = entries.get_index(at) else {
             unreachable!()
         };
-        let entry = Vec::from_slice(*entry.allocator(), entry.as_slice())?;
-        copy.insert(entry, target.copy()?)?;
+        let (entry, target) = copied_entry(entry, target)?;
+        copy.insert(entry, target)?;
     }
     Ok(copy)
+}
+
+fn copied_entry(text: &Vec<u8>, target: &Target) -> Result<(Vec<u8>, Target), NoMemory>
+    ensures text { IfOk result (λ r. r.0.items ≡ text.now.items) }
+    ensures target { IfOk result (λ r. r.1 ≡ target.now) }
+{
+    let target = target.copy()?;
+    let text = Vec::from_slice(*text.allocator(), text.as_slice())?;
+    Ok((text, target))
 }

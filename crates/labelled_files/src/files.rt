@@ -7,12 +7,12 @@ ghost use Rattle.std.specs.Map.{lookup};
 ghost use Rattle.std.specs.FinMap.{insert};
 ghost use Rattle.indexmap.specs.IndexMap.{spare};
 ghost use Rattle.lam_value.specs.Homes as homes;
-ghost use Rattle.lam_value.specs.Homes.{Home, home_of, count_in, raised, IsAboveZero, IsListing};
+ghost use Rattle.lam_value.specs.Homes.{Home, home_of, name_of, count_in, raised, IsAboveZero, IsListing};
 ghost use Rattle.labelled_files.specs.Entries.{text_eq, name_of_kind, entry_of};
 ghost use Rattle.labelled_files.specs.Seen.{dirs_of, files_of, at, shown, held, SameDirs, SameFiles};
 ghost use Rattle.lam_value.specs.Alike.{is_shown};
 ghost use Rattle.labelled_files.specs.Trees as tree;
-ghost use Rattle.labelled_files.specs.Trees.{root_alone, lives_as, target_at, bytes_at, next_name, with_file, with_dir, placed, with_count, without_entry, with_more, with_first, changed_at, joined, IsSound, AreSeenAlike};
+ghost use Rattle.labelled_files.specs.Trees.{public_home, root_alone, lives_as, target_at, bytes_at, next_name, with_file, with_dir, placed, with_count, without_entry, with_more, with_first, changed_at, joined, IsSound, AreSeenAlike};
 ghost use Rattle.labelled_files.specs.declared.files.FileFault.TheVariants.{NoMemory as no_memory};
 
 use crate::contents::{Contents, first_bytes, last_bytes};
@@ -104,12 +104,8 @@ impl Files {
     pub fn new(alloc: Global) -> Result<Files, NoMemory>
         ensures { IfOk result (λ f. f ≡ root_alone) }
     {
-        let public = Label::public(alloc);
-        let root = Name::of(&public, &public, 0)?;
-        let mut dirs = IndexMap::new(alloc);
-        dirs.insert(root.copy()?, Directory::new(alloc))?;
-        let mut counters = Counters::new(alloc);
-        counters.draw(&public, &public, 0)?;
+        let root = root_name(alloc)?;
+        let (dirs, counters) = root_ground(&root)?;
         Ok(Files {
             dirs,
             files: IndexMap::new(alloc),
@@ -460,10 +456,8 @@ impl Files {
     pub fn copy(&self) -> Result<Files, NoMemory>
         ensures { IfOk result (λ f. f ≡ self.now) }
     {
-        let dirs = copied_dirs(&self.dirs)?;
-        let files = copied_files(&self.files)?;
-        let counters = self.counters.copy()?;
-        let root = self.root.copy()?;
+        let (counters, root) = copied_ground(&self.counters, &self.root)?;
+        let (dirs, files) = copied_things(&self.dirs, &self.files)?;
         Ok(Files {
             dirs,
             files,
@@ -471,6 +465,46 @@ impl Files {
             root,
         })
     }
+}
+
+/// The name of the root: the first thing of the public home.
+fn root_name(alloc: Global) -> Result<Name, NoMemory>
+    ensures { IfOk result (λ n. n ≡ name_of public_home 0) }
+{
+    let public = Label::public(alloc);
+    Name::of(&public, &public, 0)
+}
+
+/// The root's directory alone, and its home's counter.
+fn root_ground(root: &Name) -> Result<(Dirs, Counters), NoMemory>
+    requires { root.now ≡ name_of public_home 0 }
+    ensures dirs { IfOk result (λ r. dirs_of r.0.entries ≡ root_alone.dirs) }
+    ensures counters { IfOk result (λ r. r.1 ≡ root_alone.counts) }
+{
+    let counters = root_counter(root)?;
+    let dirs = root_dir(root)?;
+    Ok((dirs, counters))
+}
+
+/// The counter of the root's home alone.
+fn root_counter(root: &Name) -> Result<Counters, NoMemory>
+    requires { root.now ≡ name_of public_home 0 }
+    ensures { IfOk result (λ c. c ≡ root_alone.counts) }
+{
+    let mut counters = Counters::new(root.allocator());
+    counters.draw(root.maker(), root.own(), 0)?;
+    Ok(counters)
+}
+
+/// The root's directory alone, which is empty.
+fn root_dir(root: &Name) -> Result<Dirs, NoMemory>
+    requires { root.now ≡ name_of public_home 0 }
+    ensures { IfOk result (λ d. dirs_of d.entries ≡ root_alone.dirs) }
+{
+    let key = root.copy()?;
+    let mut dirs = IndexMap::new(root.allocator());
+    dirs.insert(key, Directory::new(root.allocator()))?;
+    Ok(dirs)
 }
 
 /// The name of a target, where it is of that kind.
@@ -503,12 +537,8 @@ fn add_file(
     ensures same_files { OnErr result (files_of files.new.entries ≡ files_of files.old.entries) }
     ensures same_counters { OnErr result (counters.new ≡ counters.old) }
 {
-    let key = name.copy()?;
-    let target = Target {
-        kind: EntryKind::File,
-        name: name.copy()?,
-    };
     files.reserve(1)?;
+    let (key, target) = leads_to(EntryKind::File, name)?;
     list(dirs, counters, dir, entry, target)?;
     let Ok(_) = files.insert(key, Contents::new(name.allocator())) else {
         unreachable!()
@@ -532,17 +562,23 @@ fn add_dir(
     ensures same_dirs { OnErr result (dirs_of dirs.new.entries ≡ dirs_of dirs.old.entries) }
     ensures same_counters { OnErr result (counters.new ≡ counters.old) }
 {
-    let key = name.copy()?;
-    let target = Target {
-        kind: EntryKind::Dir,
-        name: name.copy()?,
-    };
     dirs.reserve(1)?;
+    let (key, target) = leads_to(EntryKind::Dir, name)?;
     list(dirs, counters, dir, entry, target)?;
     let Ok(_) = dirs.insert(key, Directory::new(name.allocator())) else {
         unreachable!()
     };
     Ok(())
+}
+
+/// A name's key, and a target that leads to the name.
+fn leads_to(kind: EntryKind, name: &Name) -> Result<(Name, Target), NoMemory>
+    ensures key { IfOk result (λ r. r.0 ≡ name.now) }
+    ensures target { IfOk result (λ r. r.1 ≡ record { kind = kind; name = name.now }) }
+{
+    let key = name.copy()?;
+    let name = name.copy()?;
+    Ok((key, Target { kind, name }))
 }
 
 /// Lists a target last in a directory, and counts it. The map keeps its room.
@@ -643,6 +679,24 @@ fn same_things(
         && same_maps::<_, _, Whole>(files, other_files, observer)
 }
 
+fn copied_ground(counters: &Counters, root: &Name) -> Result<(Counters, Name), NoMemory>
+    ensures counters { IfOk result (λ r. r.0 ≡ counters.now) }
+    ensures root { IfOk result (λ r. r.1 ≡ root.now) }
+{
+    let root = root.copy()?;
+    let counters = counters.copy()?;
+    Ok((counters, root))
+}
+
+fn copied_things(dirs: &Dirs, files: &FileMap) -> Result<(Dirs, FileMap), NoMemory>
+    ensures dirs { IfOk result (λ r. dirs_of r.0.entries ≡ dirs_of dirs.now.entries) }
+    ensures files { IfOk result (λ r. files_of r.1.entries ≡ files_of files.now.entries) }
+{
+    let dirs = copied_dirs(dirs)?;
+    let files = copied_files(files)?;
+    Ok((dirs, files))
+}
+
 fn copied_dirs(dirs: &Dirs) -> Result<Dirs, NoMemory>
     ensures { IfOk result (λ new. dirs_of new.entries ≡ dirs_of dirs.now.entries) }
 {
@@ -651,7 +705,8 @@ fn copied_dirs(dirs: &Dirs) -> Result<Dirs, NoMemory>
         let Some((name, directory)) = dirs.get_index(at) else {
             unreachable!()
         };
-        copy.insert(name.copy()?, directory.copy()?)?;
+        let (name, directory) = copied_dir(name, directory)?;
+        copy.insert(name, directory)?;
     }
     Ok(copy)
 }
@@ -664,7 +719,26 @@ fn copied_files(files: &FileMap) -> Result<FileMap, NoMemory>
         let Some((name, contents)) = files.get_index(at) else {
             unreachable!()
         };
-        copy.insert(name.copy()?, contents.copy()?)?;
+        let (name, contents) = copied_file(name, contents)?;
+        copy.insert(name, contents)?;
     }
     Ok(copy)
+}
+
+fn copied_dir(name: &Name, directory: &Directory) -> Result<(Name, Directory), NoMemory>
+    ensures name { IfOk result (λ r. r.0 ≡ name.now) }
+    ensures entries { IfOk result (λ r. shown r.1 ≡ shown directory.now) }
+{
+    let name = name.copy()?;
+    let directory = directory.copy()?;
+    Ok((name, directory))
+}
+
+fn copied_file(name: &Name, contents: &Contents) -> Result<(Name, Contents), NoMemory>
+    ensures name { IfOk result (λ r. r.0 ≡ name.now) }
+    ensures bytes { IfOk result (λ r. held r.1 ≡ held contents.now) }
+{
+    let name = name.copy()?;
+    let contents = contents.copy()?;
+    Ok((name, contents))
 }

@@ -1,6 +1,6 @@
 //! How many things each home has made.
 
-ghost use Rattle.std.specs.Prelude.{◌≡◌, ◌+◌, ◌^◌, ◌<◌, ◌↔◌, IsTrue, cond, Some, unwrap_or, slice_get, IfOk, OnOk, OnErr};
+ghost use Rattle.std.specs.Prelude.{◌≡◌, ◌+◌, ◌^◌, ◌<◌, ◌↔◌, IsTrue, cond, Some, None, unwrap_or, slice_get, IfOk, OnOk, OnErr};
 ghost use Rattle.std.specs.Option.{option_map};
 ghost use Rattle.std.specs.FinMap as map;
 ghost use Rattle.std.specs.HashMap.{IsUnique, IsUnchanged, Updates, get as at_key};
@@ -216,12 +216,32 @@ fn set_count(rows: &mut Rows, maker: &Label, own: &Label, count: u64) -> Result<
             Ok(())
         }
         None => {
-            let mut row = IndexMap::new(own.allocator());
-            set_row(&mut row, own, count)?;
-            rows.insert(maker.copy()?, row)?;
+            let row = one_count(own, count)?;
+            put_row(rows, maker, row)?;
             Ok(())
         }
     }
+}
+
+/// Puts in the row of a maker.
+fn put_row(rows: &mut Rows, maker: &Label, row: Row) -> Result<(), NoMemory>
+    ensures ok { OnOk result ((q : Label) → at_key label_eq rows.new q ≡ cond (label_eq maker.now q) (Some row) (at_key label_eq rows.old q)) }
+    ensures unique { OnOk result (IsUnique label_eq rows.new) }
+    ensures err { OnErr result (rows.new.entries ≡ rows.old.entries) }
+{
+    let maker = maker.copy()?;
+    rows.insert(maker, row)?;
+    Ok(())
+}
+
+/// A row with one own label alone.
+fn one_count(own: &Label, count: u64) -> Result<Row, NoMemory>
+    ensures same { IfOk result (λ row. (q : Label) → at_key label_eq row q ≡ cond (label_eq own.now q) (Some count) None) }
+    ensures unique { IfOk result (λ row. IsUnique label_eq row) }
+{
+    let mut row = IndexMap::new(own.allocator());
+    put_count(&mut row, own, count)?;
+    Ok(row)
 }
 
 fn set_row(row: &mut Row, own: &Label, count: u64) -> Result<(), NoMemory>
@@ -235,10 +255,21 @@ fn set_row(row: &mut Row, own: &Label, count: u64) -> Result<(), NoMemory>
             Ok(())
         }
         None => {
-            row.insert(own.copy()?, count)?;
+            put_count(row, own, count)?;
             Ok(())
         }
     }
+}
+
+/// Puts in the counter of an own label.
+fn put_count(row: &mut Row, own: &Label, count: u64) -> Result<(), NoMemory>
+    ensures ok { OnOk result ((q : Label) → at_key label_eq row.new q ≡ cond (label_eq own.now q) (Some count) (at_key label_eq row.old q)) }
+    ensures unique { OnOk result (IsUnique label_eq row.new) }
+    ensures err { OnErr result (row.new.entries ≡ row.old.entries) }
+{
+    let own = own.copy()?;
+    row.insert(own, count)?;
+    Ok(())
 }
 
 fn copied_rows(rows: &Rows) -> Result<Rows, NoMemory>
@@ -251,7 +282,8 @@ fn copied_rows(rows: &Rows) -> Result<Rows, NoMemory>
         let Some((maker, row)) = rows.get_index(at) else {
             unreachable!()
         };
-        copy.insert(maker.copy()?, copied_row(row)?)?;
+        let row = copied_row(row)?;
+        put_row(&mut copy, maker, row)?;
     }
     Ok(copy)
 }
@@ -265,7 +297,7 @@ fn copied_row(row: &Row) -> Result<Row, NoMemory>
         let Some((own, count)) = row.get_index(at) else {
             unreachable!()
         };
-        copy.insert(own.copy()?, *count)?;
+        put_count(&mut copy, own, *count)?;
     }
     Ok(copy)
 }

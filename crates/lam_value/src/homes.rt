@@ -78,7 +78,8 @@ impl Home {
     pub fn of(maker: &Label, own: &Label) -> Result<Home, NoMemory>
         ensures { IfOk result (λ h. h ≡ record { maker = maker.now; own = own.now }) }
     {
-        Ok(Home::new(maker.copy()?, own.copy()?))
+        let (maker, own) = copied_labels(maker, own)?;
+        Ok(Home::new(maker, own))
     }
 
     /// The label of the maker.
@@ -103,14 +104,22 @@ impl Home {
     pub fn copy(&self) -> Result<Home, NoMemory>
         ensures { IfOk result (λ h. h ≡ self.now) }
     {
-        let maker = self.maker.copy()?;
-        let own = self.own.copy()?;
+        let (maker, own) = copied_labels(&self.maker, &self.own)?;
         Ok(Home {
             maker,
             own,
             digest: self.digest,
         })
     }
+}
+
+/// Two labels equal to these.
+pub(crate) fn copied_labels(maker: &Label, own: &Label) -> Result<(Label, Label), NoMemory>
+    ensures { IfOk result (λ p. p ≡ (maker.now, own.now)) }
+{
+    let maker = maker.copy()?;
+    let own = own.copy()?;
+    Ok((maker, own))
 }
 
 /// The hash of the labels of a home.

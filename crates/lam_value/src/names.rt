@@ -11,7 +11,7 @@ ghost use Rattle.lam_value.specs.NameParts.{name_input, same_input};
 ghost use Rattle.lam_value.specs.Names.{name_cmp};
 ghost use Rattle.lam_value.specs.Homes.{home_of};
 
-use crate::homes::Home;
+use crate::homes::{Home, copied_labels};
 use flow_labels::{Label, same};
 use std::alloc::Global;
 use std::cmp::Ordering;
@@ -128,8 +128,7 @@ impl Name {
     pub fn of(maker: &Label, own: &Label, n: u64) -> Result<Name, NoMemory>
         ensures { IfOk result (λ m. m ≡ record { maker = maker.now; own = own.now; n = n }) }
     {
-        let maker = maker.copy()?;
-        let own = own.copy()?;
+        let (maker, own) = copied_labels(maker, own)?;
         Name::new(maker, own, n)
     }
 

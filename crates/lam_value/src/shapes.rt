@@ -19,7 +19,7 @@ pub enum Kind {
 }
 
 /// The shape of a new thing.
-#[derive(Debug, Drop)]
+#[derive(Drop)]
 pub enum Shape {
     /// An object of a class, named by the class's number, with its fields.
     Class { class: u32, fields: Values },

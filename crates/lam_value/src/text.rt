@@ -64,21 +64,27 @@ pub fn push_value(text: &mut String, v: &Value, names: &TagNames) -> Result<(), 
     ensures { OnOk result (string_bytes text.new ≡ string_bytes text.old ++ value_text names.now v.now) }
 {
     match v {
-        Value::Int(n) => push_int(text, *n)?,
-        Value::Bool(true) => text.push_str("true")?,
-        Value::Bool(false) => text.push_str("false")?,
-        Value::Bytes(bytes) => push_bytes(text, bytes.bytes())?,
-        Value::Nothing => text.push_str("null")?,
-        Value::Obj(name) => push_name(text, "obj", name, names)?,
-        Value::Arr { name, len } => push_array(text, name, *len, names)?,
-        Value::File(name) => push_name(text, "file", name, names)?,
-        Value::Dir(name) => push_name(text, "dir", name, names)?,
-        Value::Pipe(name) => push_name(text, "pipe", name, names)?,
-        Value::Thread(t) => push_thread(text, *t)?,
-        Value::Tag(tag) => push_tag(text, *tag, names)?,
-        Value::Lab(label) => push_label(text, label, names)?,
-        Value::CapV { plus, minus } => push_sets(text, Form::Caps, plus, minus, names)?,
+        Value::Int(n) => push_int(text, *n),
+        Value::Bool(true) => push_word(text, "true"),
+        Value::Bool(false) => push_word(text, "false"),
+        Value::Bytes(bytes) => push_bytes(text, bytes.bytes()),
+        Value::Nothing => push_word(text, "null"),
+        Value::Obj(name) => push_name(text, "obj", name, names),
+        Value::Arr { name, len } => push_array(text, name, *len, names),
+        Value::File(name) => push_name(text, "file", name, names),
+        Value::Dir(name) => push_name(text, "dir", name, names),
+        Value::Pipe(name) => push_name(text, "pipe", name, names),
+        Value::Thread(t) => push_thread(text, *t),
+        Value::Tag(tag) => push_tag(text, *tag, names),
+        Value::Lab(label) => push_label(text, label, names),
+        Value::CapV { plus, minus } => push_sets(text, Form::Caps, plus, minus, names),
     }
+}
+
+fn push_word(text: &mut String, word: &str) -> Result<(), NoMemory>
+    ensures { OnOk result (string_bytes text.new ≡ string_bytes text.old ++ word.now) }
+{
+    text.push_str(word)?;
     Ok(())
 }
 

@@ -11,8 +11,8 @@ loop-at-init c = record { same = ap entries_of c.new-copy.ensures.empty; unique 
 pub loop-at-preserved : goal.loop-at-preserved
 loop-at-preserved c = record {
   same =
-      copied_more c.args.entries.now.entries c.loop-at.copy c.insert.new.self.entries c.loop-at.at c.in-Some.entry.now c.in_ok-entry.entry c.in-Some.target.now c.in_ok-copy.field-0
-      (sym c.in-Some.ensures.entry) (c.in_ok-entry.ensures.items ∙ c.as_slice.ensures.value) c.in_ok-copy.ensures c.requires c.loop-at.invariant.same c.in_ok-insert.ensures.entries;
+      copied_more c.args.entries.now.entries c.loop-at.copy c.insert.new.self.entries c.loop-at.at c.in-Some.entry.now c.in_ok-entry.entry c.in-Some.target.now c.in_ok-entry.target
+      (sym c.in-Some.ensures.entry) c.in_ok-entry.ensures.text c.in_ok-entry.ensures.target c.requires c.loop-at.invariant.same c.in_ok-insert.ensures.entries;
   unique = c.in_ok-insert.ensures.unique;
 }
 

@@ -1,17 +1,16 @@
 use Rattle.std.proofs.Common.{◌<◌, ◌+◌, ◌∙◌, sym, ap, subst, [], length}
 use Rattle.std.specs.Map.{lookup}
 use Rattle.std.specs.FinMap.{insert}
-use Rattle.lam_value.specs.declared.names.Name.{Name}
 use Rattle.lam_value.specs.Homes.{home_of, raised}
 use Rattle.labelled_files.specs.Entries.{text_eq}
 use Rattle.labelled_files.specs.Trees.{changed_at, joined}
-use Rattle.labelled_files.specs.declared.directory.EntryKind.TheVariants.{Dir}
+use Rattle.labelled_files.specs.declared.directory.Target.{Target}
 use Rattle.labelled_files.specs.Seen.{shown, dirs_of, at}
 use Rattle.labelled_files.proofs.TreeLemmas.{added}
 use Rattle.labelled_files.proofs.files.add_dir.Goals as goal
 
 pub list-requires-clause-room : goal.list-requires-clause-room
-list-requires-clause-room c = subst (λ (m : Name). m.n < 65536) (sym c.in_ok-copy.ensures) c.requires.room
+list-requires-clause-room c = subst (λ (t : Target). t.name.n < 65536) (sym c.in_ok-key.ensures.target) c.requires.room
 
 pub list-requires-clause-few : goal.list-requires-clause-few
 list-requires-clause-few c = subst (λ es. length (at es c.args.dir.now) < 4096) (sym c.in_ok-reserve.ensures.entries) c.requires.few
@@ -21,9 +20,9 @@ list-requires-clause-fresh c = ap (λ es. lookup (text_eq c.args.entry.now) (at 
 
 pub returns-clause-dirs : goal.returns-clause-dirs
 returns-clause-dirs c =
-    added shown c.list.new.dirs.entries c.insert.new.self.entries c.args.name.now c.in_ok-key.key c.new.result [] c.in_ok-key.ensures c.new.ensures (λ q. c.in-Ok.ensures.updates.0 q)
+    added shown c.list.new.dirs.entries c.insert.new.self.entries c.args.name.now c.in_ok-key.key c.new.result [] c.in_ok-key.ensures.key c.new.ensures (λ q. c.in-Ok.ensures.updates.0 q)
     ∙ ap (λ m. insert m c.args.name.now [])
-    (c.in_ok-list.ensures.dirs ∙ (λ i. changed_at (dirs_of (c.in_ok-reserve.ensures.entries i)) c.args.dir.now (joined c.args.entry.now Dir (c.in_ok-copy.ensures i))))
+    (c.in_ok-list.ensures.dirs ∙ (λ i. changed_at (dirs_of (c.in_ok-reserve.ensures.entries i)) c.args.dir.now (joined c.args.entry.now (c.in_ok-key.ensures.target i).kind (c.in_ok-key.ensures.target i).name)))
 
 pub returns-clause-counters : goal.returns-clause-counters
-returns-clause-counters c = c.in_ok-list.ensures.counters ∙ ap (λ (m : Name). raised c.args.counters.now (home_of m.maker m.own) (m.n + 1)) c.in_ok-copy.ensures
+returns-clause-counters c = c.in_ok-list.ensures.counters ∙ ap (λ (t : Target). raised c.args.counters.now (home_of t.name.maker t.name.own) (t.name.n + 1)) c.in_ok-key.ensures.target

@@ -1,4 +1,4 @@
-use Rattle.std.proofs.Common.{◌∙◌, ap, sym, cond, Some, refl, arith}
+use Rattle.std.proofs.Common.{◌∙◌, ap, sym, Some, refl, arith}
 use Rattle.std.specs.Prelude.{option_and_then}
 use Rattle.std.specs.Map.{lookup}
 use Rattle.lam_value.specs.Homes.{label_eq}
@@ -16,10 +16,10 @@ loop-at-init c = record {
 pub loop-at-preserved : goal.loop-at-preserved
 loop-at-preserved c = record {
   same =
-      copy_more label_eq label_total label_exact label_ties (λ n. Some n) c.args.row.now.entries c.loop-at.copy.entries c.insert.new.self.entries c.loop-at.at c.in-Some.own.now c.in-Some.count.now c.in-Some.count.now
+      copy_more label_eq label_total label_exact label_ties (λ n. Some n) c.args.row.now.entries c.loop-at.copy.entries c.put_count.new.row.entries c.loop-at.at c.in-Some.own.now c.in-Some.count.now c.in-Some.count.now
       (sym c.in-Some.ensures.entry) c.in-Some.ensures.value refl c.loop-at.invariant.same
-      (λ q. c.in_ok-insert.ensures.updates.0 q ∙ ap (λ k. cond (label_eq k q) (Some c.in-Some.count.now) (lookup (label_eq q) c.loop-at.copy.entries)) c.in_ok-copy.ensures);
-  unique = c.in_ok-insert.ensures.unique;
+      c.in_ok-put_count.ensures.ok;
+  unique = c.in_ok-put_count.ensures.unique;
 }
 
 pub returns : goal.returns

@@ -1,4 +1,4 @@
-use Rattle.std.proofs.Common.{◌∙◌, ap, sym, cond, Some, arith}
+use Rattle.std.proofs.Common.{◌∙◌, ap, sym, arith}
 use Rattle.std.specs.HashMap.{IsUnique}
 use Rattle.std.specs.Map.{lookup}
 use Rattle.lam_value.specs.Homes.{Home, home_of, home_in, label_eq}
@@ -17,19 +17,19 @@ loop-at-init c = record {
 
 pub loop-at-preserved : goal.loop-at-preserved
 loop-at-preserved c = record {
-  unique = c.in_ok-insert.ensures.unique;
+  unique = c.in_ok-put_row.ensures.unique;
   same = λ h.
-      copy_more label_eq label_total label_exact label_ties (λ row. lookup (label_eq h.own) row.entries) c.args.rows.now.entries c.loop-at.copy.entries c.insert.new.self.entries c.loop-at.at c.in-Some.maker.now c.in-Some.row.now c.in_ok-copied_row.field-0
-      (sym c.in-Some.ensures.entry) c.in-Some.ensures.value (c.in_ok-copied_row.ensures.same h.own) (λ q. c.loop-at.invariant.same (home_of q h.own))
-      (λ q. c.in_ok-insert.ensures.updates.0 q ∙ ap (λ k. cond (label_eq k q) (Some c.in_ok-copied_row.field-0) (lookup (label_eq q) c.loop-at.copy.entries)) c.in_ok-copy.ensures) h.maker;
+      copy_more label_eq label_total label_exact label_ties (λ row. lookup (label_eq h.own) row.entries) c.args.rows.now.entries c.loop-at.copy.entries c.put_row.new.rows.entries c.loop-at.at c.in-Some.maker.now c.in-Some.row.now c.in_ok-row.row
+      (sym c.in-Some.ensures.entry) c.in-Some.ensures.value (c.in_ok-row.ensures.same h.own) (λ q. c.loop-at.invariant.same (home_of q h.own))
+      c.in_ok-put_row.ensures.ok h.maker;
   once =
-      each_set (IsUnique label_eq) c.loop-at.copy.entries c.insert.new.self.entries c.in-Some.maker.now c.in_ok-copied_row.field-0 c.loop-at.invariant.once
-      (λ q. c.in_ok-insert.ensures.updates.0 q ∙ ap (λ k. cond (label_eq k q) (Some c.in_ok-copied_row.field-0) (lookup (label_eq q) c.loop-at.copy.entries)) c.in_ok-copy.ensures)
-      c.in_ok-copied_row.ensures.unique;
+      each_set (IsUnique label_eq) c.loop-at.copy.entries c.put_row.new.rows.entries c.in-Some.maker.now c.in_ok-row.row c.loop-at.invariant.once
+      c.in_ok-put_row.ensures.ok
+      c.in_ok-row.ensures.unique;
   filled =
-      filled_set c.loop-at.copy.entries c.insert.new.self.entries c.in-Some.maker.now c.in_ok-copied_row.field-0 c.loop-at.invariant.filled
-      (λ q. c.in_ok-insert.ensures.updates.0 q ∙ ap (λ k. cond (label_eq k q) (Some c.in_ok-copied_row.field-0) (lookup (label_eq q) c.loop-at.copy.entries)) c.in_ok-copy.ensures)
-      (filled_same c.in-Some.row.now.entries c.in_ok-copied_row.field-0.entries c.in_ok-copied_row.ensures.same (c.requires.filled c.in-Some.maker.now c.in-Some.row.now c.in-Some.ensures.value));
+      filled_set c.loop-at.copy.entries c.put_row.new.rows.entries c.in-Some.maker.now c.in_ok-row.row c.loop-at.invariant.filled
+      c.in_ok-put_row.ensures.ok
+      (filled_same c.in-Some.row.now.entries c.in_ok-row.row.entries c.in_ok-row.ensures.same (c.requires.filled c.in-Some.maker.now c.in-Some.row.now c.in-Some.ensures.value));
 }
 
 pub returns : goal.returns
