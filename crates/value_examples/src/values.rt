@@ -9,7 +9,7 @@ use std::alloc::Global;
 use tag_sets::{NoMemory, TagId, TagSet};
 
 /// The label `{#0}/{}`.
-fn secret(alloc: Global) -> Result<Label, NoMemory> {
+pub(crate) fn secret(alloc: Global) -> Result<Label, NoMemory> {
     let s = TagSet::from_slice(alloc, &[TagId(0)])?;
     Ok(Label {
         s,

@@ -1,6 +1,6 @@
 //! Programs and worlds that several examples run.
 
-use crate::runs::Given;
+use crate::call::Given;
 
 /// Thread 0 runs `main` on nothing, and holds nothing.
 pub const BARE_WORLD: &str =

@@ -1,7 +1,16 @@
 //! Every operation of the code, and every built-in call.
 
-use crate::run::shows;
+use crate::call::{Answer, Calls, answers};
+use lam_main::Status;
 use std::test::Fail;
+
+/// Runs a program from a world by one worker, and compares what the observer sees who sees what is public.
+pub fn shows<R: Calls>(rt: &R, program: &str, world: &str, printed: &str) -> Result<(), Fail> {
+    let words = ["run", "P", "W", "{}/{}", "B", "--workers", "1"];
+    let status = Status::Done;
+    let files = [("P", program), ("W", world)];
+    answers(rt, &files, &words, Answer { status, printed })
+}
 
 const WORLD: &str =
     "{\"version\":1,\"tags\":[\"a\"],\"tree\":[],\"pipes\":[],\"threads\":[{\"run\":\"main\",\"args\":[{\"tag\":\"a\"}],\"caps\":{\"plus\":[\"a\"],\"minus\":[\"a\"]}}]}";

@@ -1,10 +1,12 @@
 //! Runs of what a number makes.
 
+use crate::call::store;
 use crate::gates::Mixes;
+use crate::given::ENTERS;
+use crate::runs::prints;
 use lam_io::OpenGate;
 use lam_main::Status;
 use std::test::Fail;
-use tool_calls::{ENTERS, prints, store};
 
 const SUMMARY: &str = "made 1 2\nsaid 2\nreleases 2\nrefused 0\n";
 

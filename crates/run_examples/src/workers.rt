@@ -1,12 +1,13 @@
 //! Workers at once: that they are, that the gate's picks are what the run is, and that the book shows the run again.
 
+use crate::call::{Calls, Given, book_in, store, tell};
 use crate::gates::{Meets, Mixes, Notes};
+use crate::runs::prints;
 use lam_io::MemShelf;
 use lam_main::Status;
 use std::process::Abort;
 use std::sync::atomic::{AtomicU64, Ordering};
 use std::test::Fail;
-use tool_calls::{Calls, Given, book_in, prints, store, tell};
 use turn_book::read_book;
 
 /// Each round of a made thread's loop takes 13 turns and the rest of it 25, and the numbers of the four threads that seed 1

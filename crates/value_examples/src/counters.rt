@@ -1,18 +1,9 @@
 //! How many things each home has made.
 
+use crate::values::secret;
 use flow_labels::Label;
 use lam_value::Counters;
-use std::alloc::Global;
-use tag_sets::{NoMemory, TagId, TagSet};
-
-/// The label `{#0}/{}`.
-fn secret(alloc: Global) -> Result<Label, NoMemory> {
-    let s = TagSet::from_slice(alloc, &[TagId(0)])?;
-    Ok(Label {
-        s,
-        i: TagSet::empty(alloc),
-    })
-}
+use tag_sets::NoMemory;
 
 /// Takes the next number of a home, which is this one.
 fn draw(counters: &mut Counters, maker: &Label, own: &Label, number: u64) -> bool {

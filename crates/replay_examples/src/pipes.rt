@@ -1,7 +1,7 @@
 //! Pipes: what may be made, sent and received, and what becomes of a message.
 
+use crate::recorded::{Recorded, each};
 use std::test::Fail;
-use tool_calls::{Recorded, notes, sees};
 
 const PUBLIC_WORLD: &str = "{\"version\":1,\"tags\":[\"a\",\"v\"],\"tree\":[],\"pipes\":[
 {\"name\":\"open\",\"label\":\"{}/{}\"},
@@ -114,9 +114,14 @@ t0 {}/{} end value 0 = done
 /// own label alone: less secret and more secret are both refused.
 #[test]
 fn messages_are_refused(rt: HostRuntime) -> Result<(), Fail> {
-    sees(&rt, PUBLIC, "{}/{}", PUBLIC_SEEN)?;
-    notes(&rt, PUBLIC, PUBLIC_NOTED)?;
-    sees(&rt, REGIONS, "{a}/{}", REGIONS_SEEN)
+    each(
+        &rt,
+        &[
+            PUBLIC.sees("{}/{}", PUBLIC_SEEN),
+            PUBLIC.notes(PUBLIC_NOTED),
+            REGIONS.sees("{a}/{}", REGIONS_SEEN),
+        ],
+    )
 }
 
 const MESSAGES_WORLD: &str = "{\"version\":1,\"tags\":[\"a\",\"v\"],\"tree\":[],\"pipes\":[
@@ -234,7 +239,12 @@ const LONG_SEEN: &str = "t0 {}/{} end Long = done
 /// context. Of 1,025 messages a pipe keeps 1,024, numbered from 0. A message has 4,096 bytes at most.
 #[test]
 fn messages_stay_and_drop(rt: HostRuntime) -> Result<(), Fail> {
-    sees(&rt, MESSAGES, "{}/{}", MESSAGES_SEEN)?;
-    sees(&rt, FULL, "{}/{}", FULL_SEEN)?;
-    sees(&rt, LONG, "{}/{}", LONG_SEEN)
+    each(
+        &rt,
+        &[
+            MESSAGES.sees("{}/{}", MESSAGES_SEEN),
+            FULL.sees("{}/{}", FULL_SEEN),
+            LONG.sees("{}/{}", LONG_SEEN),
+        ],
+    )
 }

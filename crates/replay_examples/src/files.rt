@@ -1,7 +1,7 @@
 //! Files and directories: what may be read and changed, and the faults of entries and of contents.
 
+use crate::recorded::{Recorded, each};
 use std::test::Fail;
-use tool_calls::{Recorded, sees};
 
 const UNREAD_WORLD: &str = "{\"version\":1,\"tags\":[\"a\",\"v\"],\"tree\":[
 {\"path\":\"secret\",\"label\":\"{a}/{}\",\"dir\":true},
@@ -112,8 +112,13 @@ t0 {}/{} end value 0 = done
 /// opens and removes no entry in it.
 #[test]
 fn directories_are_not_read(rt: HostRuntime) -> Result<(), Fail> {
-    sees(&rt, UNREAD, "{}/{}", UNREAD_SEEN)?;
-    sees(&rt, VETTED, "{}/{}", VETTED_SEEN)
+    each(
+        &rt,
+        &[
+            UNREAD.sees("{}/{}", UNREAD_SEEN),
+            VETTED.sees("{}/{}", VETTED_SEEN),
+        ],
+    )
 }
 
 const SECRET_WORLD: &str = "{\"version\":1,\"tags\":[\"a\",\"v\"],\"tree\":[
@@ -268,9 +273,14 @@ t0 {}/{} end value 0 = done
 /// of it to vetted ones. A thing of another label needs the capability of the change too.
 #[test]
 fn files_are_not_written(rt: HostRuntime) -> Result<(), Fail> {
-    sees(&rt, SECRET, "{a}/{}", SECRET_SEEN)?;
-    sees(&rt, UNVETTED, "{}/{}", UNVETTED_SEEN)?;
-    sees(&rt, CONTENTS, "{a}/{}", CONTENTS_SEEN)
+    each(
+        &rt,
+        &[
+            SECRET.sees("{a}/{}", SECRET_SEEN),
+            UNVETTED.sees("{}/{}", UNVETTED_SEEN),
+            CONTENTS.sees("{a}/{}", CONTENTS_SEEN),
+        ],
+    )
 }
 
 const ENTRIES_WORLD: &str = "{\"version\":1,\"tags\":[\"a\",\"v\"],\"tree\":[
@@ -406,7 +416,12 @@ t0 {}/{} end value 2 = done
 /// empty can be removed, and what stood in it lives on for who holds it.
 #[test]
 fn entries_and_contents(rt: HostRuntime) -> Result<(), Fail> {
-    sees(&rt, ENTRIES, "{}/{}", ENTRIES_SEEN)?;
-    sees(&rt, PLACES, "{}/{}", PLACES_SEEN)?;
-    sees(&rt, REMOVED, "{}/{}", REMOVED_SEEN)
+    each(
+        &rt,
+        &[
+            ENTRIES.sees("{}/{}", ENTRIES_SEEN),
+            PLACES.sees("{}/{}", PLACES_SEEN),
+            REMOVED.sees("{}/{}", REMOVED_SEEN),
+        ],
+    )
 }

@@ -1,6 +1,6 @@
 //! Each fault, caught with its number.
 
-use crate::run::shows;
+use crate::operations::shows;
 use std::test::Fail;
 
 const WORLD: &str =

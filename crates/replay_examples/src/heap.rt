@@ -1,7 +1,7 @@
 //! Objects and arrays: the rules of reading, writing, copying and locking.
 
+use crate::recorded::{Recorded, each};
 use std::test::Fail;
-use tool_calls::{Recorded, notes, sees};
 
 const BARRED_WORLD: &str =
     "{\"version\":1,\"tags\":[\"a\",\"v\"],\"tree\":[],\"pipes\":[],\"threads\":[
@@ -66,9 +66,14 @@ const BARRED_NOTED: &str = "9 t0 {a}/{} refused WriteS a
 /// the auditor. To the second the vetted things are released, by a thread that it does not see.
 #[test]
 fn accesses_are_barred(rt: HostRuntime) -> Result<(), Fail> {
-    sees(&rt, BARRED, "{a}/{}", BARRED_SEEN)?;
-    sees(&rt, BARRED, "{}/{v}", BARRED_SEEN_BY_VETTED)?;
-    notes(&rt, BARRED, BARRED_NOTED)
+    each(
+        &rt,
+        &[
+            BARRED.sees("{a}/{}", BARRED_SEEN),
+            BARRED.sees("{}/{v}", BARRED_SEEN_BY_VETTED),
+            BARRED.notes(BARRED_NOTED),
+        ],
+    )
 }
 
 const SECRECY_WORLD: &str =
@@ -165,9 +170,14 @@ t0 {}/{} end value 0 = done
 /// break one of them each.
 #[test]
 fn copies_are_refused(rt: HostRuntime) -> Result<(), Fail> {
-    sees(&rt, SECRECY, "{a}/{}", SECRECY_SEEN)?;
-    sees(&rt, SECRECY, "{}/{}", SECRECY_SEEN_BY_PUBLIC)?;
-    sees(&rt, INTEGRITY, "{}/{}", INTEGRITY_SEEN)
+    each(
+        &rt,
+        &[
+            SECRECY.sees("{a}/{}", SECRECY_SEEN),
+            SECRECY.sees("{}/{}", SECRECY_SEEN_BY_PUBLIC),
+            INTEGRITY.sees("{}/{}", INTEGRITY_SEEN),
+        ],
+    )
 }
 
 const LOCKS_PROGRAM: &str = "class C { n: int; }
@@ -248,6 +258,11 @@ t0 {}/{} end value 0 = done
 /// in its catch block, and at the thread's end, where the other thread takes it next.
 #[test]
 fn locks_and_faults(rt: HostRuntime) -> Result<(), Fail> {
-    sees(&rt, LOCKS, "{a}/{}", LOCKS_SEEN)?;
-    sees(&rt, FAULTS, "{}/{}", FAULTS_SEEN)
+    each(
+        &rt,
+        &[
+            LOCKS.sees("{a}/{}", LOCKS_SEEN),
+            FAULTS.sees("{}/{}", FAULTS_SEEN),
+        ],
+    )
 }

@@ -1,7 +1,7 @@
 //! Threads: who is started and joined, and who waits for whom.
 
+use crate::recorded::{Recorded, each};
 use std::test::Fail;
-use tool_calls::{Recorded, sees, waits};
 
 const LOCKED_WORLD: &str = "{\"version\":1,\"tags\":[],\"tree\":[],\"pipes\":[],\"threads\":[
 {\"run\":\"main\",\"args\":[],\"caps\":{\"plus\":[],\"minus\":[]}}
@@ -54,9 +54,14 @@ t0 {}/{} end value 6 = done
 /// A thread has no turn while another one holds the monitor that it takes, or while the one that it joins lives.
 #[test]
 fn locks_and_joins_wait(rt: HostRuntime) -> Result<(), Fail> {
-    waits(&rt, LOCKED, "lam: 5 NotReady turn 14 thread 1\n")?;
-    waits(&rt, JOINED, "lam: 5 NotReady turn 19 thread 0\n")?;
-    sees(&rt, TURNS, "{}/{}", TURNS_SEEN)
+    each(
+        &rt,
+        &[
+            LOCKED.waits("lam: 5 NotReady turn 14 thread 1\n"),
+            JOINED.waits("lam: 5 NotReady turn 19 thread 0\n"),
+            TURNS.sees("{}/{}", TURNS_SEEN),
+        ],
+    )
 }
 
 const SPAWNED_WORLD: &str =
@@ -136,8 +141,13 @@ t0 {}/{} end value 0 = done
 /// nothing is learnt of a lock that is held or of a thread that lives.
 #[test]
 fn refusals_do_not_wait(rt: HostRuntime) -> Result<(), Fail> {
-    sees(&rt, SPAWNED, "{a}/{}", SPAWNED_SEEN)?;
-    sees(&rt, REFUSED, "{a}/{}", REFUSED_SEEN)
+    each(
+        &rt,
+        &[
+            SPAWNED.sees("{a}/{}", SPAWNED_SEEN),
+            REFUSED.sees("{a}/{}", REFUSED_SEEN),
+        ],
+    )
 }
 
 const JOINS_PROGRAM: &str = "fn kid(n: int): int { if (n == 0) { throw 5; } return n; }
@@ -207,7 +217,12 @@ t0 {}/{v} leave = done
 /// than that. Three observers see as much of it as their labels let them.
 #[test]
 fn results_are_read(rt: HostRuntime) -> Result<(), Fail> {
-    sees(&rt, JOINS, "{a}/{}", JOINS_SEEN)?;
-    sees(&rt, JOINS, "{}/{}", JOINS_SEEN_BY_PUBLIC)?;
-    sees(&rt, JOINS, "{}/{v}", JOINS_SEEN_BY_VETTED)
+    each(
+        &rt,
+        &[
+            JOINS.sees("{a}/{}", JOINS_SEEN),
+            JOINS.sees("{}/{}", JOINS_SEEN_BY_PUBLIC),
+            JOINS.sees("{}/{v}", JOINS_SEEN_BY_VETTED),
+        ],
+    )
 }

@@ -1,7 +1,7 @@
 //! Regions, faults and capabilities: what may be entered, what is caught, and what goes with a context.
 
+use crate::recorded::{Recorded, each};
 use std::test::Fail;
-use tool_calls::{Recorded, notes, sees};
 
 const ENTERED_WORLD: &str =
     "{\"version\":1,\"tags\":[\"a\",\"v\"],\"tree\":[],\"pipes\":[],\"threads\":[
@@ -82,9 +82,14 @@ t1 {}/{v} suppressed Thrown -1 = done
 /// outside the region that is refused: there it ends the thread, or is caught, or is suppressed.
 #[test]
 fn entries_are_refused(rt: HostRuntime) -> Result<(), Fail> {
-    sees(&rt, ENTERED, "{}/{}", ENTERED_SEEN)?;
-    sees(&rt, LEFT, "{a}/{}", LEFT_SEEN)?;
-    sees(&rt, LEFT, "{}/{v}", LEFT_SEEN_BY_VETTED)
+    each(
+        &rt,
+        &[
+            ENTERED.sees("{}/{}", ENTERED_SEEN),
+            LEFT.sees("{a}/{}", LEFT_SEEN),
+            LEFT.sees("{}/{v}", LEFT_SEEN_BY_VETTED),
+        ],
+    )
 }
 
 const NUMBERS_WORLD: &str = "{\"version\":1,\"tags\":[],\"tree\":[],\"pipes\":[],\"threads\":[
@@ -206,9 +211,14 @@ t0 {}/{} end value 0 = done
 /// and no more, of which a public observer sees the last.
 #[test]
 fn faults_are_caught(rt: HostRuntime) -> Result<(), Fail> {
-    sees(&rt, NUMBERS, "{}/{}", NUMBERS_SEEN)?;
-    sees(&rt, FRAMES, "{}/{}", FRAMES_SEEN)?;
-    sees(&rt, DEPTH, "{}/{}", DEPTH_SEEN)
+    each(
+        &rt,
+        &[
+            NUMBERS.sees("{}/{}", NUMBERS_SEEN),
+            FRAMES.sees("{}/{}", FRAMES_SEEN),
+            DEPTH.sees("{}/{}", DEPTH_SEEN),
+        ],
+    )
 }
 
 const MINTED_WORLD: &str =
@@ -284,7 +294,12 @@ t0 {}/{} end value 0 = done
 /// the public one no tag is made.
 #[test]
 fn tags_are_minted(rt: HostRuntime) -> Result<(), Fail> {
-    sees(&rt, MINTED, "{}/{}", MINTED_SEEN)?;
-    notes(&rt, MINTED, MINTED_NOTED)?;
-    sees(&rt, UNMINTED, "{a}/{}", UNMINTED_SEEN)
+    each(
+        &rt,
+        &[
+            MINTED.sees("{}/{}", MINTED_SEEN),
+            MINTED.notes(MINTED_NOTED),
+            UNMINTED.sees("{a}/{}", UNMINTED_SEEN),
+        ],
+    )
 }

@@ -1,9 +1,11 @@
 //! Runs that no thread ends: the turns are used up, or all that live wait.
 
+use crate::call::Given;
 use crate::gates::InTurn;
+use crate::given::{BARE_WORLD, ENTERS, ENTRY_SEEN, ONE_WORKER, ZERO};
+use crate::runs::{Wanted, run, run_by};
 use lam_main::Status;
 use std::test::Fail;
-use tool_calls::{BARE_WORLD, ENTERS, ENTRY_SEEN, Given, ONE_WORKER, Wanted, ZERO, run, run_by};
 
 const ENDLESS: Given<'static> = Given {
     program: "fn main(): int { while (true) { } return 0; }",
