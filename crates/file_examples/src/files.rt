@@ -1,9 +1,10 @@
 //! Directories and files.
 
-use flow_labels::{Label, NoMemory, same};
+use flow_labels::{Label, same};
 use labelled_files::{EntryKind, FileFault, Files};
 use lam_value::Name;
 use std::alloc::Global;
+use tag_sets::NoMemory;
 
 /// Makes a public file of the root.
 fn make_file(files: &mut Files, root: &Name, public: &Label) -> Option<Name> {

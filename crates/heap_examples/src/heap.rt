@@ -3,10 +3,11 @@
 ghost use Rattle.std.specs.Prelude.{◌<◌, IsTrue, length};
 ghost use Rattle.labelled_heap.specs.Things.{slots_at};
 
-use flow_labels::{Label, NoMemory};
+use flow_labels::Label;
 use labelled_heap::{Cells, Heap, Sort};
 use lam_value::{Kind, Name, Shape, Value};
 use std::alloc::Global;
+use tag_sets::NoMemory;
 
 /// Adds a public cell.
 fn add(cells: &mut Cells, public: Label, value: i64) -> Option<u32> {

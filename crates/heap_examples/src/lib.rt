@@ -1,4 +1,5 @@
-//! Worked examples of the cells of scripts, and of the objects and arrays of a run: what each call gives on its happy path.
+//! Worked examples of the cells of scripts, of the objects and arrays of a run, and of monitors: what each call gives on its
+//! happy path.
 //!
 //! A contract leaves want of memory free; these tests run each call once with ample memory. The expected values
 //! come from the descriptions, never from the code. Each is short, since it is proved before it runs.
@@ -6,3 +7,5 @@
 
 #[cfg(test)]
 mod heap;
+#[cfg(test)]
+mod monitors;

@@ -3,8 +3,9 @@
 use crate::labels::three_names;
 use crate::sets::has;
 use capabilities::{Caps, CapsFault, caps_text, parse_caps};
-use flow_labels::{Denied, Label, NoMemory, Rule, TagId, TagNames, TagSet};
+use flow_labels::{Denied, Label, Rule, TagNames};
 use std::alloc::Global;
+use tag_sets::{NoMemory, TagId, TagSet};
 
 /// The label `{#3,#4}/{}`.
 fn secret(alloc: Global) -> Result<Label, NoMemory> {

@@ -1,12 +1,13 @@
 //! Labels: each call once on its happy path, and the printed texts.
 
 use flow_labels::{
-    Denied, Form, Label, LabelFault, NameFault, NoMemory, Rule, TagId, TagNames, bad_place, flows,
-    label_form, label_text, mint_rule, parse_label, push_label, read_rule, read_sets, rule_text,
-    same_rule, seen, sets_text, tag_text, write_rule,
+    Denied, Form, Label, LabelFault, NameFault, Rule, TagNames, bad_place, flows, label_form,
+    label_text, mint_rule, parse_label, push_label, read_rule, read_sets, rule_text, same_rule,
+    seen, sets_text, tag_text, write_rule,
 };
 use std::alloc::Global;
 use tag_name_lists::same_names;
+use tag_sets::{NoMemory, TagId};
 
 /// Adds the names of the tags 0, 1 and 2.
 fn add_three(names: &mut TagNames) -> Result<(), NameFault> {

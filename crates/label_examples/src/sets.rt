@@ -1,7 +1,7 @@
 //! Sets of no tag, of one and of more: how they are made, and what a copy shares.
 
-use flow_labels::{NoMemory, TagId, TagSet};
 use std::alloc::Global;
+use tag_sets::{NoMemory, TagId, TagSet};
 
 /// Whether these are the tags of a set, the least first.
 pub(crate) fn has(set: &TagSet, tags: &[TagId]) -> bool {

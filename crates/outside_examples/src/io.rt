@@ -3,6 +3,7 @@
 use lam_io::{
     DirShelf, Got, MemShelf, MemSink, Shelf, ShelfFault, Sink, SinkFault, StdSink, write_all,
 };
+use std::alloc::Global;
 use std::test::Fail;
 use std::{fs, process};
 
@@ -23,6 +24,27 @@ fn sink_takes_what_fits(rt: HostRuntime) -> Result<(), Fail> {
     Ok(())
 }
 
+/// What a store gives of a file: its bytes, nothing, or too much.
+#[derive(Clone, Copy, Debug, PartialEq, Eq)]
+enum Sight {
+    Wanted,
+    Other,
+    Absent,
+    TooLong,
+    Failed,
+}
+
+/// What is read of a file, where these bytes are wanted.
+fn seen<S: Shelf>(alloc: Global, shelf: &mut S, name: &str, limit: u64, want: &[u8]) -> Sight {
+    match shelf.read(alloc, name, limit) {
+        Ok(Got::Found(bytes)) if bytes.as_slice() == want => Sight::Wanted,
+        Ok(Got::Found(_)) => Sight::Other,
+        Ok(Got::Absent) => Sight::Absent,
+        Ok(Got::TooLong) => Sight::TooLong,
+        Err(_) => Sight::Failed,
+    }
+}
+
 #[test]
 fn shelf_reads_what_was_written(rt: HostRuntime) -> Result<(), Fail> {
     let alloc = rt.alloc();
@@ -31,33 +53,41 @@ fn shelf_reads_what_was_written(rt: HostRuntime) -> Result<(), Fail> {
     let mut shelf = MemShelf::new(Vec::new(alloc), failing);
     assert_eq!(rt; shelf.write("a", b"xy"), Ok(()));
     assert_eq!(rt; shelf.write("a", b"z"), Err(ShelfFault::Failed));
-    let found = match shelf.read(alloc, "a", 2) {
-        Ok(Got::Found(bytes)) => bytes.as_slice() == b"xy".as_slice(),
-        _ => false,
-    };
-    assert!(rt; found);
-    assert!(rt; matches!(&shelf.read(alloc, "a", 1), Ok(Got::TooLong)));
-    assert!(rt; matches!(&shelf.read(alloc, "b", 1), Ok(Got::Absent)));
+    for (name, limit, want) in [
+        ("a", 2, Sight::Wanted),
+        ("a", 1, Sight::TooLong),
+        ("b", 1, Sight::Absent),
+    ] {
+        assert_eq!(rt; seen(alloc, &mut shelf, name, limit, b"xy"), want);
+    }
     Ok(())
+}
+
+/// The name of a file that no other process writes.
+fn own_name(rt: &HostRuntime) -> Result<String, Fail> {
+    Ok(format!(in rt.alloc(); "/tmp/lam_io_{}", process::id(rt.process()))?)
 }
 
 #[test]
 fn folder_is_a_shelf(rt: HostRuntime) -> Result<(), Fail> {
-    let alloc = rt.alloc();
+    let name = own_name(&rt)?;
     let mut shelf = DirShelf::new(rt.clone()?);
-    let name = format!(in alloc; "/tmp/lam_io_{}", process::id(rt.process()))?;
     assert_eq!(rt; shelf.write(name.as_str(), b"xy"), Ok(()));
-    let found = match shelf.read(alloc, name.as_str(), 2) {
-        Ok(Got::Found(bytes)) => bytes.as_slice() == b"xy".as_slice(),
-        _ => false,
-    };
+    let found = seen(rt.alloc(), &mut shelf, name.as_str(), 2, b"xy");
     fs::remove_file(&rt, name.as_str())?;
-    assert!(rt; found);
-    assert!(rt; matches!(&shelf.read(alloc, name.as_str(), 2), Ok(Got::Absent)));
+    assert_eq!(rt; found, Sight::Wanted);
+    let gone = seen(rt.alloc(), &mut shelf, name.as_str(), 2, b"xy");
+    assert_eq!(rt; gone, Sight::Absent);
+    Ok(())
+}
 
-    // A file without an end is read no further than one byte past the limit.
-    assert!(rt; matches!(&shelf.read(alloc, "/dev/zero", 3), Ok(Got::TooLong)));
-    assert!(rt; matches!(&shelf.read(alloc, "/", 3), Err(ShelfFault::Failed)));
+/// A file without an end is read no further than one byte past the limit.
+#[test]
+fn folder_refuses(rt: HostRuntime) -> Result<(), Fail> {
+    let mut shelf = DirShelf::new(rt.clone()?);
+    let endless = seen(rt.alloc(), &mut shelf, "/dev/zero", 3, b"");
+    assert_eq!(rt; endless, Sight::TooLong);
+    assert_eq!(rt; seen(rt.alloc(), &mut shelf, "/", 3, b""), Sight::Failed);
     assert_eq!(rt; shelf.write("/", b"xy"), Err(ShelfFault::Failed));
     Ok(())
 }

@@ -1,10 +1,11 @@
 //! Pipes.
 
 use capabilities::Caps;
-use flow_labels::{Label, NoMemory, TagId, TagSet};
+use flow_labels::Label;
 use labelled_pipes::{Message, MessageKind, PipeFault, Pipes};
 use lam_value::{ByteText, Name};
 use std::alloc::Global;
+use tag_sets::{NoMemory, TagId, TagSet};
 
 /// A message of a number, low byte first.
 fn number(alloc: Global, n: u64) -> Result<Message, NoMemory> {

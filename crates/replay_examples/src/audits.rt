@@ -1,8 +1,7 @@
 //! What an auditor notes of a run, and what the observers see of it.
 
-use lam_main::Status;
+use crate::recorded::{Recorded, each};
 use std::test::Fail;
-use tool_calls::{Recorded, reads};
 
 const WORLD: &str =
     "{\"version\":1,\"tags\":[\"a\"],\"tree\":[],\"pipes\":[],\"threads\":[{\"run\":\"main\",\"args\":[{\"tag\":\"a\"}],\"caps\":{\"plus\":[\"a\"],\"minus\":[\"a\"]}}]}";
@@ -23,44 +22,33 @@ const REFUSED: Recorded<'static> = Recorded {
 /// capability that allowed it.
 #[test]
 fn a_release_is_seen_and_noted(rt: HostRuntime) -> Result<(), Fail> {
-    reads(
+    each(
         &rt,
-        RELEASES,
-        &["replay", "P", "W", "B", "{}/{}"],
-        Status::Done,
-        "t0 {}/{} enter {a}/{} caps +{}-{a} region 0 (7) = entered\nrelease t0 enter {}/{} caps +{}-{} depth 2 region 1 (7) by +{}-{a}\nt0 {}/{} say \"7\" = done\nt0 {}/{} leave = done\nt0 {}/{} end value 0 = done\n",
-    )?;
-    reads(
-        &rt,
-        RELEASES,
-        &["audit", "P", "W", "B"],
-        Status::Done,
-        "12 t0 {a}/{} enter {}/{} by +{}-{a}\n",
+        &[
+            RELEASES.sees(
+                "{}/{}",
+                "t0 {}/{} enter {a}/{} caps +{}-{a} region 0 (7) = entered\nrelease t0 enter {}/{} caps +{}-{} depth 2 region 1 (7) by +{}-{a}\nt0 {}/{} say \"7\" = done\nt0 {}/{} leave = done\nt0 {}/{} end value 0 = done\n",
+            ),
+            RELEASES.notes("12 t0 {a}/{} enter {}/{} by +{}-{a}\n"),
+        ],
     )
 }
 
 /// Without the capability the public region is refused; who sees the secret one sees that.
 #[test]
 fn a_refusal_is_seen_and_noted(rt: HostRuntime) -> Result<(), Fail> {
-    reads(
+    each(
         &rt,
-        REFUSED,
-        &["replay", "P", "W", "B", "{a}/{}"],
-        Status::Done,
-        "t0 {}/{} enter {a}/{} caps +{}-{} region 0 (7) = entered\nt0 {a}/{} enter {}/{} caps +{}-{} region 1 (7) = refused DropS a\nt0 {a}/{} caught Denied = done\nt0 {a}/{} leave = done\nt0 {}/{} end value 0 = done\n",
-    )?;
-    reads(
-        &rt,
-        REFUSED,
-        &["replay", "P", "W", "B", "{}/{}"],
-        Status::Done,
-        "t0 {}/{} enter {a}/{} caps +{}-{} region 0 (7) = entered\nt0 {}/{} end value 0 = done\n",
-    )?;
-    reads(
-        &rt,
-        REFUSED,
-        &["audit", "P", "W", "B"],
-        Status::Done,
-        "10 t0 {a}/{} refused DropS a\n",
+        &[
+            REFUSED.sees(
+                "{a}/{}",
+                "t0 {}/{} enter {a}/{} caps +{}-{} region 0 (7) = entered\nt0 {a}/{} enter {}/{} caps +{}-{} region 1 (7) = refused DropS a\nt0 {a}/{} caught Denied = done\nt0 {a}/{} leave = done\nt0 {}/{} end value 0 = done\n",
+            ),
+            REFUSED.sees(
+                "{}/{}",
+                "t0 {}/{} enter {a}/{} caps +{}-{} region 0 (7) = entered\nt0 {}/{} end value 0 = done\n",
+            ),
+            REFUSED.notes("10 t0 {a}/{} refused DropS a\n"),
+        ],
     )
 }

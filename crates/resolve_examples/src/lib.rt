@@ -1,5 +1,4 @@
-//! Worked examples of the resolver: programs as text, and the text of the trees that they resolve to
-//! (`resolved_text`).
+//! Worked examples of the resolver: programs as text, and the text of the trees that they resolve to (`shown`).
 //!
 //! What is expected comes from the language's document: slots in order of appearance, classes, fields, functions and
 //! regions by number.
@@ -7,3 +6,5 @@
 
 #[cfg(test)]
 mod programs;
+#[cfg(test)]
+mod shown;

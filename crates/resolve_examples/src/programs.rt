@@ -1,14 +1,23 @@
 //! Programs, and what they resolve to.
 
+use crate::shown::shown;
 use lam_front::check_program;
 use lam_resolve::resolve;
-use resolved_text::shown;
+use resolved_tree::Resolved;
 use std::test::Fail;
 
-fn resolved(rt: &HostRuntime, text: &str) -> Result<String, Fail> {
+/// Fails where a program resolves to another tree than the one with this text.
+fn resolves(rt: &HostRuntime, text: &str, want: &str) -> Result<(), Fail> {
     let checked = check_program(rt.alloc(), text.as_bytes())?;
-    let tree = resolve(checked)?;
-    Ok(shown(rt.alloc(), &tree)?)
+    is_shown(rt, &resolve(checked)?, want)
+}
+
+fn is_shown(rt: &HostRuntime, tree: &Resolved, want: &str) -> Result<(), Fail> {
+    match shown(rt.alloc(), tree) {
+        None => Err(Fail::new("memory")),
+        Some(text) if text.as_str() == want => Ok(()),
+        Some(text) => Err(Fail::new(format_args!("{text}"))),
+    }
 }
 
 #[test]
@@ -22,8 +31,7 @@ class int int [ c1 ]
 main: -> int slots c1 { let #0 = f1 ( 3 ); return #0 .c1.2: [ c1 ] [ 0 ]: c1 .c1.1: int; }
 made: int -> c1 slots int c1 { let #1 = new c1; #1 .c1.1: int = #0; #1 .c1.2: [ c1 ] = new c1 [ #0 ]; return #1; }
 ";
-    assert_eq!(rt; resolved(&rt, text)?.as_str(), want);
-    Ok(())
+    resolves(&rt, text, want)
 }
 
 #[test]
@@ -39,8 +47,7 @@ say(text(len(new [int](2))));
 while Not #0 { let #3 = #0; #0 = #3; }; let #4 = Mint ( ): tag; \
 Say ( Text ( Len ( new int [ 2 ] ): int ): bytes ); }
 ";
-    assert_eq!(rt; resolved(&rt, text)?.as_str(), want);
-    Ok(())
+    resolves(&rt, text, want)
 }
 
 #[test]
@@ -59,8 +66,7 @@ r1 label ( ) ( #1 ) caps( #1- ) takes #1 slots tag int { } catch #1 { }; \
 let #2 = #0; } catch #3 { let #4 = #3; #0 = #4; }; }
 g: -> slots { r2 label ( ) ( ) caps( ) takes slots int { throw 1; } catch #0 { }; }
 ";
-    assert_eq!(rt; resolved(&rt, text)?.as_str(), want);
-    Ok(())
+    resolves(&rt, text, want)
 }
 
 #[test]
@@ -73,6 +79,5 @@ f: c0 -> int slots c0 c0 int c0 int { sync #1 #0 { let #2 = #0 .c0.0: int; \
 sync #3 new c0 { #0 .c0.0: int = ( #2 Add 1 ); }; }; let #4 = 0; return #4; }
 g: c0 caps -> int slots c0 caps { return Join ( spawn #1 f0 ( #0 ) ): int; }
 ";
-    assert_eq!(rt; resolved(&rt, text)?.as_str(), want);
-    Ok(())
+    resolves(&rt, text, want)
 }

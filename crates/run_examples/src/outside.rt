@@ -1,9 +1,11 @@
 //! Calls of the outside that fail.
 
+use crate::call::{Calls, store, tell};
+use crate::given::{ENTERS, ENTRY_SEEN, ONE_WORKER};
+use crate::runs::has_book;
 use lam_io::OpenGate;
 use lam_main::Status;
 use std::test::Fail;
-use tool_calls::{Calls, ENTERS, ENTRY_SEEN, ONE_WORKER, has_book, store, tell};
 
 const BOOK: &str = "lam book 1\n0 8\n";
 

@@ -1,12 +1,11 @@
 //! Regions that are entered, left and refused, by one worker.
 
+use crate::call::{Given, store};
+use crate::given::{BARE_WORLD, ENTERS, ENTRY_SEEN, HOLDS_BOTH, HOLDS_PLUS, ONE_WORKER};
+use crate::runs::{Wanted, prints, run};
 use lam_io::OpenGate;
 use lam_main::Status;
 use std::test::Fail;
-use tool_calls::{
-    BARE_WORLD, ENTERS, ENTRY_SEEN, Given, HOLDS_BOTH, HOLDS_PLUS, ONE_WORKER, Wanted, prints, run,
-    store,
-};
 
 /// A region that the thread may not enter is refused to it, and the thread ends by that.
 #[test]

@@ -1,9 +1,11 @@
 //! What an observer sees of runs that handle secrets.
 
+use crate::call::{Given, store, tell};
+use crate::given::{ONE_WORKER, THREE, ZERO};
+use crate::runs::{Wanted, prints, run};
 use lam_io::OpenGate;
 use lam_main::Status;
 use std::test::Fail;
-use tool_calls::{Given, ONE_WORKER, THREE, Wanted, ZERO, prints, run, store, tell};
 
 const LOOP_SEEN: &str =
     "t0 {}/{} enter {a}/{} caps +{}-{} region 0 () = entered\nt0 {}/{} new class 0 = obj<{}/{}|{}/{}|0>\nt0 {}/{} end value 0 = done\n";

@@ -20,23 +20,29 @@ fn tokens_of_texts(rt: HostRuntime) -> Result<(), Fail> {
     assert_eq!(rt; tokens[7].at, 27);
     assert_eq!(rt; end(&rt, ""), Ok(0));
     assert_eq!(rt; end(&rt, "// x\r\n\t"), Ok(7));
+    assert_eq!(rt; end(&rt, "9223372036854775807"), Ok(19));
     Ok(())
 }
 
 #[test]
 fn first_fault_of_a_text(rt: HostRuntime) {
-    let far = "fn main(): int { return 99999999999999999999; }";
-    assert_eq!(rt; end(&rt, far), Err(LexFault::BadNumber { at: 24 }));
-    assert_eq!(rt; end(&rt, "9223372036854775807"), Ok(19));
-    assert_eq!(rt;
-        end(&rt, "9223372036854775808"),
-        Err(LexFault::BadNumber { at: 0 })
-    );
-    assert_eq!(rt; end(&rt, " 1x"), Err(LexFault::BadNumber { at: 1 }));
-    assert_eq!(rt; end(&rt, "a # b"), Err(LexFault::BadChar { at: 2 }));
-    assert_eq!(rt; end(&rt, "\"a\\q"), Err(LexFault::BadEscape { at: 2 }));
-    assert_eq!(rt; end(&rt, "é \"a\n\""), Err(LexFault::OpenText { at: 3 }));
-    assert_eq!(rt; end(&rt, "\"\\"), Err(LexFault::BadEscape { at: 1 }));
+    for (text, fault) in [
+        (
+            "fn main(): int { return 99999999999999999999; }",
+            LexFault::BadNumber { at: 24 },
+        ),
+        ("9223372036854775808", LexFault::BadNumber { at: 0 }),
+        (" 1x", LexFault::BadNumber { at: 1 }),
+        ("a # b", LexFault::BadChar { at: 2 }),
+        ("\"a\\q", LexFault::BadEscape { at: 2 }),
+        ("é \"a\n\"", LexFault::OpenText { at: 3 }),
+        ("\"\\", LexFault::BadEscape { at: 1 }),
+        ("\0", LexFault::BadChar { at: 0 }),
+        ("\u{feff}x", LexFault::BadChar { at: 0 }),
+        ("a &b", LexFault::BadChar { at: 2 }),
+    ] {
+        assert_eq!(rt; end(&rt, text), Err(fault), "{text}");
+    }
 }
 
 #[test]
@@ -48,11 +54,4 @@ fn longest_mark_is_read(rt: HostRuntime) -> Result<(), Fail> {
     assert!(rt; matches!(tokens[1].kind, TokenKind::Assign));
     assert!(rt; matches!(tokens[3].kind, TokenKind::Slash));
     Ok(())
-}
-
-#[test]
-fn strange_characters_are_named(rt: HostRuntime) {
-    assert_eq!(rt; end(&rt, "\0"), Err(LexFault::BadChar { at: 0 }));
-    assert_eq!(rt; end(&rt, "\u{feff}x"), Err(LexFault::BadChar { at: 0 }));
-    assert_eq!(rt; end(&rt, "a &b"), Err(LexFault::BadChar { at: 2 }));
 }

@@ -1,8 +1,11 @@
-//! Worked examples of values, their texts and shapes, and lists of them: what each call gives on its happy path.
+//! Worked examples of values, their texts and shapes, lists of them, and the counters of homes: what each call gives on its
+//! happy path.
 //!
 //! A contract leaves want of memory free; these tests run each call once with ample memory. The expected values
 //! come from the descriptions, never from the code. Each is short, since it is proved before it runs.
 #![tactic(auto)]
 
+#[cfg(test)]
+mod counters;
 #[cfg(test)]
 mod values;

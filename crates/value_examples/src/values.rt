@@ -1,14 +1,15 @@
 //! Values, their texts and shapes, and lists of them.
 
-use flow_labels::{Label, NoMemory, TagId, TagNames, TagSet};
+use flow_labels::{Label, TagNames};
 use lam_value::{
     Home, Kind, Name, Shape, Value, Values, bytes_text, same_value, same_values, value_text,
     values_text,
 };
 use std::alloc::Global;
+use tag_sets::{NoMemory, TagId, TagSet};
 
 /// The label `{#0}/{}`.
-fn secret(alloc: Global) -> Result<Label, NoMemory> {
+pub(crate) fn secret(alloc: Global) -> Result<Label, NoMemory> {
     let s = TagSet::from_slice(alloc, &[TagId(0)])?;
     Ok(Label {
         s,

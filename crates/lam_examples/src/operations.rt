@@ -1,0 +1,28 @@
+//! Every operation of the code, and every built-in call.
+
+use crate::call::{Answer, Calls, answers};
+use lam_main::Status;
+use std::test::Fail;
+
+/// Runs a program from a world by one worker, and compares what the observer sees who sees what is public.
+pub fn shows<R: Calls>(rt: &R, program: &str, world: &str, printed: &str) -> Result<(), Fail> {
+    let words = ["run", "P", "W", "{}/{}", "B", "--workers", "1"];
+    let status = Status::Done;
+    let files = [("P", program), ("W", world)];
+    answers(rt, &files, &words, Answer { status, printed })
+}
+
+const WORLD: &str =
+    "{\"version\":1,\"tags\":[\"a\"],\"tree\":[],\"pipes\":[],\"threads\":[{\"run\":\"main\",\"args\":[{\"tag\":\"a\"}],\"caps\":{\"plus\":[\"a\"],\"minus\":[\"a\"]}}]}";
+
+const PROGRAM: &str =
+    "class Pair { left: int; next: Pair; }\nfn double(n: int): int { return n + n; }\nfn check(ok: bool, what: bytes) { if (ok) { say(what); } else { throw 9; } }\nfn child(n: int): int { return n * 2; }\nfn deeper(n: int): int { return deeper(n + 1); }\nfn main(a: tag): int {\n  check(7 + 2 == 9 && 7 - 2 == 5 && 7 * 2 == 14 && 7 / 2 == 3 && -7 % 2 == -1, \"sums\");\n  check(6 < 7 && 7 <= 7 && 7 > 6 && 7 >= 7 && 7 != 6 && !(7 < 6) && (false || true), \"tests\");\n  let t: bytes = cat(\"ab\", text(-12));\n  check(t == \"ab-12\" && size(t) == 5 && byte(t, 1) == 98 && slice(t, 2, 5) == \"-12\" && number(slice(t, 2, 5)) == -12, \"bytes\");\n  let o: Pair = new Pair();\n  o.left = double(4);\n  o.next = o;\n  let ns: [int] = new [int](2);\n  let bs: [bool] = new [bool](1);\n  let os: [Pair] = new [Pair](1);\n  ns[1] = len(ns);\n  os[0] = o.next;\n  check(os[0].left == 8 && ns[1] == 2 && !bs[0] && label_of(o) == my_label() && my_caps() != caps{}, \"things\");\n  let i: int = 0;\n  sync (o) { while (i < 2) { o.left = i; i = i + 1; } }\n  let d: dir = make_dir(root(), \"d\", label{;});\n  let f: file = make_file(d, \"f\", label{;});\n  append(f, \"hello\");\n  cut(f, 4);\n  check(open_dir(root(), \"d\") == d && open_file(d, \"f\") == f && read(f, 1, 9) == \"ell\" && length(f) == 4, \"files\");\n  remove(d, \"f\");\n  let p: pipe = make_pipe(label{;});\n  send(p, \"m\");\n  send_caps(p, caps{a+, a-});\n  check(receive_caps(p) == null && receive(p) == \"m\" && receive_caps(p) == caps{a+, a-}, \"pipes\");\n  let c: Pair = copy(o, label{a;});\n  let m: tag = mint();\n  region (label{m; }, caps{m-}) [p, i] {\n    region (label{;}, caps{}) [p, i] { send(p, text(i)); throw 7; } catch (e) { say(text(e)); }\n  } catch (g) { }\n  check(receive(p) == \"2\" && m != a && join(spawn(caps{a+}) child(21)) == 42, \"threads\");\n  region (label{;a}, my_caps()) [c] { say(\"vouched\"); let x: int = c.left; } catch (e) { say(text(e)); }\n  return i;\n}\n";
+
+const LINES: &str =
+    "t0 {}/{} say \"sums\" = done\nt0 {}/{} say \"tests\" = done\nt0 {}/{} say \"bytes\" = done\nt0 {}/{} new class 0 = obj<{}/{}|{}/{}|0>\nt0 {}/{} write obj<{}/{}|{}/{}|0> 0 8 = done\nt0 {}/{} write obj<{}/{}|{}/{}|0> 1 obj<{}/{}|{}/{}|0> = done\nt0 {}/{} new array int 2 = arr<{}/{}|{}/{}|1>[2]\nt0 {}/{} new array bool 1 = arr<{}/{}|{}/{}|2>[1]\nt0 {}/{} new array null 1 = arr<{}/{}|{}/{}|3>[1]\nt0 {}/{} write arr<{}/{}|{}/{}|1>[2] 1 2 = done\nt0 {}/{} read obj<{}/{}|{}/{}|0> 1 = obj<{}/{}|{}/{}|0>\nt0 {}/{} write arr<{}/{}|{}/{}|3>[1] 0 obj<{}/{}|{}/{}|0> = done\nt0 {}/{} read arr<{}/{}|{}/{}|3>[1] 0 = obj<{}/{}|{}/{}|0>\nt0 {}/{} read obj<{}/{}|{}/{}|0> 0 = 8\nt0 {}/{} read arr<{}/{}|{}/{}|1>[2] 1 = 2\nt0 {}/{} read arr<{}/{}|{}/{}|2>[1] 0 = false\nt0 {}/{} say \"things\" = done\nt0 {}/{} lock obj<{}/{}|{}/{}|0> = done\nt0 {}/{} write obj<{}/{}|{}/{}|0> 0 0 = done\nt0 {}/{} write obj<{}/{}|{}/{}|0> 0 1 = done\nt0 {}/{} unlock obj<{}/{}|{}/{}|0> = done\nt0 {}/{} make_dir dir<{}/{}|{}/{}|0> \"d\" {}/{} = dir<{}/{}|{}/{}|1>\nt0 {}/{} make_file dir<{}/{}|{}/{}|1> \"f\" {}/{} = file<{}/{}|{}/{}|2>\nt0 {}/{} append file<{}/{}|{}/{}|2> \"hello\" = done\nt0 {}/{} cut file<{}/{}|{}/{}|2> 4 = done\nt0 {}/{} open_dir dir<{}/{}|{}/{}|0> \"d\" = dir<{}/{}|{}/{}|1>\nt0 {}/{} open_file dir<{}/{}|{}/{}|1> \"f\" = file<{}/{}|{}/{}|2>\nt0 {}/{} read_file file<{}/{}|{}/{}|2> 1 9 = \"ell\"\nt0 {}/{} length file<{}/{}|{}/{}|2> = 4\nt0 {}/{} say \"files\" = done\nt0 {}/{} remove dir<{}/{}|{}/{}|1> \"f\" = done\nt0 {}/{} make_pipe {}/{} = pipe<{}/{}|{}/{}|0>\nt0 {}/{} send pipe<{}/{}|{}/{}|0> \"m\" = done\nt0 {}/{} send_caps pipe<{}/{}|{}/{}|0> +{a}-{a} = done\nt0 {}/{} receive_caps pipe<{}/{}|{}/{}|0> = null\nt0 {}/{} receive pipe<{}/{}|{}/{}|0> = \"m\"\nt0 {}/{} receive_caps pipe<{}/{}|{}/{}|0> = +{a}-{a}\nt0 {}/{} say \"pipes\" = done\nt0 {}/{} copy obj<{}/{}|{}/{}|0> to {a}/{} = obj<{}/{}|{a}/{}|0>\nt0 {}/{} mint = #1\nt0 {}/{} enter {#1}/{} caps +{}-{#1} region 0 (pipe<{}/{}|{}/{}|0>,2) = entered\nrelease t0 enter {}/{} caps +{}-{} depth 2 region 1 (pipe<{}/{}|{}/{}|0>,2) by +{}-{#1}\nt0 {}/{} send pipe<{}/{}|{}/{}|0> \"2\" = done\nt0 {}/{} caught Thrown 7 = done\nt0 {}/{} say \"7\" = done\nt0 {}/{} leave = done\nt0 {}/{} receive pipe<{}/{}|{}/{}|0> = \"2\"\nt0 {}/{} spawn 2 (21) caps +{a}-{} = t1\nt1 {}/{} end value 42 = done\nt0 {}/{} join t1 = 42\nt0 {}/{} say \"threads\" = done\nt0 {}/{} enter {}/{a} caps +{a,#1}-{a,#1} region 2 (obj<{}/{}|{a}/{}|0>) = entered\nt0 {}/{a} say \"vouched\" = done\nt0 {}/{a} barred ReadS a = done\nt0 {}/{a} caught Denied = done\nt0 {}/{a} say \"-1\" = done\nt0 {}/{a} leave = done\nt0 {}/{} end value 2 = done\n";
+
+/// The program says a word for each group of operations that gave what it should, and throws where one did not.
+#[test]
+fn every_operation_and_call(rt: HostRuntime) -> Result<(), Fail> {
+    shows(&rt, PROGRAM, WORLD, LINES)
+}
