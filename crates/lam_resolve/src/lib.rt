@@ -2,9 +2,8 @@
 //!
 //! `resolve` answers the tree that `lam_resolved` defines, in one pass: its contract is that equation with the laws of
 //! that tree, and `NoMemory` alone is free. The classes, their fields and the functions of a program stand in tables by
-//! name, made once (`lam_resolve_tables`). `stmts` goes through the statements of a unit, over the names in scope and
-//! the slots of `lam_resolve_units` and the expressions of `lam_resolve_exprs`, and `programs` through the functions,
-//! whose bodies it takes out of the program first: each is let go once its function is resolved.
+//! name, made once (`lam_resolve_tables`). `programs` goes through the functions, whose statements `lam_resolve_stmts`
+//! resolves and whose bodies it takes out of the program first: each is let go once its function is resolved.
 //!
 //! The functions below `resolve` require that their part of the program resolves. A checked program does: that is the
 //! law which `lam_resolved` carries, and `resolve` alone uses it.
@@ -12,7 +11,6 @@
 
 mod checked;
 mod programs;
-mod stmts;
 
 pub use checked::resolve;
 pub use programs::resolve_program;

@@ -9,7 +9,7 @@ ghost use Rattle.lam_resolve_tables.specs.Tables.{tables, all_fields};
 ghost use Rattle.lam_resolve.specs.Meets.{IsAdded, types_of_all};
 ghost use Rattle.lam_resolve.specs.Parts.{with_body, head_of, heads_of, bodies_of, next_body, later_bodies, item_of, left_after, together, bodies_tree};
 
-use crate::stmts::resolve_block;
+use lam_resolve_stmts::resolve_block;
 use lam_resolve_tables::kinds::{Kind, option_value_type, resolve_result};
 use lam_resolve_tables::named::Named;
 use lam_resolve_tables::tables::{Tables, field_types, resolve_vars, types_of_vars};

@@ -1,4 +1,4 @@
-use Rattle.std.proofs.Common.{◌≡◌, ℕ, List, rules, Some, refl, ap, sym, ◌∙◌, is_some, Box, Vec, Global}
+use Rattle.std.proofs.Common.{◌≡◌, rules, refl, ap, sym, ◌∙◌, Box, Vec, Global}
 use Rattle.std.specs.Option.{option_map}
 use Rattle.std.proofs.lemmas.List.{drop_all}
 use Rattle.lam_syntax.specs.declared.Expr.{Expr}
@@ -8,16 +8,18 @@ use Rattle.lam_syntax.specs.declared.StmtKind.{StmtKind}
 use Rattle.lam_syntax.specs.declared.StmtKind.TheVariants.{Region}
 use Rattle.lam_syntax.specs.Tree.{if_stmt, while_stmt, sync_stmt, region_stmt, expr_tree, option_expr_tree, stmt_form, stmts_tree, else_tree, ids_tree, id_tree}
 use Rattle.lam_syntax.proofs.Rows.{if_row, while_row, sync_row, region_row}
-use Rattle.resolved_tree.specs.Tree.{ResolvedType, Expression, Statement, Block, region_block, expr_tree as resolved_expr, stmt_tree as resolved_stmt, stmts_tree as resolved_stmts, else_tree as resolved_other, option_expr_tree as resolved_option}
-use Rattle.lam_resolved.specs.Resolved.{then_some, closed_as, resolve_captures, resolve_stmt_form, resolve_stmts}
+use Rattle.resolved_tree.specs.Tree.{stmt_tree as resolved_stmt, stmts_tree as resolved_stmts, else_tree as resolved_other, option_expr_tree as resolved_option}
+use Rattle.lam_resolved.specs.Resolved.{closed_as, resolve_stmt_form, resolve_stmts}
 use Rattle.lam_resolve_tables.specs.Kinds.{kind_type}
 use Rattle.lam_resolve_tables.specs.Tables.{tables}
 use Rattle.lam_resolve_exprs.specs.Values.{locals, value}
 use Rattle.lam_resolve_tables.proofs.Options.{if_ok, some_not_none}
-use Rattle.lam_resolve_units.specs.Seen.{state, entered, entered_by}
-use Rattle.lam_resolve.proofs.StmtArms
-use Rattle.lam_resolve.proofs.Blocks.{block_first, block_needs, block_next, block_last, extends_first, extends_more}
-use Rattle.lam_resolve.proofs.stmts.+stmt.Goals as goal
+use Rattle.lam_resolve_units.specs.Seen.{state}
+use Rattle.lam_resolve_stmts.specs.Regions.{opened, bodies}
+use Rattle.lam_resolve_stmts.proofs.StmtArms
+use Rattle.lam_resolve_stmts.proofs.RegionArms
+use Rattle.lam_resolve_stmts.proofs.Blocks.{block_first, block_needs, block_next, block_last, extends_first, extends_more}
+use Rattle.lam_resolve_stmts.proofs.stmts.+stmt.Goals as goal
 
 pub resolve_stmt-resolve_if-requires : goal.resolve_stmt-resolve_if-requires
 resolve_stmt-resolve_if-requires t c =
@@ -155,36 +157,31 @@ pub resolve_else-returns-in_ok-block-in-Some-clause-meets : goal.resolve_else-re
 resolve_else-returns-in_ok-block-in-Some-clause-meets t c =
     StmtArms.else_done (tables c.args.t.now) (locals c.args.scope.now) (state c.args.st.now) (else_tree c.args.no.now) (stmts_tree c.in-Some.body.items) (ap else_tree c.in-Some.is) (closed_as (resolved_stmts c.in_ok-block-in-Some.block.items) (state c.resolve_block.new.st)) c.in_ok-block-in-Some.ensures.meets
 
-pub resolve_region-resolve_expr-requires : goal.resolve_region-resolve_expr-requires
-resolve_region-resolve_expr-requires t c =
-    StmtArms.region_label (tables c.args.t.now) (locals c.args.scope.now) (state c.args.st.now) (expr_tree c.args.written.label.now) (expr_tree c.args.written.caps.now) (ids_tree c.args.written.captures.now.items) (stmts_tree c.args.written.body.now.items) (id_tree c.args.written.catch_name.now) (stmts_tree c.args.written.catch_body.now.items) c.requires
+pub resolve_region-open_region-requires : goal.resolve_region-open_region-requires
+resolve_region-open_region-requires t c = RegionArms.region_opens (tables c.args.t.now) (locals c.args.scope.now) (state c.args.st.now) (expr_tree c.args.written.label.now) (expr_tree c.args.written.caps.now) (ids_tree c.args.written.captures.now.items) (stmts_tree c.args.written.body.now.items) (id_tree c.args.written.catch_name.now) (stmts_tree c.args.written.catch_body.now.items) c.requires
 
-pub resolve_region-resolve_expr-requires-2 : goal.resolve_region-resolve_expr-requires-2
-resolve_region-resolve_expr-requires-2 t c =
-    StmtArms.region_caps (tables c.args.t.now) (locals c.args.scope.now) (state c.args.st.now) (expr_tree c.args.written.label.now) (expr_tree c.args.written.caps.now) (ids_tree c.args.written.captures.now.items) (stmts_tree c.args.written.body.now.items) (id_tree c.args.written.catch_name.now) (stmts_tree c.args.written.catch_body.now.items) (value c.in_ok-label.label) c.in_ok-label.ensures c.requires
-
-pub resolve_region-enter-requires : goal.resolve_region-enter-requires
-resolve_region-enter-requires t c =
-    ap (λ l. is_some (resolve_captures (locals c.args.scope.now) (ids_tree l))) c.as_slice.ensures.value ∙ StmtArms.region_captures (tables c.args.t.now) (locals c.args.scope.now) (state c.args.st.now) (expr_tree c.args.written.label.now) (expr_tree c.args.written.caps.now) (ids_tree c.args.written.captures.now.items) (stmts_tree c.args.written.body.now.items) (id_tree c.args.written.catch_name.now) (stmts_tree c.args.written.catch_body.now.items) (value c.in_ok-label.label) c.in_ok-label.ensures c.requires (value c.in_ok-caps.caps) c.in_ok-caps.ensures
-
-pub resolve_region-resolve_block-requires : goal.resolve_region-resolve_block-requires
-resolve_region-resolve_block-requires t c =
-    let h = StmtArms.region_body (tables c.args.t.now) (locals c.args.scope.now) (state c.args.st.now) (expr_tree c.args.written.label.now) (expr_tree c.args.written.caps.now) (ids_tree c.args.written.captures.now.items) (stmts_tree c.args.written.body.now.items) (id_tree c.args.written.catch_name.now) (stmts_tree c.args.written.catch_body.now.items) (value c.in_ok-label.label) c.in_ok-label.ensures c.requires (value c.in_ok-caps.caps) c.in_ok-caps.ensures (entered c.in_ok-entered.entered) (c.in_ok-entered.ensures ∙ ap (λ l. then_some (resolve_captures (locals c.args.scope.now) (ids_tree l)) (λ cs. Some (entered_by cs c.args.st.now.regions))) c.as_slice.ensures.value) in
+pub resolve_region-resolve_bodies-requires : goal.resolve_region-resolve_bodies-requires
+resolve_region-resolve_bodies-requires t c =
+    let h = RegionArms.region_goes (tables c.args.t.now) (locals c.args.scope.now) (state c.args.st.now) (expr_tree c.args.written.label.now) (expr_tree c.args.written.caps.now) (ids_tree c.args.written.captures.now.items) (stmts_tree c.args.written.body.now.items) (id_tree c.args.written.catch_name.now) (stmts_tree c.args.written.catch_body.now.items) (opened c.in_ok-opened.opened) c.in_ok-opened.ensures c.requires in
     search rules
-
-pub resolve_region-resolve_block-requires-2 : goal.resolve_region-resolve_block-requires-2
-resolve_region-resolve_block-requires-2 t c =
-    let h = StmtArms.region_handler (tables c.args.t.now) (locals c.args.scope.now) (state c.args.st.now) (expr_tree c.args.written.label.now) (expr_tree c.args.written.caps.now) (ids_tree c.args.written.captures.now.items) (stmts_tree c.args.written.body.now.items) (id_tree c.args.written.catch_name.now) (stmts_tree c.args.written.catch_body.now.items) (value c.in_ok-label.label) c.in_ok-label.ensures c.requires (value c.in_ok-caps.caps) c.in_ok-caps.ensures (entered c.in_ok-entered.entered) (c.in_ok-entered.ensures ∙ ap (λ l. then_some (resolve_captures (locals c.args.scope.now) (ids_tree l)) (λ cs. Some (entered_by cs c.args.st.now.regions))) c.as_slice.ensures.value) (closed_as (resolved_stmts c.in_ok-body.body.items) (state c.resolve_block.new.st)) c.in_ok-body.ensures.meets (kind_type c.plain.result) c.as_str-name.result.now (locals c.resolve_block.new.scope) (locals c.declare.new.scope) (state c.declare.new.st) c.plain.ensures c.as_str-name.ensures.value c.in_ok-body.ensures.keeps c.in_ok-slot.ensures.named c.in_ok-slot.ensures.added in
-    search rules
-
--- a region's expressions were put into boxes
-boxed_region : {s : Statement} {a b v w : Expression} (n : ℕ) (xs : List ℕ) (ts : List ResolvedType) (body : Block) (slot : ℕ) (handler : Block) → a ≡ v → b ≡ w → s ≡ region_block n a b xs ts body slot handler → s ≡ region_block n v w xs ts body slot handler
-boxed_region {s} {a} {b} {v} {w} n xs ts body slot handler p q r =
-    r ∙ ap (λ a. region_block n a b xs ts body slot handler) p ∙ ap (λ b. region_block n v b xs ts body slot handler) q
 
 pub resolve_region-returns : goal.resolve_region-returns
 resolve_region-returns t c =
-    StmtArms.region_done (tables c.args.t.now) (locals c.args.scope.now) (state c.args.st.now) (expr_tree c.args.written.label.now) (expr_tree c.args.written.caps.now) (ids_tree c.args.written.captures.now.items) (stmts_tree c.args.written.body.now.items) (id_tree c.args.written.catch_name.now) (stmts_tree c.args.written.catch_body.now.items) (value c.in_ok-label.label) c.in_ok-label.ensures c.requires (value c.in_ok-caps.caps) c.in_ok-caps.ensures (entered c.in_ok-entered.entered) (c.in_ok-entered.ensures ∙ ap (λ l. then_some (resolve_captures (locals c.args.scope.now) (ids_tree l)) (λ cs. Some (entered_by cs c.args.st.now.regions))) c.as_slice.ensures.value) (closed_as (resolved_stmts c.in_ok-body.body.items) (state c.resolve_block.new.st)) c.in_ok-body.ensures.meets (kind_type c.plain.result) c.as_str-name.result.now (locals c.resolve_block.new.scope) (locals c.declare.new.scope) (state c.declare.new.st) c.plain.ensures c.as_str-name.ensures.value c.in_ok-body.ensures.keeps c.in_ok-slot.ensures.named c.in_ok-slot.ensures.added (closed_as (resolved_stmts c.in_ok-handler.handler.items) (state c.resolve_block-2.new.st)) c.in_ok-slot.slot c.in_ok-entered.entered.captures.items (resolved_stmt c.region_stmt.result) c.in_ok-handler.ensures.meets c.in_ok-slot.ensures.slot refl (boxed_region _ _ _ _ _ _ (ap resolved_expr c.in_ok-new.ensures.ok) (ap resolved_expr c.in_ok-new-2.ensures.ok) c.region_stmt.ensures)
+    RegionArms.region_done (tables c.args.t.now) (locals c.args.scope.now) (state c.args.st.now) (expr_tree c.args.written.label.now) (expr_tree c.args.written.caps.now) (ids_tree c.args.written.captures.now.items) (stmts_tree c.args.written.body.now.items) (id_tree c.args.written.catch_name.now) (stmts_tree c.args.written.catch_body.now.items) (opened c.in_ok-opened.opened) (bodies c.in_ok-blocks.blocks) (resolved_stmt c.close_region.result) (state c.close_region.new.st) c.in_ok-opened.ensures c.in_ok-blocks.ensures c.close_region.ensures.node c.close_region.ensures.goes_on
+
+pub resolve_bodies-resolve_block-requires : goal.resolve_bodies-resolve_block-requires
+resolve_bodies-resolve_block-requires t c =
+    let h = RegionArms.bodies_first (tables c.args.t.now) (locals c.args.unit.scope) (state c.args.unit.state) (stmts_tree c.args.body.now.items) (id_tree c.args.name.now) (stmts_tree c.args.handler.now.items) c.requires in
+    search rules
+
+pub resolve_bodies-resolve_block-requires-2 : goal.resolve_bodies-resolve_block-requires-2
+resolve_bodies-resolve_block-requires-2 t c =
+    let h = RegionArms.bodies_handler (tables c.args.t.now) (locals c.args.unit.scope) (state c.args.unit.state) (stmts_tree c.args.body.now.items) (id_tree c.args.name.now) (stmts_tree c.args.handler.now.items) (closed_as (resolved_stmts c.in_ok-first.first.items) (state c.resolve_block.new.st)) (kind_type c.plain.result) c.as_str.result.now (locals c.resolve_block.new.scope) (locals c.declare.new.scope) (state c.declare.new.st) c.in_ok-first.ensures.meets c.plain.ensures c.as_str.ensures.value c.in_ok-first.ensures.keeps c.in_ok-slot.ensures.named c.in_ok-slot.ensures.added c.requires in
+    search rules
+
+pub resolve_bodies-returns : goal.resolve_bodies-returns
+resolve_bodies-returns t c =
+    RegionArms.bodies_done (tables c.args.t.now) (locals c.args.unit.scope) (state c.args.unit.state) (stmts_tree c.args.body.now.items) (id_tree c.args.name.now) (stmts_tree c.args.handler.now.items) (closed_as (resolved_stmts c.in_ok-first.first.items) (state c.resolve_block.new.st)) (kind_type c.plain.result) c.as_str.result.now (locals c.resolve_block.new.scope) (locals c.declare.new.scope) (state c.declare.new.st) c.in_ok-first.ensures.meets c.plain.ensures c.as_str.ensures.value c.in_ok-first.ensures.keeps c.in_ok-slot.ensures.named c.in_ok-slot.ensures.added (closed_as (resolved_stmts c.in_ok-last.last.items) (state c.resolve_block-2.new.st)) c.in_ok-slot.slot c.in_ok-last.ensures.meets c.in_ok-slot.ensures.slot
 
 pub resolve_stmts-loop-s-init : goal.resolve_stmts-loop-s-init
 resolve_stmts-loop-s-init t c =

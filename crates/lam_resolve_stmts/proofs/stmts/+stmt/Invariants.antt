@@ -1,13 +1,13 @@
 use Rattle.lam_syntax.specs.Tree.{expr_tree, stmt_tree, stmts_tree, else_tree, if_stmt, while_stmt, sync_stmt}
-use Rattle.lam_resolve.proofs.Sizes.{stmt_size, form_size, stmts_size, else_size}
+use Rattle.lam_resolve_stmts.proofs.Sizes.{stmt_size, form_size, stmts_size, else_size}
 use Rattle.std.proofs.Common.{◌+◌, drop}
 use Rattle.lam_resolved.specs.Resolved.{resolve_stmts}
 use Rattle.lam_resolve_tables.specs.Tables.{tables}
 use Rattle.lam_resolve_exprs.specs.Values.{locals}
 use Rattle.lam_resolve_units.specs.Seen.{state}
 use Rattle.lam_resolve_units.specs.Meets.{Extends}
-use Rattle.lam_resolve.proofs.Blocks.{BlockSoFar}
-use Rattle.lam_resolve.proofs.stmts.+stmt.Given as goal
+use Rattle.lam_resolve_stmts.proofs.Blocks.{BlockSoFar}
+use Rattle.lam_resolve_stmts.proofs.stmts.+stmt.Given as goal
 
 abbrev pub decreases-resolve_stmt : goal.decreases-resolve_stmt
 decreases-resolve_stmt l = stmt_size (stmt_tree l.s.now)
@@ -22,7 +22,10 @@ abbrev pub decreases-resolve_sync : goal.decreases-resolve_sync
 decreases-resolve_sync l = form_size (sync_stmt (expr_tree l.thing.now) (stmts_tree l.body.now.items))
 
 abbrev pub decreases-resolve_region : goal.decreases-resolve_region
-decreases-resolve_region l = 2 + stmts_size (stmts_tree l.written.body.now.items) + stmts_size (stmts_tree l.written.catch_body.now.items)
+decreases-resolve_region l = 3 + stmts_size (stmts_tree l.written.body.now.items) + stmts_size (stmts_tree l.written.catch_body.now.items)
+
+abbrev pub decreases-resolve_bodies : goal.decreases-resolve_bodies
+decreases-resolve_bodies l = 2 + stmts_size (stmts_tree l.body.now.items) + stmts_size (stmts_tree l.handler.now.items)
 
 abbrev pub decreases-resolve_else : goal.decreases-resolve_else
 decreases-resolve_else l = else_size (else_tree l.no.now)

@@ -1,14 +1,12 @@
 -- Statements, form by form.
 use Rattle.std.proofs.Common.{◌≡◌, ℕ, ◌+◌, ◌<◌, arith, List, length, Option, Some, None, IsSome, is_some, refl, sym, ap, ◌∙◌}
 use Rattle.lam_syntax.specs.Tree.{IdTree, ExprTree, StmtForm, StmtList, ElseTree, if_stmt, while_stmt, return_stmt, throw_stmt, sync_stmt, region_stmt, do_stmt, assign_stmt, else_block}
-use Rattle.lam_operators.specs.Words.{Word}
-use Rattle.lam_builtins.specs.Types.{given_type, int}
-use Rattle.resolved_tree.specs.Tree.{ResolvedType, Expression, Statement, Block, OtherBlock, if_block, while_block, return_value, throw_value, sync_block, region_block, do_value, other_block}
-use Rattle.lam_resolved.specs.Resolved.{then_some, Tables, Locals, State, state_as, next_slot, Value, Step, step_as, Closed, closed_as, with_local, locals_from, taken_over, types_of, slots_of, resolve, resolve_value, resolve_captures, resolve_stmt_form, resolve_else, resolve_stmts, assignment}
+use Rattle.lam_builtins.specs.Types.{given_type}
+use Rattle.resolved_tree.specs.Tree.{ResolvedType, Expression, Statement, Block, OtherBlock, if_block, while_block, return_value, throw_value, sync_block, do_value, other_block}
+use Rattle.lam_resolved.specs.Resolved.{then_some, Tables, Locals, State, next_slot, Value, step_as, Closed, closed_as, resolve, resolve_value, resolve_stmt_form, resolve_else, resolve_stmts, assignment}
 use Rattle.lam_resolve_tables.proofs.Options.{first_some, next_some, goes}
-use Rattle.lam_resolve_units.specs.Seen.{Inside, entered_by}
 use Rattle.lam_resolve_units.specs.Parts.{assigned_tree}
-use Rattle.lam_resolve.proofs.Sizes.{form_size, else_size, stmts_size}
+use Rattle.lam_resolve_stmts.proofs.Sizes.{form_size, else_size, stmts_size}
 
 two_steps : {A B C D : Type 0} (o : Option A) (p : Option B) (f : A → B → Option C) (g : C → Option D) → then_some (then_some o (λ a. then_some p (f a))) g ≡ then_some o (λ a. then_some p (λ b. then_some (f a b) g))
 unfolding then_some
@@ -123,7 +121,7 @@ module _ (t : Tables) (ls : Locals) (st : State) (k : StmtForm) where
     assign_done s i = sym (ap (resolve_stmt_form t ls st) q ∙ sym assign_chain ∙ goes (assigned_tree t ls p e) s (λ s. Some (step_as s ls st)) i)
 
   pub region_enter : (l m : ExprTree) (xs : List IdTree) (body : StmtList) (x : IdTree) (handler : StmtList) → k ≡ region_stmt l m xs body x handler → IsSome (resolve_stmt_form t ls st k) →
-      (2 + stmts_size body + stmts_size handler < 1 + form_size k) × IsSome (resolve_stmt_form t ls st (region_stmt l m xs body x handler))
+      (3 + stmts_size body + stmts_size handler < 1 + form_size k) × IsSome (resolve_stmt_form t ls st (region_stmt l m xs body x handler))
   region_enter l m xs body x handler q h = (omega (arith, ap form_size q), at_form (region_stmt l m xs body x handler) q h)
 
 -- what else there is
@@ -134,87 +132,3 @@ module _ (t : Tables) (ls : Locals) (st : State) (o : ElseTree) (body : StmtList
 
   pub else_done : (a : Closed Block) → Some a ≡ resolve_stmts t ls st body → Some (closed_as (other_block a.it) a.state) ≡ resolve_else t ls st o
   else_done a i = sym (ap (resolve_else t ls st) q ∙ goes (resolve_stmts t ls st body) a (λ a. Some (closed_as (other_block a.it) a.state)) i)
-
--- ---- regions
-
-inside_found : (o : Option Locals) (i : Inside) (r : ℕ) → Some i ≡ then_some o (λ cs. Some (entered_by cs r)) → (cs : Locals) × (Some cs ≡ o) × (i ≡ entered_by cs r)
-unfolding then_some
-inside_found None i r e = absurd cc
-inside_found (Some cs) i r e = (cs, refl, cc)
-
-module _ (t : Tables) (ls : Locals) (st : State) (l k : ExprTree) (xs : List IdTree) (body : StmtList) (x : IdTree) (handler : StmtList) where
-  abbrev form : StmtForm
-  form = region_stmt l k xs body x handler
-
-  abbrev after_handler : Value → Value → Locals → Closed Block → Closed Block → Option Step
-  after_handler v w cs a b = Some (step_as (region_block st.regions v.it w.it (slots_of cs) b.state.slots a.it (length a.state.slots) b.it) ls (state_as st.slots b.state.regions))
-
-  abbrev after_body : Value → Value → Locals → Closed Block → Option Step
-  after_body v w cs a = then_some (resolve_stmts t (with_local (locals_from 0 (taken_over cs)) x.word (length a.state.slots) int) (next_slot a.state int) handler) (λ b. after_handler v w cs a b)
-
-  abbrev after_captures : Value → Value → Locals → Option Step
-  after_captures v w cs = then_some (resolve_stmts t (locals_from 0 (taken_over cs)) (state_as (types_of (taken_over cs)) (st.regions + 1)) body) (λ a. after_body v w cs a)
-
-  abbrev after_caps : Value → Value → Option Step
-  after_caps v w = then_some (resolve_captures ls xs) (λ cs. after_captures v w cs)
-
-  abbrev after_label : Value → Option Step
-  after_label v = then_some (resolve t ls k) (λ w. after_caps v w)
-
-  pub region_label : IsSome (resolve_stmt_form t ls st form) → IsSome (resolve t ls l)
-  region_label h = first_some (resolve t ls l) (λ v. after_label v) h
-
-  module _ (v : Value) (iv : Some v ≡ resolve t ls l) (h : IsSome (resolve_stmt_form t ls st form)) where
-    in_label : IsSome (after_label v)
-    in_label = next_some (resolve t ls l) v (λ v. after_label v) iv h
-
-    pub region_caps : IsSome (resolve t ls k)
-    region_caps = first_some (resolve t ls k) (λ w. after_caps v w) in_label
-
-    module _ (w : Value) (iw : Some w ≡ resolve t ls k) where
-      in_caps : IsSome (after_caps v w)
-      in_caps = next_some (resolve t ls k) w (λ w. after_caps v w) iw in_label
-
-      pub region_captures : IsSome (resolve_captures ls xs)
-      region_captures = first_some (resolve_captures ls xs) (λ cs. after_captures v w cs) in_caps
-
-      module _ (i : Inside) (ii : Some i ≡ then_some (resolve_captures ls xs) (λ cs. Some (entered_by cs st.regions))) where
-        held : (cs : Locals) × (Some cs ≡ resolve_captures ls xs) × (i ≡ entered_by cs st.regions)
-        held = inside_found (resolve_captures ls xs) i st.regions ii
-
-        in_captures : IsSome (after_captures v w held.0)
-        in_captures = next_some (resolve_captures ls xs) held.0 (λ cs. after_captures v w cs) held.1 in_caps
-
-        pub region_body : (1 + stmts_size body < 2 + stmts_size body + stmts_size handler) × IsSome (resolve_stmts t i.names i.state body)
-        region_body =
-            (omega arith, ap (λ i. is_some (resolve_stmts t i.names i.state body)) held.2 ∙ first_some (resolve_stmts t (locals_from 0 (taken_over held.0)) (state_as (types_of (taken_over held.0)) (st.regions + 1)) body) (λ a. after_body v w held.0 a) in_captures)
-
-        module _ (a : Closed Block) (ia : Some a ≡ resolve_stmts t i.names i.state body) where
-          body_is : Some a ≡ resolve_stmts t (locals_from 0 (taken_over held.0)) (state_as (types_of (taken_over held.0)) (st.regions + 1)) body
-          body_is = ia ∙ ap (λ i. resolve_stmts t i.names i.state body) held.2
-
-          in_body : IsSome (after_body v w held.0 a)
-          in_body = next_some (resolve_stmts t (locals_from 0 (taken_over held.0)) (state_as (types_of (taken_over held.0)) (st.regions + 1)) body) a (λ a. after_body v w held.0 a) body_is in_captures
-
-          module _ (ty : ResolvedType) (word : Word) (now names : Locals) (last : State) (ity : ty ≡ int) (iword : word ≡ x.word) (inow : now ≡ i.names) (inames : names ≡ with_local now word (length a.state.slots) ty) (ilast : last ≡ next_slot a.state ty) where
-            names_is : names ≡ with_local (locals_from 0 (taken_over held.0)) x.word (length a.state.slots) int
-            names_is =
-                inames ∙ ap (λ ty. with_local now word (length a.state.slots) ty) ity ∙ ap (λ word. with_local now word (length a.state.slots) int) iword ∙
-                ap (λ now. with_local now x.word (length a.state.slots) int) (inow ∙ ap (λ i. i.names) held.2)
-
-            handler_is : resolve_stmts t names last handler ≡ resolve_stmts t (with_local (locals_from 0 (taken_over held.0)) x.word (length a.state.slots) int) (next_slot a.state int) handler
-            handler_is = ap (λ names. resolve_stmts t names last handler) names_is ∙ ap (λ last. resolve_stmts t (with_local (locals_from 0 (taken_over held.0)) x.word (length a.state.slots) int) last handler) (ilast ∙ ap (next_slot a.state) ity)
-
-            pub region_handler : (1 + stmts_size handler < 2 + stmts_size body + stmts_size handler) × IsSome (resolve_stmts t names last handler)
-            region_handler =
-                (omega arith, ap is_some handler_is ∙ first_some (resolve_stmts t (with_local (locals_from 0 (taken_over held.0)) x.word (length a.state.slots) int) (next_slot a.state int) handler) (λ b. after_handler v w held.0 a b) in_body)
-
-            pub region_done : (b : Closed Block) (slot : ℕ) (slots : List ℕ) (s : Statement) → Some b ≡ resolve_stmts t names last handler → slot ≡ length a.state.slots → slots ≡ i.captures →
-                s ≡ region_block st.regions v.it w.it slots b.state.slots a.it slot b.it → Some (step_as s ls (state_as st.slots b.state.regions)) ≡ resolve_stmt_form t ls st form
-            region_done b slot slots s ib p q r =
-                ap (λ s. Some (step_as s ls (state_as st.slots b.state.regions))) r ∙
-                ap (λ slot. Some (step_as (region_block st.regions v.it w.it slots b.state.slots a.it slot b.it) ls (state_as st.slots b.state.regions))) p ∙
-                ap (λ slots. Some (step_as (region_block st.regions v.it w.it slots b.state.slots a.it (length a.state.slots) b.it) ls (state_as st.slots b.state.regions))) (q ∙ ap (λ i. i.captures) held.2) ∙
-                sym (goes (resolve t ls l) v (λ v. after_label v) iv ∙ goes (resolve t ls k) w (λ w. after_caps v w) iw ∙ goes (resolve_captures ls xs) held.0 (λ cs. after_captures v w cs) held.1 ∙
-                goes (resolve_stmts t (locals_from 0 (taken_over held.0)) (state_as (types_of (taken_over held.0)) (st.regions + 1)) body) a (λ a. after_body v w held.0 a) body_is ∙
-                goes (resolve_stmts t (with_local (locals_from 0 (taken_over held.0)) x.word (length a.state.slots) int) (next_slot a.state int) handler) b (λ b. after_handler v w held.0 a b) (ib ∙ handler_is))

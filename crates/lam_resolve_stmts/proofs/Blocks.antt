@@ -11,7 +11,7 @@ use Rattle.lam_resolved.specs.Resolved.{then_some, Tables, Locals, State, step_a
 use Rattle.lam_resolve_exprs.specs.declared.values.Local.{Local}
 use Rattle.lam_resolve_tables.proofs.Options.{first_some, goes, one_more}
 use Rattle.lam_resolve_units.specs.Meets.{Extends}
-use Rattle.lam_resolve.proofs.Sizes.{stmt_size, stmts_size, item_smaller}
+use Rattle.lam_resolve_stmts.proofs.Sizes.{stmt_size, stmts_size, item_smaller}
 use Rattle.lam_resolve_units.proofs.UnitSteps.{seen}
 
 abbrev pub glued : Block → Block → Block

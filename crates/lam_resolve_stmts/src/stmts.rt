@@ -1,39 +1,29 @@
 //! The statements of a unit.
 
 ghost use Rattle.std.specs.Prelude.{◌≡◌, IfOk, IsSome, OnOk, Some};
-ghost use Rattle.lam_syntax.specs.Tree.{expr_tree, stmt_tree, stmts_tree, else_tree, if_stmt as written_if, while_stmt as written_while, sync_stmt as written_sync};
+ghost use Rattle.lam_syntax.specs.Tree.{expr_tree, id_tree, stmt_tree, stmts_tree, else_tree, if_stmt as written_if, while_stmt as written_while, sync_stmt as written_sync};
 ghost use Rattle.resolved_tree.specs.Tree.{stmt_tree as resolved_stmt, stmts_tree as resolved_stmts, else_tree as resolved_other};
 ghost use Rattle.lam_resolved.specs.Resolved.{step_as, closed_as, resolve_stmt as stmt_resolved, resolve_stmts as stmts_resolved, resolve_stmt_form, resolve_else as else_resolved};
 ghost use Rattle.lam_resolve_tables.specs.Tables.{tables};
 ghost use Rattle.lam_resolve_exprs.specs.Values.{locals};
 ghost use Rattle.lam_resolve_units.specs.Seen.{state};
 ghost use Rattle.lam_resolve_units.specs.Meets.{Extends};
-ghost use Rattle.lam_resolve.specs.Regions.{region_form};
+ghost use Rattle.lam_resolve_stmts.specs.Regions.{region_form, bodies_of, bodies};
 
+use crate::regions::{Bodies, Written, close_region, open_region};
 use lam_resolve_exprs::exprs::resolve_expr;
 use lam_resolve_exprs::values::Local;
 use lam_resolve_tables::kinds::{Base, given_kind, plain};
 use lam_resolve_tables::named::Named;
 use lam_resolve_tables::tables::Tables;
 use lam_resolve_units::parts::{
-    Head, if_stmt, region_stmt, resolve_assign, resolve_let, resolve_value, sync_stmt, while_stmt,
+    if_stmt, resolve_assign, resolve_let, resolve_value, sync_stmt, while_stmt,
 };
-use lam_resolve_units::units::{State, close, declare, enter, new_slot};
+use lam_resolve_units::units::{State, Unit, close, declare, new_slot};
 use lam_syntax::{Expr, Id, Stmt, StmtKind};
 use resolved_tree::Stmt as ResolvedStmt;
 use std::alloc::Global;
 use want_of_memory::NoMemory;
-
-// A region, as it is written.
-#[derive(Clone, Copy)]
-struct Written<'a> {
-    label: &'a Expr,
-    caps: &'a Expr,
-    captures: &'a Vec<Id>,
-    body: &'a Vec<Stmt>,
-    catch_name: &'a Id,
-    catch_body: &'a Vec<Stmt>,
-}
 
 #[cycle(stmt)]
 fn resolve_stmt<'a>(
@@ -161,24 +151,48 @@ fn resolve_region<'a>(
     requires { IsSome (resolve_stmt_form (tables t.now) (locals scope.now) (state st.old) (region_form written)) }
     ensures { IfOk result (λ r. Some (step_as (resolved_stmt r) (locals scope.now) (state st.new)) ≡ resolve_stmt_form (tables t.now) (locals scope.now) (state st.old) (region_form written.entry)) }
 {
-    let number = st.regions;
-    let label = resolve_expr(alloc, t, scope, written.label)?;
-    let caps = resolve_expr(alloc, t, scope, written.caps)?;
-    let entered = enter(alloc, scope, number, written.captures.as_slice())?;
-    let mut names = entered.unit.scope;
-    let mut inner = entered.unit.state;
-    let body = resolve_block(alloc, t, &mut names, &mut inner, written.body)?;
-    let name = written.catch_name.name.as_str();
-    let slot = declare(alloc, &mut names, &mut inner, name, plain(Base::Int))?;
-    let handler = resolve_block(alloc, t, &mut names, &mut inner, written.catch_body)?;
-    st.regions = inner.regions;
-    let head = Head {
-        number,
-        label: Box::new(alloc, label.it)?,
-        caps: Box::new(alloc, caps.it)?,
-        captures: entered.captures,
-    };
-    Ok(region_stmt(head, inner.slots, body, slot, handler))
+    let opened = open_region(alloc, t, scope, st.regions, written)?;
+    let blocks = resolve_bodies(
+        alloc,
+        t,
+        opened.unit,
+        written.body,
+        written.catch_name,
+        written.catch_body,
+    )?;
+    Ok(close_region(st, opened.head, blocks))
+}
+
+// Both blocks of a region, of which the second has one name more.
+#[cycle(stmt)]
+fn resolve_bodies<'a>(
+    alloc: Global,
+    t: &Tables,
+    unit: Unit<'a>,
+    body: &'a Vec<Stmt>,
+    name: &'a Id,
+    handler: &'a Vec<Stmt>,
+) -> Result<Bodies, NoMemory>
+    requires { IsSome (bodies_of (tables t.now) (locals unit.scope) (state unit.state) (stmts_tree body.now.items) (id_tree name.now) (stmts_tree handler.now.items)) }
+    ensures { IfOk result (λ b. Some (bodies b) ≡ bodies_of (tables t.now) (locals unit.entry.scope) (state unit.entry.state) (stmts_tree body.now.items) (id_tree name.now) (stmts_tree handler.now.items)) }
+{
+    let mut names = unit.scope;
+    let mut inner = unit.state;
+    let first = resolve_block(alloc, t, &mut names, &mut inner, body)?;
+    let slot = declare(
+        alloc,
+        &mut names,
+        &mut inner,
+        name.name.as_str(),
+        plain(Base::Int),
+    )?;
+    let last = resolve_block(alloc, t, &mut names, &mut inner, handler)?;
+    Ok(Bodies {
+        body: first,
+        slot,
+        handler: last,
+        state: inner,
+    })
 }
 
 #[cycle(stmt)]
@@ -208,7 +222,7 @@ fn resolve_else<'a>(
 ///
 /// `NoMemory` where memory is refused.
 #[cycle(stmt)]
-pub(crate) fn resolve_block<'a>(
+pub fn resolve_block<'a>(
     alloc: Global,
     t: &Tables,
     scope: &mut Named<'a, Local>,

@@ -1,0 +1,4 @@
+pub mod Blocks
+pub mod RegionArms
+pub mod Sizes
+pub mod StmtArms
