@@ -5,8 +5,7 @@ Usage: tools/build.py
 
 The crates that lam stands on are copied to a temporary folder, without the crates of tests and without the edits that
 must fail, and `rt ci` proves them there, beside each other where their order allows it; LAM_JOBS=N keeps to N
-processors. What a run on this machine has proved, an earlier one of these or the gate, is kept by the toolchain and is
-not proved again. Each crate has a line when it is proved. All that the tools said is in build.log.
+processors. Where the toolchain keeps what an earlier run on this machine has proved, that is not proved again. Each crate has a line when it is proved. All that the tools said is in build.log.
 """
 import os
 import re
