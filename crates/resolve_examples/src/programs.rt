@@ -1,6 +1,6 @@
 //! Programs, and what they resolve to.
 
-use crate::shown::shown;
+use crate::shown::text_of;
 use lam_front::check_program;
 use lam_resolve::resolve;
 use resolved_tree::Resolved;
@@ -13,7 +13,7 @@ fn resolves(rt: &HostRuntime, text: &str, want: &str) -> Result<(), Fail> {
 }
 
 fn is_shown(rt: &HostRuntime, tree: &Resolved, want: &str) -> Result<(), Fail> {
-    match shown(rt.alloc(), tree) {
+    match text_of(rt.alloc(), tree) {
         None => Err(Fail::new("memory")),
         Some(text) if text.as_str() == want => Ok(()),
         Some(text) => Err(Fail::new(format_args!("{text}"))),

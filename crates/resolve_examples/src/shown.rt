@@ -7,12 +7,12 @@ use std::fmt::Debug;
 
 /// A text that is written, until memory is refused.
 #[derive(Drop)]
-struct Shown {
+struct TreeText {
     text: String,
     is_whole: bool,
 }
 
-impl Shown {
+impl TreeText {
     fn put(&mut self, part: &str) {
         if self.text.push_str(part).is_err() {
             self.is_whole = false;
@@ -27,8 +27,8 @@ impl Shown {
 }
 
 /// The text of a program, if memory suffices for it: a line for each class, and one for each function.
-pub fn shown(alloc: Global, r: &Resolved) -> Option<String> {
-    let mut out = Shown {
+pub fn text_of(alloc: Global, r: &Resolved) -> Option<String> {
+    let mut out = TreeText {
         text: String::new(alloc),
         is_whole: true,
     };
@@ -41,13 +41,13 @@ pub fn shown(alloc: Global, r: &Resolved) -> Option<String> {
     if out.is_whole { Some(out.text) } else { None }
 }
 
-fn push_class(out: &mut Shown, class: &Class) {
+fn push_class(out: &mut TreeText, class: &Class) {
     out.put("class");
     push_types(out, &class.fields);
     out.put("\n");
 }
 
-fn push_function(out: &mut Shown, f: &Function) {
+fn push_function(out: &mut TreeText, f: &Function) {
     out.put(f.name.as_str());
     out.put(":");
     push_types(out, &f.params);
@@ -61,13 +61,13 @@ fn push_function(out: &mut Shown, f: &Function) {
     out.put("\n");
 }
 
-fn push_types(out: &mut Shown, ts: &[ValueType]) {
+fn push_types(out: &mut TreeText, ts: &[ValueType]) {
     for t in ts {
         push_type(out, t);
     }
 }
 
-fn push_type(out: &mut Shown, t: &ValueType) {
+fn push_type(out: &mut TreeText, t: &ValueType) {
     match t {
         ValueType::Int => out.put(" int"),
         ValueType::Bool => out.put(" bool"),
@@ -88,13 +88,13 @@ fn push_type(out: &mut Shown, t: &ValueType) {
     }
 }
 
-fn push_slots(out: &mut Shown, slots: &[usize]) {
+fn push_slots(out: &mut TreeText, slots: &[usize]) {
     for slot in slots {
         out.put_debug(" #", slot);
     }
 }
 
-fn push_caps(out: &mut Shown, items: &[CapItem]) {
+fn push_caps(out: &mut TreeText, items: &[CapItem]) {
     out.put(" caps(");
     for item in items {
         let slot = item.slot;
@@ -106,7 +106,7 @@ fn push_caps(out: &mut Shown, items: &[CapItem]) {
 }
 
 #[cycle(push_expr)]
-fn push_exprs(out: &mut Shown, es: &Vec<Expr>) {
+fn push_exprs(out: &mut TreeText, es: &Vec<Expr>) {
     out.put(" (");
     for e in es {
         push_expr(out, e);
@@ -115,7 +115,7 @@ fn push_exprs(out: &mut Shown, es: &Vec<Expr>) {
 }
 
 #[cycle(push_expr)]
-fn push_expr(out: &mut Shown, e: &Expr) {
+fn push_expr(out: &mut TreeText, e: &Expr) {
     match e {
         Expr::Number(n) => out.put_debug(" ", n),
         Expr::Text(_) => out.put(" text"),
@@ -192,7 +192,7 @@ fn push_expr(out: &mut Shown, e: &Expr) {
 }
 
 #[cycle(push_stmt)]
-fn push_block(out: &mut Shown, body: &Vec<Stmt>) {
+fn push_block(out: &mut TreeText, body: &Vec<Stmt>) {
     out.put(" {");
     for s in body {
         push_stmt(out, s);
@@ -202,7 +202,7 @@ fn push_block(out: &mut Shown, body: &Vec<Stmt>) {
 }
 
 #[cycle(push_stmt)]
-fn push_stmt(out: &mut Shown, s: &Stmt) {
+fn push_stmt(out: &mut TreeText, s: &Stmt) {
     match s {
         Stmt::Let { slot, value } => {
             out.put_debug(" let #", slot);
