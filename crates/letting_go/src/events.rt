@@ -7,19 +7,16 @@ use lam_asks::{Event, What};
 pub fn let_go_what(what: What) {
     match what {
         What::Private => {}
-        What::Asked {
-            ask,
-            answer: _answer,
-        } => let_go(ask),
+        What::Asked { ask, answer } => {
+            drop(answer);
+            let_go(ask);
+        }
     }
 }
 
 /// Lets an event go.
 pub fn let_go_event(event: Event) {
-    let Event {
-        label: _label,
-        what,
-        ..
-    } = event;
+    let Event { label, what, .. } = event;
+    drop(label);
     let_go_what(what);
 }

@@ -1,4 +1,7 @@
 //! Asks are let go, family by family.
+//!
+//! What an ask holds is moved into `drop`, one call each. Dropped in place, each part would have its own drop written out in
+//! the function, and the steps of a function that lets several go multiply.
 
 ghost use Rattle.std.specs.Prelude.{◌≡◌};
 ghost use Rattle.letting_go.specs.Families.{family_of};
@@ -22,12 +25,18 @@ fn let_go_of_thing(ask: Ask)
     requires { family_of ask ≡ Family.Thing }
 {
     match ask {
-        Ask::Read { r: _r, .. } => {}
-        Ask::Write { r: _r, v: _v, .. } => {}
-        Ask::New { shape: _shape } => {}
-        Ask::CopyTo { r: _r, own: _own } => {}
-        Ask::MonEnter { r: _r } => {}
-        Ask::MonLeave { r: _r } => {}
+        Ask::Read { r, .. } => drop(r),
+        Ask::Write { r, v, .. } => {
+            drop(r);
+            drop(v);
+        }
+        Ask::New { shape } => drop(shape),
+        Ask::CopyTo { r, own } => {
+            drop(r);
+            drop(own);
+        }
+        Ask::MonEnter { r } => drop(r),
+        Ask::MonLeave { r } => drop(r),
         _ => unreachable!(),
     }
 }
@@ -36,28 +45,28 @@ fn let_go_of_entry(ask: Ask)
     requires { family_of ask ≡ Family.Entry }
 {
     match ask {
-        Ask::MakeFile {
-            dir: _dir,
-            entry: _entry,
-            own: _own,
-        } => {}
-        Ask::MakeDir {
-            dir: _dir,
-            entry: _entry,
-            own: _own,
-        } => {}
-        Ask::OpenFile {
-            dir: _dir,
-            entry: _entry,
-        } => {}
-        Ask::OpenDir {
-            dir: _dir,
-            entry: _entry,
-        } => {}
-        Ask::Remove {
-            dir: _dir,
-            entry: _entry,
-        } => {}
+        Ask::MakeFile { dir, entry, own } => {
+            drop(dir);
+            drop(entry);
+            drop(own);
+        }
+        Ask::MakeDir { dir, entry, own } => {
+            drop(dir);
+            drop(entry);
+            drop(own);
+        }
+        Ask::OpenFile { dir, entry } => {
+            drop(dir);
+            drop(entry);
+        }
+        Ask::OpenDir { dir, entry } => {
+            drop(dir);
+            drop(entry);
+        }
+        Ask::Remove { dir, entry } => {
+            drop(dir);
+            drop(entry);
+        }
         _ => unreachable!(),
     }
 }
@@ -66,13 +75,13 @@ fn let_go_of_file(ask: Ask)
     requires { family_of ask ≡ Family.File }
 {
     match ask {
-        Ask::FileRead { file: _file, .. } => {}
-        Ask::FileLength { file: _file } => {}
-        Ask::Append {
-            file: _file,
-            bytes: _bytes,
-        } => {}
-        Ask::Cut { file: _file, .. } => {}
+        Ask::FileRead { file, .. } => drop(file),
+        Ask::FileLength { file } => drop(file),
+        Ask::Append { file, bytes } => {
+            drop(file);
+            drop(bytes);
+        }
+        Ask::Cut { file, .. } => drop(file),
         _ => unreachable!(),
     }
 }
@@ -81,17 +90,17 @@ fn let_go_of_pipe(ask: Ask)
     requires { family_of ask ≡ Family.Pipe }
 {
     match ask {
-        Ask::MakePipe { own: _own } => {}
-        Ask::Send {
-            pipe: _pipe,
-            bytes: _bytes,
-        } => {}
-        Ask::SendCaps {
-            pipe: _pipe,
-            caps: _caps,
-        } => {}
-        Ask::Receive { pipe: _pipe } => {}
-        Ask::ReceiveCaps { pipe: _pipe } => {}
+        Ask::MakePipe { own } => drop(own),
+        Ask::Send { pipe, bytes } => {
+            drop(pipe);
+            drop(bytes);
+        }
+        Ask::SendCaps { pipe, caps } => {
+            drop(pipe);
+            drop(caps);
+        }
+        Ask::Receive { pipe } => drop(pipe),
+        Ask::ReceiveCaps { pipe } => drop(pipe),
         _ => unreachable!(),
     }
 }
@@ -101,18 +110,21 @@ fn let_go_of_thread(ask: Ask)
 {
     match ask {
         Ask::Enter {
-            label: _label,
-            caps: _caps,
-            args: _args,
+            label,
+            caps,
+            args,
             ..
-        } => {}
-        Ask::Spawn {
-            args: _args,
-            caps: _caps,
-            ..
-        } => {}
-        Ask::Say { bytes: _bytes } => {}
-        Ask::End(_outcome) => {}
+        } => {
+            drop(label);
+            drop(caps);
+            drop(args);
+        }
+        Ask::Spawn { args, caps, .. } => {
+            drop(args);
+            drop(caps);
+        }
+        Ask::Say { bytes } => drop(bytes),
+        Ask::End(outcome) => drop(outcome),
         _ => unreachable!(),
     }
 }
