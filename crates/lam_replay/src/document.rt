@@ -61,9 +61,6 @@ pub fn start_in(alloc: Global, code: &Code, bytes: &[u8]) -> Result<World, Halt>
     }
 }
 
-/// Lets a world go. Where a world is dropped costs much to prove, so this is the one place.
-pub fn let_go(_world: World) {}
-
 /// What a fault of a document halts with.
 fn world_halt(fault: WorldFault) -> Halt
     ensures { result ≡ halt_of_world fault }

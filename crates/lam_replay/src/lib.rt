@@ -20,13 +20,14 @@ ghost use Rattle.lam_plan.specs.Replays.{IsOfBook, Replays, Starts, Runs};
 ghost use Rattle.lam_commands.specs.Halts.{Says, Gives};
 ghost use Rattle.lam_replay.specs.Asked.{files_of, reader_of, lines_for};
 
-pub use crate::document::{let_go, read_start, start_in};
+pub use crate::document::{read_start, start_in};
 pub use crate::eye::{Eye, Viewer, viewer_of};
 use crate::run_text::shown;
 pub use crate::run_text::shown_turns;
 use lam_bytecode::Code;
 use lam_commands::{Halt, read_code, read_file};
 use lam_io::Shelf;
+pub use letting_worlds_go::let_go_world;
 use std::alloc::Global;
 use turns_seen::World;
 
@@ -112,7 +113,7 @@ fn replay_from<H: Shelf>(
     match viewer_of(reader, start.stores()) {
         Ok(viewer) => replay_book(alloc, shelf, code, start, book, &viewer),
         Err(halt) => {
-            let_go(start);
+            let_go_world(start);
             Err(halt)
         }
     }
@@ -136,7 +137,7 @@ fn replay_book<H: Shelf>(
     match read_file(alloc, shelf, book, BOOK_LIMIT) {
         Ok(bytes) => shown(alloc, code, start, bytes.as_slice(), viewer),
         Err(halt) => {
-            let_go(start);
+            let_go_world(start);
             Err(halt)
         }
     }

@@ -11,12 +11,12 @@ ghost use Rattle.lam_plan.specs.Replays.{IsOfBook, IsOfTurns};
 ghost use Rattle.lam_commands.specs.Halts.{Says};
 ghost use Rattle.lam_replay.specs.Asked.{lines_for, halt_of_book, halt_of_run, HaltsAt};
 
-use crate::document::let_go;
 use crate::eye::{Eye, Viewer};
 use audit_log::{audit_text, audits_are_read, view_text, views_are_read};
 use flow_labels::{Label, TagNames};
 use lam_bytecode::Code;
 use lam_commands::{BookBreak, Halt, Refusal};
+use letting_worlds_go::let_go_world;
 use run_notes::{Noted, Seen};
 use std::alloc::Global;
 use std::mem::forget;
@@ -40,7 +40,7 @@ pub(crate) fn shown(
     match read_book(alloc, bytes) {
         Ok(turns) => shown_turns(alloc, code, start, turns.as_slice(), viewer),
         Err(fault) => {
-            let_go(start);
+            let_go_world(start);
             Err(book_halt(fault))
         }
     }

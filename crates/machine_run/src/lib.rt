@@ -4,11 +4,9 @@
 //! or many workers under one lock, has a run at each moment, and can only make it longer. [`Run::go`] is such a turn for
 //! whoever does not ask what it was.
 //!
-//! `run` has the type, `taking` one turn of it, `seeking` looks for a thread that is ready or lives, and `parting` takes a
-//! run apart.
+//! `run` has the type, `taking` one turn of it, and `seeking` looks for a thread that is ready or lives.
 #![tactic(auto)]
 
-mod parting;
 mod run;
 mod seeking;
 mod taking;

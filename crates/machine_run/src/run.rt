@@ -10,13 +10,13 @@ ghost use Rattle.run_ends.specs.Ends.{NoneReady};
 ghost use Rattle.lam_turn_parts.specs.Turned.{IsTurn};
 ghost use Rattle.machine_run.specs.Runs.{IsWhole, HasTurn, opened, with_turn};
 
-use crate::parting::{let_go_parts, let_go_world};
 use crate::seeking::{count_of, living_in, ready_in};
 use crate::taking::{go_turn, take_turn};
 use code_copies::same_code;
 use lam_asks::Event;
 use lam_bytecode::Code;
 use lam_world::World;
+use letting_worlds_go::{let_go_code, let_go_world};
 use std::alloc::Global;
 use std::marker::Model;
 use want_of_memory::NoMemory;
@@ -76,7 +76,8 @@ impl Run {
                 world,
             }),
             Err(error) => {
-                let_go_parts(code, start);
+                let_go_world(start);
+                let_go_code(code);
                 Err(error)
             }
         }

@@ -14,6 +14,7 @@ use crate::events::with_turn;
 use lam_bytecode::Code;
 use lam_run::{RunFault, World, copies_are_living, step, step_privately};
 use letting_go::let_go_event;
+use letting_worlds_go::let_go_world;
 use run_summary::Sums;
 use std::alloc::Global;
 use turn_products::products_are_told;
@@ -34,7 +35,9 @@ pub fn sums_of(alloc: Global, code: &Code, start: World, turns: &[u32]) -> Resul
     ensures stops { IfErr result (λ f. IsStop f (stopped_at code.now turns.now start)) }
 {
     let mut world = start;
-    count_turns(alloc, &mut world, code, turns)
+    let counted = count_turns(alloc, &mut world, code, turns);
+    let_go_world(world);
+    counted
 }
 
 fn count_turns(

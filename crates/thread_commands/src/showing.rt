@@ -15,7 +15,7 @@ use crate::taking::{Ended, taken_turns};
 use lam_bytecode::Code;
 use lam_commands::Halt;
 use lam_io::Gate;
-use lam_replay::{Reader, Viewer, let_go, shown_turns, viewer_of};
+use lam_replay::{Reader, Viewer, let_go_world, shown_turns, viewer_of};
 use run_ends::How;
 use run_sums::World;
 use std::alloc::Global;
@@ -54,7 +54,7 @@ pub(crate) fn shown<R: Threads + Wait + Sync, G: Gate + Sync>(
     match viewer_of(reader, start.stores()) {
         Ok(viewer) => Ok(viewed(rt, alloc, code, start, &viewer, bounds, gate)?),
         Err(halt) => {
-            let_go(start);
+            let_go_world(start);
             Err(halt)
         }
     }

@@ -7,6 +7,7 @@ ghost use Rattle.lam_worlds.specs.Valid.{IsValid};
 use code_copies::copy_code;
 use lam_bytecode::Code;
 use lam_world::World;
+use letting_worlds_go::{let_go_code, let_go_world};
 use machine_run::{Run, RunParts};
 use std::alloc::Global;
 use want_of_memory::NoMemory;
@@ -27,7 +28,7 @@ pub fn copied(alloc: Global, code: &Code, start: &World) -> Result<Origin, NoMem
     match copy_code(alloc, code) {
         Ok(code) => Ok(Origin { code, start }),
         Err(error) => {
-            let_go_start(start);
+            let_go_world(start);
             Err(error)
         }
     }
@@ -52,7 +53,7 @@ pub fn own_run(alloc: Global, run: Run, origin: Origin, budget: u64) -> Result<R
 /// Lets an origin go.
 pub fn let_go_origin(origin: Origin) {
     let Origin { code, start } = origin;
-    let_go_start(start);
+    let_go_world(start);
     let_go_code(code);
 }
 
@@ -61,7 +62,3 @@ pub fn let_go_run(run: Run) {
     let RunParts { code, start, .. } = run.into_parts();
     let_go_origin(Origin { code, start });
 }
-
-fn let_go_start(_start: World) {}
-
-fn let_go_code(_code: Code) {}

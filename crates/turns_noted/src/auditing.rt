@@ -18,6 +18,7 @@ use lam_asks::Event;
 use lam_bytecode::Code;
 use lam_run::{RunFault, World, step, step_privately};
 use letting_go::let_go_event;
+use letting_worlds_go::let_go_world;
 use run_notes::{Noted, refusal_of};
 use std::alloc::Global;
 use turn_products::product_label;
@@ -44,9 +45,14 @@ pub fn noted_in(
 {
     let mut world = start;
     let mut all = Vec::new(alloc);
-    match audit_turns(alloc, &mut all, &mut world, code, turns) {
+    let audited = audit_turns(alloc, &mut all, &mut world, code, turns);
+    let_go_world(world);
+    match audited {
         Ok(()) => Ok(all),
-        Err(fault) => Err(fault),
+        Err(fault) => {
+            drop(all);
+            Err(fault)
+        }
     }
 }
 

@@ -18,6 +18,7 @@ use lam_asks::{Event, What};
 use lam_bytecode::Code;
 use lam_run::{RunFault, World, step, step_privately};
 use letting_go::let_go_event;
+use letting_worlds_go::let_go_world;
 use run_notes::{Content, Seen};
 use std::alloc::Global;
 use turn_products::{product, product_label};
@@ -46,9 +47,14 @@ pub fn seen_by(
 {
     let mut world = start;
     let mut all = Vec::new(alloc);
-    match view_turns(alloc, &mut all, &mut world, code, turns, observer) {
+    let viewed = view_turns(alloc, &mut all, &mut world, code, turns, observer);
+    let_go_world(world);
+    match viewed {
         Ok(()) => Ok(all),
-        Err(fault) => Err(fault),
+        Err(fault) => {
+            drop(all);
+            Err(fault)
+        }
     }
 }
 

@@ -1,12 +1,12 @@
 -- A text that is not UTF-8, or no JSON, is no document.
-use Rattle.std.proofs.Common.{◌≡◌, ℕ, Bool, true, false, cond, List, Option, Some, None, Result, Ok, Err, refl, sym, ap, ◌∙◌}
+use Rattle.std.proofs.Common.{◌≡◌, ℕ, Bool, true, false, cond, List, Option, Some, None, Ok, Err, refl, sym, ap, ◌∙◌}
 use Rattle.std.specs.Str.{IsUtf8, is_utf8}
 use Rattle.std.proofs.lemmas.Str.{IsUtf8-from_is_utf8, is_utf8-from_IsUtf8}
 use Rattle.serde_json.specs.Data.{Data}
 use Rattle.serde_json.specs.Read.{read}
 use Rattle.lam_bytecode.specs.Codes.{CodeTree}
-use Rattle.world_terms.specs.Breaks.{NotJson, Reading, ◌>>=◌}
-use Rattle.world_terms.specs.Start.{data_of, start_of, world_of, world_or}
+use Rattle.world_terms.specs.Breaks.{NotJson, ◌>>=◌}
+use Rattle.world_terms.specs.Start.{start_of, world_of, world_or}
 use Rattle.world_reading.specs.declared.fault.WorldFault.{WorldFault}
 use Rattle.world_reading.specs.Meaning.{Fails}
 use Rattle.world_reading.proofs.Steps.{fails_here, fails_same}

@@ -24,7 +24,7 @@ use Rattle.world_reading.specs.Meaning.{Fails, GivesOnto}
 use Rattle.world_reading.proofs.Steps.{fails_here, fails_same}
 use Rattle.world_stores_reading.specs.Contents.{tree_onto}
 use Rattle.world_stores_reading.specs.Called.{called_of, pipes_of, pipes_onto}
-use Rattle.world_doc.specs.Document.{filled, with_threads, after_tags}
+use Rattle.world_doc.specs.Document.{filled, with_threads, world_onto, after_tags}
 
 -- ---- the stores
 
@@ -43,17 +43,21 @@ filled_by s es ms files queues fs (Ok u) f h = ap (λ r. r >>= after_tree s (cal
 filled_by s es ms files queues fs (Err e) f h =
     fails_same (sym (ap (λ r. r >>= after_tree s (called_of es) ms) f)) (fails_here e (pipes_onto s.names (pipes_of s.pipes es) ms) (λ pipes. Ok (more_pipes s files pipes)) h)
 
--- ---- from the first stores on
+-- ---- from stores on
+
+module _ (code : CodeTree) (ms : Members) (s : Stores) (es : List (Bor Text × Name)) where
+  pub not_onto : (e : WorldFault) → Fails e (filled s (called_of es) ms) → Fails e (world_onto code ms s (called_of es))
+  not_onto e h = fails_here e (filled s (called_of es) ms) (with_threads code ms) h
+
+  pub onto : (p : Stores × List (Text × Name)) → filled s (called_of es) ms ≡ Ok p → with_threads code ms p ≡ world_onto code ms s (called_of es)
+  onto p h = sym (ap (λ r. r >>= with_threads code ms) h)
 
 module _ (code : CodeTree) (ms : Members) (names : List Text) (s : Stores) (es : List (Bor Text × Name)) (first : s ≡ first_stores names) (none : es ≡ []) where
   first_filled : filled (first_stores names) [] ms ≡ filled s (called_of es) ms
   first_filled = ap (λ (s : Stores). filled s [] ms) (sym first) ∙ ap (λ (es : List (Bor Text × Name)). filled s (called_of es) ms) (sym none)
 
-  pub no_stores : (e : WorldFault) → Fails e (filled s (called_of es) ms) → Fails e (after_tags code ms names)
-  no_stores e h = fails_here e (filled (first_stores names) [] ms) (with_threads code ms) (fails_same (sym first_filled) h)
-
-  pub of_stores : (p : Stores × List (Text × Name)) → filled s (called_of es) ms ≡ Ok p → with_threads code ms p ≡ after_tags code ms names
-  of_stores p h = sym (ap (λ r. r >>= with_threads code ms) (first_filled ∙ h))
+  pub from_first : world_onto code ms s (called_of es) ≡ after_tags code ms names
+  from_first = ap (λ r. r >>= with_threads code ms) (sym first_filled)
 
 -- ---- from the version on
 

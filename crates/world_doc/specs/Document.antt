@@ -1,5 +1,5 @@
 -- What a document makes of the stores, and with the stores of the threads.
-use Rattle.std.specs.Prelude.{ℕ, List, [], Option, Some, None, Ok, Err}
+use Rattle.std.specs.Prelude.{List, [], Option, Some, None, Ok, Err}
 use Rattle.serde_json.specs.Data.{Data, Members}
 use Rattle.flow_labels.specs.TwoLists.{Text}
 use Rattle.lam_value.specs.declared.names.Name.{Name}
@@ -28,6 +28,10 @@ filled s called ms =
 abbrev pub with_threads : CodeTree → Members → Stores × List (Text × Name) → Reading World
 with_threads code ms p = threads_in code p.0.names p.1 ms >>= λ threads. Ok (world_of p.0 threads)
 
+-- the world of these stores, what is called so far, and a document
+abbrev pub world_onto : CodeTree → Members → Stores → List (Text × Name) → Reading World
+world_onto code ms s called = filled s called ms >>= with_threads code ms
+
 -- the members that are looked at after the names of tags
 abbrev pub after_tags : CodeTree → Members → List Text → Reading World
-after_tags code ms names = filled (first_stores names) [] ms >>= with_threads code ms
+after_tags code ms names = world_onto code ms (first_stores names) []

@@ -7,13 +7,14 @@ ghost use Rattle.world_terms.specs.Start.{version_in, world_of, world_or, start_
 ghost use Rattle.world_reading.specs.Meaning.{Gives, GivesOnto};
 ghost use Rattle.world_reading.specs.Seen.{members};
 ghost use Rattle.world_stores_reading.specs.Called.{called_of};
-ghost use Rattle.world_doc.specs.Document.{document_or, filled, with_threads, after_tags};
+ghost use Rattle.world_doc.specs.Document.{document_or, filled, with_threads, world_onto, after_tags};
 
 use flow_labels::TagNames;
 use indexmap::IndexMap;
 use lam_bytecode::Code;
 use lam_stores::Stores;
 use lam_world::World;
+use letting_worlds_go::let_go_stores;
 use serde_json::Value;
 use serde_json::error::Category;
 use std::alloc::Global;
@@ -55,8 +56,33 @@ fn with_threads(
 ) -> Result<World, WorldFault>
     ensures { Gives (λ w. w) result (with_threads code.now (members (view document.now)) (stores, called_of called.now.entries)) }
 {
-    let threads = read_threads(alloc, document, code, &stores.names, called)?;
-    Ok(World::new(stores, threads))
+    match read_threads(alloc, document, code, &stores.names, called) {
+        Ok(threads) => Ok(World::new(stores, threads)),
+        Err(fault) => {
+            let_go_stores(stores);
+            Err(fault)
+        }
+    }
+}
+
+// The world of stores with the files, the pipes and the threads of a document.
+fn world_onto<'a>(
+    alloc: Global,
+    document: &'a Value,
+    code: &Code,
+    stores: Stores,
+    called: &mut PipeNames<'a>,
+) -> Result<World, WorldFault>
+    ensures { Gives (λ w. w) result (world_onto code.now (members (view document.now)) stores (called_of called.old.entries)) }
+{
+    let mut stores = stores;
+    match fill(alloc, document, &mut stores, called) {
+        Ok(()) => with_threads(alloc, document, code, stores, called),
+        Err(fault) => {
+            let_go_stores(stores);
+            Err(fault)
+        }
+    }
 }
 
 // The world of the names of tags and of all that is looked at after them.
@@ -68,10 +94,9 @@ fn after_tags(
 ) -> Result<World, WorldFault>
     ensures { Gives (λ w. w) result (after_tags code.now (members (view document.now)) names) }
 {
-    let mut stores = Stores::new(alloc, names)?;
+    let stores = Stores::new(alloc, names)?;
     let mut called: PipeNames = IndexMap::new(alloc);
-    fill(alloc, document, &mut stores, &mut called)?;
-    with_threads(alloc, document, code, stores, &called)
+    world_onto(alloc, document, code, stores, &mut called)
 }
 
 fn read_world(alloc: Global, document: &Value, code: &Code) -> Result<World, WorldFault>
