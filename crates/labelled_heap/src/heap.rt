@@ -11,6 +11,8 @@
 ghost use Rattle.std.specs.Prelude.{◌≡◌, ◌≤◌, ◌<◌, ◌++◌, ◌∷◌, [], ◌↔◌, ℕ, IsTrue, IsSome, IfOk, OnOk, OnErr, IsErrOf, length, slice_get, slice_set, cond, Some, None};
 ghost use Rattle.std.specs.Option.{option_copied};
 ghost use Rattle.std.specs.FinMap as map;
+ghost use Rattle.std.specs.HashMap.{IsUnique, get as at_key};
+ghost use Rattle.indexmap.specs.IndexMap.{spare};
 ghost use Rattle.lam_value.specs.Alike.{AreAlike};
 ghost use Rattle.lam_value.specs.Homes as homes;
 ghost use Rattle.lam_value.specs.Homes.{Home, home_of, home_eq, name_of, count_in, counted};
@@ -522,14 +524,60 @@ fn put_first(
     ensures same_things { OnErr result ((h : Home) → row_at rows.new.entries h ≡ row_at rows.old.entries h) }
     ensures same_counters { OnErr result (counters.new ≡ counters.old) }
 {
-    let mut things = Vec::new(home.own().allocator());
-    things.push(thing)?;
-    let key = home.copy()?;
-    rows.reserve(1)?;
-    counters.draw(home.maker(), home.own(), number)?;
-    let Ok(_) = rows.insert(key, Row { things }) else {
+    let (key, row) = first_row(home, thing)?;
+    take_number(rows, counters, home, number)?;
+    let Ok(_) = rows.insert(key, row) else {
         unreachable!()
     };
+    Ok(())
+}
+
+/// An equal home, and a row with one thing alone.
+fn first_row(home: &Home, thing: Thing) -> Result<(Home, Row), NoMemory>
+    ensures home { IfOk result (λ r. r.0 ≡ home.now) }
+    ensures thing { IfOk result (λ r. r.1.things.items ≡ thing ∷ []) }
+{
+    let key = home.copy()?;
+    let row = one_thing(home.own().allocator(), thing)?;
+    Ok((key, row))
+}
+
+/// A row with one thing alone.
+fn one_thing(alloc: Global, thing: Thing) -> Result<Row, NoMemory>
+    ensures { IfOk result (λ row. row.things.items ≡ thing ∷ []) }
+{
+    let mut things = Vec::new(alloc);
+    things.push(thing)?;
+    Ok(Row { things })
+}
+
+/// Makes room for one more row, and takes the next number of its home.
+fn take_number(
+    rows: &mut Rows,
+    counters: &mut Counters,
+    home: &Home,
+    number: u64,
+) -> Result<(), NoMemory>
+    requires next { number ≡ count_in counters.old home.now }
+    requires room { number < 1048576 }
+    ensures rows { rows.new.entries ≡ rows.old.entries }
+    ensures unique { IsUnique home_eq rows.new }
+    ensures room { OnOk result (1 ≤ spare rows.new) }
+    ensures counters { OnOk result (counters.new ≡ counted counters.old home.now) }
+    ensures same_counters { OnErr result (counters.new ≡ counters.old) }
+{
+    rows.reserve(1)?;
+    counters.draw(home.maker(), home.own(), number)?;
+    Ok(())
+}
+
+/// Puts in the row of a home.
+fn put_row(rows: &mut Rows, home: &Home, row: Row) -> Result<(), NoMemory>
+    ensures ok { OnOk result ((q : Home) → at_key home_eq rows.new q ≡ cond (home_eq home.now q) (Some row) (at_key home_eq rows.old q)) }
+    ensures unique { OnOk result (IsUnique home_eq rows.new) }
+{
+    let home = home.copy()?;
+    rows.insert(home, row)?;
     Ok(())
 }
 
@@ -543,7 +591,8 @@ fn copied(rows: &Rows) -> Result<Rows, NoMemory>
         let Some((home, row)) = rows.get_index(at) else {
             unreachable!()
         };
-        copy.insert(home.copy()?, row.copy()?)?;
+        let row = row.copy()?;
+        put_row(&mut copy, home, row)?;
     }
     Ok(copy)
 }
