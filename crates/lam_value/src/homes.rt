@@ -17,7 +17,7 @@ use tag_sets::NoMemory;
 /// A home: the label of a maker and an own label. What is made at a home is numbered there, from 0.
 ///
 /// A home is made once and looked up often, so it keeps its hash. Contracts see the record of its two labels.
-#[derive(Debug, Drop)]
+#[derive(Drop)]
 pub struct Home {
     maker: Label,
     own: Label,

@@ -27,13 +27,13 @@ use tag_sets::NoMemory;
 /// a copy takes no memory, and a look-up hashes two numbers. Contracts see the record of the three parts.
 ///
 /// Names are ordered by the maker's label, then the own label, then the number.
-#[derive(Debug, Drop)]
+#[derive(Drop)]
 pub struct Name {
     parts: Arc<Parts>,
 }
 
 /// The parts that the copies of a name share.
-#[derive(Debug, Drop)]
+#[derive(Drop)]
 struct Parts {
     home: Home,
     n: u64,

@@ -1,6 +1,6 @@
 //! Values, and lists of them.
 
-ghost use Rattle.std.specs.Prelude.{◌≡◌, ◌<◌, ◌++◌, ◌-◌, ◌∷◌, [], ℕ, length, IsTrue, ◌↔◌, IfOk, OnOk, OnErr, take, slice_get, slice_set};
+ghost use Rattle.std.specs.Prelude.{◌≡◌, ◌<◌, ◌++◌, ◌-◌, ◌∷◌, [], ℕ, length, IsTrue, ◌↔◌, IfOk, OnOk, OnErr, take, slice_get, slice_set, Some, None};
 ghost use Rattle.std.specs.Option.{option_copied};
 
 use crate::byte_text::ByteText;
@@ -12,7 +12,7 @@ use std::mem::replace;
 use tag_sets::{NoMemory, TagId, TagSet};
 
 /// What a local, a field, an array's element or a message holds.
-#[derive(Debug, Drop)]
+#[derive(Drop)]
 pub enum Value {
     Int(i64),
     Bool(bool),
@@ -46,25 +46,36 @@ impl Value {
         match self {
             Value::Int(n) => Ok(Value::Int(*n)),
             Value::Bool(b) => Ok(Value::Bool(*b)),
-            Value::Bytes(text) => Ok(Value::Bytes(text.copy()?)),
+            Value::Bytes(text) => text.copy().map(Value::Bytes),
             Value::Nothing => Ok(Value::Nothing),
-            Value::Obj(name) => Ok(Value::Obj(name.copy()?)),
-            Value::Arr { name, len } => Ok(Value::Arr {
-                name: name.copy()?,
-                len: *len,
-            }),
-            Value::File(name) => Ok(Value::File(name.copy()?)),
-            Value::Dir(name) => Ok(Value::Dir(name.copy()?)),
-            Value::Pipe(name) => Ok(Value::Pipe(name.copy()?)),
+            Value::Obj(name) => name.copy().map(Value::Obj),
+            Value::Arr { name, len } => copied_array(name, *len),
+            Value::File(name) => name.copy().map(Value::File),
+            Value::Dir(name) => name.copy().map(Value::Dir),
+            Value::Pipe(name) => name.copy().map(Value::Pipe),
             Value::Thread(t) => Ok(Value::Thread(*t)),
             Value::Tag(t) => Ok(Value::Tag(*t)),
-            Value::Lab(label) => Ok(Value::Lab(label.copy()?)),
-            Value::CapV { plus, minus } => Ok(Value::CapV {
-                plus: plus.copy()?,
-                minus: minus.copy()?,
-            }),
+            Value::Lab(label) => label.copy().map(Value::Lab),
+            Value::CapV { plus, minus } => copied_caps(plus, minus),
         }
     }
+}
+
+/// A reference to an array, by an equal name.
+fn copied_array(name: &Name, len: u64) -> Result<Value, NoMemory>
+    ensures { IfOk result (λ v. v ≡ Value.Arr name.now len) }
+{
+    let name = name.copy()?;
+    Ok(Value::Arr { name, len })
+}
+
+/// Capabilities of equal sets.
+fn copied_caps(plus: &TagSet, minus: &TagSet) -> Result<Value, NoMemory>
+    ensures { IfOk result (λ v. v ≡ Value.CapV plus.now minus.now) }
+{
+    let plus = plus.copy()?;
+    let minus = minus.copy()?;
+    Ok(Value::CapV { plus, minus })
 }
 
 /// Whether two values are equal.
@@ -93,7 +104,7 @@ pub fn same_value(a: &Value, b: &Value) -> bool
 }
 
 /// A list of values: the fields of an object, the elements of an array, or the arguments of a call.
-#[derive(Debug, Drop)]
+#[derive(Drop)]
 pub struct Values {
     items: Vec<Value>,
 }
@@ -214,10 +225,25 @@ fn set_item(items: &mut Vec<Value>, at: usize, value: Value) -> Option<Value>
     ensures new { items.new.items ≡ slice_set items.old.items at value }
 {
     if at < items.len() {
-        Some(replace(&mut items[at], value))
+        Some(replaced(items, at, value))
     } else {
-        None
+        none_of(value)
     }
+}
+
+fn replaced(items: &mut Vec<Value>, at: usize, value: Value) -> Value
+    requires { at < length items.old.items }
+    ensures old { Some result ≡ slice_get items.old.items at }
+    ensures new { items.new.items ≡ slice_set items.old.items at value }
+{
+    replace(&mut items[at], value)
+}
+
+/// Lets a value go that has no place.
+fn none_of(_value: Value) -> Option<Value>
+    ensures { result ≡ None }
+{
+    None
 }
 
 fn copied(alloc: Global, values: &[Value]) -> Result<Vec<Value>, NoMemory>
