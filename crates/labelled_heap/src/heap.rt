@@ -524,22 +524,10 @@ fn put_first(
     ensures same_things { OnErr result ((h : Home) → row_at rows.new.entries h ≡ row_at rows.old.entries h) }
     ensures same_counters { OnErr result (counters.new ≡ counters.old) }
 {
-    let (key, row) = first_row(home, thing)?;
-    take_number(rows, counters, home, number)?;
-    let Ok(_) = rows.insert(key, row) else {
-        unreachable!()
-    };
-    Ok(())
-}
-
-/// An equal home, and a row with one thing alone.
-fn first_row(home: &Home, thing: Thing) -> Result<(Home, Row), NoMemory>
-    ensures home { IfOk result (λ r. r.0 ≡ home.now) }
-    ensures thing { IfOk result (λ r. r.1.things.items ≡ thing ∷ []) }
-{
-    let key = home.copy()?;
     let row = one_thing(home.own().allocator(), thing)?;
-    Ok((key, row))
+    let key = take_number(rows, counters, home, number)?;
+    put_new(rows, key, row);
+    Ok(())
 }
 
 /// A row with one thing alone.
@@ -551,15 +539,16 @@ fn one_thing(alloc: Global, thing: Thing) -> Result<Row, NoMemory>
     Ok(Row { things })
 }
 
-/// Makes room for one more row, and takes the next number of its home.
+/// Makes room for one more row, and takes the next number of its home, of which it gives an equal one.
 fn take_number(
     rows: &mut Rows,
     counters: &mut Counters,
     home: &Home,
     number: u64,
-) -> Result<(), NoMemory>
+) -> Result<Home, NoMemory>
     requires next { number ≡ count_in counters.old home.now }
     requires room { number < 1048576 }
+    ensures home { IfOk result (λ h. h ≡ home.now) }
     ensures rows { rows.new.entries ≡ rows.old.entries }
     ensures unique { IsUnique home_eq rows.new }
     ensures room { OnOk result (1 ≤ spare rows.new) }
@@ -567,8 +556,20 @@ fn take_number(
     ensures same_counters { OnErr result (counters.new ≡ counters.old) }
 {
     rows.reserve(1)?;
+    let key = home.copy()?;
     counters.draw(home.maker(), home.own(), number)?;
-    Ok(())
+    Ok(key)
+}
+
+/// Puts in the row of a home, for which there is room.
+fn put_new(rows: &mut Rows, home: Home, row: Row)
+    requires { 1 ≤ spare rows.old }
+    ensures row { (q : Home) → at_key home_eq rows.new q ≡ cond (home_eq home q) (Some row) (at_key home_eq rows.old q) }
+    ensures unique { IsUnique home_eq rows.new }
+{
+    let Ok(_) = rows.insert(home, row) else {
+        unreachable!()
+    };
 }
 
 /// Puts in the row of a home.
