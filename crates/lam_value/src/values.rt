@@ -1,6 +1,6 @@
 //! Values, and lists of them.
 
-ghost use Rattle.std.specs.Prelude.{◌≡◌, ◌<◌, ◌++◌, ◌-◌, ◌∷◌, [], ℕ, length, IsTrue, ◌↔◌, IfOk, OnOk, OnErr, take, slice_get, slice_set, Some, None};
+ghost use Rattle.std.specs.Prelude.{◌≡◌, ◌<◌, ◌++◌, ◌-◌, ◌∷◌, [], ℕ, length, IsTrue, ◌↔◌, IfOk, OnOk, OnErr, take, slice_get, slice_set, Some};
 ghost use Rattle.std.specs.Option.{option_copied};
 
 use crate::byte_text::ByteText;
@@ -82,24 +82,23 @@ fn copied_caps(plus: &TagSet, minus: &TagSet) -> Result<Value, NoMemory>
 pub fn same_value(a: &Value, b: &Value) -> bool
     ensures { IsTrue result ↔ (a.now ≡ b.now) }
 {
-    match a {
-        Value::Int(x) => matches!(b, Value::Int(y) if x == y),
-        Value::Bool(x) => matches!(b, Value::Bool(y) if x == y),
-        Value::Bytes(x) => matches!(b, Value::Bytes(y) if x.same(y)),
-        Value::Nothing => matches!(b, Value::Nothing),
-        Value::Obj(x) => matches!(b, Value::Obj(y) if x.same(y)),
-        Value::Arr { name: x, len: m } => {
-            matches!(b, Value::Arr { name: y, len: n } if m == n && x.same(y))
+    match (a, b) {
+        (Value::Int(x), Value::Int(y)) => x == y,
+        (Value::Bool(x), Value::Bool(y)) => x == y,
+        (Value::Bytes(x), Value::Bytes(y)) => x.same(y),
+        (Value::Nothing, Value::Nothing) => true,
+        (Value::Obj(x), Value::Obj(y)) => x.same(y),
+        (Value::Arr { name: x, len: m }, Value::Arr { name: y, len: n }) => m == n && x.same(y),
+        (Value::File(x), Value::File(y)) => x.same(y),
+        (Value::Dir(x), Value::Dir(y)) => x.same(y),
+        (Value::Pipe(x), Value::Pipe(y)) => x.same(y),
+        (Value::Thread(x), Value::Thread(y)) => x == y,
+        (Value::Tag(x), Value::Tag(y)) => x == y,
+        (Value::Lab(x), Value::Lab(y)) => same(x, y),
+        (Value::CapV { plus, minus }, Value::CapV { plus: p, minus: m }) => {
+            plus.same(p) && minus.same(m)
         }
-        Value::File(x) => matches!(b, Value::File(y) if x.same(y)),
-        Value::Dir(x) => matches!(b, Value::Dir(y) if x.same(y)),
-        Value::Pipe(x) => matches!(b, Value::Pipe(y) if x.same(y)),
-        Value::Thread(x) => matches!(b, Value::Thread(y) if x == y),
-        Value::Tag(x) => matches!(b, Value::Tag(y) if x == y),
-        Value::Lab(x) => matches!(b, Value::Lab(y) if same(x, y)),
-        Value::CapV { plus, minus } => {
-            matches!(b, Value::CapV { plus: p, minus: m } if plus.same(p) && minus.same(m))
-        }
+        _ => false,
     }
 }
 
@@ -227,7 +226,8 @@ fn set_item(items: &mut Vec<Value>, at: usize, value: Value) -> Option<Value>
     if at < items.len() {
         Some(replaced(items, at, value))
     } else {
-        none_of(value)
+        drop(value);
+        None
     }
 }
 
@@ -237,13 +237,6 @@ fn replaced(items: &mut Vec<Value>, at: usize, value: Value) -> Value
     ensures new { items.new.items ≡ slice_set items.old.items at value }
 {
     replace(&mut items[at], value)
-}
-
-/// Lets a value go that has no place.
-fn none_of(_value: Value) -> Option<Value>
-    ensures { result ≡ None }
-{
-    None
 }
 
 fn copied(alloc: Global, values: &[Value]) -> Result<Vec<Value>, NoMemory>
