@@ -65,11 +65,10 @@ module _ {A : Type 0} where
   taken-suc (e ∷ es) (suc i) k v at = ap (λ l. (e.0.items, e.1) ∷ l) (taken-suc es i k v at)
 
   -- a step of a copy
-  pub copied_more : {S : Type 0} (es : List (Vec ℕ A × Target)) (m : IndexMap (Vec ℕ A) Target S) (new : List (Vec ℕ A × Target)) (i : ℕ) (k key : Vec ℕ A) (v target : Target)
-      → slice_get es i ≡ Some (k, v) → key.items ≡ k.items → target ≡ v → IsDistinct vec_eq (keys_of es) → entries_of m.entries ≡ entries_of (take i es) → new ≡ insert_entry vec_eq m.entries key target → entries_of new ≡ entries_of (take (i + 1) es)
-  copied_more es m new i k key v target at same_key same distinct so_far is =
-      put_last m new key target is ((λ j. lookup (text_eq (same_key j)) (so_far j)) ∙ apart es i k v distinct at)
-      ∙ (λ j. so_far j ++ (same_key j, same j) ∷ [])
+  pub copied_more : (es done new : List (Vec ℕ A × Target)) (i : ℕ) (k : Vec ℕ A) (v : Target)
+      → slice_get es i ≡ Some (k, v) → entries_of done ≡ entries_of (take i es) → entries_of new ≡ entries_of done ++ (k.items, v) ∷ [] → entries_of new ≡ entries_of (take (i + 1) es)
+  copied_more es done new i k v at so_far is =
+      is ∙ ap (λ xs. xs ++ (k.items, v) ∷ []) so_far
       ∙ sym (ap (λ n. entries_of (take n es)) (add-one i) ∙ taken-suc es i k v at)
 
   -- ---- two compared

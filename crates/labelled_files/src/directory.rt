@@ -1,6 +1,6 @@
 //! The entries of one directory.
 
-ghost use Rattle.std.specs.Prelude.{◌≡◌, ◌<◌, ◌≤◌, ◌++◌, ◌∷◌, [], None, length, is_some, IsTrue, ◌↔◌, IfOk, slice_get};
+ghost use Rattle.std.specs.Prelude.{◌≡◌, ◌<◌, ◌≤◌, ◌++◌, ◌∷◌, [], None, length, is_some, IsTrue, ◌↔◌, IfOk, OnOk, slice_get};
 ghost use Rattle.std.specs.Option.{option_copied, option_map};
 ghost use Rattle.std.specs.Map.{lookup};
 ghost use Rattle.std.proofs.Props.{props};
@@ -187,10 +187,20 @@ fn copied(entries: &IndexMap<Vec<u8>, Target>) -> Result<IndexMap<Vec<u8>, Targe
         let Some((entry, target)) = entries.get_index(at) else {
             unreachable!()
         };
-        let (entry, target) = copied_entry(entry, target)?;
-        copy.insert(entry, target)?;
+        put_copy(&mut copy, entry, target)?;
     }
     Ok(copy)
+}
+
+/// Puts an equal entry at the end, whose name is new.
+fn put_copy(copy: &mut Rows, text: &Vec<u8>, target: &Target) -> Result<(), NoMemory>
+    requires { lookup (text_eq text.now.items) (entries_of copy.old.entries) ≡ None }
+    ensures entries { OnOk result (entries_of copy.new.entries ≡ entries_of copy.old.entries ++ (text.now.items, target.now) ∷ []) }
+    ensures unique { OnOk result (IsUnique vec_eq copy.new) }
+{
+    let (text, target) = copied_entry(text, target)?;
+    copy.insert(text, target)?;
+    Ok(())
 }
 
 fn copied_entry(text: &Vec<u8>, target: &Target) -> Result<(Vec<u8>, Target), NoMemory>

@@ -540,10 +540,19 @@ fn add_file(
     files.reserve(1)?;
     let (key, target) = leads_to(EntryKind::File, name)?;
     list(dirs, counters, dir, entry, target)?;
-    let Ok(_) = files.insert(key, Contents::new(name.allocator())) else {
+    put_file(files, key);
+    Ok(())
+}
+
+/// Puts in an empty file, for which there is room.
+fn put_file(files: &mut FileMap, name: Name)
+    requires { 1 ≤ spare files.old }
+    ensures { files_of files.new.entries ≡ insert (files_of files.old.entries) name [] }
+{
+    let alloc = name.allocator();
+    let Ok(_) = files.insert(name, Contents::new(alloc)) else {
         unreachable!()
     };
-    Ok(())
 }
 
 /// Adds an empty directory. The last step that can fail is the listing, and what comes after it has its room.
@@ -565,10 +574,19 @@ fn add_dir(
     dirs.reserve(1)?;
     let (key, target) = leads_to(EntryKind::Dir, name)?;
     list(dirs, counters, dir, entry, target)?;
-    let Ok(_) = dirs.insert(key, Directory::new(name.allocator())) else {
+    put_dir(dirs, key);
+    Ok(())
+}
+
+/// Puts in an empty directory, for which there is room.
+fn put_dir(dirs: &mut Dirs, name: Name)
+    requires { 1 ≤ spare dirs.old }
+    ensures { dirs_of dirs.new.entries ≡ insert (dirs_of dirs.old.entries) name [] }
+{
+    let alloc = name.allocator();
+    let Ok(_) = dirs.insert(name, Directory::new(alloc)) else {
         unreachable!()
     };
-    Ok(())
 }
 
 /// A name's key, and a target that leads to the name.

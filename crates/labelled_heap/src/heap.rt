@@ -11,6 +11,8 @@
 ghost use Rattle.std.specs.Prelude.{◌≡◌, ◌≤◌, ◌<◌, ◌++◌, ◌∷◌, [], ◌↔◌, ℕ, IsTrue, IsSome, IfOk, OnOk, OnErr, IsErrOf, length, slice_get, slice_set, cond, Some, None};
 ghost use Rattle.std.specs.Option.{option_copied};
 ghost use Rattle.std.specs.FinMap as map;
+ghost use Rattle.std.specs.HashMap.{IsUnique, get as at_key};
+ghost use Rattle.indexmap.specs.IndexMap.{spare};
 ghost use Rattle.lam_value.specs.Alike.{AreAlike};
 ghost use Rattle.lam_value.specs.Homes as homes;
 ghost use Rattle.lam_value.specs.Homes.{Home, home_of, home_eq, name_of, count_in, counted};
@@ -428,9 +430,10 @@ fn slot_of(thing: &Thing, at: u64) -> Option<&Value>
 }
 
 /// Lets a value go that has no place.
-fn none_of(_v: Value) -> Option<Value>
+fn none_of(v: Value) -> Option<Value>
     ensures { result ≡ None }
 {
+    drop(v);
     None
 }
 
@@ -522,14 +525,61 @@ fn put_first(
     ensures same_things { OnErr result ((h : Home) → row_at rows.new.entries h ≡ row_at rows.old.entries h) }
     ensures same_counters { OnErr result (counters.new ≡ counters.old) }
 {
-    let mut things = Vec::new(home.own().allocator());
+    let row = one_thing(home.own().allocator(), thing)?;
+    let key = take_number(rows, counters, home, number)?;
+    put_new(rows, key, row);
+    Ok(())
+}
+
+/// A row with one thing alone.
+fn one_thing(alloc: Global, thing: Thing) -> Result<Row, NoMemory>
+    ensures { IfOk result (λ row. row.things.items ≡ thing ∷ []) }
+{
+    let mut things = Vec::new(alloc);
     things.push(thing)?;
-    let key = home.copy()?;
+    Ok(Row { things })
+}
+
+/// Makes room for one more row, and takes the next number of its home, of which it gives an equal one.
+fn take_number(
+    rows: &mut Rows,
+    counters: &mut Counters,
+    home: &Home,
+    number: u64,
+) -> Result<Home, NoMemory>
+    requires next { number ≡ count_in counters.old home.now }
+    requires room { number < 1048576 }
+    ensures home { IfOk result (λ h. h ≡ home.now) }
+    ensures rows { rows.new.entries ≡ rows.old.entries }
+    ensures unique { IsUnique home_eq rows.new }
+    ensures room { OnOk result (1 ≤ spare rows.new) }
+    ensures counters { OnOk result (counters.new ≡ counted counters.old home.now) }
+    ensures same_counters { OnErr result (counters.new ≡ counters.old) }
+{
     rows.reserve(1)?;
+    let key = home.copy()?;
     counters.draw(home.maker(), home.own(), number)?;
-    let Ok(_) = rows.insert(key, Row { things }) else {
+    Ok(key)
+}
+
+/// Puts in the row of a home, for which there is room.
+fn put_new(rows: &mut Rows, home: Home, row: Row)
+    requires { 1 ≤ spare rows.old }
+    ensures row { (q : Home) → at_key home_eq rows.new q ≡ cond (home_eq home q) (Some row) (at_key home_eq rows.old q) }
+    ensures unique { IsUnique home_eq rows.new }
+{
+    let Ok(_) = rows.insert(home, row) else {
         unreachable!()
     };
+}
+
+/// Puts in the row of a home.
+fn put_row(rows: &mut Rows, home: &Home, row: Row) -> Result<(), NoMemory>
+    ensures ok { OnOk result ((q : Home) → at_key home_eq rows.new q ≡ cond (home_eq home.now q) (Some row) (at_key home_eq rows.old q)) }
+    ensures unique { OnOk result (IsUnique home_eq rows.new) }
+{
+    let home = home.copy()?;
+    rows.insert(home, row)?;
     Ok(())
 }
 
@@ -543,7 +593,8 @@ fn copied(rows: &Rows) -> Result<Rows, NoMemory>
         let Some((home, row)) = rows.get_index(at) else {
             unreachable!()
         };
-        copy.insert(home.copy()?, row.copy()?)?;
+        let row = row.copy()?;
+        put_row(&mut copy, home, row)?;
     }
     Ok(copy)
 }

@@ -8,7 +8,7 @@ use flow_labels::NoMemory;
 use lam_value::ByteText;
 
 /// What is sent through a pipe.
-#[derive(Debug, Drop)]
+#[derive(Drop)]
 pub enum Message {
     /// A string of bytes.
     Bytes(ByteText),

@@ -14,7 +14,7 @@ use std::marker::Model;
 pub const QUEUE_LIMIT: u64 = 1024;
 
 /// The messages that wait in one pipe, seen as a list, the front first.
-#[derive(Debug, Drop)]
+#[derive(Drop)]
 pub struct Queue {
     messages: VecDeque<Message>,
 }

@@ -9,7 +9,7 @@ use std::marker::Model;
 use want_of_memory::NoMemory;
 
 /// A call that is open and waits: where it goes on in which unit, its locals and its operands.
-#[derive(Debug, Drop)]
+#[derive(Drop)]
 pub struct Frame {
     pub unit: usize,
     pub at: usize,

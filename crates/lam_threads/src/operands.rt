@@ -12,7 +12,7 @@ use std::mem::replace;
 use want_of_memory::NoMemory;
 
 /// A stack of values, seen from its top on.
-#[derive(Debug, Drop)]
+#[derive(Drop)]
 pub struct Operands {
     items: Vec<Value>,
 }

@@ -1,6 +1,6 @@
-pub mod SameLemmas
 pub mod CountLemmas
 pub mod Keys
-pub mod Listings
-pub mod Maps
-pub mod Rows
+pub use Rattle.home_counters.proofs.Listings
+pub use Rattle.home_counters.proofs.Maps
+pub use Rattle.home_counters.proofs.Rows
+pub use Rattle.home_counters.proofs.SameLemmas

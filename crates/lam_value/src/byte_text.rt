@@ -7,7 +7,7 @@ use std::marker::Model;
 use tag_sets::NoMemory;
 
 /// A string of bytes, whatever bytes they are.
-#[derive(Debug, Drop)]
+#[derive(Drop)]
 pub struct ByteText {
     bytes: Vec<u8>,
 }

@@ -7,9 +7,12 @@ ghost use Rattle.std.specs.Cmp.Lexicographic.{pointwise};
 ghost use Rattle.std.specs.Ordering.{on, eq_of_both};
 ghost use Rattle.std.specs.Hash as fed;
 ghost use Rattle.tag_sets.specs.Tags.{tags_of};
+ghost use Rattle.home_counters.specs.Alike.{second};
 ghost use Rattle.lam_value.specs.NameParts.{home_writes, home_input, folded};
+ghost use Rattle.lam_value.specs.Homes.{label_eq};
 
 use flow_labels::Label;
+use home_counters::Labelled;
 use std::hash::{FoldHasher, Hash, Hasher};
 use std::marker::Model;
 use tag_sets::NoMemory;
@@ -17,7 +20,7 @@ use tag_sets::NoMemory;
 /// A home: the label of a maker and an own label. What is made at a home is numbered there, from 0.
 ///
 /// A home is made once and looked up often, so it keeps its hash. Contracts see the record of its two labels.
-#[derive(Debug, Drop)]
+#[derive(Drop)]
 pub struct Home {
     maker: Label,
     own: Label,
@@ -111,6 +114,16 @@ impl Home {
             digest: self.digest,
         })
     }
+}
+
+impl Labelled for Home {
+    ghost label_of = { λ h. h.own };
+
+    fn label(&self) -> &Label {
+        self.own()
+    }
+
+    ghost label_follows = { λ x y e. second (label_eq x.maker y.maker) (label_eq x.own y.own) e };
 }
 
 /// Two labels equal to these.

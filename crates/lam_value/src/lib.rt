@@ -8,32 +8,28 @@
 //!   stores are maps from names.
 //! - `byte_text` and `values` have the values; `shapes` what a new thing looks like.
 //! - `text` prints values.
-//! - `counters` numbers the things that are made at each home. Numbers are counted for each home and never over
-//!   all, so that none tells of another label.
 //!
-//! Contracts see all of these as plain data: equal values are equal in every respect. The laws by which a
-//! store's hash map is such a map (`Maps`, `Keys` in `proofs/`) stand here once for all stores.
+//! Things are numbered by `home_counters`, which this crate passes on: the counters of homes, and equality of maps.
+//!
+//! Contracts see all of these as plain data: equal values are equal in every respect.
 
 #![tactic(auto)]
 
 mod byte_text;
-mod counters;
 mod homes;
 mod names;
 mod same_lists;
-mod sameness;
 mod shapes;
 mod text;
 mod values;
 
 pub use byte_text::ByteText;
-pub use counters::{Counters, HomeCounts};
 pub use decimal_text::push_number;
 pub use flow_labels::{Denied, Label, TagNames};
+pub use home_counters::{Counters, HomeCounts, Labelled, Same, Whole, same_maps};
 pub use homes::Home;
 pub use names::Name;
 pub use same_lists::same_values;
-pub use sameness::{Labelled, Same, Whole, same_maps};
 pub use shapes::{Kind, Shape};
 pub use text::{
     bytes_text, push_bytes, push_name, push_value, push_values, value_text, values_text,

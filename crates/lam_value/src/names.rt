@@ -7,12 +7,14 @@ ghost use Rattle.std.specs.Cmp.Rules.{comparing, hashing};
 ghost use Rattle.std.specs.Cmp.Lexicographic.{pointwise, slice_cmp};
 ghost use Rattle.std.specs.Ordering.{on, eq_of_both, then_cmp, nat_cmp, as_partial_cmp};
 ghost use Rattle.tag_sets.specs.Tags.{tags_of};
+ghost use Rattle.home_counters.specs.Alike.{middle};
 ghost use Rattle.lam_value.specs.NameParts.{name_input, same_input};
 ghost use Rattle.lam_value.specs.Names.{name_cmp};
-ghost use Rattle.lam_value.specs.Homes.{home_of};
+ghost use Rattle.lam_value.specs.Homes.{home_of, label_eq};
 
 use crate::homes::{Home, copied_labels};
 use flow_labels::{Label, same};
+use home_counters::Labelled;
 use std::alloc::Global;
 use std::cmp::Ordering;
 use std::hash::{Hash, Hasher};
@@ -27,13 +29,13 @@ use tag_sets::NoMemory;
 /// a copy takes no memory, and a look-up hashes two numbers. Contracts see the record of the three parts.
 ///
 /// Names are ordered by the maker's label, then the own label, then the number.
-#[derive(Debug, Drop)]
+#[derive(Drop)]
 pub struct Name {
     parts: Arc<Parts>,
 }
 
 /// The parts that the copies of a name share.
-#[derive(Debug, Drop)]
+#[derive(Drop)]
 struct Parts {
     home: Home,
     n: u64,
@@ -190,4 +192,14 @@ impl Name {
     {
         self.n() == other.n() && same(self.own(), other.own()) && same(self.maker(), other.maker())
     }
+}
+
+impl Labelled for Name {
+    ghost label_of = { λ n. n.own };
+
+    fn label(&self) -> &Label {
+        self.own()
+    }
+
+    ghost label_follows = { λ x y e. middle (label_eq x.maker y.maker) (label_eq x.own y.own) (nat_eq x.n y.n) e };
 }

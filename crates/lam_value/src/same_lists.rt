@@ -2,9 +2,9 @@
 
 ghost use Rattle.std.specs.Prelude.{◌≡◌, ◌↔◌, IsTrue, length};
 
-use crate::sameness::{Same, Whole};
 use crate::shapes::Shape;
 use crate::values::{Value, Values, same_value};
+use home_counters::{Same, Whole};
 
 /// Whether two lists have equal values, place by place.
 pub fn same_values(a: &[Value], b: &[Value]) -> bool

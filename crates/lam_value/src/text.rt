@@ -1,6 +1,6 @@
 //! The texts of values.
 
-ghost use Rattle.std.specs.Prelude.{◌≡◌, ◌<◌, ◌++◌, ◌∷◌, [], codes, decimal, IfOk, OnOk, string_bytes};
+ghost use Rattle.std.specs.Prelude.{◌≡◌, ◌<◌, ◌/◌, ◌%◌, ◌++◌, ◌∷◌, [], codes, decimal, IfOk, OnOk, string_bytes};
 ghost use Rattle.std.specs.Fmt.{signed_decimal};
 ghost use Rattle.lam_value.specs.Texts.{hex_digit, escaped, all_escaped, bytes_text, name_text, value_text, values_text, after_commas};
 
@@ -88,6 +88,15 @@ fn push_word(text: &mut String, word: &str) -> Result<(), NoMemory>
     Ok(())
 }
 
+/// Writes a character of ASCII.
+fn push_char(text: &mut String, letter: char) -> Result<(), NoMemory>
+    requires { letter < 128 }
+    ensures { OnOk result (string_bytes text.new ≡ string_bytes text.old ++ letter ∷ []) }
+{
+    text.push(letter)?;
+    Ok(())
+}
+
 /// Writes the texts of values at the end of a text, with a comma between each two.
 ///
 /// # Errors
@@ -98,9 +107,10 @@ pub fn push_values(text: &mut String, values: &[Value], names: &TagNames) -> Res
 {
     if let Some((first, rest)) = values.split_first() {
         push_value(text, first, names)?;
-        push_rest(text, rest, names)?;
+        push_rest(text, rest, names)
+    } else {
+        Ok(())
     }
-    Ok(())
 }
 
 /// Each value with a comma before it.
@@ -142,8 +152,7 @@ pub fn push_name(
     push_label(text, own, names)?;
     text.push('|')?;
     push_number(text, name.n())?;
-    text.push('>')?;
-    Ok(())
+    push_char(text, '>')
 }
 
 fn push_array(text: &mut String, name: &Name, len: u64, names: &TagNames) -> Result<(), NoMemory>
@@ -152,8 +161,7 @@ fn push_array(text: &mut String, name: &Name, len: u64, names: &TagNames) -> Res
     push_name(text, "arr", name, names)?;
     text.push('[')?;
     push_number(text, len)?;
-    text.push(']')?;
-    Ok(())
+    push_char(text, ']')
 }
 
 /// Writes the text of bytes, in double quotes, at the end of a text.
@@ -168,24 +176,27 @@ pub fn push_bytes(text: &mut String, bytes: &[u8]) -> Result<(), NoMemory>
     for byte in bytes {
         push_escaped(text, *byte)?;
     }
-    text.push('"')?;
-    Ok(())
+    push_char(text, '"')
 }
 
 fn push_escaped(text: &mut String, byte: u8) -> Result<(), NoMemory>
     ensures { OnOk result (string_bytes text.new ≡ string_bytes text.old ++ escaped byte) }
 {
     match byte {
-        b'"' => text.push_str("\\\"")?,
-        b'\\' => text.push_str("\\\\")?,
-        32..=126 => text.push(byte as char)?,
-        _ => {
-            text.push_str("\\x")?;
-            text.push(hex_digit(byte / 16))?;
-            text.push(hex_digit(byte % 16))?;
-        }
+        b'"' => push_word(text, "\\\""),
+        b'\\' => push_word(text, "\\\\"),
+        32..=126 => push_char(text, byte as char),
+        _ => push_hex(text, byte),
     }
-    Ok(())
+}
+
+/// Writes a byte by its two digits.
+fn push_hex(text: &mut String, byte: u8) -> Result<(), NoMemory>
+    ensures { OnOk result (string_bytes text.new ≡ string_bytes text.old ++ 92 ∷ 120 ∷ hex_digit (byte / 16) ∷ hex_digit (byte % 16) ∷ []) }
+{
+    push_word(text, "\\x")?;
+    push_char(text, hex_digit(byte / 16))?;
+    push_char(text, hex_digit(byte % 16))
 }
 
 fn hex_digit(digit: u8) -> char

@@ -1,6 +1,6 @@
 //! Values, and lists of them.
 
-ghost use Rattle.std.specs.Prelude.{◌≡◌, ◌<◌, ◌++◌, ◌-◌, ◌∷◌, [], ℕ, length, IsTrue, ◌↔◌, IfOk, OnOk, OnErr, take, slice_get, slice_set};
+ghost use Rattle.std.specs.Prelude.{◌≡◌, ◌<◌, ◌++◌, ◌-◌, ◌∷◌, [], ℕ, length, IsTrue, ◌↔◌, IfOk, OnOk, OnErr, take, slice_get, slice_set, Some};
 ghost use Rattle.std.specs.Option.{option_copied};
 
 use crate::byte_text::ByteText;
@@ -12,7 +12,7 @@ use std::mem::replace;
 use tag_sets::{NoMemory, TagId, TagSet};
 
 /// What a local, a field, an array's element or a message holds.
-#[derive(Debug, Drop)]
+#[derive(Drop)]
 pub enum Value {
     Int(i64),
     Bool(bool),
@@ -46,54 +46,64 @@ impl Value {
         match self {
             Value::Int(n) => Ok(Value::Int(*n)),
             Value::Bool(b) => Ok(Value::Bool(*b)),
-            Value::Bytes(text) => Ok(Value::Bytes(text.copy()?)),
+            Value::Bytes(text) => text.copy().map(Value::Bytes),
             Value::Nothing => Ok(Value::Nothing),
-            Value::Obj(name) => Ok(Value::Obj(name.copy()?)),
-            Value::Arr { name, len } => Ok(Value::Arr {
-                name: name.copy()?,
-                len: *len,
-            }),
-            Value::File(name) => Ok(Value::File(name.copy()?)),
-            Value::Dir(name) => Ok(Value::Dir(name.copy()?)),
-            Value::Pipe(name) => Ok(Value::Pipe(name.copy()?)),
+            Value::Obj(name) => name.copy().map(Value::Obj),
+            Value::Arr { name, len } => copied_array(name, *len),
+            Value::File(name) => name.copy().map(Value::File),
+            Value::Dir(name) => name.copy().map(Value::Dir),
+            Value::Pipe(name) => name.copy().map(Value::Pipe),
             Value::Thread(t) => Ok(Value::Thread(*t)),
             Value::Tag(t) => Ok(Value::Tag(*t)),
-            Value::Lab(label) => Ok(Value::Lab(label.copy()?)),
-            Value::CapV { plus, minus } => Ok(Value::CapV {
-                plus: plus.copy()?,
-                minus: minus.copy()?,
-            }),
+            Value::Lab(label) => label.copy().map(Value::Lab),
+            Value::CapV { plus, minus } => copied_caps(plus, minus),
         }
     }
+}
+
+/// A reference to an array, by an equal name.
+fn copied_array(name: &Name, len: u64) -> Result<Value, NoMemory>
+    ensures { IfOk result (λ v. v ≡ Value.Arr name.now len) }
+{
+    let name = name.copy()?;
+    Ok(Value::Arr { name, len })
+}
+
+/// Capabilities of equal sets.
+fn copied_caps(plus: &TagSet, minus: &TagSet) -> Result<Value, NoMemory>
+    ensures { IfOk result (λ v. v ≡ Value.CapV plus.now minus.now) }
+{
+    let plus = plus.copy()?;
+    let minus = minus.copy()?;
+    Ok(Value::CapV { plus, minus })
 }
 
 /// Whether two values are equal.
 pub fn same_value(a: &Value, b: &Value) -> bool
     ensures { IsTrue result ↔ (a.now ≡ b.now) }
 {
-    match a {
-        Value::Int(x) => matches!(b, Value::Int(y) if x == y),
-        Value::Bool(x) => matches!(b, Value::Bool(y) if x == y),
-        Value::Bytes(x) => matches!(b, Value::Bytes(y) if x.same(y)),
-        Value::Nothing => matches!(b, Value::Nothing),
-        Value::Obj(x) => matches!(b, Value::Obj(y) if x.same(y)),
-        Value::Arr { name: x, len: m } => {
-            matches!(b, Value::Arr { name: y, len: n } if m == n && x.same(y))
+    match (a, b) {
+        (Value::Int(x), Value::Int(y)) => x == y,
+        (Value::Bool(x), Value::Bool(y)) => x == y,
+        (Value::Bytes(x), Value::Bytes(y)) => x.same(y),
+        (Value::Nothing, Value::Nothing) => true,
+        (Value::Obj(x), Value::Obj(y)) => x.same(y),
+        (Value::Arr { name: x, len: m }, Value::Arr { name: y, len: n }) => m == n && x.same(y),
+        (Value::File(x), Value::File(y)) => x.same(y),
+        (Value::Dir(x), Value::Dir(y)) => x.same(y),
+        (Value::Pipe(x), Value::Pipe(y)) => x.same(y),
+        (Value::Thread(x), Value::Thread(y)) => x == y,
+        (Value::Tag(x), Value::Tag(y)) => x == y,
+        (Value::Lab(x), Value::Lab(y)) => same(x, y),
+        (Value::CapV { plus, minus }, Value::CapV { plus: p, minus: m }) => {
+            plus.same(p) && minus.same(m)
         }
-        Value::File(x) => matches!(b, Value::File(y) if x.same(y)),
-        Value::Dir(x) => matches!(b, Value::Dir(y) if x.same(y)),
-        Value::Pipe(x) => matches!(b, Value::Pipe(y) if x.same(y)),
-        Value::Thread(x) => matches!(b, Value::Thread(y) if x == y),
-        Value::Tag(x) => matches!(b, Value::Tag(y) if x == y),
-        Value::Lab(x) => matches!(b, Value::Lab(y) if same(x, y)),
-        Value::CapV { plus, minus } => {
-            matches!(b, Value::CapV { plus: p, minus: m } if plus.same(p) && minus.same(m))
-        }
+        _ => false,
     }
 }
 
 /// A list of values: the fields of an object, the elements of an array, or the arguments of a call.
-#[derive(Debug, Drop)]
+#[derive(Drop)]
 pub struct Values {
     items: Vec<Value>,
 }
@@ -214,10 +224,19 @@ fn set_item(items: &mut Vec<Value>, at: usize, value: Value) -> Option<Value>
     ensures new { items.new.items ≡ slice_set items.old.items at value }
 {
     if at < items.len() {
-        Some(replace(&mut items[at], value))
+        Some(replaced(items, at, value))
     } else {
+        drop(value);
         None
     }
+}
+
+fn replaced(items: &mut Vec<Value>, at: usize, value: Value) -> Value
+    requires { at < length items.old.items }
+    ensures old { Some result ≡ slice_get items.old.items at }
+    ensures new { items.new.items ≡ slice_set items.old.items at value }
+{
+    replace(&mut items[at], value)
 }
 
 fn copied(alloc: Global, values: &[Value]) -> Result<Vec<Value>, NoMemory>

@@ -1,8 +1,9 @@
 use Rattle.std.proofs.Common.{◌∙◌, ap, sym, arith}
+use Rattle.std.specs.Map.{lookup}
 use Rattle.lam_value.proofs.Maps.{not_none}
 use Rattle.lam_value.proofs.Rows.{taken_all}
-use Rattle.labelled_files.specs.Entries.{entries_of}
-use Rattle.labelled_files.proofs.EntryLemmas.{copied_more}
+use Rattle.labelled_files.specs.Entries.{text_eq, entries_of}
+use Rattle.labelled_files.proofs.EntryLemmas.{copied_more, apart}
 use Rattle.labelled_files.proofs.directory.copied.Goals as goal
 
 pub loop-at-init : goal.loop-at-init
@@ -11,10 +12,15 @@ loop-at-init c = record { same = ap entries_of c.new-copy.ensures.empty; unique 
 pub loop-at-preserved : goal.loop-at-preserved
 loop-at-preserved c = record {
   same =
-      copied_more c.args.entries.now.entries c.loop-at.copy c.insert.new.self.entries c.loop-at.at c.in-Some.entry.now c.in_ok-entry.entry c.in-Some.target.now c.in_ok-entry.target
-      (sym c.in-Some.ensures.entry) c.in_ok-entry.ensures.text c.in_ok-entry.ensures.target c.requires c.loop-at.invariant.same c.in_ok-insert.ensures.entries;
-  unique = c.in_ok-insert.ensures.unique;
+      copied_more c.args.entries.now.entries c.loop-at.copy.entries c.put_copy.new.copy.entries c.loop-at.at c.in-Some.entry.now c.in-Some.target.now
+      (sym c.in-Some.ensures.entry) c.loop-at.invariant.same c.in_ok-put_copy.ensures.entries;
+  unique = c.in_ok-put_copy.ensures.unique;
 }
+
+pub put_copy-requires : goal.put_copy-requires
+put_copy-requires c =
+    ap (lookup (text_eq c.in-Some.entry.now.items)) c.loop-at.invariant.same
+    ∙ apart c.args.entries.now.entries c.loop-at.at c.in-Some.entry.now c.in-Some.target.now c.requires (sym c.in-Some.ensures.entry)
 
 pub returns : goal.returns
 returns c = record {

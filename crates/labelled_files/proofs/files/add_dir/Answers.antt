@@ -5,8 +5,7 @@ use Rattle.lam_value.specs.Homes.{home_of, raised}
 use Rattle.labelled_files.specs.Entries.{text_eq}
 use Rattle.labelled_files.specs.Trees.{changed_at, joined}
 use Rattle.labelled_files.specs.declared.directory.Target.{Target}
-use Rattle.labelled_files.specs.Seen.{shown, dirs_of, at}
-use Rattle.labelled_files.proofs.TreeLemmas.{added}
+use Rattle.labelled_files.specs.Seen.{dirs_of, at}
 use Rattle.labelled_files.proofs.files.add_dir.Goals as goal
 
 pub list-requires-clause-room : goal.list-requires-clause-room
@@ -20,7 +19,8 @@ list-requires-clause-fresh c = ap (λ es. lookup (text_eq c.args.entry.now) (at 
 
 pub returns-clause-dirs : goal.returns-clause-dirs
 returns-clause-dirs c =
-    added shown c.list.new.dirs.entries c.insert.new.self.entries c.args.name.now c.in_ok-key.key c.new.result [] c.in_ok-key.ensures.key c.new.ensures (λ q. c.in-Ok.ensures.updates.0 q)
+    c.put_dir.ensures
+    ∙ ap (λ k. insert (dirs_of c.list.new.dirs.entries) k []) c.in_ok-key.ensures.key
     ∙ ap (λ m. insert m c.args.name.now [])
     (c.in_ok-list.ensures.dirs ∙ (λ i. changed_at (dirs_of (c.in_ok-reserve.ensures.entries i)) c.args.dir.now (joined c.args.entry.now (c.in_ok-key.ensures.target i).kind (c.in_ok-key.ensures.target i).name)))
 

@@ -1,4 +1,4 @@
-use Rattle.std.proofs.Common.{◌<◌, ◌∙◌, ap, sym, cond, Some, [], length, arith, subst, List}
+use Rattle.std.proofs.Common.{◌<◌, ◌∙◌, ap, sym, Some, [], length, arith, subst, List}
 use Rattle.std.specs.Prelude.{option_and_then, unwrap_or}
 use Rattle.std.specs.Map.{lookup}
 use Rattle.lam_value.specs.Homes.{Home, home_eq}
@@ -22,14 +22,14 @@ loop-at-init c = record {
 
 pub loop-at-preserved : goal.loop-at-preserved
 loop-at-preserved c =
-    let row = c.in_ok-copy-2.field-0 in
-    let same = c.in_ok-copy-2.ensures in
-    let added = λ (q : Home). c.in_ok-insert.ensures.updates.0 q ∙ ap (λ k. cond (home_eq k q) (Some row) (lookup (home_eq q) c.loop-at.copy.entries)) c.in_ok-copy.ensures in
+    let row = c.in_ok-row.row in
+    let same = c.in_ok-row.ensures in
+    let added = c.in_ok-put_row.ensures.ok in
     record {
-      kept = rows_put c.loop-at.copy c.insert.new.self c.loop-at.invariant.kept c.in-Some.home.now row c.in_ok-insert.ensures.unique added
+      kept = rows_put c.loop-at.copy c.put_row.new.rows c.loop-at.invariant.kept c.in-Some.home.now row c.in_ok-put_row.ensures.unique added
           (subst (λ (ts : List Thing). 0 < length ts) (sym same) (c.requires.filled c.in-Some.home.now c.in-Some.row.now c.in-Some.ensures.value));
       same =
-          copy_more home_eq home_total home_exact home_ties (λ (r : Row). Some r.things.items) c.args.rows.now.entries c.loop-at.copy.entries c.insert.new.self.entries c.loop-at.at c.in-Some.home.now c.in-Some.row.now row
+          copy_more home_eq home_total home_exact home_ties (λ (r : Row). Some r.things.items) c.args.rows.now.entries c.loop-at.copy.entries c.put_row.new.rows.entries c.loop-at.at c.in-Some.home.now c.in-Some.row.now row
           (sym c.in-Some.ensures.entry) c.in-Some.ensures.value (ap Some same) c.loop-at.invariant.same added;
     }
 

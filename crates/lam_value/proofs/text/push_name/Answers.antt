@@ -1,5 +1,6 @@
 use Rattle.std.proofs.Common.{◌≡◌, ℕ, List, [], ◌∷◌, ◌++◌, append_assoc, ap, ◌∙◌, lit<, string_bytes, decimal}
 use Rattle.flow_labels.specs.LabelText.{label_text}
+use Rattle.home_counters.proofs.Maps.{on_ok_so}
 use Rattle.lam_value.proofs.text.push_name.Goals as goal
 
 parts : (old word maker own n : List ℕ) → (((((((old ++ word) ++ 60 ∷ []) ++ maker) ++ 124 ∷ []) ++ own) ++ 124 ∷ []) ++ n) ++ 62 ∷ [] ≡ old ++ (word ++ 60 ∷ (maker ++ 124 ∷ (own ++ 124 ∷ (n ++ 62 ∷ []))))
@@ -17,9 +18,9 @@ mark : (new old part text : List ℕ) → new ≡ old ++ part → part ≡ text 
 mark new old part text is is_text = is ∙ ap (λ t. old ++ t) is_text
 
 pub returns : goal.returns
-returns c =
+returns c = on_ok_so _ _ c.push_char.result (λ last.
     pushed (string_bytes c.args.text.now) c.args.word.now (label_text c.args.names.now c.args.name.now.maker) (label_text c.args.names.now c.args.name.now.own) (decimal c.args.name.now.n)
-    (string_bytes c.push_str.new.self) (string_bytes c.push.new.self) (string_bytes c.push_label.new.text) (string_bytes c.push-2.new.self) (string_bytes c.push_label-2.new.text) (string_bytes c.push-3.new.self) (string_bytes c.push_number.new.text) (string_bytes c.push-4.new.self)
+    (string_bytes c.push_str.new.self) (string_bytes c.push.new.self) (string_bytes c.push_label.new.text) (string_bytes c.push-2.new.self) (string_bytes c.push_label-2.new.text) (string_bytes c.push-3.new.self) (string_bytes c.push_number.new.text) (string_bytes c.push_char.new.text)
     c.in_ok-push_str.ensures.bytes
     (mark _ _ _ _ c.in_ok-push.ensures.bytes (c.in_ok-push.ensures.ascii (lit< tt)))
     (mark _ _ _ _ c.in_ok-push_label.ensures (ap (label_text c.args.names.now) c.maker-maker.ensures))
@@ -27,4 +28,4 @@ returns c =
     (mark _ _ _ _ c.in_ok-push_label-2.ensures (ap (label_text c.args.names.now) c.own-own.ensures))
     (mark _ _ _ _ c.in_ok-push-3.ensures.bytes (c.in_ok-push-3.ensures.ascii (lit< tt)))
     (mark _ _ _ _ c.in_ok-push_number.ensures (ap decimal c.n.ensures))
-    (mark _ _ _ _ c.in_ok-push-4.ensures.bytes (c.in_ok-push-4.ensures.ascii (lit< tt)))
+    last) c.push_char.ensures

@@ -1,0 +1,4 @@
+pub mod Alike
+pub mod Homes
+pub mod Labels
+pub mod Maps
