@@ -5,6 +5,7 @@ ghost use Rattle.lam_asks.specs.declared.ask.Ask.TheVariants as Ask;
 ghost use Rattle.lam_asks.specs.Groups.{is_of_numbers, is_of_things, is_of_dirs, is_of_files, is_of_pipes};
 
 use crate::answer::Outcome;
+use crate::both::both;
 use crate::fault::Fault;
 use capabilities::Caps;
 use lam_value::{ByteText, Denied, Label, Name, Shape, Value, Values};
@@ -318,25 +319,21 @@ fn copy_end(outcome: &Outcome) -> Result<Ask, NoMemory>
 fn copy_write(r: &Value, at: u64, v: &Value) -> Result<Ask, NoMemory>
     ensures { IfOk result (λ a. a ≡ Ask.Write r.now at v.now) }
 {
-    let r = r.copy()?;
-    let v = v.copy()?;
+    let (r, v) = both(r.copy(), v.copy())?;
     Ok(Ask::Write { r, at, v })
 }
 
 fn copy_copy(r: &Value, own: &Label) -> Result<Ask, NoMemory>
     ensures { IfOk result (λ a. a ≡ Ask.CopyTo r.now own.now) }
 {
-    let own = own.copy()?;
-    let r = r.copy()?;
+    let (r, own) = both(r.copy(), own.copy())?;
     Ok(Ask::CopyTo { r, own })
 }
 
 fn copy_enter(label: &Label, caps: &Caps, region: u32, args: &Values) -> Result<Ask, NoMemory>
     ensures { IfOk result (λ a. a ≡ Ask.Enter label.now caps.now region args.now) }
 {
-    let label = label.copy()?;
-    let caps = caps.copy()?;
-    let args = args.copy()?;
+    let ((label, caps), args) = both(both(label.copy(), caps.copy()), args.copy())?;
     Ok(Ask::Enter {
         label,
         caps,
@@ -348,25 +345,21 @@ fn copy_enter(label: &Label, caps: &Caps, region: u32, args: &Values) -> Result<
 fn copy_spawn(unit: u32, args: &Values, caps: &Caps) -> Result<Ask, NoMemory>
     ensures { IfOk result (λ a. a ≡ Ask.Spawn unit args.now caps.now) }
 {
-    let caps = caps.copy()?;
-    let args = args.copy()?;
+    let (args, caps) = both(args.copy(), caps.copy())?;
     Ok(Ask::Spawn { unit, args, caps })
 }
 
 fn copy_send_caps(pipe: &Name, caps: &Caps) -> Result<Ask, NoMemory>
     ensures { IfOk result (λ a. a ≡ Ask.SendCaps pipe.now caps.now) }
 {
-    let pipe = pipe.copy()?;
-    let caps = caps.copy()?;
+    let (pipe, caps) = both(pipe.copy(), caps.copy())?;
     Ok(Ask::SendCaps { pipe, caps })
 }
 
 fn copy_entry(name: &Name, bytes: &ByteText) -> Result<(Name, ByteText), NoMemory>
     ensures { IfOk result (λ p. (p.0 ≡ name.now) × (p.1 ≡ bytes.now)) }
 {
-    let bytes = bytes.copy()?;
-    let name = name.copy()?;
-    Ok((name, bytes))
+    both(name.copy(), bytes.copy())
 }
 
 fn copy_new_entry(
@@ -376,8 +369,6 @@ fn copy_new_entry(
 ) -> Result<(Name, ByteText, Label), NoMemory>
     ensures { IfOk result (λ p. (p.0 ≡ dir.now) × (p.1 ≡ entry.now) × (p.2 ≡ own.now)) }
 {
-    let entry = entry.copy()?;
-    let own = own.copy()?;
-    let dir = dir.copy()?;
+    let ((dir, entry), own) = both(copy_entry(dir, entry), own.copy())?;
     Ok((dir, entry, own))
 }
