@@ -3,6 +3,7 @@
 ghost use Rattle.std.specs.Prelude.{◌≡◌, IfOk};
 
 use crate::ask::Ask;
+use crate::both::both;
 use crate::fault::Fault;
 use lam_value::{Denied, Label, Value};
 use want_of_memory::NoMemory;
@@ -85,8 +86,7 @@ impl What {
         match self {
             What::Private => Ok(What::Private),
             What::Asked { ask, answer } => {
-                let answer = answer.copy()?;
-                let ask = ask.copy()?;
+                let (ask, answer) = both(ask.copy(), answer.copy())?;
                 Ok(What::Asked { ask, answer })
             }
         }
@@ -110,8 +110,7 @@ impl Event {
     pub fn copy(&self) -> Result<Event, NoMemory>
         ensures { IfOk result (λ e. e ≡ self.now) }
     {
-        let label = self.label.copy()?;
-        let what = self.what.copy()?;
+        let (label, what) = both(self.label.copy(), self.what.copy())?;
         Ok(Event {
             label,
             thread: self.thread,

@@ -1,9 +1,11 @@
 //! The asks.
 
-ghost use Rattle.std.specs.Prelude.{◌≡◌, IfOk};
+ghost use Rattle.std.specs.Prelude.{◌≡◌, IfOk, IsTrue};
 ghost use Rattle.lam_asks.specs.declared.ask.Ask.TheVariants as Ask;
+ghost use Rattle.lam_asks.specs.Groups.{is_of_numbers, is_of_things, is_of_dirs, is_of_files, is_of_pipes};
 
 use crate::answer::Outcome;
+use crate::both::both;
 use crate::fault::Fault;
 use capabilities::Caps;
 use lam_value::{ByteText, Denied, Label, Name, Shape, Value, Values};
@@ -154,23 +156,30 @@ impl Ask {
         ensures { IfOk result (λ a. a ≡ self.now) }
     {
         match self {
-            Ask::Mint => Ok(Ask::Mint),
-            Ask::Leave => Ok(Ask::Leave),
-            Ask::Barred(denied) => Ok(Ask::Barred(*denied)),
-            Ask::Caught(fault) => Ok(Ask::Caught(*fault)),
-            Ask::Suppressed(fault) => Ok(Ask::Suppressed(*fault)),
-            Ask::Join { thread } => Ok(Ask::Join { thread: *thread }),
-            Ask::MonEnter { r } => Ok(Ask::MonEnter { r: r.copy()? }),
-            Ask::MonLeave { r } => Ok(Ask::MonLeave { r: r.copy()? }),
-            Ask::Read { r, at } => Ok(Ask::Read {
-                r: r.copy()?,
-                at: *at,
-            }),
-            Ask::Write { r, at, v } => copy_write(r, *at, v),
-            Ask::New { shape } => Ok(Ask::New {
-                shape: shape.copy()?,
-            }),
-            Ask::CopyTo { r, own } => copy_copy(r, own),
+            Ask::Mint
+            | Ask::Leave
+            | Ask::Barred(_)
+            | Ask::Caught(_)
+            | Ask::Suppressed(_)
+            | Ask::Join { .. } => Ok(copy_numbers(self)),
+            Ask::Read { .. }
+            | Ask::Write { .. }
+            | Ask::New { .. }
+            | Ask::CopyTo { .. }
+            | Ask::MonEnter { .. }
+            | Ask::MonLeave { .. } => copy_of_things(self),
+            Ask::MakeFile { .. }
+            | Ask::MakeDir { .. }
+            | Ask::OpenFile { .. }
+            | Ask::OpenDir { .. }
+            | Ask::Remove { .. } => copy_of_dirs(self),
+            Ask::FileRead { .. } | Ask::FileLength { .. } | Ask::Append { .. } | Ask::Cut { .. } =>
+                copy_of_files(self),
+            Ask::MakePipe { .. }
+            | Ask::Send { .. }
+            | Ask::SendCaps { .. }
+            | Ask::Receive { .. }
+            | Ask::ReceiveCaps { .. } => copy_of_pipes(self),
             Ask::Enter {
                 label,
                 caps,
@@ -178,78 +187,153 @@ impl Ask {
                 args,
             } => copy_enter(label, caps, *region, args),
             Ask::Spawn { unit, args, caps } => copy_spawn(*unit, args, caps),
-            Ask::Say { bytes } => Ok(Ask::Say {
-                bytes: bytes.copy()?,
-            }),
-            Ask::End(outcome) => Ok(Ask::End(outcome.copy()?)),
-            Ask::MakeFile { dir, entry, own } => {
-                let (dir, entry, own) = copy_new_entry(dir, entry, own)?;
-                Ok(Ask::MakeFile { dir, entry, own })
-            }
-            Ask::MakeDir { dir, entry, own } => {
-                let (dir, entry, own) = copy_new_entry(dir, entry, own)?;
-                Ok(Ask::MakeDir { dir, entry, own })
-            }
-            Ask::OpenFile { dir, entry } => {
-                let (dir, entry) = copy_entry(dir, entry)?;
-                Ok(Ask::OpenFile { dir, entry })
-            }
-            Ask::OpenDir { dir, entry } => {
-                let (dir, entry) = copy_entry(dir, entry)?;
-                Ok(Ask::OpenDir { dir, entry })
-            }
-            Ask::Remove { dir, entry } => {
-                let (dir, entry) = copy_entry(dir, entry)?;
-                Ok(Ask::Remove { dir, entry })
-            }
-            Ask::FileRead { file, at, n } => Ok(Ask::FileRead {
-                file: file.copy()?,
-                at: *at,
-                n: *n,
-            }),
-            Ask::FileLength { file } => Ok(Ask::FileLength { file: file.copy()? }),
-            Ask::Append { file, bytes } => {
-                let (file, bytes) = copy_entry(file, bytes)?;
-                Ok(Ask::Append { file, bytes })
-            }
-            Ask::Cut { file, len } => Ok(Ask::Cut {
-                file: file.copy()?,
-                len: *len,
-            }),
-            Ask::MakePipe { own } => Ok(Ask::MakePipe { own: own.copy()? }),
-            Ask::Send { pipe, bytes } => {
-                let (pipe, bytes) = copy_entry(pipe, bytes)?;
-                Ok(Ask::Send { pipe, bytes })
-            }
-            Ask::SendCaps { pipe, caps } => copy_send_caps(pipe, caps),
-            Ask::Receive { pipe } => Ok(Ask::Receive { pipe: pipe.copy()? }),
-            Ask::ReceiveCaps { pipe } => Ok(Ask::ReceiveCaps { pipe: pipe.copy()? }),
+            Ask::Say { bytes } => copy_say(bytes),
+            Ask::End(outcome) => copy_end(outcome),
         }
     }
+}
+
+/// An ask that holds nothing but numbers.
+fn copy_numbers(ask: &Ask) -> Ask
+    requires { IsTrue (is_of_numbers ask.now) }
+    ensures { result ≡ ask.now }
+{
+    match ask {
+        Ask::Mint => Ask::Mint,
+        Ask::Leave => Ask::Leave,
+        Ask::Barred(denied) => Ask::Barred(*denied),
+        Ask::Caught(fault) => Ask::Caught(*fault),
+        Ask::Suppressed(fault) => Ask::Suppressed(*fault),
+        Ask::Join { thread } => Ask::Join { thread: *thread },
+        _ => unreachable!(),
+    }
+}
+
+/// An ask for an object, an array or a monitor.
+fn copy_of_things(ask: &Ask) -> Result<Ask, NoMemory>
+    requires { IsTrue (is_of_things ask.now) }
+    ensures { IfOk result (λ a. a ≡ ask.now) }
+{
+    match ask {
+        Ask::MonEnter { r } => Ok(Ask::MonEnter { r: r.copy()? }),
+        Ask::MonLeave { r } => Ok(Ask::MonLeave { r: r.copy()? }),
+        Ask::Read { r, at } => Ok(Ask::Read {
+            r: r.copy()?,
+            at: *at,
+        }),
+        Ask::Write { r, at, v } => copy_write(r, *at, v),
+        Ask::New { shape } => Ok(Ask::New {
+            shape: shape.copy()?,
+        }),
+        Ask::CopyTo { r, own } => copy_copy(r, own),
+        _ => unreachable!(),
+    }
+}
+
+/// An ask for an entry of a directory.
+fn copy_of_dirs(ask: &Ask) -> Result<Ask, NoMemory>
+    requires { IsTrue (is_of_dirs ask.now) }
+    ensures { IfOk result (λ a. a ≡ ask.now) }
+{
+    match ask {
+        Ask::MakeFile { dir, entry, own } => {
+            let (dir, entry, own) = copy_new_entry(dir, entry, own)?;
+            Ok(Ask::MakeFile { dir, entry, own })
+        }
+        Ask::MakeDir { dir, entry, own } => {
+            let (dir, entry, own) = copy_new_entry(dir, entry, own)?;
+            Ok(Ask::MakeDir { dir, entry, own })
+        }
+        Ask::OpenFile { dir, entry } => {
+            let (dir, entry) = copy_entry(dir, entry)?;
+            Ok(Ask::OpenFile { dir, entry })
+        }
+        Ask::OpenDir { dir, entry } => {
+            let (dir, entry) = copy_entry(dir, entry)?;
+            Ok(Ask::OpenDir { dir, entry })
+        }
+        Ask::Remove { dir, entry } => {
+            let (dir, entry) = copy_entry(dir, entry)?;
+            Ok(Ask::Remove { dir, entry })
+        }
+        _ => unreachable!(),
+    }
+}
+
+/// An ask for the bytes of a file.
+fn copy_of_files(ask: &Ask) -> Result<Ask, NoMemory>
+    requires { IsTrue (is_of_files ask.now) }
+    ensures { IfOk result (λ a. a ≡ ask.now) }
+{
+    match ask {
+        Ask::FileRead { file, at, n } => Ok(Ask::FileRead {
+            file: file.copy()?,
+            at: *at,
+            n: *n,
+        }),
+        Ask::FileLength { file } => Ok(Ask::FileLength { file: file.copy()? }),
+        Ask::Append { file, bytes } => {
+            let (file, bytes) = copy_entry(file, bytes)?;
+            Ok(Ask::Append { file, bytes })
+        }
+        Ask::Cut { file, len } => Ok(Ask::Cut {
+            file: file.copy()?,
+            len: *len,
+        }),
+        _ => unreachable!(),
+    }
+}
+
+/// An ask for a pipe.
+fn copy_of_pipes(ask: &Ask) -> Result<Ask, NoMemory>
+    requires { IsTrue (is_of_pipes ask.now) }
+    ensures { IfOk result (λ a. a ≡ ask.now) }
+{
+    match ask {
+        Ask::MakePipe { own } => Ok(Ask::MakePipe { own: own.copy()? }),
+        Ask::Send { pipe, bytes } => {
+            let (pipe, bytes) = copy_entry(pipe, bytes)?;
+            Ok(Ask::Send { pipe, bytes })
+        }
+        Ask::SendCaps { pipe, caps } => copy_send_caps(pipe, caps),
+        Ask::Receive { pipe } => Ok(Ask::Receive { pipe: pipe.copy()? }),
+        Ask::ReceiveCaps { pipe } => Ok(Ask::ReceiveCaps { pipe: pipe.copy()? }),
+        _ => unreachable!(),
+    }
+}
+
+fn copy_say(bytes: &ByteText) -> Result<Ask, NoMemory>
+    ensures { IfOk result (λ a. a ≡ Ask.Say bytes.now) }
+{
+    let bytes = bytes.copy()?;
+    Ok(Ask::Say { bytes })
+}
+
+fn copy_end(outcome: &Outcome) -> Result<Ask, NoMemory>
+    ensures { IfOk result (λ a. a ≡ Ask.End outcome.now) }
+{
+    let outcome = outcome.copy()?;
+    Ok(Ask::End(outcome))
 }
 
 fn copy_write(r: &Value, at: u64, v: &Value) -> Result<Ask, NoMemory>
     ensures { IfOk result (λ a. a ≡ Ask.Write r.now at v.now) }
 {
-    let r = r.copy()?;
-    let v = v.copy()?;
+    let (r, v) = both(r.copy(), v.copy())?;
     Ok(Ask::Write { r, at, v })
 }
 
 fn copy_copy(r: &Value, own: &Label) -> Result<Ask, NoMemory>
     ensures { IfOk result (λ a. a ≡ Ask.CopyTo r.now own.now) }
 {
-    let own = own.copy()?;
-    let r = r.copy()?;
+    let (r, own) = both(r.copy(), own.copy())?;
     Ok(Ask::CopyTo { r, own })
 }
 
 fn copy_enter(label: &Label, caps: &Caps, region: u32, args: &Values) -> Result<Ask, NoMemory>
     ensures { IfOk result (λ a. a ≡ Ask.Enter label.now caps.now region args.now) }
 {
-    let label = label.copy()?;
-    let caps = caps.copy()?;
-    let args = args.copy()?;
+    let ((label, caps), args) = both(both(label.copy(), caps.copy()), args.copy())?;
     Ok(Ask::Enter {
         label,
         caps,
@@ -261,25 +345,21 @@ fn copy_enter(label: &Label, caps: &Caps, region: u32, args: &Values) -> Result<
 fn copy_spawn(unit: u32, args: &Values, caps: &Caps) -> Result<Ask, NoMemory>
     ensures { IfOk result (λ a. a ≡ Ask.Spawn unit args.now caps.now) }
 {
-    let caps = caps.copy()?;
-    let args = args.copy()?;
+    let (args, caps) = both(args.copy(), caps.copy())?;
     Ok(Ask::Spawn { unit, args, caps })
 }
 
 fn copy_send_caps(pipe: &Name, caps: &Caps) -> Result<Ask, NoMemory>
     ensures { IfOk result (λ a. a ≡ Ask.SendCaps pipe.now caps.now) }
 {
-    let pipe = pipe.copy()?;
-    let caps = caps.copy()?;
+    let (pipe, caps) = both(pipe.copy(), caps.copy())?;
     Ok(Ask::SendCaps { pipe, caps })
 }
 
 fn copy_entry(name: &Name, bytes: &ByteText) -> Result<(Name, ByteText), NoMemory>
     ensures { IfOk result (λ p. (p.0 ≡ name.now) × (p.1 ≡ bytes.now)) }
 {
-    let name = name.copy()?;
-    let bytes = bytes.copy()?;
-    Ok((name, bytes))
+    both(name.copy(), bytes.copy())
 }
 
 fn copy_new_entry(
@@ -289,8 +369,6 @@ fn copy_new_entry(
 ) -> Result<(Name, ByteText, Label), NoMemory>
     ensures { IfOk result (λ p. (p.0 ≡ dir.now) × (p.1 ≡ entry.now) × (p.2 ≡ own.now)) }
 {
-    let dir = dir.copy()?;
-    let entry = entry.copy()?;
-    let own = own.copy()?;
+    let ((dir, entry), own) = both(copy_entry(dir, entry), own.copy())?;
     Ok((dir, entry, own))
 }

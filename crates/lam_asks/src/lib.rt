@@ -11,6 +11,7 @@
 
 mod answer;
 mod ask;
+mod both;
 mod fault;
 
 pub use answer::{Answer, Event, Outcome, What};

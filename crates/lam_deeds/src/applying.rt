@@ -1,12 +1,13 @@
 //! What an effect does to the stores.
 
-ghost use Rattle.std.specs.Prelude.{◌≡◌, ◌<◌, ◌+◌, IsTrue, None, OnOk, OnErr};
+ghost use Rattle.std.specs.Prelude.{ℕ, ◌≡◌, ◌<◌, ◌+◌, IsTrue, None, OnOk, OnErr};
 ghost use Rattle.std.specs.FinMap.{contains_key};
 ghost use Rattle.lam_value.specs.Homes.{home_of, count_in};
 ghost use Rattle.lam_value.specs.Shapes.{slots_of};
-ghost use Rattle.labelled_heap.specs.Things.{sort_of, with_thing, with_copy};
+ghost use Rattle.labelled_heap.specs.Things.{sort_of, with_thing, with_copy, with_slot};
 ghost use Rattle.labelled_files.specs.Trees.{first_fault, with_file, with_dir};
-ghost use Rattle.labelled_pipes.specs.Queues.{with_pipe};
+ghost use Rattle.labelled_pipes.specs.Queues.{with_pipe, with_sent};
+ghost use Rattle.lam_deeds.specs.Groups.{is_read, is_of_files, is_of_monitors};
 ghost use Rattle.lam_deeds.specs.Meaning.{meaning, IsAfter};
 ghost use Rattle.lam_deeds.specs.Room.{HasRoom};
 
@@ -14,9 +15,9 @@ use crate::effect::Effect;
 use flow_labels::Label;
 use labelled_files::{FileFault, Files};
 use labelled_heap::{Heap, HeapFault};
-use labelled_pipes::{PipeFault, Pipes};
+use labelled_pipes::{Message, PipeFault, Pipes};
 use lam_stores::Stores;
-use lam_value::{ByteText, Name, Shape};
+use lam_value::{ByteText, Name, Shape, Value};
 use want_of_memory::NoMemory;
 
 /// Changes the stores by an effect of a thread. That a thread is added changes no store.
@@ -30,67 +31,131 @@ pub fn apply(stores: &mut Stores, thread: u32, effect: Effect) -> Result<(), NoM
     ensures err { OnErr result (stores.new ≡ stores.old) }
 {
     match effect {
-        Effect::Nothing => return Ok(()),
-        Effect::AddsThread { .. } => return Ok(()),
-        Effect::TakesTag => {
-            stores.tags += 1;
-            return Ok(());
-        }
         Effect::SetsSlot { thing, at, v } => {
-            let _ = stores.heap.set(&thing, at, v);
-            return Ok(());
+            set_slot(&mut stores.heap, thing, at, v);
+            Ok(())
         }
         Effect::AddsThing { maker, own, shape } => {
-            return add_thing(&mut stores.heap, &maker, &own, shape);
+            add_thing(&mut stores.heap, maker, own, shape)
         }
-        Effect::AddsCopy { thing, maker, own } => {
-            return add_copy(&mut stores.heap, &thing, &maker, &own);
+        Effect::Sends { pipe, message } => send(&mut stores.pipes, pipe, message),
+        other => {
+            let done = change(stores, thread, &other);
+            drop(other);
+            done
         }
-        Effect::TakesMonitor { thing } => return stores.monitors.enter(&thing, thread),
-        Effect::GivesBack { thing } => {
-            stores.monitors.leave(&thing, thread);
-            return Ok(());
+    }
+}
+
+/// Changes the stores by an effect that is only read: nothing that it holds goes into a store.
+fn change(stores: &mut Stores, thread: u32, effect: &Effect) -> Result<(), NoMemory>
+    requires read { IsTrue (is_read effect.now) }
+    requires room { HasRoom thread (meaning effect.now) stores.old }
+    ensures ok { OnOk result (IsAfter thread effect.now stores.old stores.new) }
+    ensures err { OnErr result (stores.new ≡ stores.old) }
+{
+    match effect {
+        Effect::AddsFile { .. }
+        | Effect::AddsDir { .. }
+        | Effect::Removes { .. }
+        | Effect::Appends { .. }
+        | Effect::Cuts { .. } => change_files(stores, effect),
+        Effect::TakesMonitor { .. } | Effect::GivesBack { .. } | Effect::Drops { .. } => {
+            change_monitors(stores, thread, effect)
         }
-        Effect::Drops { things } => {
-            stores.monitors.drop_all(thread, &things);
-            return Ok(());
+        Effect::TakesTag => {
+            stores.tags += 1;
+            Ok(())
         }
+        Effect::AddsCopy { thing, maker, own } => add_copy(&mut stores.heap, thing, maker, own),
+        Effect::AddsPipe { maker, own } => add_pipe(&mut stores.pipes, maker, own),
+        Effect::Receives { pipe, kind } => {
+            let _ = stores.pipes.receive(pipe, *kind);
+            Ok(())
+        }
+        Effect::Nothing | Effect::AddsThread { .. } => Ok(()),
+        Effect::SetsSlot { .. } | Effect::AddsThing { .. } | Effect::Sends { .. } => {
+            unreachable!()
+        }
+    }
+}
+
+/// Changes the files by an effect on them. Whose it is makes no difference to them, nor to the room that it needs.
+fn change_files(stores: &mut Stores, effect: &Effect) -> Result<(), NoMemory>
+    requires files { IsTrue (is_of_files effect.now) }
+    requires room { HasRoom 0 (meaning effect.now) stores.old }
+    ensures ok { OnOk result ((thread : ℕ) → IsAfter thread effect.now stores.old stores.new) }
+    ensures err { OnErr result (stores.new ≡ stores.old) }
+{
+    let files = &mut stores.files;
+    match effect {
         Effect::AddsFile {
             dir,
             entry,
             maker,
             own,
-        } => return add_file(&mut stores.files, &dir, &entry, &maker, &own),
+        } => add_file(files, dir, entry, maker, own),
         Effect::AddsDir {
             dir,
             entry,
             maker,
             own,
-        } => return add_dir(&mut stores.files, &dir, &entry, &maker, &own),
+        } => add_dir(files, dir, entry, maker, own),
         Effect::Removes { dir, entry } => {
-            stores.files.remove(&dir, entry.bytes());
-            return Ok(());
+            files.remove(dir, entry.bytes());
+            Ok(())
         }
-        Effect::Appends { file, bytes } => return stores.files.append(&file, bytes.bytes()),
+        Effect::Appends { file, bytes } => files.append(file, bytes.bytes()),
         Effect::Cuts { file, len } => {
-            stores.files.cut(&file, len);
-            return Ok(());
+            files.cut(file, *len);
+            Ok(())
         }
-        Effect::AddsPipe { maker, own } => return add_pipe(&mut stores.pipes, &maker, &own),
-        Effect::Sends { pipe, message } => return stores.pipes.send(&pipe, message),
-        Effect::Receives { pipe, kind } => {
-            let _ = stores.pipes.receive(&pipe, kind);
-            return Ok(());
-        }
+        _ => unreachable!(),
     }
 }
 
-fn add_thing(heap: &mut Heap, maker: &Label, own: &Label, shape: Shape) -> Result<(), NoMemory>
-    requires { count_in heap.old.counts (home_of maker.now own.now) < 1048576 }
-    ensures ok { OnOk result (heap.new ≡ with_thing heap.old (home_of maker.now own.now) (sort_of shape) (slots_of shape)) }
+/// Changes the monitors by an effect of a thread on them.
+fn change_monitors(stores: &mut Stores, thread: u32, effect: &Effect) -> Result<(), NoMemory>
+    requires monitors { IsTrue (is_of_monitors effect.now) }
+    requires room { HasRoom thread (meaning effect.now) stores.old }
+    ensures ok { OnOk result (IsAfter thread effect.now stores.old stores.new) }
+    ensures err { OnErr result (stores.new ≡ stores.old) }
+{
+    match effect {
+        Effect::TakesMonitor { thing } => stores.monitors.enter(thing, thread),
+        Effect::GivesBack { thing } => {
+            stores.monitors.leave(thing, thread);
+            Ok(())
+        }
+        Effect::Drops { things } => {
+            stores.monitors.drop_all(thread, things);
+            Ok(())
+        }
+        _ => unreachable!(),
+    }
+}
+
+/// A slot holds another value, where the thing lives and has it.
+fn set_slot(heap: &mut Heap, thing: Name, at: u64, v: Value)
+    ensures { heap.new ≡ with_slot heap.old thing at v }
+{
+    let _ = heap.set(&thing, at, v);
+}
+
+/// A message at a pipe's end, or dropped where the pipe is full.
+fn send(pipes: &mut Pipes, pipe: Name, message: Message) -> Result<(), NoMemory>
+    ensures ok { OnOk result (pipes.new ≡ with_sent pipes.old pipe message) }
+    ensures err { OnErr result (pipes.new ≡ pipes.old) }
+{
+    pipes.send(&pipe, message)
+}
+
+fn add_thing(heap: &mut Heap, maker: Label, own: Label, shape: Shape) -> Result<(), NoMemory>
+    requires { count_in heap.old.counts (home_of maker own) < 1048576 }
+    ensures ok { OnOk result (heap.new ≡ with_thing heap.old (home_of maker own) (sort_of shape) (slots_of shape)) }
     ensures err { OnErr result (heap.new ≡ heap.old) }
 {
-    match heap.make(maker, own, shape) {
+    match heap.make(&maker, &own, shape) {
         Ok(_) => return Ok(()),
         Err(HeapFault::NoMemory) => return Err(NoMemory),
         Err(HeapFault::HomeFull) => unreachable!(),

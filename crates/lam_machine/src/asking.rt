@@ -10,7 +10,6 @@ ghost use Rattle.lam_stores.specs.Parts.{world_of};
 ghost use Rattle.lam_turn_parts.specs.Turned.{IsTurn};
 ghost use Rattle.lam_machine.specs.Asking.{label_at, IsReadiness, MayAsk, Serves, Fits, Applied, with_born, Took, TookAt};
 
-use crate::letting::drop_effect;
 use lam_asks::{Answer, Ask};
 use lam_bytecode::Code;
 use lam_deeds::{Deed, Effect, apply};
@@ -65,12 +64,18 @@ pub fn take_ask(
     let Deed { answer, effect } = served(stores, threads.as_slice(), thread, ask)?;
     match answer.copy() {
         Err(error) => {
-            drop_effect(effect);
+            drop(answer);
+            drop(effect);
             Err(error)
         }
         Ok(copy) => {
-            enact(alloc, stores, threads, thread, code, ask, answer, effect)?;
-            Ok(copy)
+            match enact(alloc, stores, threads, thread, code, ask, answer, effect) {
+                Ok(()) => Ok(copy),
+                Err(error) => {
+                    drop(copy);
+                    Err(error)
+                }
+            }
         }
     }
 }
@@ -107,7 +112,8 @@ fn enact(
 {
     match add_born(alloc, threads, code, &effect) {
         Err(error) => {
-            drop_effect(effect);
+            drop(answer);
+            drop(effect);
             Err(error)
         }
         Ok(count) => {
@@ -149,8 +155,8 @@ fn push_born(
 {
     match effect {
         Effect::AddsThread { unit, args, caps } => {
-            let args = args.copy()?;
             let caps = caps.copy()?;
+            let args = args.copy()?;
             let thread = LamThread::start(alloc, code, *unit, args, caps)?;
             threads.push(thread)?;
             Ok(())
@@ -204,21 +210,28 @@ fn settle(
     let taken = replace(slot, LamThread::ended(alloc));
     match make_ready(taken, code, ask, answer) {
         Err(back) => {
-            *slot = back;
-            drop_effect(effect);
+            put(slot, back);
+            drop(effect);
             return Err(NoMemory);
         }
         Ok(prepared) => match apply_to(stores, thread, effect) {
             Err(error) => {
-                *slot = prepared.back();
+                put(slot, prepared.back());
                 return Err(error);
             }
             Ok(()) => {
-                *slot = prepared.done();
+                put(slot, prepared.done());
                 return Ok(());
             }
         },
     }
+}
+
+/// A thread stands in a place in place of another, which is let go.
+fn put(slot: &mut LamThread, thread: LamThread)
+    ensures { slot.new ≡ thread }
+{
+    drop(replace(slot, thread));
 }
 
 /// A thread takes all memory that an answer needs, or is as it was.

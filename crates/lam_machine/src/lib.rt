@@ -7,7 +7,6 @@
 #![tactic(auto)]
 
 mod asking;
-mod letting;
 mod privately;
 mod stepping;
 

@@ -62,8 +62,14 @@ fn take_step(
             what: What::Private,
         })),
         Turn::Asks(ask) => step_asking(alloc, stores, threads, code, label, thread, ask),
-        Turn::Stuck => Ok(None),
-        Turn::Ended => Ok(None),
+        Turn::Stuck => {
+            drop(label);
+            Ok(None)
+        }
+        Turn::Ended => {
+            drop(label);
+            Ok(None)
+        }
     }
 }
 
@@ -119,10 +125,12 @@ fn step_asking(
         })),
         Ok(None) => {
             let_go(ask);
+            drop(label);
             Ok(None)
         }
         Err(error) => {
             let_go(ask);
+            drop(label);
             Err(error)
         }
     }

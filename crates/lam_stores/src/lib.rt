@@ -9,8 +9,12 @@
 #![tactic(auto)]
 
 ghost use Rattle.std.specs.Prelude.{◌≡◌, IfOk};
+ghost use Rattle.labelled_files.specs.Trees.{root_alone};
 ghost use Rattle.lam_stores.specs.Parts.{first_stores};
 
+mod both;
+
+use crate::both::both;
 use flow_labels::TagNames;
 use labelled_files::Files;
 use labelled_heap::Heap;
@@ -44,16 +48,13 @@ impl Stores {
     pub fn new(alloc: Global, names: TagNames) -> Result<Stores, NoMemory>
         ensures { IfOk result (λ s. s ≡ first_stores names) }
     {
-        let tags = names.count();
-        let files = Files::new(alloc)?;
-        Ok(Stores {
-            names,
-            tags,
-            heap: Heap::new(alloc),
-            monitors: Monitors::new(alloc),
-            files,
-            pipes: Pipes::new(alloc),
-        })
+        match Files::new(alloc) {
+            Ok(files) => Ok(with_files(alloc, names, files)),
+            Err(error) => {
+                drop(names);
+                Err(error)
+            }
+        }
     }
 
     /// Equal stores.
@@ -64,11 +65,12 @@ impl Stores {
     pub fn copy(&self) -> Result<Stores, NoMemory>
         ensures { IfOk result (λ s. s ≡ self.now) }
     {
-        let names = self.names.copy()?;
-        let heap = self.heap.copy()?;
-        let monitors = self.monitors.copy()?;
-        let files = self.files.copy()?;
-        let pipes = self.pipes.copy()?;
+        let things = both(self.heap.copy(), self.monitors.copy());
+        let streams = both(self.files.copy(), self.pipes.copy());
+        let (names, ((heap, monitors), (files, pipes))) = both(
+            self.names.copy(),
+            both(things, streams),
+        )?;
         Ok(Stores {
             names,
             tags: self.tags,
@@ -77,5 +79,21 @@ impl Stores {
             files,
             pipes,
         })
+    }
+}
+
+/// The stores in which nothing was made but these files.
+fn with_files(alloc: Global, names: TagNames, files: Files) -> Stores
+    requires { files ≡ root_alone }
+    ensures { result ≡ first_stores names }
+{
+    let tags = names.count();
+    Stores {
+        names,
+        tags,
+        heap: Heap::new(alloc),
+        monitors: Monitors::new(alloc),
+        files,
+        pipes: Pipes::new(alloc),
     }
 }

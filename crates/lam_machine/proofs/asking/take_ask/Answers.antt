@@ -20,14 +20,14 @@ enact-requires-clause-room c =
     fits c.args.code.now c.args.stores.now c.args.threads.now.items c.args.thread c.args.ask.now c.requires.asks c.in_ok-answer.field-0
     (subst (λ (xs : List Thread). Serves (world_of c.args.stores.now xs) c.args.thread c.args.ask.now c.in_ok-answer.field-0) c.as_slice.ensures.value c.in_ok-answer.ensures)
 
-pub returns-in_ok-enact-in-Ok-clause-ok : goal.returns-in_ok-enact-in-Ok-clause-ok
-returns-in_ok-enact-in-Ok-clause-ok c = λ l e.
+pub returns-in-Ok-enact-clause-ok : goal.returns-in-Ok-enact-clause-ok
+returns-in-Ok-enact-clause-ok c = λ l e.
     taken c.args.code.now c.args.stores.now c.args.threads.now.items c.args.thread c.args.ask.now c.requires.asks l c.in_ok-answer.field-0 c.in-Ok.copy _ _ e c.in-Ok.ensures
     (subst (λ (xs : List Thread). Serves (world_of c.args.stores.now xs) c.args.thread c.args.ask.now c.in_ok-answer.field-0) c.as_slice.ensures.value c.in_ok-answer.ensures)
-    c.in_ok-enact-in-Ok.ensures.stores c.in_ok-enact-in-Ok.ensures.threads
+    c.in-Ok-enact.ensures.stores c.in-Ok-enact.ensures.threads
 
-pub returns-in_ok-enact-in-Ok-clause-few : goal.returns-in_ok-enact-in-Ok-clause-few
-returns-in_ok-enact-in-Ok-clause-few c =
+pub returns-in-Ok-enact-clause-few : goal.returns-in-Ok-enact-clause-few
+returns-in-Ok-enact-clause-few c =
     few_after c.args.code.now c.args.stores.now c.args.threads.now.items c.args.thread c.args.ask.now c.requires.asks c.in_ok-answer.field-0 _
     (subst (λ (xs : List Thread). Serves (world_of c.args.stores.now xs) c.args.thread c.args.ask.now c.in_ok-answer.field-0) c.as_slice.ensures.value c.in_ok-answer.ensures)
-    c.in_ok-enact-in-Ok.ensures.threads c.requires.few
+    c.in-Ok-enact.ensures.threads c.requires.few
