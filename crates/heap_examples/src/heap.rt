@@ -43,10 +43,15 @@ fn writes_one(alloc: Global, cells: &mut Cells) -> Option<bool> {
     Some(wrote & is_public(cells, second) & cells.find(2).is_none())
 }
 
+/// Whether a write to new cells changes its own cell alone.
+fn new_writes_one(alloc: Global) -> Option<bool> {
+    let mut cells = Cells::new(alloc);
+    writes_one(alloc, &mut cells)
+}
+
 #[test]
 fn a_cell_is_written_alone(rt: HostRuntime) {
-    let mut cells = Cells::new(rt.alloc());
-    assert!(rt; writes_one(rt.alloc(), &mut cells) == Some(true));
+    assert!(rt; new_writes_one(rt.alloc()) == Some(true));
 }
 
 /// Makes a public array of one number.
@@ -114,10 +119,16 @@ fn writes_and_copies(heap: &mut Heap, public: &Label) -> Option<bool> {
     Some(wrote & is_like(heap, &other, public))
 }
 
+/// Whether what is written in a new heap is read, also from a copy.
+fn new_writes_and_copies(alloc: Global) -> Option<bool> {
+    let public = Label::public(alloc);
+    let mut heap = Heap::new(alloc);
+    writes_and_copies(&mut heap, &public)
+}
+
 #[test]
 fn a_copy_has_what_was_written(rt: HostRuntime) {
-    let mut heap = Heap::new(rt.alloc());
-    assert!(rt; writes_and_copies(&mut heap, &Label::public(rt.alloc())) == Some(true));
+    assert!(rt; new_writes_and_copies(rt.alloc()) == Some(true));
 }
 
 /// Whether two heaps are equal, and equal where the public observer sees.
@@ -133,10 +144,20 @@ fn are_copies(heap: &mut Heap, copy: &Heap, public: &Label) -> bool {
     before & made & !are_same(heap, copy, public)
 }
 
-#[test]
-fn a_copied_heap_is_equal(rt: HostRuntime) -> Result<(), NoMemory> {
-    let mut heap = Heap::new(rt.alloc());
+/// Whether a heap is equal to its copy, until something is made in it.
+fn is_copied(heap: &mut Heap, public: &Label) -> Result<bool, NoMemory> {
     let copy = heap.copy()?;
-    assert!(rt; are_copies(&mut heap, &copy, &Label::public(rt.alloc())));
-    Ok(())
+    Ok(are_copies(heap, &copy, public))
+}
+
+/// Whether a new heap is equal to its copy, until something is made in it.
+fn new_is_copied(alloc: Global) -> Result<bool, NoMemory> {
+    let public = Label::public(alloc);
+    let mut heap = Heap::new(alloc);
+    is_copied(&mut heap, &public)
+}
+
+#[test]
+fn a_copied_heap_is_equal(rt: HostRuntime) {
+    assert!(rt; new_is_copied(rt.alloc()) == Ok(true));
 }

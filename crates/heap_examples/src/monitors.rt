@@ -3,6 +3,7 @@
 use flow_labels::Label;
 use lam_value::Name;
 use monitor_core::{Holder, Monitors, TAKINGS_LIMIT};
+use std::alloc::Global;
 use tag_sets::NoMemory;
 
 /// A thread takes a monitor, and it is said whether it could.
@@ -26,23 +27,43 @@ fn is_taken_again(monitors: &mut Monitors, name: &Name) -> bool {
     own & !other & again & is_held(monitors, name, 0, 2)
 }
 
-/// Whether another thread leaves in vain, and the holder's exits free a monitor.
-fn is_left(monitors: &mut Monitors, name: &Name, listed: &[Name]) -> bool {
+/// The holder of a monitor lets go of all that it holds, which is this one.
+fn drop_held(monitors: &mut Monitors, name: Name) {
+    monitors.drop_all(0, &[name]);
+}
+
+/// Whether another thread leaves in vain, and the holder's exits free a monitor. `listed` is the same name.
+fn is_left(monitors: &mut Monitors, name: &Name, listed: Name) -> bool {
     monitors.leave(name, 1);
     let held = is_held(monitors, name, 0, 2);
     monitors.leave(name, 0);
-    monitors.drop_all(0, listed);
+    drop_held(monitors, listed);
     held & monitors.is_free_for(name, 1)
 }
 
+/// The name of the first public monitor.
+fn first(alloc: Global) -> Result<Name, NoMemory> {
+    let public = Label::public(alloc);
+    Name::of(&public, &public, 0)
+}
+
+/// Whether a new monitor is taken again and left.
+fn is_taken_and_left(alloc: Global, name: &Name) -> Result<bool, NoMemory> {
+    let listed = name.copy()?;
+    let mut monitors = Monitors::new(alloc);
+    let taken = is_taken_again(&mut monitors, name);
+    Ok(taken & is_left(&mut monitors, name, listed))
+}
+
+/// Whether the first public monitor is taken again and left.
+fn first_is_taken_and_left(alloc: Global) -> Result<bool, NoMemory> {
+    let name = first(alloc)?;
+    is_taken_and_left(alloc, &name)
+}
+
 #[test]
-fn monitor_is_reentrant(rt: HostRuntime) -> Result<(), NoMemory> {
-    let public = Label::public(rt.alloc());
-    let name = Name::of(&public, &public, 0)?;
-    let mut monitors = Monitors::new(rt.alloc());
-    assert!(rt; is_taken_again(&mut monitors, &name));
-    assert!(rt; is_left(&mut monitors, &name, &[name.copy()?]));
-    Ok(())
+fn monitor_is_reentrant(rt: HostRuntime) {
+    assert!(rt; first_is_taken_and_left(rt.alloc()) == Ok(true));
 }
 
 /// Whether two have the same monitors held, and the same where the public observer sees.
@@ -58,12 +79,20 @@ fn are_copies(monitors: &mut Monitors, copy: &Monitors, name: &Name) -> bool {
     before & took & !are_same(monitors, copy, name.own())
 }
 
-#[test]
-fn copied_monitors_are_equal(rt: HostRuntime) -> Result<(), NoMemory> {
-    let public = Label::public(rt.alloc());
-    let name = Name::of(&public, &public, 0)?;
-    let mut monitors = Monitors::new(rt.alloc());
+/// Whether new monitors are equal to their copy, until one of them is taken.
+fn new_are_copied(alloc: Global, name: &Name) -> Result<bool, NoMemory> {
+    let mut monitors = Monitors::new(alloc);
     let copy = monitors.copy()?;
-    assert!(rt; are_copies(&mut monitors, &copy, &name));
-    Ok(())
+    Ok(are_copies(&mut monitors, &copy, name))
+}
+
+/// Whether monitors are equal to their copy, until the first public one is taken.
+fn are_copied_until_first(alloc: Global) -> Result<bool, NoMemory> {
+    let name = first(alloc)?;
+    new_are_copied(alloc, &name)
+}
+
+#[test]
+fn copied_monitors_are_equal(rt: HostRuntime) {
+    assert!(rt; are_copied_until_first(rt.alloc()) == Ok(true));
 }

@@ -1,6 +1,6 @@
 //! Capabilities: what they allow, and their texts.
 
-use crate::labels::three_names;
+use crate::labels::known_names;
 use crate::sets::has;
 use capabilities::{Caps, CapsFault, caps_text, parse_caps};
 use flow_labels::{Denied, Label, Rule, TagNames};
@@ -33,27 +33,52 @@ fn drops_both(release: &Caps) -> bool {
     has(&release.minus, &[TagId(3), TagId(4)]) & release.plus.tags().is_empty()
 }
 
+/// Whether a change is allowed with what it uses, which is both tags.
+fn is_allowed(
+    caps: &Caps,
+    release: &Caps,
+    secret: &Label,
+    public: &Label,
+) -> Result<bool, NoMemory> {
+    let held = caps.join(release)?;
+    let allowed = held.covers(caps).is_none() & held.change_rule(secret, public).is_none();
+    Ok(allowed & drops_both(release))
+}
+
 /// Whether a change needs both tags, which what it uses has.
 fn needs_both(caps: &Caps, secret: &Label, public: &Label) -> Result<bool, NoMemory> {
     let release = Caps::used(secret, public)?;
-    let held = caps.join(&release)?;
-    let allowed = held.covers(caps).is_none() & held.change_rule(secret, public).is_none();
-    Ok(allowed & drops_both(&release))
+    is_allowed(caps, &release, secret, public)
+}
+
+/// Whether capabilities allow less than this release takes, and with it all of it.
+fn lack(caps: &Caps, secret: &Label, public: &Label) -> Result<bool, NoMemory> {
+    Ok(are_too_few(caps, secret, public) & needs_both(caps, secret, public)?)
 }
 
 /// Whether capabilities over tag 3 allow less than a release of 3 and 4 takes.
 fn are_joined(caps: &Caps) -> Result<bool, NoMemory> {
     let secret = secret(caps.allocator())?;
     let public = Label::public(caps.allocator());
-    Ok(are_too_few(caps, &secret, &public) & needs_both(caps, &secret, &public)?)
+    lack(caps, &secret, &public)
+}
+
+/// Tag 3 with both signs.
+fn both(alloc: Global) -> Result<Caps, NoMemory> {
+    let none = Caps::none(alloc);
+    none.with_both(TagId(3))
+}
+
+/// Whether these capabilities are tag 3 with both signs.
+fn are_both(caps: &Caps) -> Result<bool, NoMemory> {
+    let held = has(&caps.plus, &[TagId(3)]) & has(&caps.minus, &[TagId(3)]);
+    Ok(held & are_joined(caps)?)
 }
 
 /// Whether tag 3 is held with both signs.
 fn has_both_signs(alloc: Global) -> Result<bool, NoMemory> {
-    let none = Caps::none(alloc);
-    let caps = none.with_both(TagId(3))?;
-    let held = has(&caps.plus, &[TagId(3)]) & has(&caps.minus, &[TagId(3)]);
-    Ok(held & are_joined(&caps)?)
+    let caps = both(alloc)?;
+    are_both(&caps)
 }
 
 #[test]
@@ -67,11 +92,15 @@ fn has_text(caps: &Caps, names: &TagNames, want: &str) -> Result<bool, NoMemory>
     Ok(text.as_str() == want)
 }
 
+/// Whether capabilities are printed with a tag that has no name.
+fn are_numbered(caps: &Caps, names: &TagNames) -> Result<bool, NoMemory> {
+    let minted = caps.with_both(TagId(12))?;
+    has_text(&minted, names, "+{a,#12}-{a,b,#12}")
+}
+
 /// Whether capabilities are printed, also with a tag that has no name.
 fn are_printed(caps: &Caps, names: &TagNames) -> Result<bool, NoMemory> {
-    let minted = caps.with_both(TagId(12))?;
-    let numbered = has_text(&minted, names, "+{a,#12}-{a,b,#12}")?;
-    Ok(numbered & has_text(caps, names, "+{a}-{a,b}")?)
+    Ok(are_numbered(caps, names)? & has_text(caps, names, "+{a}-{a,b}")?)
 }
 
 /// Whether capabilities are read and printed.
@@ -92,10 +121,15 @@ fn are_refused(names: &TagNames) -> bool {
     begin & cut & is_refused("+{a}-{a,c}", names, CapsFault::NoTag { at: 8 })
 }
 
+/// Whether capabilities are read with names, and others refused.
+fn reads(names: &TagNames) -> Option<bool> {
+    Some(are_read(names)? & are_refused(names))
+}
+
 /// Whether capabilities are read where three names are known, and others refused.
 fn reads_known(alloc: Global) -> Option<bool> {
-    let names = three_names(alloc).ok()?;
-    Some(are_read(&names)? & are_refused(&names))
+    let names = known_names(alloc)?;
+    reads(&names)
 }
 
 #[test]

@@ -7,7 +7,7 @@ use flow_labels::{
 };
 use std::alloc::Global;
 use tag_name_lists::same_names;
-use tag_sets::{NoMemory, TagId};
+use tag_sets::{NoMemory, TagId, TagSet};
 
 /// Adds the names of the tags 0, 1 and 2.
 fn add_three(names: &mut TagNames) -> Result<(), NameFault> {
@@ -18,10 +18,15 @@ fn add_three(names: &mut TagNames) -> Result<(), NameFault> {
 }
 
 /// The names `a`, `b` and `t`.
-pub(crate) fn three_names(alloc: Global) -> Result<TagNames, NameFault> {
+fn three_names(alloc: Global) -> Result<TagNames, NameFault> {
     let mut names = TagNames::new(alloc);
     add_three(&mut names)?;
     Ok(names)
+}
+
+/// The same, where memory is not wanting.
+pub(crate) fn known_names(alloc: Global) -> Option<TagNames> {
+    three_names(alloc).ok()
 }
 
 /// Whether tags are found by their names, and a name by its tag.
@@ -31,11 +36,16 @@ fn are_found(names: &TagNames) -> bool {
     text & bytes & (names.name(TagId(1)).unwrap_or("?") == "b")
 }
 
+/// Whether tags are found in the copy of names.
+fn copy_is_found(names: &TagNames) -> Result<bool, NameFault> {
+    let copy = names.copy()?;
+    Ok(are_found(&copy))
+}
+
 /// Whether copied names are found.
 fn copies_are_found(alloc: Global) -> Result<bool, NameFault> {
     let names = three_names(alloc)?;
-    let copy = names.copy()?;
-    Ok(are_found(&copy))
+    copy_is_found(&names)
 }
 
 #[test]
@@ -43,12 +53,17 @@ fn names_are_kept(rt: HostRuntime) {
     assert!(rt; copies_are_found(rt.alloc()) == Ok(true));
 }
 
+/// Whether names are those of a copy until one is added.
+fn are_those_of(names: &mut TagNames, copy: &TagNames) -> Result<bool, NameFault> {
+    let before = same_names(names, copy);
+    names.add("c")?;
+    Ok(before & !same_names(names, copy))
+}
+
 /// Whether names are those of their copy until one is added.
 fn are_copied(names: &mut TagNames) -> Result<bool, NameFault> {
     let copy = names.copy()?;
-    let before = same_names(names, &copy);
-    names.add("c")?;
-    Ok(before & !same_names(names, &copy))
+    are_those_of(names, &copy)
 }
 
 /// Whether three names are copied.
@@ -81,24 +96,34 @@ fn is_numbered(names: &TagNames) -> Result<bool, NoMemory> {
     Ok(text.as_str() == "#12")
 }
 
-/// Whether a label is written with names and without.
+/// Whether a label is written without names.
+fn is_bare(label: &Label, alloc: Global) -> Result<bool, NoMemory> {
+    let none = TagNames::new(alloc);
+    has_text(label, &none, "{#0,#1}/{#2}")
+}
+
+/// Whether a label is written with names and without, and a tag without a name.
 fn is_written(label: &Label, names: &TagNames) -> Result<bool, NoMemory> {
-    let none = TagNames::new(names.allocator());
-    let bare = has_text(label, &none, "{#0,#1}/{#2}")?;
-    Ok(bare & has_text(label, names, "{a,b}/{t}")? & is_pushed(label, names)?)
+    let text = is_bare(label, names.allocator())? & has_text(label, names, "{a,b}/{t}")?;
+    Ok(text & is_pushed(label, names)? & is_numbered(names)?)
+}
+
+/// Whether the copy of a label is written.
+fn copy_is_written(label: &Label, names: &TagNames) -> Result<bool, NoMemory> {
+    let copy = label.copy()?;
+    is_written(&copy, names)
 }
 
 /// Whether the copy of a label that was read is written.
 fn is_read_and_written(names: &TagNames) -> Option<bool> {
     let label = parse_label("{b,a,b}/{t}", names).ok()?;
-    let copy = label.copy().ok()?;
-    is_written(&copy, names).ok()
+    copy_is_written(&label, names).ok()
 }
 
 /// Whether a label is written with its names, and a tag without one.
 fn are_written(alloc: Global) -> Option<bool> {
-    let names = three_names(alloc).ok()?;
-    Some(is_read_and_written(&names)? & is_numbered(&names).ok()?)
+    let names = known_names(alloc)?;
+    is_read_and_written(&names)
 }
 
 #[test]
@@ -129,16 +154,26 @@ fn a_text_that_is_no_label(rt: HostRuntime) {
     assert!(rt; label_form("{x}/{y,z}"));
 }
 
+/// Whether two sets are written as this text.
+fn are_kept(
+    first: &TagSet,
+    second: &TagSet,
+    text: &str,
+    names: &TagNames,
+) -> Result<bool, NoMemory> {
+    let again = sets_text(Form::Caps, first, second, names)?;
+    Ok(again.as_str() == text)
+}
+
 /// Whether the text of two sets is read and written as the same text.
 fn is_kept(text: &str, names: &TagNames) -> Option<bool> {
     let sets = read_sets(text.as_bytes(), names).ok()?;
-    let again = sets_text(Form::Caps, &sets.first, &sets.second, names).ok()?;
-    Some(again.as_str() == text)
+    are_kept(&sets.first, &sets.second, text, names).ok()
 }
 
 /// Whether the text of two sets is kept where three names are known.
 fn marks_are_kept(alloc: Global, text: &str) -> Option<bool> {
-    let names = three_names(alloc).ok()?;
+    let names = known_names(alloc)?;
     is_kept(text, &names)
 }
 
@@ -169,15 +204,20 @@ fn is_free(public: &Label) -> bool {
 
 /// The label `{a,b}/{}`.
 fn secret(alloc: Global) -> Option<Label> {
-    let names = three_names(alloc).ok()?;
+    let names = known_names(alloc)?;
     parse_label("{b,a}/{}", &names).ok()
+}
+
+/// Whether what is public forbids nothing, and is kept apart from a secret.
+fn public_is_apart(alloc: Global, secret: &Label) -> bool {
+    let public = Label::public(alloc);
+    are_apart(&public, secret) & is_free(&public)
 }
 
 /// Whether the rules name the least tag of a secret.
 fn name_least(alloc: Global) -> Option<bool> {
     let secret = secret(alloc)?;
-    let public = Label::public(alloc);
-    Some(are_apart(&public, &secret) & is_free(&public))
+    Some(public_is_apart(alloc, &secret))
 }
 
 #[test]

@@ -8,11 +8,16 @@ pub(crate) fn has(set: &TagSet, tags: &[TagId]) -> bool {
     set.tags() == tags
 }
 
+/// Whether two sets have these tags together.
+fn have_together(set: &TagSet, other: &TagSet, tags: &[TagId]) -> Result<bool, NoMemory> {
+    let union = set.union(other)?;
+    Ok(has(&union, tags))
+}
+
 /// Whether tag 2 is put between 1 and 3.
 fn takes_two(set: &TagSet) -> Result<bool, NoMemory> {
     let two = TagSet::one(set.allocator(), TagId(2));
-    let union = set.union(&two)?;
-    Ok(has(&union, &[TagId(1), TagId(2), TagId(3)]))
+    have_together(set, &two, &[TagId(1), TagId(2), TagId(3)])
 }
 
 /// Whether 3 is left without 1.
@@ -22,11 +27,16 @@ fn loses_one(set: &TagSet) -> Result<bool, NoMemory> {
     Ok(has(&rest, &[TagId(3)]))
 }
 
-/// Whether the set of 3, 1 and 3 is that of 1 and 3, also for what is made of it.
+/// Whether a set is that of 1 and 3, also for what is made of it.
+fn has_one_and_three(set: &TagSet) -> Result<bool, NoMemory> {
+    let made = takes_two(set)? & loses_one(set)?;
+    Ok(made & has(set, &[TagId(1), TagId(3)]))
+}
+
+/// Whether the set of 3, 1 and 3 is that of 1 and 3.
 fn is_one_and_three(alloc: Global) -> Result<bool, NoMemory> {
     let set = TagSet::from_slice(alloc, &[TagId(3), TagId(1), TagId(3)])?;
-    let made = takes_two(&set)? & loses_one(&set)?;
-    Ok(made & has(&set, &[TagId(1), TagId(3)]))
+    has_one_and_three(&set)
 }
 
 #[test]
@@ -34,11 +44,16 @@ fn three_one_three_is_the_set_of_one_and_three(rt: HostRuntime) {
     assert!(rt; is_one_and_three(rt.alloc()) == Ok(true));
 }
 
+/// Whether a set takes a tag, and a copy has so many tags, which are the set's.
+fn takes(set: &mut TagSet, tag: TagId, copy: &TagSet, count: usize) -> Result<bool, NoMemory> {
+    set.insert(tag)?;
+    Ok((copy.tags().len() == count) & copy.is_subset(set) & set.contains(tag))
+}
+
 /// Whether a set takes a tag, and its copy keeps as many tags as it had.
 fn grows_alone(set: &mut TagSet, tag: TagId, count: usize) -> Result<bool, NoMemory> {
     let copy = set.copy()?;
-    set.insert(tag)?;
-    Ok((copy.tags().len() == count) & copy.is_subset(set) & set.contains(tag))
+    takes(set, tag, &copy, count)
 }
 
 /// Whether a set takes four tags, of which the last was there.
@@ -52,11 +67,17 @@ fn has_three(set: &TagSet) -> bool {
     has(set, &[TagId(2), TagId(5), TagId(9)]) & (set.first() == Some(TagId(2)))
 }
 
+/// Whether an empty set grows, and has its three tags.
+fn empty_grows(alloc: Global) -> Result<bool, NoMemory> {
+    let mut set = TagSet::empty(alloc);
+    let grew = grows(&mut set);
+    let all = has_three(&set);
+    Ok(grew? & all)
+}
+
 #[test]
 fn a_copy_keeps_its_tags_when_its_source_grows(rt: HostRuntime) {
-    let mut set = TagSet::empty(rt.alloc());
-    assert!(rt; grows(&mut set) == Ok(true));
-    assert!(rt; has_three(&set));
+    assert!(rt; empty_grows(rt.alloc()) == Ok(true));
 }
 
 /// Whether what is missing of the tags 4 and 7 is named, where 4, 6 and 8 are.
@@ -73,10 +94,20 @@ fn is_same(few: &TagSet, more: &TagSet) -> Result<bool, NoMemory> {
 }
 
 /// Whether two sets are told apart.
+fn are_apart(few: &TagSet, more: &TagSet) -> Result<bool, NoMemory> {
+    Ok(names_missing(few, more) & is_same(few, more)?)
+}
+
+/// Whether a set is told apart from that of 4, 6 and 8.
+fn is_apart(alloc: Global, few: &TagSet) -> Result<bool, NoMemory> {
+    let more = TagSet::from_slice(alloc, &[TagId(4), TagId(6), TagId(8)])?;
+    are_apart(few, &more)
+}
+
+/// Whether the set of 4 and 7 is told apart from that of 4, 6 and 8.
 fn differ(alloc: Global) -> Result<bool, NoMemory> {
     let few = TagSet::from_slice(alloc, &[TagId(4), TagId(7)])?;
-    let more = TagSet::from_slice(alloc, &[TagId(4), TagId(6), TagId(8)])?;
-    Ok(names_missing(&few, &more) & is_same(&few, &more)?)
+    is_apart(alloc, &few)
 }
 
 #[test]

@@ -6,7 +6,7 @@ ghost use Rattle.lam_worlds.specs.Valid.{IsValid};
 use crate::codes::{Written, code_of};
 use audit_log::view_text;
 use decimal_text::push_number;
-use flow_labels::parse_label;
+use flow_labels::{Label, parse_label};
 use lam_bytecode::Code;
 use lam_world::World;
 use letting_go::let_go_event;
@@ -103,14 +103,17 @@ fn take_turn(run: &mut Run, thread: u32) -> Result<(), Fail> {
     Ok(())
 }
 
-/// What an observer sees of the turns of a run, which are taken once more from a copy of its start.
+/// What an observer sees of the turns of a run.
 fn lines_of(alloc: Global, run: &Run, observer: &str) -> Result<String, Fail> {
-    let names = &run.start().stores().names;
-    let label = parse_label(observer, names)?;
-    let turns = run.turns();
+    let label = parse_label(observer, &run.start().stores().names)?;
+    lines_for(alloc, run, &label)
+}
+
+/// What the observer with this label sees of the turns of a run, which are taken once more from a copy of its start.
+fn lines_for(alloc: Global, run: &Run, label: &Label) -> Result<String, Fail> {
     let start = run.start().copy()?;
-    let seen = seen_by(alloc, run.code(), start, turns, &label)?;
-    let text = view_text(alloc, seen.as_slice(), names);
+    let seen = seen_by(alloc, run.code(), start, run.turns(), label)?;
+    let text = view_text(alloc, seen.as_slice(), &run.start().stores().names);
     forget(seen);
     Ok(text?)
 }

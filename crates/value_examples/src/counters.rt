@@ -3,6 +3,7 @@
 use crate::values::secret;
 use flow_labels::Label;
 use lam_value::Counters;
+use std::alloc::Global;
 use tag_sets::NoMemory;
 
 /// Takes the next number of a home, which is this one.
@@ -47,8 +48,13 @@ fn count(counters: &mut Counters, public: &Label) -> Result<bool, NoMemory> {
     Ok(homes_count_apart(counters, public)? & are_copied(counters, public)?)
 }
 
+/// Whether new counters count.
+fn new_count(alloc: Global) -> Result<bool, NoMemory> {
+    let mut counters = Counters::new(alloc);
+    count(&mut counters, &Label::public(alloc))
+}
+
 #[test]
 fn each_home_counts_for_itself(rt: HostRuntime) {
-    let mut counters = Counters::new(rt.alloc());
-    assert!(rt; count(&mut counters, &Label::public(rt.alloc())) == Ok(true));
+    assert!(rt; new_count(rt.alloc()) == Ok(true));
 }

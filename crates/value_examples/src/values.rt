@@ -17,6 +17,9 @@ pub(crate) fn secret(alloc: Global) -> Result<Label, NoMemory> {
     })
 }
 
+/// Lets go of a value here alone, so that the proofs of its callers know nothing of how that is done.
+fn let_go(_value: Value) {}
+
 /// Whether a value has this text.
 fn shows(value: &Value, names: &TagNames, want: &str) -> Result<bool, NoMemory> {
     let text = value_text(value, names)?;
@@ -30,14 +33,15 @@ fn shows_list(values: &[Value], names: &TagNames, want: &str) -> Result<bool, No
 }
 
 /// Whether four plain values have their texts.
-fn shows_plain(names: &TagNames) -> Result<bool, NoMemory> {
+fn shows_plain(alloc: Global) -> Result<bool, NoMemory> {
+    let names = TagNames::new(alloc);
     let values = [
         Value::Int(-5),
         Value::Bool(true),
         Value::Nothing,
         Value::Thread(7),
     ];
-    shows_list(&values, names, "-5,true,null,t7")
+    shows_list(&values, &names, "-5,true,null,t7")
 }
 
 /// Whether bytes are escaped.
@@ -48,8 +52,7 @@ fn shows_bytes(alloc: Global) -> Result<bool, NoMemory> {
 
 /// Whether numbers, truths, null, threads and bytes have their texts.
 fn are_shown(alloc: Global) -> Result<bool, NoMemory> {
-    let names = TagNames::new(alloc);
-    Ok(shows_plain(&names)? & shows_bytes(alloc)?)
+    Ok(shows_plain(alloc)? & shows_bytes(alloc)?)
 }
 
 #[test]
@@ -82,33 +85,29 @@ fn label(alloc: Global) -> Result<Value, NoMemory> {
     Ok(Value::Lab(secret(alloc)?))
 }
 
-/// Whether a label shows its tag.
-fn shows_label(names: &TagNames) -> Result<bool, NoMemory> {
-    let label = label(names.allocator())?;
-    shows(&label, names, "{#0}/{}")
-}
-
-/// Whether an array shows its name and its length.
-fn shows_array(names: &TagNames) -> Result<bool, NoMemory> {
-    let array = array(names.allocator())?;
-    shows(&array, names, "arr<{}/{}|{#0}/{}|3>[2]")
-}
-
-/// Whether a description of capabilities shows its tags.
-fn shows_sets(names: &TagNames) -> Result<bool, NoMemory> {
-    let sets = both_sets(names.allocator())?;
-    shows(&sets, names, "+{#1}-{#1,#2}")
+/// Whether what is made has this text.
+fn shows_made(
+    made: Result<Value, NoMemory>,
+    names: &TagNames,
+    want: &str,
+) -> Result<bool, NoMemory> {
+    let value = made?;
+    let shown = shows(&value, names, want);
+    let_go(value);
+    shown
 }
 
 /// Whether labels, names and capabilities show their tags.
-fn shows_tags(names: &TagNames) -> Result<bool, NoMemory> {
-    Ok(shows_label(names)? & shows_array(names)? & shows_sets(names)?)
+fn shows_tags(alloc: Global, names: &TagNames) -> Result<bool, NoMemory> {
+    let shown = shows_made(label(alloc), names, "{#0}/{}")?;
+    let array = shows_made(array(alloc), names, "arr<{}/{}|{#0}/{}|3>[2]")?;
+    Ok(shown & array & shows_made(both_sets(alloc), names, "+{#1}-{#1,#2}")?)
 }
 
 /// Whether tags are shown by their numbers where none has a name.
 fn shows_numbers(alloc: Global) -> Result<bool, NoMemory> {
     let names = TagNames::new(alloc);
-    shows_tags(&names)
+    shows_tags(alloc, &names)
 }
 
 #[test]
@@ -116,11 +115,22 @@ fn tags_are_shown(rt: HostRuntime) {
     assert!(rt; shows_numbers(rt.alloc()) == Ok(true));
 }
 
+/// A copy of the home that is made of the two labels of a name.
+fn home_of(name: &Name) -> Result<Home, NoMemory> {
+    let home = Home::of(name.maker(), name.own())?;
+    home.copy()
+}
+
 /// Whether the home of a name is the one that is made of its two labels.
+fn has_made_home(name: &Name, own: &Label) -> Result<bool, NoMemory> {
+    let home = home_of(name)?;
+    Ok((home == *name.home()) & (home.own() == own))
+}
+
+/// Whether the name of a thing has its home.
 fn has_its_home(own: &Label) -> Result<bool, NoMemory> {
     let name = name(own)?;
-    let home = Home::of(name.maker(), name.own())?.copy()?;
-    Ok((home == *name.home()) & (home.own() == own))
+    has_made_home(&name, own)
 }
 
 /// Whether the name of a secret thing has its home.
@@ -138,21 +148,25 @@ fn copied(value: &Value) -> Result<Value, NoMemory> {
     value.copy()
 }
 
-/// Whether a value is equal to its copy.
-fn is_copied(value: &Value) -> Result<bool, NoMemory> {
-    let copy = copied(value)?;
-    Ok(same_value(value, &copy))
+/// Whether a value is equal to this copy, and not to null.
+fn is_copy(value: &Value, copy: &Value) -> bool {
+    same_value(value, copy) & !same_value(value, &Value::Nothing)
 }
 
-/// Whether a value is equal to null.
-fn is_null(value: &Value) -> bool {
-    same_value(value, &Value::Nothing)
+/// Whether a value is equal to its copy, and not to null.
+fn is_copied(value: &Value) -> Result<bool, NoMemory> {
+    let copy = copied(value)?;
+    let same = is_copy(value, &copy);
+    let_go(copy);
+    Ok(same)
 }
 
 /// Whether an array is equal to its copy, and not to null.
 fn array_is_copied(alloc: Global) -> Result<bool, NoMemory> {
     let value = array(alloc)?;
-    Ok(is_copied(&value)? & !is_null(&value))
+    let same = is_copied(&value);
+    let_go(value);
+    same
 }
 
 #[test]
@@ -161,14 +175,16 @@ fn a_copied_value_is_equal(rt: HostRuntime) {
 }
 
 /// Whether a value is the number 0.
-fn is_zero(value: &Value) -> bool {
-    matches!(value, Value::Int(0))
+fn is_zero(value: Value) -> bool {
+    let zero = matches!(value, Value::Int(0));
+    let_go(value);
+    zero
 }
 
 /// Whether a slot was there and held 0; now it holds 7.
 fn sets(slots: &mut Values, at: u64) -> bool {
     match slots.set(at, Value::Int(7)) {
-        Some(old) => is_zero(&old),
+        Some(old) => is_zero(old),
         None => false,
     }
 }
