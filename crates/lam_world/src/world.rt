@@ -67,9 +67,14 @@ impl World {
     pub fn copy(&self) -> Result<World, NoMemory>
         ensures { IfOk result (λ w. w ≡ self.now) }
     {
-        let stores = self.stores.copy()?;
         let threads = copied(*self.threads.allocator(), self.threads.as_slice())?;
-        Ok(World { stores, threads })
+        match self.stores.copy() {
+            Ok(stores) => Ok(World { stores, threads }),
+            Err(error) => {
+                drop(threads);
+                Err(error)
+            }
+        }
     }
 }
 
