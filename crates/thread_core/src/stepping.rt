@@ -51,7 +51,7 @@ fn sets(c: &mut Context, local: usize) -> Standing
     let Some(value) = c.stack.pop() else {
         return Standing::Stuck;
     };
-    let _ = c.locals.set(local as u64, value);
+    drop(c.locals.set(local as u64, value));
     c.at += 1;
     c.fault = None;
     Standing::Private
@@ -165,9 +165,9 @@ fn acts(c: &mut Context, frame: Frame)
     } = frame;
     c.unit = unit;
     c.at = at;
-    c.locals = locals;
-    c.stack = stack;
     c.fault = None;
+    drop(replace(&mut c.locals, locals));
+    drop(replace(&mut c.stack, stack));
 }
 
 /// The acting call, which another one waits for, returns.
@@ -210,6 +210,7 @@ fn returns(c: &mut Context) -> Result<Standing, NoMemory>
         None => Ok(Standing::Stuck),
         Some(value) => {
             if c.callers.is_empty() {
+                drop(value);
                 Ok(ends(c.phase))
             } else {
                 goes_back(c, value)
@@ -420,7 +421,7 @@ pub fn context_ask(c: &Context, code: &Code) -> Result<Option<Ask>, NoMemory>
             Sight::Calls { .. } => Ok(None),
             Sight::Returns => returning_ask(c),
             Sight::Fails(_) => Ok(None),
-            Sight::Asks { ask, .. } => Ok(Some(ask_from(c.stack.allocator(), &ask)?)),
+            Sight::Asks { ask, .. } => ask_from(c.stack.allocator(), &ask).map(Some),
             Sight::Leaves => {
                 if is_bottom(c.phase) {
                     Ok(None)

@@ -96,7 +96,7 @@ pub fn advance(thread: &mut LamThread, code: &Code) -> Result<Turn, NoMemory>
 {
     match go_on(thread, code)? {
         Standing::Private => Ok(Turn::Private),
-        Standing::Shared => Ok(Turn::Asks(ask(thread, code)?)),
+        Standing::Shared => ask(thread, code).map(Turn::Asks),
         Standing::Stuck => Ok(Turn::Stuck),
         Standing::Ended => Ok(Turn::Ended),
     }
