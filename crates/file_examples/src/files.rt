@@ -4,7 +4,6 @@ use flow_labels::{Label, same};
 use labelled_files::{EntryKind, FileFault, Files};
 use lam_value::Name;
 use std::alloc::Global;
-use tag_sets::NoMemory;
 
 /// Makes a public file of the root.
 fn make_file(files: &mut Files, root: &Name, public: &Label) -> Option<Name> {
@@ -64,12 +63,21 @@ fn keeps_a_file(alloc: Global, files: &mut Files, most: &[u8]) -> Option<bool> {
     Some(long & cut & refused & outlives_its_entry(files, &root, &name))
 }
 
+/// Whether new files keep a file of so many bytes and more.
+fn new_keep_a_file(alloc: Global, most: &[u8]) -> Option<bool> {
+    let mut files = Files::new(alloc).ok()?;
+    keeps_a_file(alloc, &mut files, most)
+}
+
+/// Whether new files keep a file of a mebibyte.
+fn new_keep_a_mebibyte(alloc: Global) -> Option<bool> {
+    let most = Vec::from_elem(alloc, 0u8, 1_048_575).ok()?;
+    new_keep_a_file(alloc, &most)
+}
+
 #[test]
-fn file_keeps_a_mebibyte(rt: HostRuntime) -> Result<(), NoMemory> {
-    let mut files = Files::new(rt.alloc())?;
-    let most = Vec::from_elem(rt.alloc(), 0u8, 1_048_575)?;
-    assert!(rt; keeps_a_file(rt.alloc(), &mut files, &most) == Some(true));
-    Ok(())
+fn file_keeps_a_mebibyte(rt: HostRuntime) {
+    assert!(rt; new_keep_a_mebibyte(rt.alloc()) == Some(true));
 }
 
 /// Whether two have equal files and directories, and equal ones where the public observer sees.
@@ -93,12 +101,21 @@ fn makes_a_directory(alloc: Global, files: &mut Files, copy: &Files) -> Option<b
     Some(before & is_directory(files, &name, &public) & !are_same(files, copy, &public))
 }
 
+/// Whether files are equal to their copy, until a directory is made in them.
+fn are_copied(alloc: Global, files: &mut Files) -> Option<bool> {
+    let copy = files.copy().ok()?;
+    makes_a_directory(alloc, files, &copy)
+}
+
+/// Whether new files are equal to their copy, until a directory is made in them.
+fn new_are_copied(alloc: Global) -> Option<bool> {
+    let mut files = Files::new(alloc).ok()?;
+    are_copied(alloc, &mut files)
+}
+
 #[test]
-fn copied_files_are_equal(rt: HostRuntime) -> Result<(), NoMemory> {
-    let mut files = Files::new(rt.alloc())?;
-    let copy = files.copy()?;
-    assert!(rt; makes_a_directory(rt.alloc(), &mut files, &copy) == Some(true));
-    Ok(())
+fn copied_files_are_equal(rt: HostRuntime) {
+    assert!(rt; new_are_copied(rt.alloc()) == Some(true));
 }
 
 /// Puts an empty file under a name that is free, with the entry `f`.
@@ -142,10 +159,13 @@ fn puts_back(files: &mut Files, public: &Label) -> Option<bool> {
     Some(raised & lower & placed & counted & is_alone(files, &root))
 }
 
+/// Whether a file is put back into new files.
+fn new_put_back(alloc: Global) -> Option<bool> {
+    let mut files = Files::new(alloc).ok()?;
+    puts_back(&mut files, &Label::public(alloc))
+}
+
 #[test]
-fn a_file_is_put_back(rt: HostRuntime) -> Result<(), NoMemory> {
-    let mut files = Files::new(rt.alloc())?;
-    let public = Label::public(rt.alloc());
-    assert!(rt; puts_back(&mut files, &public) == Some(true));
-    Ok(())
+fn a_file_is_put_back(rt: HostRuntime) {
+    assert!(rt; new_put_back(rt.alloc()) == Some(true));
 }
