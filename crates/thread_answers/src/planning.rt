@@ -191,10 +191,7 @@ fn plan_taken_one(c: &mut Context, code: &Code, name: &Name) -> Result<Going, No
 {
     let left = left(c, code);
     let name = name.copy()?;
-    let Ok(added) = add_null(&mut c.stack, left.leaves_null) else {
-        drop(name);
-        return Err(NoMemory);
-    };
+    let added = add_null(&mut c.stack, left.leaves_null)?;
     if c.held.push(name).is_err() {
         c.stack.drop_many(added);
         return Err(NoMemory);
