@@ -3,6 +3,7 @@
 ghost use Rattle.std.specs.Prelude.{◌≡◌, ◌∷◌, List, IfOk, IfErr};
 ghost use Rattle.thread_steps.specs.Threads.{Inside, Context};
 ghost use Rattle.thread_steps.specs.Next.{next_of, asks, takes};
+ghost use Rattle.thread_answers.specs.Preparing.{result_or};
 
 use crate::doing::{do_plan, undo_plan};
 use crate::plan::Plan;
@@ -11,6 +12,7 @@ use lam_asks::{Answer, Ask, Outcome};
 use lam_bytecode::Code;
 use lam_threads::LamThread;
 use std::marker::Model;
+use std::mem::replace;
 
 /// A thread between its ask and the answer to it: all memory that the answer needs is taken, and it is not done yet.
 #[derive(Drop)]
@@ -48,17 +50,35 @@ pub fn prepare(
     ensures after { IfOk result (λ p. (c : Context) (rest : List Context) (i : Inside) → thread.contexts ≡ c ∷ rest → next_of code.now c ≡ asks ask.now i → p.after ≡ takes code.now thread c rest i ask.now answer) }
     ensures err { IfErr result (λ t. t ≡ thread) }
 {
-    let Ok(result) = ending_of(ask) else {
+    let ending = ending_of(ask);
+    let Ok(result) = ending else {
+        drop(ending);
+        drop(answer);
         return Err(thread);
     };
     let mut thread = thread;
-    match plan_answer(&mut thread.contexts, code, ask, answer) {
+    let planned = plan_answer(&mut thread.contexts, code, ask, answer);
+    match planned {
         Ok(plan) => Ok(Prepared {
             thread,
             plan,
             result,
         }),
-        Err(_) => Err(thread),
+        Err(_) => {
+            drop(planned);
+            drop(result);
+            Err(thread)
+        }
+    }
+}
+
+/// An outcome is put in a place, where there is one.
+fn put_ending(place: &mut Option<Outcome>, ending: Option<Outcome>)
+    ensures { place.new ≡ result_or ending place.old }
+{
+    match ending {
+        None => drop(ending),
+        Some(outcome) => drop(replace(place, Some(outcome))),
     }
 }
 
@@ -73,9 +93,7 @@ impl Prepared {
             result,
         } = self;
         do_plan(&mut thread.contexts, plan);
-        if let Some(result) = result {
-            thread.result = Some(result);
-        }
+        put_ending(&mut thread.result, result);
         thread
     }
 
@@ -86,8 +104,9 @@ impl Prepared {
         let Prepared {
             mut thread,
             plan,
-            ..
+            result,
         } = self;
+        drop(result);
         undo_plan(&mut thread.contexts, plan);
         thread
     }

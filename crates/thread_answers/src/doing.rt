@@ -10,6 +10,7 @@ use capabilities::Caps;
 use lam_asks::Fault;
 use lam_threads::{Context, Frame, Operands, Phase};
 use lam_value::Name;
+use std::mem::replace;
 
 #[tactic(auto, using(crate::proofs::Held::removed_reversed, crate::proofs::Held::removed_none))]
 fn drop_at(held: &mut Vec<Name>, place: usize)
@@ -52,8 +53,8 @@ fn change_caps(caps: &mut Caps, new: Option<Caps>)
     ensures { caps.new ≡ caps_or new caps.old }
 {
     match new {
-        None => {}
-        Some(new) => *caps = new,
+        None => drop(new),
+        Some(new) => drop(replace(caps, new)),
     }
 }
 
@@ -82,6 +83,7 @@ fn ungo(c: &mut Context, going: Going)
 {
     c.stack.drop_many(going.added);
     restore_held(&mut c.held, going.monitor);
+    drop(going);
 }
 
 fn fail(c: &mut Context, fault: Fault)
@@ -178,7 +180,7 @@ fn ungo_entered(contexts: &mut Vec<Context>, going: Going)
 fn drop_last(contexts: &mut Vec<Context>)
     ensures { reverse contexts.new.items ≡ drop 1 (reverse contexts.old.items) }
 {
-    let _ = contexts.pop();
+    drop(contexts.pop());
 }
 
 /// Does what was planned.
@@ -186,16 +188,25 @@ pub fn do_plan(contexts: &mut Vec<Context>, plan: Plan)
     ensures { reverse contexts.new.items ≡ done_in plan (reverse contexts.old.items) }
 {
     if contexts.is_empty() {
+        drop(plan);
         return;
     }
     match plan {
-        Plan::Fails(fault) => fail_last(contexts, fault),
-        Plan::Leaves => drop_last(contexts),
+        Plan::Fails(fault) => {
+            drop(plan);
+            fail_last(contexts, fault);
+        }
+        Plan::Leaves => {
+            drop(plan);
+            drop_last(contexts);
+        }
         Plan::Catches { at, stack } => catch_last(contexts, at, stack),
         Plan::Goes(going) => go_last(contexts, going),
         Plan::Enters(going) => {
             if contexts.len() > 1 {
                 go_second(contexts, going);
+            } else {
+                drop(going);
             }
         }
     }
@@ -206,16 +217,19 @@ pub fn undo_plan(contexts: &mut Vec<Context>, plan: Plan)
     ensures { reverse contexts.new.items ≡ undone_in plan (reverse contexts.old.items) }
 {
     if contexts.is_empty() {
+        drop(plan);
         return;
     }
     match plan {
-        Plan::Fails(_) => {}
-        Plan::Leaves => {}
-        Plan::Catches { .. } => {}
+        Plan::Fails(_) => drop(plan),
+        Plan::Leaves => drop(plan),
+        Plan::Catches { .. } => drop(plan),
         Plan::Goes(going) => ungo_last(contexts, going),
         Plan::Enters(going) => {
             if contexts.len() > 1 {
                 ungo_entered(contexts, going);
+            } else {
+                drop(going);
             }
         }
     }

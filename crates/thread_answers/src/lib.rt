@@ -7,6 +7,7 @@
 #![tactic(auto)]
 
 mod answering;
+mod both;
 mod doing;
 mod plan;
 mod planning;

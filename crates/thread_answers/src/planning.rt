@@ -6,10 +6,12 @@ ghost use Rattle.thread_steps.specs.Ops.{region_in};
 ghost use Rattle.lam_asks.specs.declared.ask.Ask.{Ask};
 ghost use Rattle.thread_steps.specs.Threads.{Inside, Context as Plain};
 ghost use Rattle.thread_steps.specs.Next.{next_of, asks, answered, done, entered, gains, given, with_caps, with_inside, with_held, region_context, without, catch_at, catching, unit_number, catch_place};
+ghost use Rattle.capabilities.specs.Changes.{joined};
 ghost use Rattle.lam_value.specs.declared.names.Name.{Name as NameOf};
 ghost use Rattle.lam_threads.specs.Seen.{phase_of};
 ghost use Rattle.thread_answers.specs.Preparing.{held_after, held_before, taken_by, given_by, thing_in, catch_place_in, after_of, nulls, added_ones, without_at, caps_or, gone, undone, done_in, undone_in, ending_of};
 
+use crate::both::both;
 use crate::plan::{Going, Left, Monitor, Plan};
 use capabilities::Caps;
 use flow_labels::Label;
@@ -83,12 +85,24 @@ fn add_value(stack: &mut Operands, leaves_null: bool, value: Value) -> Result<us
     ensures below { IfOk result (λ n. drop n stack.new ≡ stack.old) }
     ensures err { OnErr result (stack.new ≡ stack.old) }
 {
-    let nulls = add_null(stack, leaves_null)?;
+    let Ok(nulls) = add_null(stack, leaves_null) else {
+        drop(value);
+        return Err(NoMemory);
+    };
     if stack.push(value).is_err() {
         stack.drop_many(nulls);
         return Err(NoMemory);
     }
     Ok(nulls + 1)
+}
+
+/// Some capabilities with more, which are let go.
+fn with_more(caps: &Caps, more: Caps) -> Result<Caps, NoMemory>
+    ensures { IfOk result (λ c. c ≡ joined caps.now more) }
+{
+    let together = caps.join(&more);
+    drop(more);
+    together
 }
 
 /// The capabilities of a context to which a value brings some: a minted tag, or received capabilities.
@@ -102,11 +116,8 @@ fn gained(caps: &Caps, ask: &Ask, value: &Value) -> Result<Option<Caps>, NoMemor
         },
         Ask::ReceiveCaps { .. } => match value {
             Value::CapV { plus, minus } => {
-                let more = Caps {
-                    plus: plus.copy()?,
-                    minus: minus.copy()?,
-                };
-                Ok(Some(caps.join(&more)?))
+                let (plus, minus) = both(plus.copy(), minus.copy())?;
+                Ok(Some(with_more(caps, Caps { plus, minus })?))
             }
             _ => Ok(None),
         },
@@ -121,8 +132,16 @@ fn plan_value(c: &mut Context, code: &Code, ask: &Ask, value: Value) -> Result<G
     ensures err { OnErr result (c.new ≡ c.old) }
 {
     let left = left(c, code);
-    let caps = gained(&c.caps, ask, &value)?;
-    let added = add_value(&mut c.stack, left.leaves_null, value)?;
+    let more = gained(&c.caps, ask, &value);
+    let Ok(caps) = more else {
+        drop(more);
+        drop(value);
+        return Err(NoMemory);
+    };
+    let Ok(added) = add_value(&mut c.stack, left.leaves_null, value) else {
+        drop(caps);
+        return Err(NoMemory);
+    };
     Ok(Going {
         at: left.at,
         takes: left.takes,
@@ -274,7 +293,10 @@ fn plan_catch(c: &Context, fault: Fault) -> Result<Plan, NoMemory>
     ensures after { IfOk result (λ p. (rest : List Plain) → done_in p (c.now ∷ rest) ≡ catching c.now fault ∷ rest) }
 {
     let mut stack = Operands::new(c.stack.allocator());
-    stack.push(Value::Int(fault.number()))?;
+    if stack.push(Value::Int(fault.number())).is_err() {
+        drop(stack);
+        return Err(NoMemory);
+    }
     Ok(Plan::Catches {
         at: catch_at(c.phase),
         stack,
@@ -335,9 +357,9 @@ fn region_context(
         return Err(NoMemory);
     };
     let (unit, catch_at) = region_place(code, region);
-    let locals = filled(alloc, args, locals_of(code, unit))?;
-    let label = label.copy()?;
     let caps = caps.copy()?;
+    let parts = both(label.copy(), filled(alloc, args, locals_of(code, unit)));
+    let (caps, (label, locals)) = both(Ok(caps), parts)?;
     Ok(Context {
         label,
         caps,
@@ -411,7 +433,7 @@ fn plan_region(contexts: &mut Vec<Context>, code: &Code, inner: Context) -> Resu
     match plan_rest(&mut contexts[last], code) {
         Ok(going) => Ok(Plan::Enters(going)),
         Err(_) => {
-            let _ = contexts.pop();
+            drop(contexts.pop());
             Err(NoMemory)
         }
     }
@@ -465,14 +487,27 @@ pub fn plan_answer(
     ensures err { OnErr result (contexts.new.items ≡ contexts.old.items) }
 {
     if contexts.is_empty() {
+        drop(answer);
         return Ok(Plan::Leaves);
     }
     match answer {
-        Answer::Refused(_) => Ok(Plan::Fails(Fault::Denied)),
-        Answer::Failed(fault) => Ok(Plan::Fails(fault)),
+        Answer::Refused(_) => {
+            drop(answer);
+            Ok(Plan::Fails(Fault::Denied))
+        }
+        Answer::Failed(fault) => {
+            drop(answer);
+            Ok(Plan::Fails(fault))
+        }
         Answer::Val(value) => plan_last_value(contexts, code, ask, value),
-        Answer::Done => plan_last_done(contexts, code, ask),
-        Answer::Entered => plan_last_entered(contexts, code, ask),
+        Answer::Done => {
+            drop(answer);
+            plan_last_done(contexts, code, ask)
+        }
+        Answer::Entered => {
+            drop(answer);
+            plan_last_entered(contexts, code, ask)
+        }
     }
 }
 
