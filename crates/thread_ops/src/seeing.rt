@@ -6,7 +6,6 @@ ghost use Rattle.thread_steps.specs.Ops.{effect, on_constant, on_any, on_truth, 
 ghost use Rattle.lam_asks.specs.declared.fault.Fault.TheVariants as fault;
 ghost use Rattle.thread_steps.specs.Next.{around, ops_of};
 ghost use Rattle.thread_sights.specs.Acting.{did_of, calls_unit};
-ghost use Rattle.thread_ops.specs.Groups.{of_operator, of_access};
 
 use crate::access::{
     enter_monitor, get_element, get_field, leave_monitor, new_array, new_object, put_element,
@@ -14,7 +13,6 @@ use crate::access::{
 };
 use crate::operators::{add_cap, before, between, make_label};
 use crate::units::{enter_region, function_takes, spawn};
-use flow_labels::Label;
 use lam_asks::Fault;
 use lam_bytecode::{Code, CodeUnit, Op};
 use lam_operators::{BinaryOp, UnaryOp};
@@ -136,11 +134,17 @@ fn size_of(code: &Code, unit: usize) -> usize
     }
 }
 
-/// What an operator between operands, or before one, does.
-fn see_operator(op: Op, stack: &Operands) -> Sight<'_>
-    ensures { (locals : List Value) → did_of result locals stack.now ≡ of_operator op stack.now }
+/// What an operation does in the acting call of a context, exactly.
+#[tactic(auto, unfolding(thread_steps::specs::Ops::effect))]
+pub fn see<'a>(c: &'a Context, code: &'a Code, op: Op) -> Sight<'a>
+    ensures { did_of result c.now.inside.frame.locals c.now.inside.frame.stack ≡ effect (around code.now c.now) c.now.inside.frame.stack op }
 {
+    let stack = &c.stack;
     match op {
+        Op::Const(k) => given(code.constants(), k),
+        Op::Load(n) => given(c.locals.as_slice(), n),
+        Op::Store(n) => store(stack, c.locals.as_slice(), n),
+        Op::Pop => pop(stack),
         Op::Add => between(BinaryOp::Add, stack),
         Op::Sub => between(BinaryOp::Sub, stack),
         Op::Mul => between(BinaryOp::Mul, stack),
@@ -154,47 +158,17 @@ fn see_operator(op: Op, stack: &Operands) -> Sight<'_>
         Op::Le => between(BinaryOp::Le, stack),
         Op::Gt => between(BinaryOp::Gt, stack),
         Op::Ge => between(BinaryOp::Ge, stack),
-        _ => Sight::Breaks,
-    }
-}
-
-/// What a barrier or an access behind one does.
-fn see_access<'a>(op: Op, stack: &'a Operands, label: &'a Label) -> Sight<'a>
-    ensures { (locals : List Value) → did_of result locals stack.now ≡ of_access label.now op stack.now }
-{
-    match op {
-        Op::ReadBarrier(below) => read_barrier(stack, below as usize, label),
-        Op::WriteBarrier(below) => write_barrier(stack, below as usize, label),
-        Op::GetField(at) => get_field(stack, at, label),
-        Op::PutField(at) => put_field(stack, at, label),
-        Op::GetElement => get_element(stack, label),
-        Op::PutElement => put_element(stack, label),
-        _ => Sight::Breaks,
-    }
-}
-
-/// What an operation does in the acting call of a context, exactly.
-#[tactic(auto, unfolding(thread_steps::specs::Ops::effect))]
-pub fn see<'a>(c: &'a Context, code: &'a Code, op: Op) -> Sight<'a>
-    ensures { did_of result c.now.inside.frame.locals c.now.inside.frame.stack ≡ effect (around code.now c.now) c.now.inside.frame.stack op }
-{
-    let stack = &c.stack;
-    match op {
-        Op::Const(k) => given(code.constants(), k),
-        Op::Load(n) => given(c.locals.as_slice(), n),
-        Op::Store(n) => store(stack, c.locals.as_slice(), n),
-        Op::Pop => pop(stack),
-        Op::Add | Op::Sub | Op::Mul | Op::Div | Op::Rem => see_operator(op, stack),
-        Op::Neg | Op::Not => see_operator(op, stack),
-        Op::Eq | Op::Ne | Op::Lt | Op::Le | Op::Gt | Op::Ge => see_operator(op, stack),
         Op::Jump(to) => jump(size_of(code, c.unit), to, 0),
         Op::JumpIfFalse(to) => jump_if_false(stack, size_of(code, c.unit), to),
         Op::Call(unit) => call(stack, code.units(), unit, c.callers.len()),
         Op::Return => ret(stack),
         Op::Throw => throw(stack),
-        Op::ReadBarrier(_) | Op::WriteBarrier(_) => see_access(op, stack, &c.label),
-        Op::GetField(_) | Op::PutField(_) => see_access(op, stack, &c.label),
-        Op::GetElement | Op::PutElement => see_access(op, stack, &c.label),
+        Op::ReadBarrier(below) => read_barrier(stack, below as usize, &c.label),
+        Op::WriteBarrier(below) => write_barrier(stack, below as usize, &c.label),
+        Op::GetField(at) => get_field(stack, at, &c.label),
+        Op::PutField(at) => put_field(stack, at, &c.label),
+        Op::GetElement => get_element(stack, &c.label),
+        Op::PutElement => put_element(stack, &c.label),
         Op::NewObject(class) => new_object(code.classes(), class),
         Op::NewArray(kind) => new_array(stack, kind),
         Op::MakeLabel { secrecy, integrity } => make_label(stack, secrecy, integrity),
