@@ -8,8 +8,8 @@ use Rattle.std.specs.Cmp.Lexicographic.{texts_ties}
 use Rattle.std.proofs.lemmas.Cmp.{nat_list_cmp_total, on_total, then_total}
 use Rattle.std.specs.FinMap.{IsAntisymmetric, nat_cmp-IsAntisymmetric, slice_cmp-IsAntisymmetric}
 use Rattle.std.specs.FinSet.{from_list}
-use Rattle.tag_sets.specs.Tags.{tags_of}
-use Rattle.tag_sets.proofs.TagLemmas.{from_list-tags_of}
+use Rattle.flow_labels.specs.Tags.{tags_of}
+use Rattle.flow_labels.proofs.TagLemmas.{from_list-tags_of}
 use Rattle.flow_labels.specs.declared.Label.{Label}
 use Rattle.home_counters.specs.Labels.{tags_cmp, label_cmp}
 use Rattle.home_counters.specs.Homes.{Home, home_cmp, label_eq, home_eq}

@@ -8,7 +8,7 @@ use Rattle.std.specs.FinMap.{FinMap, empty, get, insert, from_entries, code}
 use Rattle.std.specs.HashMap.{HashMap, IsUnique}
 use Rattle.std.specs.List.{IsDistinct}
 use Rattle.std.specs.Map.{lookup, keys_of}
-use Rattle.tag_sets.specs.Tags.{tags_of}
+use Rattle.flow_labels.specs.Tags.{tags_of}
 use Rattle.flow_labels.specs.declared.Label.{Label}
 use Rattle.flow_labels.specs.Flow.{flows}
 use Rattle.home_counters.specs.Labels.{label_cmp, coded_label}

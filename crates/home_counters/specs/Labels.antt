@@ -4,7 +4,7 @@ use Rattle.std.specs.Coded.{Coded, code_by, coded×}
 use Rattle.std.specs.Ordering.{nat_cmp, ordering_then}
 use Rattle.std.specs.declared.cmp.Ordering.{Ordering}
 use Rattle.std.specs.Cmp.Lexicographic.{slice_cmp}
-use Rattle.tag_sets.specs.Tags.{Tags, tags_of, coded_tags}
+use Rattle.flow_labels.specs.Tags.{Tags, tags_of, coded_tags}
 use Rattle.flow_labels.specs.declared.Label.{Label}
 
 -- the tags of the two sets in increasing order, compared like words: `{1,3}` before `{2}`

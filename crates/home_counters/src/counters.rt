@@ -8,11 +8,10 @@ ghost use Rattle.flow_labels.specs.declared.Label.{Label};
 ghost use Rattle.home_counters.specs.Homes.{Home, home_of, count_in, counted, raised, IsAboveZero, IsListing, AreSeenAlike, label_eq, home_eq, homes_in, home_in, AreHomes};
 
 use crate::sameness::{Same, Whole, same_maps};
-use flow_labels::Label;
+use flow_labels::{Label, NoMemory};
 use indexmap::IndexMap;
 use std::alloc::Global;
 use std::marker::Model;
-use tag_sets::NoMemory;
 
 type Row = IndexMap<Label, u64>;
 

@@ -6,7 +6,7 @@
 //! - `counters` has a counter for each home, and all homes that are counted as a list.
 //! - `sameness` compares two maps key by key: whole, or where an observer sees the keys.
 //!
-//! Names, which are made of a home and a number, stand above, in `lam_value`. The laws by which a hash map is the finite
+//! Names, which are made of a home and a number, stand above, in `lam_value`, to which this crate passes labels on. The laws by which a hash map is the finite
 //! map that contracts see of it (`Maps`, `Rows`, `Keys` in `proofs/`) stand here once for all stores.
 #![tactic(auto)]
 
@@ -14,4 +14,7 @@ mod counters;
 mod sameness;
 
 pub use counters::{Counters, HomeCounts};
+pub use flow_labels::{
+    Denied, Form, Label, NoMemory, TagId, TagNames, TagSet, push_label, push_sets, push_tag, same,
+};
 pub use sameness::{Labelled, Same, Whole, same_maps};

@@ -4,8 +4,8 @@ use Rattle.std.specs.Prelude.{ℕ, ◌≡◌, List, ◌++◌, fold, refl}
 use Rattle.std.specs.Coded.{Coded, code_by, coded×, coded_ℕ}
 use Rattle.std.specs.Hash.{slice, u64}
 use Rattle.std.specs.Hash.FoldHasher.{initial, write, finish}
-use Rattle.tag_sets.specs.Tags.{tags_of}
-use Rattle.flow_labels.specs.declared.Label.{Label}
+use Rattle.home_counters.specs.Tags.{tags_of}
+use Rattle.home_counters.specs.declared.Label.{Label}
 pub use Rattle.home_counters.specs.Labels.{coded_label}
 pub use Rattle.home_counters.specs.Homes.{Home, coded_home}
 

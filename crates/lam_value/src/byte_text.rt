@@ -2,9 +2,9 @@
 
 ghost use Rattle.std.specs.Prelude.{◌≡◌, ℕ, List, IsTrue, ◌↔◌, IfOk};
 
+use home_counters::NoMemory;
 use std::alloc::Global;
 use std::marker::Model;
-use tag_sets::NoMemory;
 
 /// A string of bytes, whatever bytes they are.
 #[derive(Drop)]

@@ -6,16 +6,14 @@ ghost use Rattle.std.specs.Cmp.Rules.{comparing, hashing};
 ghost use Rattle.std.specs.Cmp.Lexicographic.{pointwise};
 ghost use Rattle.std.specs.Ordering.{on, eq_of_both};
 ghost use Rattle.std.specs.Hash as fed;
-ghost use Rattle.tag_sets.specs.Tags.{tags_of};
+ghost use Rattle.home_counters.specs.Tags.{tags_of};
 ghost use Rattle.home_counters.specs.Alike.{second};
 ghost use Rattle.lam_value.specs.NameParts.{home_writes, home_input, folded};
 ghost use Rattle.lam_value.specs.Homes.{label_eq};
 
-use flow_labels::Label;
-use home_counters::Labelled;
+use home_counters::{Label, Labelled, NoMemory};
 use std::hash::{FoldHasher, Hash, Hasher};
 use std::marker::Model;
-use tag_sets::NoMemory;
 
 /// A home: the label of a maker and an own label. What is made at a home is numbered there, from 0.
 ///

@@ -25,8 +25,9 @@ mod values;
 
 pub use byte_text::ByteText;
 pub use decimal_text::push_number;
-pub use flow_labels::{Denied, Label, TagNames};
-pub use home_counters::{Counters, HomeCounts, Labelled, Same, Whole, same_maps};
+pub use home_counters::{
+    Counters, Denied, HomeCounts, Label, Labelled, Same, TagNames, Whole, same_maps,
+};
 pub use homes::Home;
 pub use names::Name;
 pub use same_lists::same_values;

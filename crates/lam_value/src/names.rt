@@ -6,21 +6,19 @@ ghost use Rattle.std.specs.Cmp.{partial_order_from_own_ties};
 ghost use Rattle.std.specs.Cmp.Rules.{comparing, hashing};
 ghost use Rattle.std.specs.Cmp.Lexicographic.{pointwise, slice_cmp};
 ghost use Rattle.std.specs.Ordering.{on, eq_of_both, then_cmp, nat_cmp, as_partial_cmp};
-ghost use Rattle.tag_sets.specs.Tags.{tags_of};
+ghost use Rattle.home_counters.specs.Tags.{tags_of};
 ghost use Rattle.home_counters.specs.Alike.{middle};
 ghost use Rattle.lam_value.specs.NameParts.{name_input, same_input};
 ghost use Rattle.lam_value.specs.Names.{name_cmp};
 ghost use Rattle.lam_value.specs.Homes.{home_of, label_eq};
 
 use crate::homes::{Home, copied_labels};
-use flow_labels::{Label, same};
-use home_counters::Labelled;
+use home_counters::{Label, Labelled, NoMemory, same};
 use std::alloc::Global;
 use std::cmp::Ordering;
 use std::hash::{Hash, Hasher};
 use std::marker::Model;
 use std::sync::Arc;
-use tag_sets::NoMemory;
 
 /// The name of a thing: the label of its maker, its own label, and a number that no other thing of these
 /// two labels and of its kind has.

@@ -4,7 +4,6 @@ ghost use Rattle.std.specs.Prelude.{◌≡◌, ◌↔◌, IsTrue, length};
 
 use crate::shapes::Shape;
 use crate::values::{Value, Values, same_value};
-use home_counters::{Same, Whole};
 
 /// Whether two lists have equal values, place by place.
 pub fn same_values(a: &[Value], b: &[Value]) -> bool
@@ -31,14 +30,6 @@ impl Values {
     pub fn same(&self, other: &Values) -> bool
         ensures { IsTrue result ↔ (self.now ≡ other.now) }
     {
-        same_values(self.as_slice(), other.as_slice())
-    }
-}
-
-impl Same<Whole> for Values {
-    ghost IsSame = { λ x y. x ≡ y };
-
-    fn same(&self, other: &Values) -> bool {
         same_values(self.as_slice(), other.as_slice())
     }
 }

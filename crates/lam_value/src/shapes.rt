@@ -4,8 +4,8 @@ ghost use Rattle.std.specs.Prelude.{◌≡◌, IfOk};
 ghost use Rattle.lam_value.specs.Shapes.{zero_of, slots_of};
 
 use crate::values::{Value, Values};
+use home_counters::NoMemory;
 use std::alloc::Global;
-use tag_sets::NoMemory;
 
 /// What the elements of an array are.
 #[derive(Clone, Copy, Debug, PartialEq, Eq)]

@@ -7,9 +7,8 @@ ghost use Rattle.lam_value.specs.Texts.{hex_digit, escaped, all_escaped, bytes_t
 use crate::names::Name;
 use crate::values::Value;
 use decimal_text::{push_int, push_number};
-use flow_labels::{Form, TagNames, push_label, push_sets, push_tag};
+use home_counters::{Form, NoMemory, TagNames, push_label, push_sets, push_tag};
 use std::alloc::Global;
-use tag_sets::NoMemory;
 
 /// The text of a value: a number in decimal; `true`, `false` or `null`; bytes in double quotes; a
 /// reference as `obj<MAKER|OWN|N>`, and an array's with its length; `t` and a thread's number; a tag, a

@@ -5,11 +5,10 @@ ghost use Rattle.std.specs.Option.{option_copied};
 
 use crate::byte_text::ByteText;
 use crate::names::Name;
-use flow_labels::{Label, same};
+use home_counters::{Label, NoMemory, TagId, TagSet, same};
 use std::alloc::Global;
 use std::marker::Model;
 use std::mem::replace;
-use tag_sets::{NoMemory, TagId, TagSet};
 
 /// What a local, a field, an array's element or a message holds.
 #[derive(Drop)]

@@ -1,5 +1,5 @@
 use Rattle.std.proofs.Common.{◌≡◌, ℕ, List, [], ◌∷◌, ◌++◌, append_assoc, ap, ◌∙◌, lit<, string_bytes, decimal}
-use Rattle.flow_labels.specs.LabelText.{label_text}
+use Rattle.home_counters.specs.LabelText.{label_text}
 use Rattle.home_counters.proofs.Maps.{on_ok_so}
 use Rattle.lam_value.proofs.text.push_name.Goals as goal
 
