@@ -1,5 +1,6 @@
 -- What a row owes at each of its returns: what its deed stands under, and the deed itself.
-use Rattle.std.proofs.Common.{◌≡◌, Option, Some, None, refl, sym, ap, subst}
+use Rattle.std.proofs.Common.{◌≡◌, Option, Some, None, Result, Ok, Err, IfOk, refl, sym, ap, subst}
+use Rattle.want_of_memory.specs.declared.NoMemory.{NoMemory}
 use Rattle.flow_labels.specs.declared.Denied.{Denied}
 use Rattle.flow_labels.specs.Failing.{Test, first_failing}
 use Rattle.lam_value.specs.declared.names.Name.{Name}
@@ -9,6 +10,8 @@ use Rattle.lam_asks.specs.declared.fault.Fault.{Fault}
 use Rattle.lam_asks.specs.declared.fault.Fault.TheVariants.{Null}
 use Rattle.lam_asks.specs.declared.answer.Answer.{Answer}
 use Rattle.lam_asks.specs.declared.answer.Answer.TheVariants.{Done, Val, Refused, Failed}
+use Rattle.thread_steps.specs.Threads.{Context}
+use Rattle.lam_worlds.specs.Worlds.{World}
 use Rattle.lam_worlds.specs.Deeds as told
 use Rattle.lam_worlds.specs.Deeds.{answers, does, gives, makes, unless_denied, under, unless, on_thing, Made}
 use Rattle.lam_deeds.specs.declared.deed.Deed.{Deed}
@@ -63,3 +66,33 @@ unfolding on_thing
 thing_as d (Obj m) n go e h = subst (λ k. DoesAs d (go k)) (some_inj n m e) h
 thing_as d (Arr m len) n go e h = subst (λ k. DoesAs d (go k)) (some_inj n m e) h
 thing_as d r n go e h = absurd cc
+
+-- ---- the same of a deed that memory may have been refused to
+
+pub passes_ok : (r : Result Deed NoMemory) (t : Test) (e : told.Deed) → None ≡ first_failing t → IfOk r (λ d. DoesAs d e) → IfOk r (λ d. DoesAs d (under t e))
+passes_ok (Ok d) t e first h = passes_as d t e first h
+passes_ok (Err x) t e first h = tt
+
+pub holds_ok : (r : Result Deed NoMemory) (o : Option Fault) (e : told.Deed) → None ≡ o → IfOk r (λ d. DoesAs d e) → IfOk r (λ d. DoesAs d (unless o e))
+holds_ok (Ok d) o e there h = holds_as d o e there h
+holds_ok (Err x) o e there h = tt
+
+pub thing_ok : (r : Result Deed NoMemory) (v : Value) (n : Name) (go : Name → told.Deed) → Some n ≡ thing_of v → IfOk r (λ d. DoesAs d (go n)) → IfOk r (λ d. DoesAs d (on_thing v go))
+thing_ok (Ok d) v n go e h = thing_as d v n go e h
+thing_ok (Err x) v n go e h = tt
+
+pub gives_ok : (r : Result Deed NoMemory) (v u : Value) (f : told.Effect) → v ≡ u → IfOk r (λ d. DoesAs d (gives v f)) → IfOk r (λ d. DoesAs d (gives u f))
+gives_ok r v u f value h = subst (λ x. IfOk r (λ d. DoesAs d (gives x f))) value h
+
+pub makes_ok : (r : Result Deed NoMemory) (v u : Value) (f : told.Effect) (m : Made) → v ≡ u → IfOk r (λ d. DoesAs d (gives v f)) → IfOk r (λ d. DoesAs d (makes u f m))
+makes_ok (Ok d) v u f m value h = let k : DoesAs d (gives u f) = subst (λ x. DoesAs d (gives x f)) value h in record { answer = k.answer; effect = k.effect }
+makes_ok (Err x) v u f m value h = tt
+
+-- what it is in each world and each context
+pub whole : (r : Result Deed NoMemory) (g : World → Context → told.Deed) → ((w : World) (c : Context) → IfOk r (λ d. DoesAs d (g w c))) → IfOk r (λ d. (w : World) (c : Context) → DoesAs d (g w c))
+whole (Ok d) g h = h
+whole (Err x) g h = tt
+
+pub whole_where : (r : Result Deed NoMemory) (H : World → Context → Type 0) (g : World → Context → told.Deed) → ((w : World) (c : Context) → H w c → IfOk r (λ d. DoesAs d (g w c))) → IfOk r (λ d. (w : World) (c : Context) → H w c → DoesAs d (g w c))
+whole_where (Ok d) H g h = h
+whole_where (Err x) H g h = tt

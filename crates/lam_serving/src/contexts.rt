@@ -11,6 +11,7 @@ ghost use Rattle.lam_worlds.specs.Serving.{joined, serve};
 ghost use Rattle.lam_deeds.specs.Meaning.{DoesAs};
 ghost use Rattle.lam_serving.specs.Rows.{Serves, any_world, at_label, acting_by, at_depth, with_tags};
 
+use crate::deeds::{did, given};
 use crate::rules::{enter_rule, full, spawn_rule};
 use capabilities::Caps;
 use flow_labels::{Label, TagId, mint_rule, read_rule};
@@ -66,8 +67,7 @@ pub fn done() -> Deed
 pub fn release(p: &Label, held: &[Name]) -> Result<Deed, NoMemory>
     ensures { IfOk result (λ d. DoesAs d (told.does (told.drops (reverse held.now)))) }
 {
-    let effect = Effect::drops(p.allocator(), held)?;
-    Ok(Deed::does(effect))
+    did(Effect::drops(p.allocator(), held))
 }
 
 /// A new thread, among so many.
@@ -87,8 +87,10 @@ pub fn spawn(
     if let Some(fault) = full(u64::from(threads), THREAD_LIMIT, Fault::HomeFull) {
         return Ok(Deed::failed(fault));
     }
-    let effect = Effect::adds_thread(unit, args, some)?;
-    Ok(Deed::gives(Value::Thread(threads), effect))
+    given(
+        Value::Thread(threads),
+        Effect::adds_thread(unit, args, some),
+    )
 }
 
 /// The value with which a thread ended.
@@ -97,8 +99,10 @@ pub fn join(ended: Option<&Outcome>, p: &Label) -> Result<Deed, NoMemory>
 {
     let public = Label::public(p.allocator());
     if let Some(denied) = read_rule(p, &public) {
+        drop(public);
         return Ok(Deed::refused(denied));
     }
+    drop(public);
     let answer = joined(ended)?;
     Ok(Deed {
         answer,

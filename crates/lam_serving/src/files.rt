@@ -8,6 +8,7 @@ ghost use Rattle.lam_asks.specs.declared.ask.Ask.TheVariants as Ask;
 ghost use Rattle.lam_worlds.specs.Serving.{fault_of, file_faults, absent};
 ghost use Rattle.lam_serving.specs.Rows.{Serves, any_world, at_label, acting_by, with_files};
 
+use crate::deeds::{did, given};
 use crate::rules::{entry_rule, remove_rule};
 use capabilities::Caps;
 use flow_labels::{Label, read_rule, write_rule};
@@ -35,8 +36,7 @@ pub fn make_file(
         return Ok(Deed::failed(fault));
     }
     let name = next_name(files, p, own)?;
-    let effect = Effect::adds_file(dir, entry, p, own)?;
-    Ok(Deed::gives(Value::File(name), effect))
+    given(Value::File(name), Effect::adds_file(dir, entry, p, own))
 }
 
 /// A new directory, as the last entry of a directory.
@@ -57,8 +57,7 @@ pub fn make_dir(
         return Ok(Deed::failed(fault));
     }
     let name = next_name(files, p, own)?;
-    let effect = Effect::adds_dir(dir, entry, p, own)?;
-    Ok(Deed::gives(Value::Dir(name), effect))
+    given(Value::Dir(name), Effect::adds_dir(dir, entry, p, own))
 }
 
 /// Why nothing can be made in a directory.
@@ -129,8 +128,7 @@ pub fn remove(files: &Files, p: &Label, dir: &Name, entry: &ByteText) -> Result<
     if let Some(fault) = absent(files, dir, entry) {
         return Ok(Deed::failed(fault));
     }
-    let effect = Effect::removes(dir, entry)?;
-    Ok(Deed::does(effect))
+    did(Effect::removes(dir, entry))
 }
 
 /// A fault where no entry of a name is there, of either kind.
@@ -181,8 +179,7 @@ pub fn append(p: &Label, file: &Name, bytes: &ByteText) -> Result<Deed, NoMemory
     if let Some(denied) = write_rule(p, file.own()) {
         return Ok(Deed::refused(denied));
     }
-    let effect = Effect::appends(file, bytes)?;
-    Ok(Deed::does(effect))
+    did(Effect::appends(file, bytes))
 }
 
 /// The first bytes of a file stay.
@@ -192,6 +189,5 @@ pub fn cut(p: &Label, file: &Name, len: u64) -> Result<Deed, NoMemory>
     if let Some(denied) = write_rule(p, file.own()) {
         return Ok(Deed::refused(denied));
     }
-    let effect = Effect::cuts(file, len)?;
-    Ok(Deed::does(effect))
+    did(Effect::cuts(file, len))
 }

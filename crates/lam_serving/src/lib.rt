@@ -6,6 +6,7 @@
 //!
 //! - `rules` has the tests of more than one rule.
 //! - `things`, `files`, `pipes` and `contexts` have the rows of the asks about each.
+//! - `deeds` makes their deeds where memory may be refused to an effect.
 //! - `rows` leads each ask to its row.
 //! - `waiting` says which ask waits, and which may be made.
 //!
@@ -14,6 +15,7 @@
 
 mod acting;
 mod contexts;
+mod deeds;
 mod files;
 mod pipes;
 mod rows;

@@ -6,6 +6,7 @@ ghost use Rattle.lam_asks.specs.declared.ask.Ask.TheVariants as Ask;
 ghost use Rattle.lam_worlds.specs.Serving.{received};
 ghost use Rattle.lam_serving.specs.Rows.{Serves, any_world, at_label, acting_by, with_pipes};
 
+use crate::deeds::{did, given};
 use crate::rules::{full, make_rule, send_rule};
 use capabilities::Caps;
 use flow_labels::{Label, same_rule, write_rule};
@@ -27,8 +28,7 @@ pub fn make_pipe(pipes: &Pipes, p: &Label, caps: &Caps, own: &Label) -> Result<D
         return Ok(Deed::failed(fault));
     }
     let name = Name::of(p, own, number)?;
-    let effect = Effect::adds_pipe(p, own)?;
-    Ok(Deed::gives(Value::Pipe(name), effect))
+    given(Value::Pipe(name), Effect::adds_pipe(p, own))
 }
 
 /// Bytes are sent.
@@ -38,8 +38,7 @@ pub fn send(p: &Label, pipe: &Name, bytes: &ByteText) -> Result<Deed, NoMemory>
     if let Some(denied) = write_rule(p, pipe.own()) {
         return Ok(Deed::refused(denied));
     }
-    let effect = Effect::sends_bytes(pipe, bytes)?;
-    Ok(Deed::does(effect))
+    did(Effect::sends_bytes(pipe, bytes))
 }
 
 /// Capabilities are sent.
@@ -49,8 +48,7 @@ pub fn send_caps(p: &Label, caps: &Caps, pipe: &Name, sent: &Caps) -> Result<Dee
     if let Some(denied) = send_rule(p, caps, pipe.own(), sent) {
         return Ok(Deed::refused(denied));
     }
-    let effect = Effect::sends_caps(pipe, sent)?;
-    Ok(Deed::does(effect))
+    did(Effect::sends_caps(pipe, sent))
 }
 
 /// The front message, where it is bytes.
@@ -61,8 +59,7 @@ pub fn receive(pipes: &Pipes, p: &Label, from: &Name) -> Result<Deed, NoMemory>
         return Ok(Deed::refused(denied));
     }
     let v = received(pipes.front(from, MessageKind::Bytes))?;
-    let effect = Effect::receives(from, MessageKind::Bytes)?;
-    Ok(Deed::gives(v, effect))
+    given(v, Effect::receives(from, MessageKind::Bytes))
 }
 
 /// The front message, where it is capabilities.
@@ -73,8 +70,7 @@ pub fn receive_caps(pipes: &Pipes, p: &Label, pipe: &Name) -> Result<Deed, NoMem
         return Ok(Deed::refused(denied));
     }
     let v = received(pipes.front(pipe, MessageKind::Caps))?;
-    let effect = Effect::receives(pipe, MessageKind::Caps)?;
-    Ok(Deed::gives(v, effect))
+    given(v, Effect::receives(pipe, MessageKind::Caps))
 }
 
 /// What was taken from a pipe, or null.
@@ -92,7 +88,6 @@ fn received(message: Option<&Message>) -> Result<Value, NoMemory>
 fn description(caps: &Caps) -> Result<Value, NoMemory>
     ensures { IfOk result (λ v. v ≡ Value.CapV caps.now.plus caps.now.minus) }
 {
-    let plus = caps.plus.copy()?;
-    let minus = caps.minus.copy()?;
+    let Caps { plus, minus } = caps.copy()?;
     Ok(Value::CapV { plus, minus })
 }

@@ -5,6 +5,7 @@ ghost use Rattle.lam_asks.specs.declared.ask.Ask.TheVariants as Ask;
 ghost use Rattle.lam_worlds.specs.Serving.{slot_at, reference, renamed};
 ghost use Rattle.lam_serving.specs.Rows.{Serves, any_world, any_context, at_label, acting_by, with_heap, with_monitors};
 
+use crate::deeds::{did, given};
 use crate::rules::{copy_rule, full, thing_of};
 use capabilities::Caps;
 use flow_labels::{Label, read_rule, same_rule, write_rule};
@@ -49,8 +50,7 @@ pub fn write(p: &Label, r: &Value, at: u64, v: &Value) -> Result<Deed, NoMemory>
     if let Some(denied) = write_rule(p, name.own()) {
         return Ok(Deed::refused(denied));
     }
-    let effect = Effect::sets_slot(name, at, v)?;
-    Ok(Deed::does(effect))
+    did(Effect::sets_slot(name, at, v))
 }
 
 /// A new object or array at the acting label.
@@ -62,8 +62,7 @@ pub fn make_thing(heap: &Heap, p: &Label, shape: &Shape) -> Result<Deed, NoMemor
         return Ok(Deed::failed(fault));
     }
     let name = Name::of(p, p, number)?;
-    let effect = Effect::adds_thing(p, p, shape)?;
-    Ok(Deed::gives(reference(shape, name), effect))
+    given(reference(shape, name), Effect::adds_thing(p, p, shape))
 }
 
 /// A reference to a new thing of a shape.
@@ -97,8 +96,7 @@ pub fn copy_to(
         return Ok(Deed::failed(fault));
     }
     let copy = Name::of(p, own, number)?;
-    let effect = Effect::adds_copy(name, p, own)?;
-    Ok(Deed::gives(renamed(r, copy), effect))
+    given(renamed(r, copy), Effect::adds_copy(name, p, own))
 }
 
 /// A reference of the same sort to another thing.
@@ -124,8 +122,7 @@ pub fn enter_monitor(monitors: &Monitors, p: &Label, r: &Value) -> Result<Deed, 
     if let Some(fault) = full(monitors.takings(name), TAKINGS_LIMIT, Fault::Deep) {
         return Ok(Deed::failed(fault));
     }
-    let effect = Effect::takes_monitor(name)?;
-    Ok(Deed::does(effect))
+    did(Effect::takes_monitor(name))
 }
 
 /// The monitor of a thing is given back once.
@@ -135,6 +132,5 @@ pub fn leave_monitor(r: &Value) -> Result<Deed, NoMemory>
     let Some(name) = thing_of(r) else {
         return Ok(Deed::failed(Fault::Null));
     };
-    let effect = Effect::gives_back(name)?;
-    Ok(Deed::does(effect))
+    did(Effect::gives_back(name))
 }

@@ -62,7 +62,9 @@ fn waits(monitors: &Monitors, thread: u32, living: bool, p: &Label, ask: &Ask) -
         Ask::MonEnter { r } => is_taken(monitors, thread, p, r),
         Ask::Join { .. } => {
             let public = Label::public(p.allocator());
-            read_rule(p, &public).is_none() && living
+            let denied = read_rule(p, &public);
+            drop(public);
+            denied.is_none() && living
         }
         _ => false,
     }

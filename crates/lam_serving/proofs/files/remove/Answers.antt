@@ -1,4 +1,4 @@
-use Rattle.lam_serving.proofs.RowLemmas.{does_as, refused_as, passes_as, fails_as, holds_as}
+use Rattle.lam_serving.proofs.RowLemmas.{refused_as, passes_as, fails_as, passes_ok, holds_ok, whole}
 use Rattle.lam_serving.proofs.files.remove.Goals as goal
 
 pub returns-in-Some : goal.returns-in-Some
@@ -8,4 +8,4 @@ pub returns-in-Some-absent : goal.returns-in-Some-absent
 returns-in-Some-absent c = λ w k. passes_as _ _ _ (rw c.own.ensures at c.in_default.ensures) (fails_as _ _ _ _ c.failed.ensures c.in-Some-absent.ensures)
 
 pub returns : goal.returns
-returns c = λ w k. passes_as _ _ _ (rw c.own.ensures at c.in_default.ensures) (holds_as _ _ _ c.in_default-absent.ensures (does_as _ _ _ c.does.ensures c.in_ok-effect.ensures))
+returns c = whole _ _ (λ w k. passes_ok _ _ _ (rw c.own.ensures at c.in_default.ensures) (holds_ok _ _ _ c.in_default-absent.ensures (c.did.ensures _ c.removes.ensures)))

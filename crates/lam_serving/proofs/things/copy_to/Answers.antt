@@ -1,7 +1,7 @@
 use Rattle.std.proofs.Common.{◌∙◌, ap}
 use Rattle.lam_worlds.specs.Serving.{renamed}
 use Rattle.lam_value.specs.Homes.{home_of, name_of}
-use Rattle.lam_serving.proofs.RowLemmas.{makes_as, refused_as, passes_as, fails_as, holds_as, null_as, thing_as}
+use Rattle.lam_serving.proofs.RowLemmas.{refused_as, passes_as, fails_as, null_as, thing_as, makes_ok, passes_ok, holds_ok, thing_ok, whole}
 use Rattle.lam_serving.proofs.things.copy_to.Goals as goal
 
 pub returns-in_default : goal.returns-in_default
@@ -14,7 +14,7 @@ pub returns-in-Some-full : goal.returns-in-Some-full
 returns-in-Some-full c = λ w k. thing_as _ _ _ _ c.in-Some.ensures (passes_as _ _ _ (rw c.own.ensures at c.in_default-copy_rule.ensures) (fails_as _ _ _ _ c.failed-in-Some-full.ensures (rw c.next-number.ensures.value at c.in-Some-full.ensures)))
 
 pub returns : goal.returns
-returns c = λ w k. thing_as _ _ _ _ c.in-Some.ensures (passes_as _ _ _ (rw c.own.ensures at c.in_default-copy_rule.ensures) (holds_as _ _ _ (rw c.next-number.ensures.value at c.in_default-full.ensures)
-    (makes_as _ _ _ _ _ _ c.gives.ensures
+returns c = whole _ _ (λ w k. thing_ok _ _ _ _ c.in-Some.ensures (passes_ok _ _ _ (rw c.own.ensures at c.in_default-copy_rule.ensures) (holds_ok _ _ _ (rw c.next-number.ensures.value at c.in_default-full.ensures)
+    (makes_ok _ _ _ _ _
     (c.renamed.ensures ∙ ap (λ m. renamed c.args.r.now m) (c.in_ok-copy.ensures ∙ ap (λ n. name_of (home_of c.args.p.now c.args.own.now) n) c.next-number.ensures.value))
-    c.in_ok-effect.ensures)))
+    (c.given.ensures _ c.adds_copy.ensures)))))

@@ -1,4 +1,4 @@
-use Rattle.lam_serving.proofs.RowLemmas.{does_as, refused_as, passes_as, fails_as, holds_as, null_as, thing_as}
+use Rattle.lam_serving.proofs.RowLemmas.{refused_as, passes_as, fails_as, null_as, thing_as, passes_ok, holds_ok, thing_ok, whole}
 use Rattle.lam_serving.proofs.things.enter_monitor.Goals as goal
 
 pub returns-in_default : goal.returns-in_default
@@ -11,4 +11,4 @@ pub returns-in-Some-full : goal.returns-in-Some-full
 returns-in-Some-full c = λ w k. thing_as _ _ _ _ c.in-Some.ensures (passes_as _ _ _ (rw c.own.ensures at c.in_default-same_rule.ensures.value) (fails_as _ _ _ _ c.failed-in-Some-full.ensures (rw c.takings.ensures at c.in-Some-full.ensures)))
 
 pub returns : goal.returns
-returns c = λ w k. thing_as _ _ _ _ c.in-Some.ensures (passes_as _ _ _ (rw c.own.ensures at c.in_default-same_rule.ensures.value) (holds_as _ _ _ (rw c.takings.ensures at c.in_default-full.ensures) (does_as _ _ _ c.does.ensures c.in_ok-effect.ensures)))
+returns c = whole _ _ (λ w k. thing_ok _ _ _ _ c.in-Some.ensures (passes_ok _ _ _ (rw c.own.ensures at c.in_default-same_rule.ensures.value) (holds_ok _ _ _ (rw c.takings.ensures at c.in_default-full.ensures) (c.did.ensures _ c.takes_monitor.ensures))))
