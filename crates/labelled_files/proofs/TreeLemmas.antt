@@ -1,6 +1,6 @@
 -- The maps in which files are kept against what is seen of them.
-use Rattle.std.proofs.Common.{◌≡◌, cond, List, Option, Some, None, is_some, refl, sym, ap, ◌∙◌}
-use Rattle.std.specs.Prelude.{option_and_then}
+use Rattle.std.proofs.Common.{◌≡◌, cond, List, Option, Result, Ok, Some, None, is_some, refl, sym, ap, subst, ◌∙◌}
+use Rattle.std.specs.Prelude.{option_and_then, IfOk}
 use Rattle.std.specs.Option.{option_map, unwrap_or}
 use Rattle.std.specs.Map.{lookup}
 use Rattle.std.specs.FinMap.{FinMap, get, insert, same_map}
@@ -73,3 +73,7 @@ module _ {X Y : Type 0} (f : X → Y) (es : List (Name × X)) where
   pub alike : (fs : List (Name × X)) → ((q : Name) → option_and_then (λ x. Some (f x)) (lookup (name_eq q) fs) ≡ option_and_then (λ x. Some (f x)) (lookup (name_eq q) es)) → seen fs ≡ seen es
   alike fs h =
       same_map name_total name_exact _ _ (λ q. get_seen name_cmp name_eq f name_total name_exact name_ties fs q ∙ sym (map_then (lookup (name_eq q) fs)) ∙ h q ∙ map_then (lookup (name_eq q) es) ∙ sym (got q))
+
+-- what holds of a value where it was made
+pub made_so : {X E : Type 0} {r : Result X E} {x : X} → r ≡ Ok x → (P : X → Type 0) → IfOk r P → P x
+made_so e P h = subst (λ r. IfOk r P) e h

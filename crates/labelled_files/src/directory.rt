@@ -187,7 +187,10 @@ fn copied(entries: &IndexMap<Vec<u8>, Target>) -> Result<IndexMap<Vec<u8>, Targe
         let Some((entry, target)) = entries.get_index(at) else {
             unreachable!()
         };
-        put_copy(&mut copy, entry, target)?;
+        let Ok(()) = put_copy(&mut copy, entry, target) else {
+            drop(copy);
+            return Err(NoMemory);
+        };
     }
     Ok(copy)
 }
@@ -199,7 +202,8 @@ fn put_copy(copy: &mut Rows, text: &Vec<u8>, target: &Target) -> Result<(), NoMe
     ensures unique { OnOk result (IsUnique vec_eq copy.new) }
 {
     let (text, target) = copied_entry(text, target)?;
-    copy.insert(text, target)?;
+    let before = copy.insert(text, target)?;
+    drop(before);
     Ok(())
 }
 

@@ -1,6 +1,6 @@
 //! Directories and files by name.
 
-ghost use Rattle.std.specs.Prelude.{◌≡◌, ◌≤◌, ◌<◌, ◌+◌, ◌↔◌, ℕ, IsTrue, List, [], IfOk, IfSome, OnOk, OnErr, Some, None, length, take, drop, is_some, unwrap_or, slice_get, false};
+ghost use Rattle.std.specs.Prelude.{◌≡◌, ◌≤◌, ◌<◌, ◌+◌, ◌↔◌, ℕ, IsTrue, List, [], IfOk, IfSome, OnOk, OnErr, Some, None, length, take, drop, is_some, unwrap_or, slice_get, cond, false};
 ghost use Rattle.std.specs.Result.{MatchResult};
 ghost use Rattle.std.specs.Option.{option_copied, option_map};
 ghost use Rattle.std.specs.Map.{lookup};
@@ -11,10 +11,13 @@ ghost use Rattle.lam_value.specs.Homes.{Home, home_of, name_of, count_in, raised
 ghost use Rattle.labelled_files.specs.Entries.{text_eq, name_of_kind, entry_of};
 ghost use Rattle.labelled_files.specs.Seen.{dirs_of, files_of, at, shown, held, SameDirs, SameFiles};
 ghost use Rattle.lam_value.specs.Alike.{is_shown};
+ghost use Rattle.lam_value.specs.declared.names.Name.{Name};
+ghost use Rattle.lam_value.proofs.Keys.{name_eq};
 ghost use Rattle.labelled_files.specs.Trees as tree;
 ghost use Rattle.labelled_files.specs.Trees.{public_home, root_alone, lives_as, target_at, bytes_at, next_name, with_file, with_dir, placed, with_count, without_entry, with_more, with_first, changed_at, joined, IsSound, AreSeenAlike};
 ghost use Rattle.labelled_files.specs.declared.files.FileFault.TheVariants.{NoMemory as no_memory};
 
+use crate::both::both;
 use crate::contents::{Contents, first_bytes, last_bytes};
 use crate::directory::{Directory, ENTRY_LIMIT, EntryKind, Target, is_entry_name};
 use flow_labels::{Label, NoMemory};
@@ -104,8 +107,7 @@ impl Files {
     pub fn new(alloc: Global) -> Result<Files, NoMemory>
         ensures { IfOk result (λ f. f ≡ root_alone) }
     {
-        let root = root_name(alloc)?;
-        let (dirs, counters) = root_ground(&root)?;
+        let (root, (dirs, counters)) = both(root_name(alloc), root_ground(alloc))?;
         Ok(Files {
             dirs,
             files: IndexMap::new(alloc),
@@ -162,15 +164,20 @@ impl Files {
             return Err(fault);
         }
         let name = Name::of(maker, own, number)?;
-        add_file(
+        match add_file(
             &mut self.dirs,
             &mut self.files,
             &mut self.counters,
             dir,
             entry,
             &name,
-        )?;
-        Ok(name)
+        ) {
+            Ok(()) => return Ok(name),
+            Err(_) => {
+                drop(name);
+                return Err(FileFault::NoMemory);
+            }
+        }
     }
 
     /// Makes an empty directory of a home, at the home's next number, and lists it last in a directory.
@@ -195,8 +202,13 @@ impl Files {
             return Err(fault);
         }
         let name = Name::of(maker, own, number)?;
-        add_dir(&mut self.dirs, &mut self.counters, dir, entry, &name)?;
-        Ok(name)
+        match add_dir(&mut self.dirs, &mut self.counters, dir, entry, &name) {
+            Ok(()) => return Ok(name),
+            Err(_) => {
+                drop(name);
+                return Err(FileFault::NoMemory);
+            }
+        }
     }
 
     /// Puts an empty file or directory under a name that is given, and lists it last in a directory.
@@ -222,6 +234,25 @@ impl Files {
         ensures ok { OnOk result (self.new ≡ placed self.old dir.now entry.now kind name) }
         ensures err { OnErr result (self.new ≡ self.old) }
     {
+        let done = self.place_named(dir, entry, kind, &name);
+        drop(name);
+        done
+    }
+
+    fn place_named(
+        &mut self,
+        dir: &Name,
+        entry: &[u8],
+        kind: EntryKind,
+        name: &Name,
+    ) -> Result<(), FileFault>
+        requires no_file { lives_as EntryKind.File self.old name.now ≡ false }
+        requires no_dir { lives_as EntryKind.Dir self.old name.now ≡ false }
+        requires below { name.now.n < count_in self.old.counts (home_of name.now.maker name.now.own) }
+        ensures fault { MatchResult result (λ _. tree.place_fault self.old dir.now entry.now ≡ None) (λ e. e ≡ unwrap_or (tree.place_fault self.old dir.now entry.now) no_memory) }
+        ensures ok { OnOk result (self.new ≡ placed self.old dir.now entry.now kind name.now) }
+        ensures err { OnErr result (self.new ≡ self.old) }
+    {
         if let Some(fault) = self.fault_at(dir, entry, 0) {
             return Err(fault);
         }
@@ -233,12 +264,12 @@ impl Files {
                     &mut self.counters,
                     dir,
                     entry,
-                    &name,
+                    name,
                 )?;
                 return Ok(());
             }
             EntryKind::Dir => {
-                add_dir(&mut self.dirs, &mut self.counters, dir, entry, &name)?;
+                add_dir(&mut self.dirs, &mut self.counters, dir, entry, name)?;
                 return Ok(());
             }
         }
@@ -456,8 +487,10 @@ impl Files {
     pub fn copy(&self) -> Result<Files, NoMemory>
         ensures { IfOk result (λ f. f ≡ self.now) }
     {
-        let (counters, root) = copied_ground(&self.counters, &self.root)?;
-        let (dirs, files) = copied_things(&self.dirs, &self.files)?;
+        let ((counters, root), (dirs, files)) = both(
+            copied_ground(&self.counters, &self.root),
+            copied_things(&self.dirs, &self.files),
+        )?;
         Ok(Files {
             dirs,
             files,
@@ -476,14 +509,13 @@ fn root_name(alloc: Global) -> Result<Name, NoMemory>
 }
 
 /// The root's directory alone, and its home's counter.
-fn root_ground(root: &Name) -> Result<(Dirs, Counters), NoMemory>
-    requires { root.now ≡ name_of public_home 0 }
+fn root_ground(alloc: Global) -> Result<(Dirs, Counters), NoMemory>
     ensures dirs { IfOk result (λ r. dirs_of r.0.entries ≡ root_alone.dirs) }
     ensures counters { IfOk result (λ r. r.1 ≡ root_alone.counts) }
 {
-    let counters = root_counter(root)?;
-    let dirs = root_dir(root)?;
-    Ok((dirs, counters))
+    let root = root_name(alloc)?;
+    let counters = root_counter(&root);
+    both(root_dir(root), counters)
 }
 
 /// The counter of the root's home alone.
@@ -492,19 +524,32 @@ fn root_counter(root: &Name) -> Result<Counters, NoMemory>
     ensures { IfOk result (λ c. c ≡ root_alone.counts) }
 {
     let mut counters = Counters::new(root.allocator());
-    counters.draw(root.maker(), root.own(), 0)?;
-    Ok(counters)
+    match counters.draw(root.maker(), root.own(), 0) {
+        Ok(()) => Ok(counters),
+        Err(e) => {
+            drop(counters);
+            Err(e)
+        }
+    }
 }
 
 /// The root's directory alone, which is empty.
-fn root_dir(root: &Name) -> Result<Dirs, NoMemory>
-    requires { root.now ≡ name_of public_home 0 }
+fn root_dir(root: Name) -> Result<Dirs, NoMemory>
+    requires { root ≡ name_of public_home 0 }
     ensures { IfOk result (λ d. dirs_of d.entries ≡ root_alone.dirs) }
 {
-    let key = root.copy()?;
     let mut dirs = IndexMap::new(root.allocator());
-    dirs.insert(key, Directory::new(root.allocator()))?;
-    Ok(dirs)
+    match dirs.reserve(1) {
+        Ok(()) => {
+            put_dir(&mut dirs, root);
+            Ok(dirs)
+        }
+        Err(_) => {
+            drop(dirs);
+            drop(root);
+            Err(NoMemory)
+        }
+    }
 }
 
 /// The name of a target, where it is of that kind.
@@ -539,9 +584,16 @@ fn add_file(
 {
     files.reserve(1)?;
     let (key, target) = leads_to(EntryKind::File, name)?;
-    list(dirs, counters, dir, entry, target)?;
-    put_file(files, key);
-    Ok(())
+    match list(dirs, counters, dir, entry, target) {
+        Ok(()) => {
+            put_file(files, key);
+            Ok(())
+        }
+        Err(e) => {
+            drop(key);
+            Err(e)
+        }
+    }
 }
 
 /// Puts in an empty file, for which there is room.
@@ -550,9 +602,10 @@ fn put_file(files: &mut FileMap, name: Name)
     ensures { files_of files.new.entries ≡ insert (files_of files.old.entries) name [] }
 {
     let alloc = name.allocator();
-    let Ok(_) = files.insert(name, Contents::new(alloc)) else {
+    let Ok(before) = files.insert(name, Contents::new(alloc)) else {
         unreachable!()
     };
+    drop(before);
 }
 
 /// Adds an empty directory. The last step that can fail is the listing, and what comes after it has its room.
@@ -573,9 +626,16 @@ fn add_dir(
 {
     dirs.reserve(1)?;
     let (key, target) = leads_to(EntryKind::Dir, name)?;
-    list(dirs, counters, dir, entry, target)?;
-    put_dir(dirs, key);
-    Ok(())
+    match list(dirs, counters, dir, entry, target) {
+        Ok(()) => {
+            put_dir(dirs, key);
+            Ok(())
+        }
+        Err(e) => {
+            drop(key);
+            Err(e)
+        }
+    }
 }
 
 /// Puts in an empty directory, for which there is room.
@@ -584,9 +644,10 @@ fn put_dir(dirs: &mut Dirs, name: Name)
     ensures { dirs_of dirs.new.entries ≡ insert (dirs_of dirs.old.entries) name [] }
 {
     let alloc = name.allocator();
-    let Ok(_) = dirs.insert(name, Directory::new(alloc)) else {
+    let Ok(before) = dirs.insert(name, Directory::new(alloc)) else {
         unreachable!()
     };
+    drop(before);
 }
 
 /// A name's key, and a target that leads to the name.
@@ -594,8 +655,7 @@ fn leads_to(kind: EntryKind, name: &Name) -> Result<(Name, Target), NoMemory>
     ensures key { IfOk result (λ r. r.0 ≡ name.now) }
     ensures target { IfOk result (λ r. r.1 ≡ record { kind = kind; name = name.now }) }
 {
-    let key = name.copy()?;
-    let name = name.copy()?;
+    let (key, name) = both(name.copy(), name.copy())?;
     Ok((key, Target { kind, name }))
 }
 
@@ -637,7 +697,9 @@ fn count_alone(counters: &mut Counters, target: Target) -> Result<(), NoMemory>
     ensures ok { OnOk result (counters.new ≡ raised counters.old (home_of target.name.maker target.name.own) (target.name.n + 1)) }
     ensures err { OnErr result (counters.new ≡ counters.old) }
 {
-    count_name(counters, &target.name)
+    let counted = count_name(counters, &target.name);
+    drop(target);
+    counted
 }
 
 fn list_in(
@@ -654,11 +716,36 @@ fn list_in(
     ensures same_entries { OnErr result (shown directory.new ≡ shown directory.old) }
     ensures same_counters { OnErr result (counters.new ≡ counters.old) }
 {
-    let entry = Vec::from_slice(target.name.allocator(), entry)?;
+    match counted_text(directory, counters, entry, &target) {
+        Ok(text) => {
+            directory.join(text, target);
+            Ok(())
+        }
+        Err(e) => {
+            drop(target);
+            Err(e)
+        }
+    }
+}
+
+/// Makes room for one more entry and counts its target, and gives the entry's text.
+fn counted_text(
+    directory: &mut Directory,
+    counters: &mut Counters,
+    entry: &[u8],
+    target: &Target,
+) -> Result<Vec<u8>, NoMemory>
+    requires { target.now.name.n < 65536 }
+    ensures text { IfOk result (λ t. t.items ≡ entry.now) }
+    ensures counters { OnOk result (counters.new ≡ raised counters.old (home_of target.now.name.maker target.now.name.own) (target.now.name.n + 1)) }
+    ensures room { OnOk result (1 ≤ spare directory.new.entries) }
+    ensures same_entries { shown directory.new ≡ shown directory.old }
+    ensures same_counters { OnErr result (counters.new ≡ counters.old) }
+{
     directory.reserve()?;
+    let text = Vec::from_slice(target.name.allocator(), entry)?;
     count_name(counters, &target.name)?;
-    directory.join(entry, target);
-    Ok(())
+    Ok(text)
 }
 
 impl Same<Whole> for Directory {
@@ -701,18 +788,14 @@ fn copied_ground(counters: &Counters, root: &Name) -> Result<(Counters, Name), N
     ensures counters { IfOk result (λ r. r.0 ≡ counters.now) }
     ensures root { IfOk result (λ r. r.1 ≡ root.now) }
 {
-    let root = root.copy()?;
-    let counters = counters.copy()?;
-    Ok((counters, root))
+    both(counters.copy(), root.copy())
 }
 
 fn copied_things(dirs: &Dirs, files: &FileMap) -> Result<(Dirs, FileMap), NoMemory>
     ensures dirs { IfOk result (λ r. dirs_of r.0.entries ≡ dirs_of dirs.now.entries) }
     ensures files { IfOk result (λ r. files_of r.1.entries ≡ files_of files.now.entries) }
 {
-    let dirs = copied_dirs(dirs)?;
-    let files = copied_files(files)?;
-    Ok((dirs, files))
+    both(copied_dirs(dirs), copied_files(files))
 }
 
 fn copied_dirs(dirs: &Dirs) -> Result<Dirs, NoMemory>
@@ -723,8 +806,14 @@ fn copied_dirs(dirs: &Dirs) -> Result<Dirs, NoMemory>
         let Some((name, directory)) = dirs.get_index(at) else {
             unreachable!()
         };
-        let (name, directory) = copied_dir(name, directory)?;
-        copy.insert(name, directory)?;
+        let Ok((name, directory)) = copied_dir(name, directory) else {
+            drop(copy);
+            return Err(NoMemory);
+        };
+        let Ok(()) = put(&mut copy, name, directory) else {
+            drop(copy);
+            return Err(NoMemory);
+        };
     }
     Ok(copy)
 }
@@ -737,26 +826,37 @@ fn copied_files(files: &FileMap) -> Result<FileMap, NoMemory>
         let Some((name, contents)) = files.get_index(at) else {
             unreachable!()
         };
-        let (name, contents) = copied_file(name, contents)?;
-        copy.insert(name, contents)?;
+        let Ok((name, contents)) = copied_file(name, contents) else {
+            drop(copy);
+            return Err(NoMemory);
+        };
+        let Ok(()) = put(&mut copy, name, contents) else {
+            drop(copy);
+            return Err(NoMemory);
+        };
     }
     Ok(copy)
+}
+
+/// Puts in what has a name.
+fn put<V: Drop>(map: &mut IndexMap<Name, V>, name: Name, value: V) -> Result<(), NoMemory>
+    ensures { OnOk result ((q : Name) → lookup (name_eq q) map.new.entries ≡ cond (name_eq name q) (Some value) (lookup (name_eq q) map.old.entries)) }
+{
+    let before = map.insert(name, value)?;
+    drop(before);
+    Ok(())
 }
 
 fn copied_dir(name: &Name, directory: &Directory) -> Result<(Name, Directory), NoMemory>
     ensures name { IfOk result (λ r. r.0 ≡ name.now) }
     ensures entries { IfOk result (λ r. shown r.1 ≡ shown directory.now) }
 {
-    let name = name.copy()?;
-    let directory = directory.copy()?;
-    Ok((name, directory))
+    both(name.copy(), directory.copy())
 }
 
 fn copied_file(name: &Name, contents: &Contents) -> Result<(Name, Contents), NoMemory>
     ensures name { IfOk result (λ r. r.0 ≡ name.now) }
     ensures bytes { IfOk result (λ r. held r.1 ≡ held contents.now) }
 {
-    let name = name.copy()?;
-    let contents = contents.copy()?;
-    Ok((name, contents))
+    both(name.copy(), contents.copy())
 }

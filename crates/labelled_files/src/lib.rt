@@ -12,12 +12,14 @@
 //! the reference monitor above to decide, by the rules of `flow_labels` and `capabilities`, before it comes
 //! here. Contracts see [`Files`] as finite maps by name, so what a call leaves alone is plain to see.
 //!
+//! - `both` has two results at once.
 //! - `directory` has the entries of one directory, and the names that an entry may have.
 //! - `contents` has the bytes of one file.
 //! - `files` has them all by name.
 
 #![tactic(auto)]
 
+mod both;
 mod contents;
 mod directory;
 mod files;

@@ -13,8 +13,8 @@ pub loop-at-preserved : goal.loop-at-preserved
 loop-at-preserved c = record {
   same =
       copied_more c.args.entries.now.entries c.loop-at.copy.entries c.put_copy.new.copy.entries c.loop-at.at c.in-Some.entry.now c.in-Some.target.now
-      (sym c.in-Some.ensures.entry) c.loop-at.invariant.same c.in_ok-put_copy.ensures.entries;
-  unique = c.in_ok-put_copy.ensures.unique;
+      (sym c.in-Some.ensures.entry) c.loop-at.invariant.same c.in-Ok.ensures.entries;
+  unique = c.in-Ok.ensures.unique;
 }
 
 pub put_copy-requires : goal.put_copy-requires

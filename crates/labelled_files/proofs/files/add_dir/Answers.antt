@@ -17,12 +17,12 @@ list-requires-clause-few c = subst (λ es. length (at es c.args.dir.now) < 4096)
 pub list-requires-clause-fresh : goal.list-requires-clause-fresh
 list-requires-clause-fresh c = ap (λ es. lookup (text_eq c.args.entry.now) (at es c.args.dir.now)) c.in_ok-reserve.ensures.entries ∙ c.requires.fresh
 
-pub returns-clause-dirs : goal.returns-clause-dirs
-returns-clause-dirs c =
+pub returns-in-Ok-clause-dirs : goal.returns-in-Ok-clause-dirs
+returns-in-Ok-clause-dirs c =
     c.put_dir.ensures
     ∙ ap (λ k. insert (dirs_of c.list.new.dirs.entries) k []) c.in_ok-key.ensures.key
     ∙ ap (λ m. insert m c.args.name.now [])
-    (c.in_ok-list.ensures.dirs ∙ (λ i. changed_at (dirs_of (c.in_ok-reserve.ensures.entries i)) c.args.dir.now (joined c.args.entry.now (c.in_ok-key.ensures.target i).kind (c.in_ok-key.ensures.target i).name)))
+    (c.in-Ok.ensures.dirs ∙ (λ i. changed_at (dirs_of (c.in_ok-reserve.ensures.entries i)) c.args.dir.now (joined c.args.entry.now (c.in_ok-key.ensures.target i).kind (c.in_ok-key.ensures.target i).name)))
 
-pub returns-clause-counters : goal.returns-clause-counters
-returns-clause-counters c = c.in_ok-list.ensures.counters ∙ ap (λ (t : Target). raised c.args.counters.now (home_of t.name.maker t.name.own) (t.name.n + 1)) c.in_ok-key.ensures.target
+pub returns-in-Ok-clause-counters : goal.returns-in-Ok-clause-counters
+returns-in-Ok-clause-counters c = c.in-Ok.ensures.counters ∙ ap (λ (t : Target). raised c.args.counters.now (home_of t.name.maker t.name.own) (t.name.n + 1)) c.in_ok-key.ensures.target

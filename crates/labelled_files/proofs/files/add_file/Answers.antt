@@ -9,11 +9,11 @@ use Rattle.labelled_files.proofs.files.add_file.Goals as goal
 pub list-requires-clause-room : goal.list-requires-clause-room
 list-requires-clause-room c = subst (λ (t : Target). t.name.n < 65536) (sym c.in_ok-key.ensures.target) c.requires.room
 
-pub returns-clause-dirs : goal.returns-clause-dirs
-returns-clause-dirs c = c.in_ok-list.ensures.dirs ∙ ap (λ (t : Target). changed_at (dirs_of c.args.dirs.now.entries) c.args.dir.now (joined c.args.entry.now t.kind t.name)) c.in_ok-key.ensures.target
+pub returns-in-Ok-clause-dirs : goal.returns-in-Ok-clause-dirs
+returns-in-Ok-clause-dirs c = c.in-Ok.ensures.dirs ∙ ap (λ (t : Target). changed_at (dirs_of c.args.dirs.now.entries) c.args.dir.now (joined c.args.entry.now t.kind t.name)) c.in_ok-key.ensures.target
 
-pub returns-clause-files : goal.returns-clause-files
-returns-clause-files c = c.put_file.ensures ∙ (λ i. insert (files_of (c.in_ok-reserve.ensures.entries i)) (c.in_ok-key.ensures.key i) [])
+pub returns-in-Ok-clause-files : goal.returns-in-Ok-clause-files
+returns-in-Ok-clause-files c = c.put_file.ensures ∙ (λ i. insert (files_of (c.in_ok-reserve.ensures.entries i)) (c.in_ok-key.ensures.key i) [])
 
-pub returns-clause-counters : goal.returns-clause-counters
-returns-clause-counters c = c.in_ok-list.ensures.counters ∙ ap (λ (t : Target). raised c.args.counters.now (home_of t.name.maker t.name.own) (t.name.n + 1)) c.in_ok-key.ensures.target
+pub returns-in-Ok-clause-counters : goal.returns-in-Ok-clause-counters
+returns-in-Ok-clause-counters c = c.in-Ok.ensures.counters ∙ ap (λ (t : Target). raised c.args.counters.now (home_of t.name.maker t.name.own) (t.name.n + 1)) c.in_ok-key.ensures.target

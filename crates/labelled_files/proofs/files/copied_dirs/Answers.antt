@@ -13,9 +13,9 @@ loop-at-init c q = ap (λ es. option_and_then (λ x. Some (shown x)) (lookup (na
 
 pub loop-at-preserved : goal.loop-at-preserved
 loop-at-preserved c =
-    copy_more name_eq name_total name_exact name_ties (λ x. Some (shown x)) c.args.dirs.now.entries c.loop-at.copy.entries c.insert.new.self.entries c.loop-at.at c.in-Some.name.now c.in-Some.directory.now c.in_ok-name.directory
-    (sym c.in-Some.ensures.entry) c.in-Some.ensures.value (ap (λ x. Some x) c.in_ok-name.ensures.entries) c.loop-at.invariant
-    (λ q. c.in_ok-insert.ensures.updates.0 q ∙ ap (λ k. cond (name_eq k q) (Some c.in_ok-name.directory) (lookup (name_eq q) c.loop-at.copy.entries)) c.in_ok-name.ensures.name)
+    copy_more name_eq name_total name_exact name_ties (λ x. Some (shown x)) c.args.dirs.now.entries c.loop-at.copy.entries c.put.new.map.entries c.loop-at.at c.in-Some.name.now c.in-Some.directory.now c.in-Ok.directory
+    (sym c.in-Some.ensures.entry) c.in-Some.ensures.value (ap (λ x. Some x) c.in-Ok.ensures.entries) c.loop-at.invariant
+    (λ q. c.in-Ok-put.ensures q ∙ ap (λ k. cond (name_eq k q) (Some c.in-Ok.directory) (lookup (name_eq q) c.loop-at.copy.entries)) c.in-Ok.ensures.name)
 
 pub returns : goal.returns
 returns c =

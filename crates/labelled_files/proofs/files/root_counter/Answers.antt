@@ -13,9 +13,9 @@ none_made h = ap (λ o. unwrap_or o 0) (get-empty home_cmp h)
 pub draw-requires-clause-next : goal.draw-requires-clause-next
 draw-requires-clause-next c = sym (ap (λ m. count_in m (home_of c.maker.result.now c.own.result.now)) c.new-counters.ensures ∙ none_made (home_of c.maker.result.now c.own.result.now))
 
-pub returns : goal.returns
-returns c =
-    c.in_ok-draw.ensures.ok
+pub returns-in-Ok : goal.returns-in-Ok
+returns-in-Ok c =
+    c.in-Ok.ensures.ok
     ∙ (λ i. counted (c.new-counters.ensures i) (home_of (c.maker.ensures i) (c.own.ensures i)))
     ∙ ap (λ (n : Name). counted map.empty (home_of n.maker n.own)) c.requires
     ∙ ap (λ n. insert map.empty public_home (n + 1)) (none_made public_home)

@@ -1,7 +1,6 @@
 use Rattle.std.proofs.Common.{◌≡◌, ◌<◌, ◌∙◌, sym, ap, subst, None}
 use Rattle.lam_value.specs.declared.names.Name.{Name}
 use Rattle.lam_value.specs.Homes.{home_of, name_of, count_in}
-use Rattle.lam_value.proofs.Maps.{on_err}
 use Rattle.labelled_files.specs.Trees.{fault_at, with_file, IsSound}
 use Rattle.labelled_files.specs.Seen.{tree_of}
 use Rattle.labelled_files.proofs.MakeLemmas.{fine, new, room, free, room_kept, new_kept}
@@ -20,25 +19,25 @@ add_file-requires-clause-few c =
 pub add_file-requires-clause-fresh : goal.add_file-requires-clause-fresh
 add_file-requires-clause-fresh c = new_kept c.args.self.now c.args.dir.now c.args.entry.now c.next-number.result (sym c.fault_at.ensures ∙ c.in_default.is) c.self.inside.dirs.entries c.self.inside.files.entries c.self.inside.counters c.self.inside.root c.self.view_is
 
-pub invariant_of-self : goal.invariant_of-self
-invariant_of-self c = subst IsSound (c.self.view_is ∙ sym (kept c.self.inside.dirs.entries c.self.inside.files.entries c.self.inside.counters c.self.inside.root c.args.self.now c.self.view_is c.add_file.new.dirs.entries c.add_file.new.files.entries c.add_file.new.counters c.in_err-add_file.ensures.same_dirs c.in_err-add_file.ensures.same_files c.in_err-add_file.ensures.same_counters)) c.self.invariant
+pub invariant_of-self-in-Err : goal.invariant_of-self-in-Err
+invariant_of-self-in-Err c = subst IsSound (c.self.view_is ∙ sym (kept c.self.inside.dirs.entries c.self.inside.files.entries c.self.inside.counters c.self.inside.root c.args.self.now c.self.view_is c.add_file.new.dirs.entries c.add_file.new.files.entries c.add_file.new.counters c.in-Err.ensures.same_dirs c.in-Err.ensures.same_files c.in-Err.ensures.same_counters)) c.self.invariant
 
-pub invariant_of-self-2 : goal.invariant_of-self-2
-invariant_of-self-2 c =
+pub invariant_of-self : goal.invariant_of-self
+invariant_of-self c =
     let home = home_of c.args.maker.now c.args.own.now in
     let named = next_seen c.self.inside.dirs.entries c.self.inside.files.entries c.self.inside.counters c.self.inside.root c.args.self.now c.self.view_is home c.in_ok-name.name (c.in_ok-name.ensures ∙ ap (name_of home) c.next-number.ensures.value) in
     let clear : fault_at c.args.self.now c.args.dir.now c.args.entry.now (count_in c.args.self.now.counts home) ≡ None = sym (ap (fault_at c.args.self.now c.args.dir.now c.args.entry.now) c.next-number.ensures.value) ∙ sym c.fault_at.ensures ∙ c.in_default.is in
     let sound = subst IsSound c.self.view_is c.self.invariant in
-    let made : tree_of c.add_file.new.dirs.entries c.add_file.new.files.entries c.add_file.new.counters c.self.inside.root ≡ with_file c.args.self.now c.args.dir.now c.args.entry.now home = file_made c.self.inside.dirs.entries c.self.inside.files.entries c.self.inside.counters c.self.inside.root c.args.self.now c.self.view_is c.add_file.new.dirs.entries c.add_file.new.files.entries c.add_file.new.counters c.args.dir.now c.in_ok-name.name c.args.entry.now home named c.in_ok-add_file.ensures.dirs c.in_ok-add_file.ensures.files c.in_ok-add_file.ensures.counters in
+    let made : tree_of c.add_file.new.dirs.entries c.add_file.new.files.entries c.add_file.new.counters c.self.inside.root ≡ with_file c.args.self.now c.args.dir.now c.args.entry.now home = file_made c.self.inside.dirs.entries c.self.inside.files.entries c.self.inside.counters c.self.inside.root c.args.self.now c.self.view_is c.add_file.new.dirs.entries c.add_file.new.files.entries c.add_file.new.counters c.args.dir.now c.in_ok-name.name c.args.entry.now home named c.in-Ok.ensures.dirs c.in-Ok.ensures.files c.in-Ok.ensures.counters in
     subst IsSound (sym made)
     (sound_file c.args.self.now sound c.args.dir.now c.args.entry.now home (fine c.args.self.now c.args.dir.now c.args.entry.now _ clear) (new c.args.self.now c.args.dir.now c.args.entry.now _ clear) (room c.args.self.now c.args.dir.now c.args.entry.now _ clear sound)
     (free c.args.self.now c.args.dir.now c.args.entry.now _ clear (sound.within home)))
 
-pub returns-in_err-add_file-clause-err : goal.returns-in_err-add_file-clause-err
-returns-in_err-add_file-clause-err c = on_err _ c.from_residual-in_err-add_file.result (kept c.self.inside.dirs.entries c.self.inside.files.entries c.self.inside.counters c.self.inside.root c.args.self.now c.self.view_is c.add_file.new.dirs.entries c.add_file.new.files.entries c.add_file.new.counters c.in_err-add_file.ensures.same_dirs c.in_err-add_file.ensures.same_files c.in_err-add_file.ensures.same_counters)
+pub returns-in-Err-clause-err : goal.returns-in-Err-clause-err
+returns-in-Err-clause-err c = (kept c.self.inside.dirs.entries c.self.inside.files.entries c.self.inside.counters c.self.inside.root c.args.self.now c.self.view_is c.add_file.new.dirs.entries c.add_file.new.files.entries c.add_file.new.counters c.in-Err.ensures.same_dirs c.in-Err.ensures.same_files c.in-Err.ensures.same_counters)
 
-pub returns-clause-ok : goal.returns-clause-ok
-returns-clause-ok c =
+pub returns-in-Ok-clause-ok : goal.returns-in-Ok-clause-ok
+returns-in-Ok-clause-ok c =
     let home = home_of c.args.maker.now c.args.own.now in
     let named = next_seen c.self.inside.dirs.entries c.self.inside.files.entries c.self.inside.counters c.self.inside.root c.args.self.now c.self.view_is home c.in_ok-name.name (c.in_ok-name.ensures ∙ ap (name_of home) c.next-number.ensures.value) in
-    file_made c.self.inside.dirs.entries c.self.inside.files.entries c.self.inside.counters c.self.inside.root c.args.self.now c.self.view_is c.add_file.new.dirs.entries c.add_file.new.files.entries c.add_file.new.counters c.args.dir.now c.in_ok-name.name c.args.entry.now home named c.in_ok-add_file.ensures.dirs c.in_ok-add_file.ensures.files c.in_ok-add_file.ensures.counters
+    file_made c.self.inside.dirs.entries c.self.inside.files.entries c.self.inside.counters c.self.inside.root c.args.self.now c.self.view_is c.add_file.new.dirs.entries c.add_file.new.files.entries c.add_file.new.counters c.args.dir.now c.in_ok-name.name c.args.entry.now home named c.in-Ok.ensures.dirs c.in-Ok.ensures.files c.in-Ok.ensures.counters
