@@ -8,6 +8,7 @@ ghost use Rattle.thread_steps.specs.Builtins.{root_name};
 ghost use Rattle.thread_sights.specs.Acting.{ask_of, value_of, signed, tag_list};
 
 use crate::acted::{Sketch, Worth};
+use crate::both::both;
 use crate::reading::tag_in;
 use capabilities::Caps;
 use decimal_text::push_int_bytes;
@@ -28,6 +29,14 @@ fn zeros(alloc: Global, kinds: &[Kind]) -> Result<Values, NoMemory>
     Ok(Values::from_vec(out))
 }
 
+/// Capabilities of equal sets.
+fn caps_of(plus: &TagSet, minus: &TagSet) -> Result<Caps, NoMemory>
+    ensures { IfOk result (λ c. c ≡ record { plus = plus.now; minus = minus.now }) }
+{
+    let (plus, minus) = both(plus.copy(), minus.copy())?;
+    Ok(Caps { plus, minus })
+}
+
 fn read(r: &Value, at: u64) -> Result<Ask, NoMemory>
     ensures { IfOk result (λ a. a ≡ Ask.Read r.now at) }
 {
@@ -37,8 +46,7 @@ fn read(r: &Value, at: u64) -> Result<Ask, NoMemory>
 fn write(r: &Value, at: u64, v: &Value) -> Result<Ask, NoMemory>
     ensures { IfOk result (λ a. a ≡ Ask.Write r.now at v.now) }
 {
-    let r = r.copy()?;
-    let v = v.copy()?;
+    let (r, v) = both(r.copy(), v.copy())?;
     Ok(Ask::Write { r, at, v })
 }
 
@@ -54,8 +62,7 @@ fn new_object(alloc: Global, class: u32, kinds: &[Kind]) -> Result<Ask, NoMemory
 fn copy_to(r: &Value, own: &Label) -> Result<Ask, NoMemory>
     ensures { IfOk result (λ a. a ≡ Ask.CopyTo r.now own.now) }
 {
-    let r = r.copy()?;
-    let own = own.copy()?;
+    let (r, own) = both(r.copy(), own.copy())?;
     Ok(Ask::CopyTo { r, own })
 }
 
@@ -68,11 +75,8 @@ fn enter(
 ) -> Result<Ask, NoMemory>
     ensures { IfOk result (λ a. a ≡ Ask.Enter label.now (record { plus = plus.now; minus = minus.now }) region args.now) }
 {
-    let plus = plus.copy()?;
-    let minus = minus.copy()?;
-    let caps = Caps { plus, minus };
-    let args = listed(label.allocator(), args)?;
-    let label = label.copy()?;
+    let place = both(label.copy(), caps_of(plus, minus));
+    let ((label, caps), args) = both(place, listed(label.allocator(), args))?;
     Ok(Ask::Enter {
         label,
         caps,
@@ -84,68 +88,56 @@ fn enter(
 fn make_file(dir: &Name, entry: &ByteText, own: &Label) -> Result<Ask, NoMemory>
     ensures { IfOk result (λ a. a ≡ Ask.MakeFile dir.now entry.now own.now) }
 {
-    let dir = dir.copy()?;
-    let entry = entry.copy()?;
-    let own = own.copy()?;
+    let ((dir, entry), own) = both(both(dir.copy(), entry.copy()), own.copy())?;
     Ok(Ask::MakeFile { dir, entry, own })
 }
 
 fn make_dir(dir: &Name, entry: &ByteText, own: &Label) -> Result<Ask, NoMemory>
     ensures { IfOk result (λ a. a ≡ Ask.MakeDir dir.now entry.now own.now) }
 {
-    let dir = dir.copy()?;
-    let entry = entry.copy()?;
-    let own = own.copy()?;
+    let ((dir, entry), own) = both(both(dir.copy(), entry.copy()), own.copy())?;
     Ok(Ask::MakeDir { dir, entry, own })
 }
 
 fn open_file(dir: &Name, entry: &ByteText) -> Result<Ask, NoMemory>
     ensures { IfOk result (λ a. a ≡ Ask.OpenFile dir.now entry.now) }
 {
-    let dir = dir.copy()?;
-    let entry = entry.copy()?;
+    let (dir, entry) = both(dir.copy(), entry.copy())?;
     Ok(Ask::OpenFile { dir, entry })
 }
 
 fn open_dir(dir: &Name, entry: &ByteText) -> Result<Ask, NoMemory>
     ensures { IfOk result (λ a. a ≡ Ask.OpenDir dir.now entry.now) }
 {
-    let dir = dir.copy()?;
-    let entry = entry.copy()?;
+    let (dir, entry) = both(dir.copy(), entry.copy())?;
     Ok(Ask::OpenDir { dir, entry })
 }
 
 fn remove(dir: &Name, entry: &ByteText) -> Result<Ask, NoMemory>
     ensures { IfOk result (λ a. a ≡ Ask.Remove dir.now entry.now) }
 {
-    let dir = dir.copy()?;
-    let entry = entry.copy()?;
+    let (dir, entry) = both(dir.copy(), entry.copy())?;
     Ok(Ask::Remove { dir, entry })
 }
 
 fn append(file: &Name, bytes: &ByteText) -> Result<Ask, NoMemory>
     ensures { IfOk result (λ a. a ≡ Ask.Append file.now bytes.now) }
 {
-    let file = file.copy()?;
-    let bytes = bytes.copy()?;
+    let (file, bytes) = both(file.copy(), bytes.copy())?;
     Ok(Ask::Append { file, bytes })
 }
 
 fn send(pipe: &Name, bytes: &ByteText) -> Result<Ask, NoMemory>
     ensures { IfOk result (λ a. a ≡ Ask.Send pipe.now bytes.now) }
 {
-    let pipe = pipe.copy()?;
-    let bytes = bytes.copy()?;
+    let (pipe, bytes) = both(pipe.copy(), bytes.copy())?;
     Ok(Ask::Send { pipe, bytes })
 }
 
 fn send_caps(pipe: &Name, plus: &TagSet, minus: &TagSet) -> Result<Ask, NoMemory>
     ensures { IfOk result (λ a. a ≡ Ask.SendCaps pipe.now (record { plus = plus.now; minus = minus.now })) }
 {
-    let plus = plus.copy()?;
-    let minus = minus.copy()?;
-    let caps = Caps { plus, minus };
-    let pipe = pipe.copy()?;
+    let (pipe, caps) = both(pipe.copy(), caps_of(plus, minus))?;
     Ok(Ask::SendCaps { pipe, caps })
 }
 
@@ -158,10 +150,7 @@ fn spawn(
 ) -> Result<Ask, NoMemory>
     ensures { IfOk result (λ a. a ≡ Ask.Spawn unit args.now (record { plus = plus.now; minus = minus.now })) }
 {
-    let plus = plus.copy()?;
-    let minus = minus.copy()?;
-    let caps = Caps { plus, minus };
-    let args = listed(alloc, args)?;
+    let (args, caps) = both(listed(alloc, args), caps_of(plus, minus))?;
     Ok(Ask::Spawn { unit, args, caps })
 }
 
@@ -316,8 +305,7 @@ fn label_value(label: &Label) -> Result<Value, NoMemory>
 fn caps_value(caps: &Caps) -> Result<Value, NoMemory>
     ensures { IfOk result (λ v. v ≡ Value.CapV caps.now.plus caps.now.minus) }
 {
-    let plus = caps.plus.copy()?;
-    let minus = caps.minus.copy()?;
+    let (plus, minus) = both(caps.plus.copy(), caps.minus.copy())?;
     Ok(Value::CapV { plus, minus })
 }
 
@@ -349,16 +337,14 @@ fn tags_from(alloc: Global, values: &[Value]) -> Result<TagSet, NoMemory>
 fn label_of(alloc: Global, secrets: &[Value], vouchers: &[Value]) -> Result<Value, NoMemory>
     ensures { IfOk result (λ v. v ≡ Value.Lab (record { s = from_list (tag_list secrets.now); i = from_list (tag_list vouchers.now) })) }
 {
-    let s = tags_from(alloc, secrets)?;
-    let i = tags_from(alloc, vouchers)?;
+    let (s, i) = both(tags_from(alloc, secrets), tags_from(alloc, vouchers))?;
     Ok(Value::Lab(Label { s, i }))
 }
 
 fn signed(sign: bool, plus: &TagSet, minus: &TagSet, tag: TagId) -> Result<Value, NoMemory>
     ensures { IfOk result (λ v. v ≡ signed sign plus.now minus.now tag) }
 {
-    let mut plus = plus.copy()?;
-    let mut minus = minus.copy()?;
+    let (mut plus, mut minus) = both(plus.copy(), minus.copy())?;
     if sign {
         plus.insert(tag)?;
     } else {

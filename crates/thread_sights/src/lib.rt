@@ -8,6 +8,7 @@
 
 mod acted;
 mod asking;
+mod both;
 mod equal;
 mod reading;
 
