@@ -7,7 +7,7 @@ use Rattle.lam_value.specs.Names.{name_cmp}
 use Rattle.lam_value.specs.Homes.{Counts}
 use Rattle.lam_value.specs.Maps.{seen_at}
 use Rattle.lam_value.specs.Alike.{AreAlikeWhere}
-use Rattle.lam_value.proofs.Keys.{name_eq}
+use Rattle.lam_value.specs.Names.{name_eq}
 use Rattle.labelled_files.specs.declared.directory.Directory.{Directory}
 use Rattle.labelled_files.specs.declared.contents.Contents.{Contents}
 use Rattle.labelled_files.specs.Entries.{Entries, entries_of}

@@ -12,7 +12,7 @@ ghost use Rattle.labelled_files.specs.Entries.{text_eq, name_of_kind, entry_of};
 ghost use Rattle.labelled_files.specs.Seen.{dirs_of, files_of, at, shown, held, SameDirs, SameFiles};
 ghost use Rattle.lam_value.specs.Alike.{is_shown};
 ghost use Rattle.lam_value.specs.declared.names.Name.{Name};
-ghost use Rattle.lam_value.proofs.Keys.{name_eq};
+ghost use Rattle.lam_value.specs.Names.{name_eq};
 ghost use Rattle.labelled_files.specs.Trees as tree;
 ghost use Rattle.labelled_files.specs.Trees.{public_home, root_alone, lives_as, target_at, bytes_at, next_name, with_file, with_dir, placed, with_count, without_entry, with_more, with_first, changed_at, joined, IsSound, AreSeenAlike};
 ghost use Rattle.labelled_files.specs.declared.files.FileFault.TheVariants.{NoMemory as no_memory};

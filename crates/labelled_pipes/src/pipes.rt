@@ -11,7 +11,7 @@ ghost use Rattle.std.specs.HashMap.{get as at_key};
 ghost use Rattle.lam_value.specs.Homes as homes;
 ghost use Rattle.lam_value.specs.Homes.{home_of, name_of, count_in, counted};
 ghost use Rattle.lam_value.specs.declared.names.Name.{Name};
-ghost use Rattle.lam_value.proofs.Keys.{name_eq};
+ghost use Rattle.lam_value.specs.Names.{name_eq};
 ghost use Rattle.labelled_pipes.specs.Messages.{joined, front_of, rest_of};
 ghost use Rattle.labelled_pipes.specs.Queues.{no_pipes, waiting_at, with_pipe, with_sent, with_received, IsSound, AreSeenAlike};
 ghost use Rattle.labelled_pipes.specs.declared.pipes.PipeFault.TheVariants.{NoMemory as no_memory};

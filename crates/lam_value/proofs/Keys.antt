@@ -1,5 +1,5 @@
 -- The orders of labels, names and homes are total and tell all apart, and `==` is true where they tie. Here those of names.
-use Rattle.std.proofs.Common.{◌≡◌, Bool}
+use Rattle.std.proofs.Common.{◌≡◌}
 use Rattle.std.specs.Prelude.{◌&&◌, nat_eq}
 use Rattle.std.specs.Ordering.{nat_cmp, ordering_then, eq_by_cmp}
 use Rattle.std.specs.Cmp.{IsTotalOrder, both_tied, unsigned_ties}
@@ -7,7 +7,7 @@ use Rattle.std.proofs.lemmas.Cmp.{nat_cmp_total, on_total, then_total}
 use Rattle.std.specs.FinMap.{IsAntisymmetric, nat_cmp-IsAntisymmetric}
 use Rattle.lam_value.specs.declared.names.Name.{Name}
 use Rattle.lam_value.specs.Names.{label_cmp, name_cmp}
-use Rattle.lam_value.specs.Homes.{label_eq}
+pub use Rattle.lam_value.specs.Names.{name_eq}
 use Rattle.home_counters.proofs.Keys.{then_parts}
 pub use Rattle.home_counters.proofs.Keys.{label_exact, home_exact, label_total, home_total, label_ties, home_ties}
 
@@ -26,9 +26,6 @@ pub name_total : IsTotalOrder name_cmp
 name_total = then_total (on_total (λ (n : Name). n.maker) label_total) (then_total (on_total (λ (n : Name). n.own) label_total) (on_total (λ (n : Name). n.n) nat_cmp_total))
 
 -- ---- `==` is true exactly where the order ties
-abbrev pub name_eq : Name → Name → Bool
-name_eq a b = label_eq a.maker b.maker && (label_eq a.own b.own && nat_eq a.n b.n)
-
 pub name_ties : (a b : Name) → name_eq a b ≡ eq_by_cmp name_cmp a b
 name_ties a b =
     both_tied _ _ (label_cmp a.maker b.maker) (ordering_then (label_cmp a.own b.own) (nat_cmp a.n b.n)) (label_ties a.maker b.maker)

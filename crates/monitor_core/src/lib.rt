@@ -15,7 +15,7 @@ ghost use Rattle.std.specs.Option.{option_copied};
 ghost use Rattle.std.specs.FinMap as map;
 ghost use Rattle.std.specs.HashMap.{get as at_key};
 ghost use Rattle.lam_value.specs.declared.names.Name.{Name};
-ghost use Rattle.lam_value.proofs.Keys.{name_eq};
+ghost use Rattle.lam_value.specs.Names.{name_eq};
 ghost use Rattle.monitor_core.specs.Held.{is_free, count_of, takings, once_more, entered, left, dropped, lowered, one_less, IsSound, AreSeenAlike};
 
 use flow_labels::{Label, NoMemory};
