@@ -3,7 +3,7 @@ use Rattle.std.proofs.Common.{◌≡◌, ◌⊎◌, ℕ, Some, Result, Ok, Err, 
 use Rattle.lam_syntax.specs.Tree.{ProgramTree}
 use Rattle.resolved_tree.specs.Tree.{ResolvedTree}
 use Rattle.lam_bytecode.specs.Codes.{CodeTree}
-use Rattle.lam_scheme.specs.Long.{compiled}
+use Rattle.lam_meaning.specs.Long.{compiled}
 use Rattle.lam_resolved.specs.Resolved.{resolved}
 use Rattle.barrier_emit.specs.declared.CompileFault.{CompileFault}
 use Rattle.barrier_emit.specs.declared.CompileFault.TheVariants.{CodeTooLong, NoMemory}

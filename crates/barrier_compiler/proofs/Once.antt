@@ -3,7 +3,7 @@ use Rattle.std.proofs.Common.{◌≡◌, ℕ, Some, Result, sym, ap, ◌∙◌}
 use Rattle.lam_syntax.specs.Tree.{ProgramTree}
 use Rattle.resolved_tree.specs.Tree.{ResolvedTree}
 use Rattle.lam_bytecode.specs.Codes.{CodeTree}
-use Rattle.lam_scheme.specs.Long.{compiled}
+use Rattle.lam_meaning.specs.Long.{compiled}
 use Rattle.barrier_compiler.specs.Compiled.{IsCompiledTo}
 
 one_tree : {r t : ResolvedTree} → Some r ≡ Some t → r ≡ t

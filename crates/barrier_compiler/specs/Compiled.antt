@@ -3,7 +3,7 @@ use Rattle.std.specs.Prelude.{◌≡◌, ℕ, Some, Result}
 use Rattle.lam_syntax.specs.Tree.{ProgramTree}
 use Rattle.resolved_tree.specs.Tree.{ResolvedTree}
 use Rattle.lam_bytecode.specs.Codes.{CodeTree}
-use Rattle.lam_scheme.specs.Long.{compiled}
+use Rattle.lam_meaning.specs.Long.{compiled}
 use Rattle.lam_resolved.specs.Resolved.{resolved}
 use Rattle.lam_acting.specs.Acts.{ActsAsSource}
 

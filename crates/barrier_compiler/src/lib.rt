@@ -1,6 +1,6 @@
 //! The compiler: from a checked program to its code.
 //!
-//! Names are resolved first, then each function and each region gets its operations by the scheme of `lam_scheme`.
+//! Names are resolved first, then each function and each region gets its operations by the scheme of `lam_meaning`.
 #![tactic(auto)]
 
 ghost use Rattle.std.specs.Prelude.{◌≡◌, ◌⊎◌, ℕ, Ok, Err, IfOk, IfErr};

@@ -5,7 +5,7 @@ use Rattle.resolved_tree.specs.Tree.{Statement, let_slot, if_block, while_block,
 use Rattle.resolved_tree.specs.Slots.{DeclaresNew, BlockDeclaresNew, OtherDeclaresNew, AllDeclareNew, scope_after, SlotsDiffer}
 use Rattle.resolved_tree.specs.Regions.{count_up}
 use Rattle.lam_bytecode.specs.Codes.{given}
-use Rattle.lam_scheme.specs.Scheme.{Draft, arg_kind, function_draft, regions_of, regions_in, regions_in_other, all_regions, drafts}
+use Rattle.lam_meaning.specs.Scheme.{Draft, arg_kind, function_draft, regions_of, regions_in, regions_in_other, all_regions, drafts}
 
 abbrev pub AllGiven : List Draft → Type 0
 AllGiven [] = Unit {0}

@@ -7,7 +7,7 @@ use Rattle.resolved_tree.specs.Regions.{count_up, function_regions, AreNumbered}
 use Rattle.lam_bytecode.specs.declared.unit.UnitKind.{UnitKind}
 use Rattle.lam_bytecode.specs.declared.unit.UnitKind.TheVariants.{Function, Region}
 use Rattle.lam_bytecode.specs.Codes.{number_before, region_numbers, AreCounted}
-use Rattle.lam_scheme.specs.Scheme.{Draft, function_draft, regions_of, regions_in, regions_in_other, all_regions, drafts, unit_of}
+use Rattle.lam_meaning.specs.Scheme.{Draft, function_draft, regions_of, regions_in, regions_in_other, all_regions, drafts, unit_of}
 
 abbrev numbers : List Draft → List ℕ
 numbers [] = []

@@ -9,9 +9,9 @@ use Rattle.resolved_tree.specs.Regions.{AreNumbered}
 use Rattle.lam_meaning.specs.Means.{kind_of}
 use Rattle.lam_bytecode.specs.declared.unit.CodeUnit.{CodeUnit}
 use Rattle.lam_bytecode.specs.Codes.{CodeTree, code_of, IsConstant, IsUnit, IsCode, AreCounted, region_numbers}
-use Rattle.lam_scheme.specs.Pieces.{Flat, an_op, a_constant, numbered}
-use Rattle.lam_scheme.specs.Scheme.{Draft, function_draft, all_regions, drafts, unit_of, scheme}
-use Rattle.lam_scheme.specs.Long.{long_from, first_long_unit, unless_long, compiled}
+use Rattle.lam_meaning.specs.Pieces.{Flat, an_op, a_constant, numbered}
+use Rattle.lam_meaning.specs.Scheme.{Draft, function_draft, all_regions, drafts, unit_of, scheme}
+use Rattle.lam_meaning.specs.Long.{long_from, first_long_unit, unless_long, compiled}
 use Rattle.emit_units.specs.declared.units.Halt.{Halt}
 use Rattle.emit_units.specs.declared.units.Halt.TheVariants.{TooLong, NoMemory}
 use Rattle.emit_units.specs.Adds.{Made, made_of, Stage, Adds_units, AddsBy, Adds}

@@ -1,7 +1,7 @@
-//! From a program with its names resolved to its code, by the scheme of `lam_scheme`.
+//! From a program with its names resolved to its code, by the scheme of `lam_meaning`.
 //!
 //! Each access stands behind a barrier, and each region is a unit of its own. What a program comes to, its code or the
-//! number of its first unit that is too long, is the definition `compiled` of `lam_scheme`; `emit` computes it.
+//! number of its first unit that is too long, is the definition `compiled` of `lam_meaning`; `emit` computes it.
 #![tactic(auto)]
 
 ghost use Rattle.std.specs.Prelude.{◌≡◌, ◌<◌, ◌^◌, length, map, Ok, IfOk, IfErr};
@@ -10,7 +10,7 @@ ghost use Rattle.resolved_tree.specs.Slots.{SlotsDiffer};
 ghost use Rattle.resolved_tree.specs.Regions.{AreNumbered};
 ghost use Rattle.lam_bytecode.specs.Codes.{IsCode};
 ghost use Rattle.lam_meaning.specs.Means.{kind_of};
-ghost use Rattle.lam_scheme.specs.Long.{compiled};
+ghost use Rattle.lam_meaning.specs.Long.{compiled};
 ghost use Rattle.barrier_emit.specs.Faults.{IsFaultOf};
 ghost use Rattle.barrier_emit.specs.declared.CompileFault.TheVariants.{NoMemory as no_memory};
 

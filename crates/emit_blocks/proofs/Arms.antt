@@ -5,8 +5,8 @@ use Rattle.std.proofs.Math.Seq.{take-suc}
 use Rattle.resolved_tree.specs.declared.Stmt.{Stmt}
 use Rattle.resolved_tree.specs.Tree.{Expression, Statement, Block, stmt_tree, stmts_tree, sync_block}
 use Rattle.lam_bytecode.specs.declared.op.Op.TheVariants.{Load, Store, EnterMonitor, LeaveMonitor}
-use Rattle.lam_scheme.specs.Pieces.{Pieces, joined, op, one, either}
-use Rattle.lam_scheme.specs.Scheme.{expression, loads, gives_back, statement, block}
+use Rattle.lam_meaning.specs.Pieces.{Pieces, joined, op, one, either}
+use Rattle.lam_meaning.specs.Scheme.{expression, loads, gives_back, statement, block}
 use Rattle.emit_parts.specs.Emits.{State, Emits, Goes}
 use Rattle.emit_parts.proofs.Joins.{joins, starts, joined-assoc, as_pieces, goes_on, all_done}
 

@@ -1,7 +1,7 @@
 -- An `if` whose first part is put already, and what ends it.
 use Rattle.std.specs.Prelude.{ℕ}
 use Rattle.lam_bytecode.specs.declared.op.Op.TheVariants.{JumpIfFalse}
-use Rattle.lam_scheme.specs.Pieces.{Pieces, op}
+use Rattle.lam_meaning.specs.Pieces.{Pieces, op}
 use Rattle.emit_parts.specs.Emits.{State, Emits, IsAt}
 
 -- whatever the first part is, behind the jump at the address `fork`: the whole is these pieces

@@ -8,8 +8,8 @@
 ghost use Rattle.std.specs.Prelude.{◌≡◌, ◌∷◌, reverse};
 ghost use Rattle.lam_bytecode.specs.declared.op.Op.TheVariants.{Load, Store, Return, WriteBarrier, PutField, PutElement, EnterMonitor, LeaveMonitor, EnterRegion};
 ghost use Rattle.resolved_tree.specs.Tree.{expr_tree, option_expr_tree, stmt_tree, stmts_tree, sync_block};
-ghost use Rattle.lam_scheme.specs.Pieces.{joined, one, op, when, either, loops};
-ghost use Rattle.lam_scheme.specs.Scheme.{expression, loads, gives_back, value_or_null, statement, block};
+ghost use Rattle.lam_meaning.specs.Pieces.{joined, one, op, when, either, loops};
+ghost use Rattle.lam_meaning.specs.Scheme.{expression, loads, gives_back, value_or_null, statement, block};
 ghost use Rattle.emit_parts.specs.Emits.{Emits};
 ghost use Rattle.emit_blocks.specs.Forks.{Completes};
 

@@ -4,8 +4,8 @@ use Rattle.resolved_tree.specs.declared.Expr.{Expr}
 use Rattle.resolved_tree.specs.Tree.{Expression, number_value, text_value, bool_value, null_value, local_value, unary_of, binary_of, field_of, element_of, call_of, builtin_of, new_object, new_array, label_of, caps_of, spawn_of, Expressions, args_end, args_more, exprs_tree}
 use Rattle.lam_bytecode.specs.declared.op.Op.{Op}
 use Rattle.lam_bytecode.specs.declared.op.Op.TheVariants.{MakeLabel}
-use Rattle.lam_scheme.specs.Pieces.{Pieces, joined, op, size, Flat, flat}
-use Rattle.lam_scheme.specs.Scheme.{expression, expressions, count}
+use Rattle.lam_meaning.specs.Pieces.{Pieces, joined, op, size, Flat, flat}
+use Rattle.lam_meaning.specs.Scheme.{expression, expressions, count}
 use Rattle.emit_parts.specs.declared.buffer.Stop.{Stop}
 use Rattle.emit_parts.specs.declared.buffer.Stop.TheVariants.{TooLong, Wide, NoMemory}
 use Rattle.emit_parts.specs.Emits.{State, are_narrow, EmitsBy, Emits, IsCount}

@@ -1,2 +1,2 @@
-pub mod Arms
+pub mod ExprArms
 pub mod Labels

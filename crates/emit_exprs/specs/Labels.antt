@@ -1,7 +1,7 @@
 -- A label of tags that are counted.
 use Rattle.std.specs.Prelude.{ℕ}
 use Rattle.lam_bytecode.specs.declared.op.Op.TheVariants.{MakeLabel}
-use Rattle.lam_scheme.specs.Pieces.{op}
+use Rattle.lam_meaning.specs.Pieces.{op}
 use Rattle.emit_parts.specs.Emits.{State, Emits, IsCount}
 
 -- the operation that makes a label of so many tags of secrecy and of integrity

@@ -1,7 +1,7 @@
 -- How many operations pieces take, and how joined pieces are laid out.
 use Rattle.std.proofs.Common.{◌≡◌, ℕ, ◌+◌, Bool, true, false, ◌&&◌, [], ◌∷◌, ◌++◌, length, refl, sym, ap, ◌∙◌, arith, append_assoc, length-append, zero-add}
 use Rattle.lam_bytecode.specs.declared.op.Op.TheVariants.{Jump, JumpIfFalse}
-use Rattle.lam_scheme.specs.Pieces.{Piece, does, puts, when, either, loops, Pieces, no_pieces, pieces, joined, size_of, size, an_op, flat_of, flat}
+use Rattle.lam_meaning.specs.Pieces.{Piece, does, puts, when, either, loops, Pieces, no_pieces, pieces, joined, size_of, size, an_op, flat_of, flat}
 use Rattle.emit_parts.specs.Emits.{is_narrow, are_narrow}
 
 mutual

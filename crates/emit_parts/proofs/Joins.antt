@@ -2,7 +2,7 @@
 use Rattle.std.proofs.Common.{◌≡◌, ℕ, ◌+◌, ◌^◌, ◌≤◌, Bool, true, false, ◌&&◌, nat_lt, List, ◌++◌, length, Ok, Err, refl, sym, ap, ◌∙◌, subst, arith, append_assoc, append-nil, length-append}
 use Rattle.std.proofs.Math.Bool.{and-false, and-true}
 use Rattle.lam_bytecode.specs.declared.op.Op.{Op}
-use Rattle.lam_scheme.specs.Pieces.{Pieces, no_pieces, pieces, joined, op, size, Flat, flat}
+use Rattle.lam_meaning.specs.Pieces.{Pieces, no_pieces, pieces, joined, op, size, Flat, flat}
 use Rattle.emit_parts.specs.declared.buffer.Stop.{Stop}
 use Rattle.emit_parts.specs.declared.buffer.Stop.TheVariants.{TooLong, Wide, NoMemory}
 use Rattle.emit_parts.specs.Emits.{State, named_by, are_narrow, EmitsBy, Emits, Goes, IsOperandBy, IsOperand}

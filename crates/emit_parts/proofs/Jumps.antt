@@ -4,7 +4,7 @@ use Rattle.std.specs.Prelude.{slice_set}
 use Rattle.std.proofs.Math.Bool.{and-true}
 use Rattle.std.proofs.Math.Seq.{set-append_seam}
 use Rattle.lam_bytecode.specs.declared.op.Op.TheVariants.{Jump, JumpIfFalse}
-use Rattle.lam_scheme.specs.Pieces.{Pieces, pieces, joined, one, op, does, when, either, loops, size, Flat, an_op, flat}
+use Rattle.lam_meaning.specs.Pieces.{Pieces, pieces, joined, one, op, does, when, either, loops, size, Flat, an_op, flat}
 use Rattle.emit_parts.specs.declared.buffer.Stop.TheVariants.{TooLong, Wide, NoMemory}
 use Rattle.emit_parts.specs.Emits.{State, are_narrow, EmitsBy, Emits, IsAt, pointed}
 use Rattle.emit_parts.proofs.Flat.{length-flat, size-joined, flat-joined, narrow-joined}

@@ -7,7 +7,7 @@ use Rattle.lam_value.specs.contracts.values.Value as value
 use Rattle.lam_bytecode.specs.declared.op.Op.{Op}
 use Rattle.lam_bytecode.specs.declared.op.Op.TheVariants.{Load, Store, Call, GetField, PutField, NewObject, EnterRegion, Spawn}
 use Rattle.lam_bytecode.specs.contracts.op.Op as operation
-use Rattle.lam_scheme.specs.Pieces.{Piece, does, puts, when, either, loops, Pieces, no_pieces, pieces, size, Flat, an_op, a_constant, flat}
+use Rattle.lam_meaning.specs.Pieces.{Piece, does, puts, when, either, loops, Pieces, no_pieces, pieces, size, Flat, an_op, a_constant, flat}
 use Rattle.emit_parts.specs.declared.buffer.Stop.{Stop}
 use Rattle.emit_parts.specs.declared.buffer.Stop.TheVariants.{TooLong, Wide, NoMemory}
 use Rattle.emit_parts.specs.contracts.buffer.Stop as stop

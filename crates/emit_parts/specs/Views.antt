@@ -2,7 +2,7 @@
 use Rattle.std.specs.Prelude.{◌≤◌, List, length, map, Option, Some, None, Ok, Err}
 use Rattle.lam_value.specs.declared.values.Value.{Value}
 use Rattle.lam_value.specs.declared.values.Value.TheVariants.{Int as an_int, Bool as a_bool, Bytes as some_bytes, Nothing as null}
-use Rattle.lam_scheme.specs.Pieces.{Piece, does, puts, one, Flat, an_op, a_constant}
+use Rattle.lam_meaning.specs.Pieces.{Piece, does, puts, one, Flat, an_op, a_constant}
 use Rattle.emit_parts.specs.declared.instruction.Constant.{Constant}
 use Rattle.emit_parts.specs.declared.instruction.Constant.TheVariants.{Int, Bool, Bytes, Nothing}
 use Rattle.emit_parts.specs.declared.instruction.Instruction.{Instruction}

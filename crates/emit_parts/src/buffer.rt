@@ -2,7 +2,7 @@
 
 ghost use Rattle.std.specs.Prelude.{◌≡◌, ◌≤◌, length, map, slice_set, [], Ok, Err, IfOk, IfErr};
 ghost use Rattle.lam_bytecode.specs.declared.op.Op.TheVariants.{Load, Store, Call, GetField, PutField, NewObject, EnterRegion, Spawn};
-ghost use Rattle.lam_scheme.specs.Pieces.{Pieces, puts, one, op, an_op};
+ghost use Rattle.lam_meaning.specs.Pieces.{Pieces, puts, one, op, an_op};
 ghost use Rattle.emit_parts.specs.Emits.{Emits, IsOperand, IsAt, IsCount, stopped, pointed};
 ghost use Rattle.emit_parts.specs.Views.{constant_value, flat_view, piece_view, PutsLast};
 

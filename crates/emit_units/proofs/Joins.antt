@@ -3,9 +3,9 @@ use Rattle.std.proofs.Common.{◌≡◌, ℕ, ◌+◌, Bool, true, false, ◌&&�
 use Rattle.std.proofs.Math.Bool.{and-false}
 use Rattle.std.proofs.lemmas.List.{map-append, length-map}
 use Rattle.lam_value.specs.declared.values.Value.{Value}
-use Rattle.lam_scheme.specs.Pieces.{constants_in}
-use Rattle.lam_scheme.specs.Scheme.{Draft, all_constants, unit_of}
-use Rattle.lam_scheme.specs.Long.{is_long, long_from}
+use Rattle.lam_meaning.specs.Pieces.{constants_in}
+use Rattle.lam_meaning.specs.Scheme.{Draft, all_constants, unit_of}
+use Rattle.lam_meaning.specs.Long.{is_long, long_from}
 use Rattle.emit_units.specs.declared.units.Halt.{Halt}
 use Rattle.emit_units.specs.declared.units.Halt.TheVariants.{TooLong, Wide, NoMemory}
 use Rattle.emit_units.specs.Adds.{Made, Stage, draft_narrow, drafts_narrow, AllIn, Adds_units, AddsBy, Adds, Goes}

@@ -12,7 +12,7 @@ use Rattle.std.proofs.lemmas.Slice.Eq.{bytes_eq-Decides, slice_eq-Decides}
 use Rattle.indexmap.specs.IndexSet.{insert_key}
 use Rattle.lam_value.specs.declared.values.Value.{Value}
 use Rattle.thread_steps.specs.Equal.{same_values}
-use Rattle.lam_scheme.specs.Pieces.{is_in, with_constant, place_of}
+use Rattle.lam_meaning.specs.Pieces.{is_in, with_constant, place_of}
 use Rattle.emit_parts.specs.declared.instruction.Constant.{Constant}
 use Rattle.emit_parts.specs.declared.instruction.Constant.TheVariants.{Int, Bool as Truth, Bytes, Nothing}
 use Rattle.emit_parts.specs.Views.{constant_value}

@@ -8,7 +8,7 @@ use Rattle.lam_value.specs.declared.values.Value.{Value}
 use Rattle.thread_steps.specs.Equal.{same_values}
 use Rattle.lam_bytecode.specs.declared.op.Op.{Op}
 use Rattle.lam_bytecode.specs.declared.op.Op.TheVariants.{Const}
-use Rattle.lam_scheme.specs.Pieces.{Flat, an_op, a_constant, is_in, with_constant, constants_in, place_of, numbered}
+use Rattle.lam_meaning.specs.Pieces.{Flat, an_op, a_constant, is_in, with_constant, constants_in, place_of, numbered}
 use Rattle.emit_units.specs.Adds.{AreIn}
 
 -- these constants with more behind them

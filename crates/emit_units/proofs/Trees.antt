@@ -3,7 +3,7 @@ use Rattle.std.proofs.Common.{◌≡◌, ℕ, suc, ◌+◌, ◌<◌, ◌≤◌, 
 use Rattle.resolved_tree.specs.declared.Stmt.{Stmt}
 use Rattle.resolved_tree.specs.declared.Function.{Function}
 use Rattle.resolved_tree.specs.Tree.{Statement, stmt_tree, stmts_tree, function_tree, functions_tree}
-use Rattle.lam_scheme.specs.Scheme.{Draft, function_draft, regions_of, regions_in, all_regions}
+use Rattle.lam_meaning.specs.Scheme.{Draft, function_draft, regions_of, regions_in, all_regions}
 use Rattle.emit_units.specs.Adds.{Stage, Adds, Goes}
 use Rattle.emit_units.proofs.Joins.{goes_on, all_done}
 

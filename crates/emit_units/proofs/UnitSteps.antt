@@ -7,8 +7,8 @@ use Rattle.lam_value.specs.declared.values.Value.TheVariants.{Nothing}
 use Rattle.lam_bytecode.specs.declared.op.Op.TheVariants.{Return, LeaveRegion, Store, Jump, JumpIfFalse}
 use Rattle.lam_bytecode.specs.declared.unit.UnitKind.{UnitKind}
 use Rattle.lam_bytecode.specs.declared.unit.UnitKind.TheVariants.{Region}
-use Rattle.lam_scheme.specs.Pieces.{Piece, does, puts, when, either, loops, Pieces, no_pieces, pieces, joined, one, op, size, size_of, Flat, an_op, flat, flat_of}
-use Rattle.lam_scheme.specs.Scheme.{Draft, block, function_draft, region_draft}
+use Rattle.lam_meaning.specs.Pieces.{Piece, does, puts, when, either, loops, Pieces, no_pieces, pieces, joined, one, op, size, size_of, Flat, an_op, flat, flat_of}
+use Rattle.lam_meaning.specs.Scheme.{Draft, block, function_draft, region_draft}
 use Rattle.emit_parts.specs.declared.buffer.Stop.{Stop}
 use Rattle.emit_parts.specs.declared.buffer.Stop.TheVariants.{TooLong, Wide, NoMemory}
 use Rattle.emit_parts.specs.Emits.{State, named_by, is_narrow, are_narrow, EmitsBy, Emits, IsAt, IsOperandBy, IsOperand}

@@ -7,9 +7,9 @@ use Rattle.lam_bytecode.specs.declared.unit.CodeUnit.{CodeUnit}
 use Rattle.lam_bytecode.specs.declared.unit.UnitKind.{UnitKind}
 use Rattle.lam_bytecode.specs.declared.unit.UnitKind.TheVariants.{Function, Region}
 use Rattle.lam_bytecode.specs.contracts.unit.CodeUnit as code_unit
-use Rattle.lam_scheme.specs.Pieces.{Flat, an_op, a_constant, is_in}
-use Rattle.lam_scheme.specs.Scheme.{Draft, all_constants, unit_of}
-use Rattle.lam_scheme.specs.Long.{long_from}
+use Rattle.lam_meaning.specs.Pieces.{Flat, an_op, a_constant, is_in}
+use Rattle.lam_meaning.specs.Scheme.{Draft, all_constants, unit_of}
+use Rattle.lam_meaning.specs.Long.{long_from}
 use Rattle.emit_parts.specs.declared.buffer.Stop.TheVariants.{TooLong as too_long, Wide as too_wide, NoMemory as no_room}
 use Rattle.emit_parts.specs.Emits.{State, named_by}
 use Rattle.emit_units.specs.declared.units.Halt.{Halt}

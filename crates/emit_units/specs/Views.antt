@@ -3,7 +3,7 @@ use Rattle.std.specs.Prelude.{ℕ, ◌*◌, ◌≤◌, List, [], ◌∷◌, leng
 use Rattle.lam_value.specs.declared.values.Value.{Value}
 use Rattle.lam_bytecode.specs.declared.unit.CodeUnit.{CodeUnit}
 use Rattle.lam_bytecode.specs.declared.unit.UnitKind.{UnitKind}
-use Rattle.lam_scheme.specs.Scheme.{Draft}
+use Rattle.lam_meaning.specs.Scheme.{Draft}
 use Rattle.emit_parts.specs.Emits.{State}
 use Rattle.emit_units.specs.declared.units.Halt.{Halt}
 use Rattle.emit_units.specs.Adds.{Stage, made_of, IsDraft, Adds}

@@ -3,7 +3,7 @@
 ghost use Rattle.std.specs.Prelude.{◌≡◌, ◌∷◌, [], map, IfOk};
 ghost use Rattle.resolved_tree.specs.Tree.{type_tree, types_tree, option_type_tree, stmt_tree, stmts_tree, function_tree, functions_tree};
 ghost use Rattle.lam_bytecode.specs.declared.unit.UnitKind.TheVariants.{Function as function};
-ghost use Rattle.lam_scheme.specs.Scheme.{arg_kind, is_int, function_draft, region_draft, regions_of, regions_in, all_regions};
+ghost use Rattle.lam_meaning.specs.Scheme.{arg_kind, is_int, function_draft, region_draft, regions_of, regions_in, all_regions};
 ghost use Rattle.emit_units.specs.Adds.{Adds};
 
 use crate::units::Units;

@@ -3,7 +3,7 @@
 ghost use Rattle.std.specs.Prelude.{◌≡◌, ◌+◌, ◌<◌, ◌≤◌, ◌^◌, [], ◌∷◌, length, map, true, IfOk, OnOk};
 ghost use Rattle.std.specs.List.{AllByRecursion};
 ghost use Rattle.lam_bytecode.specs.Codes.{IsConstant};
-ghost use Rattle.lam_scheme.specs.Pieces.{is_in, with_constant, place_of, constants_in, numbered};
+ghost use Rattle.lam_meaning.specs.Pieces.{is_in, with_constant, place_of, constants_in, numbered};
 ghost use Rattle.emit_parts.specs.Views.{constant_value, flat_view};
 ghost use Rattle.emit_units.specs.Adds.{AreIn};
 

@@ -3,7 +3,7 @@
 ghost use Rattle.std.specs.Prelude.{◌≡◌, ◌⊎◌, ◌<◌, ◌≤◌, ◌*◌, List, [], ◌∷◌, length, map, None, Ok, Err, IfOk, IfErr};
 ghost use Rattle.std.specs.List.{AllByRecursion};
 ghost use Rattle.lam_bytecode.specs.Codes.{IsConstant};
-ghost use Rattle.lam_scheme.specs.Scheme.{Draft};
+ghost use Rattle.lam_meaning.specs.Scheme.{Draft};
 ghost use Rattle.emit_parts.specs.Views.{flat_view};
 ghost use Rattle.emit_units.specs.Adds.{Adds, IsDraft, made_of};
 ghost use Rattle.emit_units.specs.Views.{HasRoom, AddsUnit};

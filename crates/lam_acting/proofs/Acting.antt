@@ -27,18 +27,18 @@ use Rattle.lam_meaning.specs.Means.{At, means, first_locals}
 use Rattle.lam_meaning.specs.Plays.{How, has_ended, waits, is_spent, is_broken, how_of, asks_made}
 use Rattle.lam_typed.proofs.Locals.{length_are}
 use Rattle.lam_typed.proofs.Threads.{typed_never_broken}
-use Rattle.lam_scheme.specs.Scheme.{scheme}
-use Rattle.lam_block_meaning.specs.Nested.{block_code}
-use Rattle.lam_block_meaning.specs.Gathers.{Along, with_locals, Out, gone, raised, returned, stops, ends_by, acts_to, body_does, closing, final_of, first_along, thread_acts}
-use Rattle.lam_nested_means.proofs.Threads.{nested_means}
-use Rattle.lam_flat_acts.specs.Lone as lone_thread
-use Rattle.lam_flat_acts.specs.Lone.{Lone, runs, op_work, asked, done, turn, turns, asks_in, work_done, NotStuck, alone, bound}
-use Rattle.lam_flat_acts.proofs.Turns.{Kept, context, thread_of, at, fault_context, faulty, op_at, around_at, Halts, Works, Ends, turns_add, halts_on, works_on, step}
-use Rattle.lam_flat_acts.proofs.Steps.{const_turn}
-use Rattle.lam_flat_acts.proofs.Stands.{width, cost, PutsAt}
-use Rattle.lam_flat_acts.proofs.Contexts.{fault_turn}
-use Rattle.lam_flat_acts.proofs.Runs.{return_effect, code_runs_to}
-use Rattle.lam_flat_acts.proofs.Places.{all_stand}
+use Rattle.lam_meaning.specs.Scheme.{scheme}
+use Rattle.lam_acting.specs.Nested.{block_code}
+use Rattle.lam_acting.specs.Gathers.{Along, with_locals, Out, gone, raised, returned, stops, ends_by, acts_to, body_does, closing, final_of, first_along, thread_acts}
+use Rattle.lam_acting.proofs.Threads.{nested_means}
+use Rattle.lam_acting.specs.Lone as lone_thread
+use Rattle.lam_acting.specs.Lone.{Lone, runs, op_work, asked, done, turn, turns, asks_in, work_done, NotStuck, alone, bound}
+use Rattle.lam_acting.proofs.Turns.{Kept, context, thread_of, at, fault_context, faulty, op_at, around_at, Halts, Works, Ends, turns_add, halts_on, works_on, step}
+use Rattle.lam_acting.proofs.Steps.{const_turn}
+use Rattle.lam_acting.proofs.Stands.{width, cost, PutsAt}
+use Rattle.lam_acting.proofs.Contexts.{fault_turn}
+use Rattle.lam_acting.proofs.Runs.{return_effect, code_runs_to}
+use Rattle.lam_acting.proofs.Places.{all_stand}
 use Rattle.lam_acting.specs.Acts.{AreFirst, lone, CodeActs, NeverStuck}
 use Rattle.lam_acting.proofs.Grows.{same_asks, turns_grow, stays, stays_or_fine, stays_or_fine_or}
 

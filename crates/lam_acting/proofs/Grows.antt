@@ -9,7 +9,7 @@ use Rattle.lam_bytecode.specs.Codes.{CodeTree}
 use Rattle.lam_bytecode.specs.declared.op.Op.{Op}
 use Rattle.thread_steps.specs.Threads.{Context, Thread}
 use Rattle.thread_steps.specs.Next.{Next, goes, asks, stuck, next_of, ops_of, standing_in, stands, is_stuck}
-use Rattle.lam_flat_acts.specs.Lone.{Lone, runs, waits, is_barrier, op_work, work_in, work_of, done, turn_of, turn, turns, asks_in, work_done, NotStuck}
+use Rattle.lam_acting.specs.Lone.{Lone, runs, waits, is_barrier, op_work, work_in, work_of, done, turn_of, turn, turns, asks_in, work_done, NotStuck}
 use Rattle.lam_acting.specs.Acts.{AreFirst}
 
 pub same_asks : (a : List Ask) → AreFirst a a

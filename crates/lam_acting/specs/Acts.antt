@@ -10,8 +10,8 @@ use Rattle.resolved_tree.specs.Regions.{AreNumbered}
 use Rattle.lam_meaning.specs.Means.{means}
 use Rattle.lam_meaning.specs.Plays.{asks_of, AllFit, asks_made}
 use Rattle.lam_typed.specs.Kinds.{AreOf}
-use Rattle.lam_scheme.specs.Scheme.{scheme}
-use Rattle.lam_flat_acts.specs.Lone.{Lone, turns, asks_in, work_done, NotStuck, alone, bound}
+use Rattle.lam_meaning.specs.Scheme.{scheme}
+use Rattle.lam_acting.specs.Lone.{Lone, turns, asks_in, work_done, NotStuck, alone, bound}
 
 -- these are the first of those
 abbrev pub AreFirst : List Ask → List Ask → Type 0

@@ -1,3 +1,4 @@
 pub mod Faults
 pub mod Groups
 pub mod Suits
+pub mod Families

@@ -7,13 +7,23 @@
 //!
 //! `fault` has what can go wrong, with the numbers that a program sees. `ask` has the asks, `answer` the answers and
 //! the events of a run. `specs/Suits.antt` says which answers an ask may get.
+//!
+//! An ask has thirty forms, and a function that drops one has the drop of each form in it: too much beside anything
+//! else. So a layer that is done with an ask, or with an event that holds one, hands it to [`let_go`] or
+//! [`let_go_event`]. These look which family the ask is of first (`family`), and let it go form by form in a function for
+//! that family (`families`).
 #![tactic(auto)]
 
 mod answer;
 mod ask;
 mod both;
+mod events;
+mod families;
+mod family;
 mod fault;
 
 pub use answer::{Answer, Event, Outcome, What};
 pub use ask::Ask;
+pub use events::{let_go_event, let_go_what};
+pub use families::let_go;
 pub use fault::Fault;

@@ -14,7 +14,7 @@ use Rattle.lam_plan.specs.Refusals.{Plan, prints, refused, no_word, no_script, n
 use Rattle.lam_plan.specs.Reading.{IsUnread}
 use Rattle.lam_plan.specs.Threads.{status_of}
 use Rattle.lam_plan.specs.Answer.{IsWritten}
-use Rattle.run_ends.specs.declared.How.TheVariants.{Done as all_ended}
+use Rattle.lam_run_laws.specs.declared.How.TheVariants.{Done as all_ended}
 use Rattle.lam_commands.specs.declared.halt.WorldBreak.{WorldBreak}
 use Rattle.lam_commands.specs.declared.halt.WorldBreak.TheVariants.{NotJson, NoMember, BadMember, NoTag, BadPath, PathTwice}
 use Rattle.lam_commands.specs.declared.halt.BookBreak.{BookBreak}

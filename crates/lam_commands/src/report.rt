@@ -4,7 +4,7 @@ ghost use Rattle.std.specs.Prelude.{◌≡◌};
 ghost use Rattle.lam_commands.specs.Halts.{done};
 
 use crate::halt::Halt;
-use run_ends::How;
+use lam_run_laws::How;
 
 /// The text of a command, and how the run ended that it is of.
 #[derive(Drop)]

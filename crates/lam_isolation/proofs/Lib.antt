@@ -8,3 +8,10 @@ pub mod SameLemmas
 pub mod TurnLemmas
 pub mod DownLemmas
 pub mod WholeLemmas
+pub mod HeldSound
+pub mod SoundSteps
+pub mod BackLemmas
+pub mod AllowedLemmas
+pub mod CapsLemmas
+pub mod RefusalLemmas
+pub mod OwnLemmas

@@ -1,1 +1,5 @@
 pub mod Isolation
+pub mod Sound
+pub mod Laws
+pub mod Tests
+pub mod Own

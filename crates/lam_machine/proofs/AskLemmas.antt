@@ -23,7 +23,7 @@ use Rattle.lam_deeds.specs.declared.effect.Effect.{Effect}
 use Rattle.lam_deeds.specs.declared.deed.Deed.{Deed}
 use Rattle.lam_deeds.specs.Meaning.{meaning, DoesAs, IsAfter}
 use Rattle.lam_deeds.specs.Room.{HasRoom}
-use Rattle.lam_room.proofs.RoomLemmas.{room_row}
+use Rattle.lam_turn_parts.proofs.RoomLemmas.{room_row}
 use Rattle.lam_turn_parts.specs.Turned.{IsTurn, Acts, born}
 use Rattle.lam_turn_parts.proofs.PartLemmas.{asked_parts}
 use Rattle.lam_machine.specs.Machine.{CopiesLive}

@@ -4,7 +4,7 @@ use Rattle.lam_asks.specs.declared.answer.Event.{Event}
 use Rattle.lam_bytecode.specs.Codes.{CodeTree}
 use Rattle.lam_worlds.specs.Worlds.{World}
 use Rattle.lam_worlds.specs.Turns.{Moment, step}
-use Rattle.lam_sound_steps.specs.Sound.{FindsLiving}
+use Rattle.lam_isolation.specs.Sound.{FindsLiving}
 use Rattle.lam_turn_parts.specs.Turned.{IsTurn}
 
 -- what a turn of a thread copies lives

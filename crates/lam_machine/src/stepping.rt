@@ -10,12 +10,11 @@ ghost use Rattle.lam_machine.specs.Asking.{top_label, label_at, asked_event, Ask
 
 use crate::asking::{asks_ready, take_ask, top_of};
 use flow_labels::Label;
-use lam_asks::{Answer, Ask, Event, What};
+use lam_asks::{Answer, Ask, Event, What, let_go};
 use lam_bytecode::Code;
 use lam_stores::Stores;
 use lam_threads::LamThread;
 use lam_world::World;
-use letting_go::let_go;
 use std::alloc::Global;
 use thread_core::{Turn, advance};
 use want_of_memory::NoMemory;

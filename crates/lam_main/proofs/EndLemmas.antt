@@ -1,7 +1,7 @@
 -- From the answer of a command to how the call ended.
 use Rattle.std.proofs.Common.{◌≡◌, ℕ, [], Option, None, Result, Ok, Err, IsErr, IfErr, string_bytes, refl, sym, subst, ◌∙◌}
-use Rattle.run_ends.specs.declared.How.{How}
-use Rattle.run_ends.specs.declared.How.TheVariants as how
+use Rattle.lam_run_laws.specs.declared.How.{How}
+use Rattle.lam_run_laws.specs.declared.How.TheVariants as how
 use Rattle.lam_io.specs.Outside.{Files, AllStay, Took}
 use Rattle.lam_io.specs.declared.SinkFault.{SinkFault as Failure}
 use Rattle.lam_words.specs.Words.{Text, Request}

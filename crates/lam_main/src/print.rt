@@ -13,7 +13,7 @@ use lam_commands::{BookBreak, Refusal, WorldBreak};
 use lam_front::Flaw;
 use lam_io::{Sink, SinkFault, write_all};
 use lam_plan::Status;
-use run_ends::How;
+use lam_run_laws::How;
 
 /// Prints a command's text, whose run ended so.
 pub(crate) fn print_text<O: Sink>(out: &mut O, how: How, text: &[u8]) -> Result<Status, SinkFault>

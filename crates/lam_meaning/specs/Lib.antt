@@ -3,3 +3,7 @@ pub mod Means
 pub mod Plays
 pub mod Examples
 pub use Rattle.thread_steps.specs.Equal
+pub mod Pieces
+pub mod Scheme
+pub mod Long
+pub mod SchemeExamples

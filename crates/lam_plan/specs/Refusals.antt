@@ -6,7 +6,7 @@ use Rattle.lam_front.specs.Faults.{flaw_name}
 use Rattle.world_terms.specs.Breaks.{Break, NotJson, NoMember, BadMember, NoTag, BadPath, PathTwice}
 use Rattle.turn_book.specs.declared.BookFault.{BookFault}
 use Rattle.turn_book.specs.declared.BookFault.TheVariants.{BadHead, BadLine, SameThread, TooMany, NoMemory as no_memory_of_book}
-use Rattle.run_stops.specs.Stops.{NotReady}
+use Rattle.lam_run_laws.specs.Stops.{NotReady}
 use Rattle.lam_words.specs.Words.{Text}
 use Rattle.lam_plan.specs.declared.Status.{Status}
 use Rattle.lam_plan.specs.declared.Status.TheVariants.{Done, NoMemory, Words, Program, World, Book, Missing}

@@ -13,7 +13,7 @@ use Rattle.world_terms.specs.Breaks.{Reading}
 use Rattle.world_terms.specs.Start.{start_of}
 use Rattle.turn_book.specs.Reading.{turns_of}
 use Rattle.turn_book.specs.declared.BookFault.{BookFault}
-use Rattle.run_stops.specs.Stops.{NotReady, stopped_at}
+use Rattle.lam_run_laws.specs.Stops.{NotReady, stopped_at}
 use Rattle.lam_words.specs.Words.{Text}
 use Rattle.lam_plan.specs.Refusals.{Plan, prints, no_word, no_world, no_book, no_turn}
 use Rattle.lam_plan.specs.Reading.{WithFile, Never, Compiles, world_limit, book_limit}

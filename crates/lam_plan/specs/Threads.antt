@@ -5,13 +5,13 @@ use Rattle.lam_io.specs.Outside.{Files}
 use Rattle.lam_bytecode.specs.Codes.{CodeTree}
 use Rattle.lam_worlds.specs.Worlds.{World}
 use Rattle.lam_worlds.specs.Turns.{Moment, moments}
-use Rattle.run_ends.specs.Ends as ends
-use Rattle.run_ends.specs.declared.How.{How}
-use Rattle.run_ends.specs.declared.How.TheVariants as how
+use Rattle.lam_run_laws.specs.Ends as ends
+use Rattle.lam_run_laws.specs.declared.How.{How}
+use Rattle.lam_run_laws.specs.declared.How.TheVariants as how
 use Rattle.world_terms.specs.Start.{start_of}
 use Rattle.turn_book.specs.Book.{book}
 use Rattle.lam_make.specs.Made.{program_text, world_text}
-use Rattle.run_summary.specs.Sums.{summary_lines}
+use Rattle.run_notes.specs.Sums.{summary_lines}
 use Rattle.lam_words.specs.Words.{Text}
 use Rattle.lam_plan.specs.declared.Status.{Status}
 use Rattle.lam_plan.specs.declared.Status.TheVariants.{Done, Budget, AllWait}

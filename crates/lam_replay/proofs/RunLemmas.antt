@@ -16,10 +16,10 @@ use Rattle.turn_book.specs.Reading.{turns_of}
 use Rattle.turn_book.specs.Reading as book_reading
 use Rattle.turn_book.specs.declared.BookFault.{BookFault}
 use Rattle.turn_book.specs.declared.BookFault.TheVariants.{BadHead, BadLine, SameThread, TooMany, NoMemory as no_memory_of_book}
-use Rattle.world_reading.specs.Meaning as document_reading
-use Rattle.world_reading.specs.declared.fault.WorldFault.{WorldFault}
-use Rattle.world_reading.specs.declared.fault.WorldFault.TheVariants.{NotJson, NoMember, BadMember, NoTag, BadPath, PathTwice, NoMemory as no_memory_of_world}
-use Rattle.run_stops.specs.Stops.{NotReady, stopped_at}
+use Rattle.world_stores_reading.specs.Meaning as document_reading
+use Rattle.world_stores_reading.specs.declared.fault.WorldFault.{WorldFault}
+use Rattle.world_stores_reading.specs.declared.fault.WorldFault.TheVariants.{NotJson, NoMember, BadMember, NoTag, BadPath, PathTwice, NoMemory as no_memory_of_world}
+use Rattle.lam_run_laws.specs.Stops.{NotReady, stopped_at}
 use Rattle.turns_seen.specs.Stops.{IsStop}
 use Rattle.turns_seen.specs.RunFault.{RunFault}
 use Rattle.turns_seen.specs.RunFault.TheVariants.{NotReady as not_ready, NoMemory as no_memory_of_run}

@@ -4,9 +4,9 @@ use Rattle.lam_worlds.specs.Turns.{Moment}
 use Rattle.audit_log.specs.Log.{view_lines, audit_lines}
 use Rattle.turn_book.specs.declared.BookFault.{BookFault}
 use Rattle.turn_book.specs.declared.BookFault.TheVariants as book
-use Rattle.world_reading.specs.declared.fault.WorldFault.{WorldFault}
-use Rattle.world_reading.specs.declared.fault.WorldFault.TheVariants as document
-use Rattle.run_stops.specs.Stops.{NotReady as NotReadyAt}
+use Rattle.world_stores_reading.specs.declared.fault.WorldFault.{WorldFault}
+use Rattle.world_stores_reading.specs.declared.fault.WorldFault.TheVariants as document
+use Rattle.lam_run_laws.specs.Stops.{NotReady as NotReadyAt}
 use Rattle.turns_seen.specs.RunFault.{RunFault}
 use Rattle.turns_seen.specs.RunFault.TheVariants as run
 use Rattle.lam_words.specs.Words.{Text}

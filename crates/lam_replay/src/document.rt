@@ -16,7 +16,7 @@ use std::alloc::Global;
 use turns_seen::World;
 use world_doc::start;
 use world_laws::texts_start;
-use world_reading::WorldFault;
+use world_stores_reading::WorldFault;
 
 /// The most bytes of the document of a world.
 const WORLD_LIMIT: u64 = 16_777_216;

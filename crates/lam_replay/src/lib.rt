@@ -27,7 +27,7 @@ pub use crate::run_text::shown_turns;
 use lam_bytecode::Code;
 use lam_commands::{Halt, read_code, read_file};
 use lam_io::Shelf;
-pub use letting_worlds_go::let_go_world;
+pub use lam_world::let_go_world;
 use std::alloc::Global;
 use turns_seen::World;
 

@@ -1,3 +1,4 @@
 pub mod LivingLemmas
 pub mod RunLemmas
 pub mod PrivateLemmas
+pub mod ProductLemmas

@@ -14,8 +14,8 @@ use Rattle.lam_worlds.specs.Valid.{Lives}
 use Rattle.lam_isolation.proofs.ThreadLemmas.{some_inj}
 use Rattle.lam_isolation.proofs.TurnLemmas.{acts, only}
 use Rattle.lam_machine.specs.Sound.{ThingLives, CopiesLiving, FindsLiving}
-use Rattle.lam_living.specs.Living.{AskLives, NextLives}
-use Rattle.lam_living.proofs.PrivateLemmas.{name_what_lives}
+use Rattle.lam_valid_steps.specs.Living.{AskLives, NextLives}
+use Rattle.lam_valid_steps.proofs.PrivateLemmas.{name_what_lives}
 use Rattle.lam_run.specs.Laws.{CopiesAreLiving}
 
 thing_lives : (w : World) (r : Value) → Lives w r → ThingLives w r

@@ -13,7 +13,7 @@ use Rattle.lam_run_laws.specs.Runs.{StopsAt}
 use Rattle.lam_run_laws.proofs.RunLemmas.{stopped_runs}
 use Rattle.lam_machine.specs.Turned.{IsTurn}
 use Rattle.lam_valid_steps.proofs.WholeLemmas.{stay_valid}
-use Rattle.run_stops.specs.Stops.{NotReady, stopped_at}
+use Rattle.lam_run_laws.specs.Stops.{NotReady, stopped_at}
 use Rattle.lam_run.specs.Stops.{RunsAreWhole}
 use Rattle.lam_run.specs.Turns.{Takes}
 

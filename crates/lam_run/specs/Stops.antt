@@ -3,7 +3,7 @@ use Rattle.std.specs.Prelude.{◌≡◌, ◌↔◌, ℕ, List, Option, Some, Non
 use Rattle.lam_bytecode.specs.Codes.{CodeTree}
 use Rattle.lam_worlds.specs.Worlds.{World}
 use Rattle.lam_worlds.specs.Turns.{IsRun}
-use Rattle.run_stops.specs.Stops.{NotReady, stopped_at}
+use Rattle.lam_run_laws.specs.Stops.{NotReady, stopped_at}
 use Rattle.lam_run.specs.declared.fault.RunFault.{RunFault}
 use Rattle.lam_run.specs.declared.fault.RunFault.TheVariants as fault
 

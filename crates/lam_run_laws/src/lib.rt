@@ -1,4 +1,8 @@
-//! Runs turn by turn: how they join and grow, and where turns stop to be a run.
+//! Runs turn by turn: how they join and grow, where turns stop to be a run, and how a run ends.
+//!
+//! `specs/Stops` defines the first turn whose thread is not ready: the plan of a call (`lam_plan`) and the fold over turns
+//! (`lam_run`) both speak of it. A run ended ([`How`], `specs/Ends`) because every thread has ended, all that live wait,
+//! or a budget of turns is used up: the workers that take the turns (`thread_host`) and the plan of a call speak of that.
 #![tactic(auto)]
 
 ghost use Rattle.lam_bytecode.specs.Codes.{CodeTree};
@@ -15,3 +19,14 @@ pub fn runs_join()
 pub fn runs_stop()
     ensures { (code : CodeTree) → RunsStop code }
 {}
+
+/// How a run ended.
+#[derive(Clone, Copy, Debug, PartialEq, Eq)]
+pub enum How {
+    /// Every thread has ended.
+    Done,
+    /// Some thread lives, and none is ready.
+    AllWait,
+    /// Some thread is ready, and as many turns were taken as there were to be at most.
+    Budget,
+}

@@ -1,2 +1,17 @@
 pub mod Meaning
 pub mod Sticking
+pub mod HeapLemmas
+pub mod ServedLemmas
+pub mod Typings
+pub mod Values
+pub mod Rows
+pub mod Locals
+pub mod Trees
+pub mod Expressions
+pub mod Statements
+pub mod Threads
+pub mod Alone
+pub mod Following
+pub mod Typed
+pub mod Steps
+pub mod Whole

@@ -14,18 +14,18 @@ use Rattle.thread_steps.specs.Next.{Next, goes, asks, stuck, started, next_of, s
 use Rattle.lam_meaning.specs.Means.{means}
 use Rattle.lam_meaning.specs.Plays.{asks_of, AllFit, asks_made}
 use Rattle.lam_typed.specs.Kinds.{AreOf}
-use Rattle.lam_scheme.specs.Scheme.{scheme}
-use Rattle.lam_scheme.specs.Long.{first_long_unit, unless_long, compiled}
-use Rattle.lam_flat_acts.specs.Lone.{runs, turn, turn_of, turns, asks_in, work_done, NotStuck, alone, bound}
-use Rattle.lam_flat_acts.proofs.Turns.{turns_add}
+use Rattle.lam_meaning.specs.Scheme.{scheme}
+use Rattle.lam_meaning.specs.Long.{first_long_unit, unless_long, compiled}
+use Rattle.lam_acting.specs.Lone.{runs, turn, turn_of, turns, asks_in, work_done, NotStuck, alone, bound}
+use Rattle.lam_acting.proofs.Turns.{turns_add}
 use Rattle.lam_acting.specs.Acts.{AreFirst, lone, ActsWith}
 use Rattle.lam_acting.proofs.Acting.{code_acts}
 use Rattle.lam_acting.proofs.Grows.{turns_grow, stays}
 use Rattle.lam_worlds.specs.Turns.{moments}
-use Rattle.lam_own_turns.specs.Own.{OwnTurns, done_by}
-use Rattle.lam_typed_runs.specs.Runs.{asked_in, answers_in}
-use Rattle.lam_typed_runs.proofs.Alone.{own_turns}
-use Rattle.lam_typed_runs.proofs.Whole.{suit_in_runs}
+use Rattle.lam_isolation.specs.Own.{OwnTurns, done_by}
+use Rattle.lam_runs_mean.specs.Runs.{asked_in, answers_in}
+use Rattle.lam_runs_mean.proofs.Alone.{own_turns}
+use Rattle.lam_runs_mean.proofs.Whole.{suit_in_runs}
 use Rattle.lam_runs_mean.specs.Meant.{IsFar, DoesAsMeant, RunsMean}
 
 -- one that has ended stays as it is

@@ -1,2 +1,5 @@
 pub mod Meant
-pub use Rattle.lam_typed_runs.specs.Runs
+pub mod Typing
+pub mod Served
+pub mod Asks
+pub mod Runs

@@ -12,14 +12,14 @@ use Rattle.thread_steps.specs.Threads.{Thread}
 use Rattle.thread_steps.specs.Next.{standing, is_stuck, is_ended}
 use Rattle.lam_meaning.specs.Plays.{asks_made}
 use Rattle.lam_typed.specs.Kinds.{AreOf}
-use Rattle.lam_scheme.specs.Long.{compiled}
-use Rattle.lam_flat_acts.specs.Lone.{bound}
+use Rattle.lam_meaning.specs.Long.{compiled}
+use Rattle.lam_acting.specs.Lone.{bound}
 use Rattle.lam_acting.specs.Acts.{AreFirst}
 use Rattle.lam_worlds.specs.Worlds.{World, thread_at}
 use Rattle.lam_worlds.specs.Turns.{Moment, moments, replay}
 use Rattle.lam_worlds.specs.Valid.{IsValid}
-use Rattle.lam_own_turns.specs.Own.{done_by}
-use Rattle.lam_typed_runs.specs.Runs.{asked_in, answers_in, ThreadsStart, Began}
+use Rattle.lam_isolation.specs.Own.{done_by}
+use Rattle.lam_runs_mean.specs.Runs.{asked_in, answers_in, ThreadsStart, Began}
 
 -- A thread made so many turns that it has made all asks of its source with n units, or it has ended. The bound is the
 -- number of the code's operations, twice that of its regions, and one.

@@ -5,3 +5,6 @@ pub mod Trees
 pub mod Expressions
 pub mod Statements
 pub mod Threads
+pub mod Cut
+pub mod Meanings
+pub mod First

@@ -18,7 +18,7 @@ use Rattle.thread_steps.specs.Next.{without}
 use Rattle.lam_worlds.specs.Worlds.{World}
 use Rattle.lam_worlds.specs.Deeds.{Effect, nothing, takes_tag, sets_slot, adds_thing, adds_copy, takes_monitor, gives_back, drops, adds_file, adds_dir, removes, appends, cuts, adds_pipe, sends, receives, adds_thread}
 use Rattle.lam_worlds.specs.Valid.{IsKnown, AreKnown, Lives, IsListed, ContextLives, all_listings}
-use Rattle.lam_living.specs.Living.{InsideLives}
+use Rattle.lam_valid_steps.specs.Living.{InsideLives}
 
 same_name : (q r : Name) → eq_by_cmp name_cmp q r ≡ true → q ≡ r
 same_name q r e = name_exact q r ((Equal-is (name_cmp q r)).0 e)

@@ -4,3 +4,12 @@ pub mod RowLemmas
 pub mod StackLemmas
 pub mod StartLemmas
 pub mod WholeLemmas
+pub mod EffectLemmas
+pub mod NextLemmas
+pub mod TagLemmas
+pub mod PrivateLemmas
+pub mod GrowLemmas
+pub mod AnswerLemmas
+pub mod EventLemmas
+pub mod ReadyLemmas
+pub mod SuitLemmas

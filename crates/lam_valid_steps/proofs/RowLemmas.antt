@@ -49,8 +49,8 @@ use Rattle.lam_worlds.specs.Turns.{lists, may_ask, is_taken, waits}
 use Rattle.lam_worlds.specs.Valid.{IsKnown, IsKnownName, Lives, EntryLives, MessageLives, OutcomeLives, IsValid, all_listings}
 use Rattle.lam_isolation.proofs.RowLemmas.{RefersTo, under_by, unless_by, on_thing_by}
 use Rattle.lam_isolation.proofs.ThreadLemmas.{front}
-use Rattle.lam_living.specs.Living.{AskLives}
-use Rattle.lam_living.proofs.PrivateLemmas.{found_live}
+use Rattle.lam_valid_steps.specs.Living.{AskLives}
+use Rattle.lam_valid_steps.proofs.PrivateLemmas.{found_live}
 use Rattle.lam_valid_steps.proofs.HoldLemmas.{hold, as_one, hold_entered, hold_left, hold_dropped, touched, IsFree, listed_less}
 use Rattle.lam_valid_steps.proofs.StoreLemmas.{there_now, slots_live, EffectLives}
 

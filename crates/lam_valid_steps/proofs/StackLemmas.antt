@@ -22,9 +22,9 @@ use Rattle.lam_worlds.specs.Worlds.{World}
 use Rattle.lam_worlds.specs.Turns.{is_bottom}
 use Rattle.lam_worlds.specs.Valid.{IsKnown, AreKnown, Lives, AllLive, OutcomeLives, FrameLives, IsFirst, AreStacked, has_contexts}
 use Rattle.lam_isolation.proofs.ThreadLemmas.{IsOwn, KeepsOwn, front}
-use Rattle.lam_living.specs.Living.{InsideLives, AskLives}
-use Rattle.lam_living.proofs.TagLemmas.{below_insert, below_union}
-use Rattle.lam_living.proofs.PrivateLemmas.{entered_live}
+use Rattle.lam_valid_steps.specs.Living.{InsideLives, AskLives}
+use Rattle.lam_valid_steps.proofs.TagLemmas.{below_insert, below_union}
+use Rattle.lam_valid_steps.proofs.PrivateLemmas.{entered_live}
 use Rattle.lam_valid_steps.proofs.HoldLemmas.{IsOwnThing, IsPlaced}
 use Rattle.lam_valid_steps.proofs.RowLemmas.{AnswerLives}
 

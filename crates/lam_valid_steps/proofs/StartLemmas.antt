@@ -20,7 +20,7 @@ use Rattle.thread_steps.specs.Threads.{Thread}
 use Rattle.lam_worlds.specs.Worlds.{World, thread_at}
 use Rattle.lam_worlds.specs.Valid.{IsKnown, AreKnownNames, AreKnownHomes, EntryLives, all_listings, AreSoundStores, StoresLive, IsValidThread, IsValid}
 use Rattle.lam_isolation.proofs.ThreadLemmas.{some_inj}
-use Rattle.lam_living.proofs.TagLemmas.{public_known}
+use Rattle.lam_valid_steps.proofs.TagLemmas.{public_known}
 use Rattle.lam_valid_steps.specs.Steps.{MonitorsExclude, IsStart, bare, StartsAreValid}
 use Rattle.lam_valid_steps.proofs.HoldLemmas.{hold, holds_all, the_holder}
 use Rattle.lam_valid_steps.proofs.StoreLemmas.{Each, put_each, put_known}

@@ -30,8 +30,8 @@ use Rattle.lam_bytecode.specs.Codes.{CodeTree}
 use Rattle.lam_worlds.specs.Worlds.{World}
 use Rattle.lam_worlds.specs.Deeds.{Effect, nothing, takes_tag, sets_slot, adds_thing, adds_copy, takes_monitor, gives_back, drops, adds_file, adds_dir, removes, appends, cuts, adds_pipe, sends, receives, adds_thread, effect_of}
 use Rattle.lam_worlds.specs.Valid.{IsKnown, AreKnown, IsKnownName, AreKnownNames, AreKnownHomes, Lives, AllLive, EntryLives, MessageLives, AreSoundStores, StoresLive}
-use Rattle.lam_living.proofs.GrowLemmas.{Grows, known_on, below_on, name_on, lives_on, effect_grows}
-use Rattle.lam_living.proofs.PrivateLemmas.{set_live}
+use Rattle.lam_valid_steps.proofs.GrowLemmas.{Grows, known_on, below_on, name_on, lives_on, effect_grows}
+use Rattle.lam_valid_steps.proofs.PrivateLemmas.{set_live}
 use Rattle.lam_valid_steps.proofs.HoldLemmas.{held_at}
 
 -- ---- maps

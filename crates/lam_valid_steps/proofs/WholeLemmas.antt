@@ -27,13 +27,13 @@ use Rattle.lam_isolation.proofs.FlowLemmas.{both_true}
 use Rattle.lam_isolation.proofs.ThreadLemmas.{some_inj, length-set, front, answered_front}
 use Rattle.lam_isolation.proofs.RowLemmas.{served_proper}
 use Rattle.lam_isolation.proofs.TurnLemmas.{acts, only}
-use Rattle.lam_next_laws.proofs.NextLemmas.{AskIs, NextIs, next_is}
-use Rattle.lam_sound_steps.specs.Sound.{IsSoundWorld, ThingLives, CopiesLiving, FindsLiving}
-use Rattle.lam_sound_steps.proofs.SoundSteps.{stay_sound}
-use Rattle.lam_living.specs.Living.{InsideLives, AskLives, NextLives}
-use Rattle.lam_living.proofs.TagLemmas.{public_known}
-use Rattle.lam_living.proofs.GrowLemmas.{Grows, known_on, below_on, lives_on, effect_grows, thread_grows, same_stores, with_list}
-use Rattle.lam_living.proofs.PrivateLemmas.{entered_live, name_what_lives}
+use Rattle.lam_valid_steps.proofs.NextLemmas.{AskIs, NextIs, next_is}
+use Rattle.lam_isolation.specs.Sound.{IsSoundWorld, ThingLives, CopiesLiving, FindsLiving}
+use Rattle.lam_isolation.proofs.SoundSteps.{stay_sound}
+use Rattle.lam_valid_steps.specs.Living.{InsideLives, AskLives, NextLives}
+use Rattle.lam_valid_steps.proofs.TagLemmas.{public_known}
+use Rattle.lam_valid_steps.proofs.GrowLemmas.{Grows, known_on, below_on, lives_on, effect_grows, thread_grows, same_stores, with_list}
+use Rattle.lam_valid_steps.proofs.PrivateLemmas.{entered_live, name_what_lives}
 use Rattle.lam_valid_steps.specs.Steps.{StaysValid, RunsStayValid}
 use Rattle.lam_valid_steps.proofs.HoldLemmas.{hold, touched, touched_other, IsPlaced, HoldsAll, placed, holds_all, takings_all, lived}
 use Rattle.lam_valid_steps.proofs.StoreLemmas.{all_on, all_append, all_lives_on, moved_live, EffectLives, effect_on, effect_live}

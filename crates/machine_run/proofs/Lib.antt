@@ -2,3 +2,4 @@ mod SeekLemmas
 mod CopyLemmas
 mod RunLemmas
 mod PrivateLemmas
+mod ReadyLemmas

@@ -7,7 +7,7 @@ use Rattle.lam_bytecode.specs.Codes.{CodeTree}
 use Rattle.thread_steps.specs.Threads.{Thread}
 use Rattle.lam_worlds.specs.Worlds.{World, thread_at}
 use Rattle.lam_worlds.specs.Turns.{is_living, turn_in, step, ready, IsDone, AllWait}
-use Rattle.run_ends.specs.Ends.{NoneReady}
+use Rattle.lam_run_laws.specs.Ends.{NoneReady}
 
 within : (t n m : ℕ) → t < n → n ≤ m → t < m
 within t n m h k = omega (arith, h, k)

@@ -4,11 +4,14 @@
 //! or many workers under one lock, has a run at each moment, and can only make it longer. [`Run::go`] is such a turn for
 //! whoever does not ask what it was.
 //!
-//! `run` has the type, `taking` one turn of it, and `seeking` looks for a thread that is ready or lives.
+//! `readiness` tells whether a thread is ready, without memory. `run` has the type, `taking` one turn of it, and `seeking`
+//! looks for a thread that is ready or lives.
 #![tactic(auto)]
 
+mod readiness;
 mod run;
 mod seeking;
 mod taking;
 
+pub use readiness::ready;
 pub use run::{Run, RunParts, TURN_LIMIT};

@@ -6,7 +6,7 @@ ghost use Rattle.lam_worlds.specs.Worlds.{thread_at};
 ghost use Rattle.lam_worlds.specs.Turns as turns;
 ghost use Rattle.lam_worlds.specs.Turns.{IsDone, AllWait, is_living};
 ghost use Rattle.lam_worlds.specs.Valid.{IsValid};
-ghost use Rattle.run_ends.specs.Ends.{NoneReady};
+ghost use Rattle.lam_run_laws.specs.Ends.{NoneReady};
 ghost use Rattle.lam_turn_parts.specs.Turned.{IsTurn};
 ghost use Rattle.machine_run.specs.Runs.{IsWhole, HasTurn, opened, with_turn};
 
@@ -15,8 +15,7 @@ use crate::taking::{go_turn, take_turn};
 use code_copies::same_code;
 use lam_asks::Event;
 use lam_bytecode::Code;
-use lam_world::World;
-use letting_worlds_go::{let_go_code, let_go_world};
+use lam_world::{World, let_go_code, let_go_world};
 use std::alloc::Global;
 use std::marker::Model;
 use want_of_memory::NoMemory;
@@ -130,7 +129,7 @@ impl Run {
     pub fn ready(&self, thread: u32) -> bool
         ensures { result ≡ turns.ready self.now.code self.now.world thread }
     {
-        thread_readiness::ready(&self.world, &self.code, thread)
+        crate::ready(&self.world, &self.code, thread)
     }
 
     /// A thread that lives, `None` where every thread has ended.

@@ -4,12 +4,12 @@ ghost use Rattle.std.specs.Prelude.{◌≡◌, ℕ, true, false, length, slice_g
 ghost use Rattle.lam_worlds.specs.Worlds.{thread_at};
 ghost use Rattle.lam_worlds.specs.Turns as turns;
 ghost use Rattle.lam_worlds.specs.Turns.{IsDone, is_living};
-ghost use Rattle.run_ends.specs.Ends.{NoneReady};
+ghost use Rattle.lam_run_laws.specs.Ends.{NoneReady};
 
+use crate::ready;
 use lam_bytecode::Code;
 use lam_threads::LamThread;
 use lam_world::{World, lives};
-use thread_readiness::ready;
 
 /// How many threads there are.
 pub fn count_of(world: &World) -> u32

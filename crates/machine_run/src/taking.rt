@@ -6,11 +6,10 @@ ghost use Rattle.lam_turn_parts.specs.Turned.{IsTurn};
 ghost use Rattle.lam_machine.specs.Machine.{CopiesLive};
 ghost use Rattle.machine_run.specs.Runs.{HasTurn, is_private};
 
-use lam_asks::{Event, What};
+use lam_asks::{Event, What, let_go_event};
 use lam_bytecode::Code;
 use lam_machine::{step, step_privately};
 use lam_world::World;
-use letting_go::let_go_event;
 use std::alloc::Global;
 use want_of_memory::NoMemory;
 

@@ -13,8 +13,8 @@ use Rattle.resolved_tree.specs.Tree.{ResolvedTree}
 use Rattle.lam_resolved.specs.Resolved.{then_some, resolved}
 use Rattle.lam_bytecode.specs.Codes.{CodeTree}
 use Rattle.lam_bytecode.specs.declared.unit.ArgKind.TheVariants as kind
-use Rattle.lam_scheme.specs.Scheme.{scheme}
-use Rattle.lam_scheme.specs.Long.{first_long_unit, unless_long}
+use Rattle.lam_meaning.specs.Scheme.{scheme}
+use Rattle.lam_meaning.specs.Long.{first_long_unit, unless_long}
 use Rattle.lam_plan.specs.Reading.{IsCompiled}
 use Rattle.world_terms.specs.Entries.{entry_named}
 use Rattle.make_laws.proofs.Program.{made_tokens, made_program, made_utf8, made_lexed, made_spelt}

@@ -5,7 +5,7 @@ use Rattle.lam_bytecode.specs.Codes.{CodeTree}
 use Rattle.lam_worlds.specs.Worlds.{World}
 use Rattle.world_terms.specs.Start.{start_of}
 use Rattle.lam_make.specs.Made.{program_text, world_text}
-use Rattle.run_summary.specs.Sums.{summary_lines}
+use Rattle.run_notes.specs.Sums.{summary_lines}
 use Rattle.lam_words.specs.Words.{Text, make, request_of}
 use Rattle.lam_plan.specs.Refusals.{Plan}
 use Rattle.lam_plan.specs.Reading.{IsCompiled}

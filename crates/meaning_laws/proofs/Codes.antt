@@ -8,9 +8,9 @@ use Rattle.resolved_tree.specs.Slots.{SlotsDiffer}
 use Rattle.resolved_tree.specs.Regions.{AreNumbered}
 use Rattle.lam_meaning.specs.Means.{kind_of}
 use Rattle.lam_bytecode.specs.Codes.{CodeTree, IsUnit, IsCode}
-use Rattle.lam_scheme.specs.Pieces.{Flat, an_op, a_constant, numbered}
-use Rattle.lam_scheme.specs.Scheme.{Draft, function_draft, all_regions, drafts, all_constants, unit_of, scheme}
-use Rattle.lam_scheme.specs.Long.{long_from, first_long_unit, unless_long, compiled}
+use Rattle.lam_meaning.specs.Pieces.{Flat, an_op, a_constant, numbered}
+use Rattle.lam_meaning.specs.Scheme.{Draft, function_draft, all_regions, drafts, all_constants, unit_of, scheme}
+use Rattle.lam_meaning.specs.Long.{long_from, first_long_unit, unless_long, compiled}
 use Rattle.barrier_emit.proofs.Given.{AllGiven, all_given}
 use Rattle.barrier_emit.proofs.Numbered.{are_counted}
 use Rattle.meaning_laws.proofs.Counts.{IsSmall}

@@ -7,9 +7,9 @@ use Rattle.lam_operators.specs.declared.BinaryOp.TheVariants as binary
 use Rattle.lam_bytecode.specs.declared.op.Op.TheVariants.{Jump, JumpIfFalse}
 use Rattle.lam_bytecode.specs.Codes.{IsConstant}
 use Rattle.resolved_tree.specs.Tree.{CapSlot, Expression, number_value, text_value, bool_value, null_value, local_value, unary_of, binary_of, field_of, element_of, call_of, builtin_of, new_object, new_array, label_of, caps_of, spawn_of, Expressions, args_end, args_more, Statement, let_slot, if_block, while_block, return_value, throw_value, sync_block, region_block, do_value, set_local, set_field, set_element, Block, block_end, block_more, OtherBlock, no_other, other_block, ResolvedFunction, ResolvedTree}
-use Rattle.lam_scheme.specs.Pieces.{Piece, does, puts, when, either, loops, Pieces, no_pieces, pieces, joined, size, Flat, an_op, a_constant, flat_of, flat, is_in, with_constant, constants_in}
-use Rattle.lam_scheme.specs.Scheme.{between, signs, expression, expressions, loads, gives_back, value_or_null, branches, statement, block, other_block_of, Draft, function_draft, regions_of, regions_in, regions_in_other, all_regions, drafts, all_constants}
-use Rattle.lam_scheme.specs.Long.{long_from}
+use Rattle.lam_meaning.specs.Pieces.{Piece, does, puts, when, either, loops, Pieces, no_pieces, pieces, joined, size, Flat, an_op, a_constant, flat_of, flat, is_in, with_constant, constants_in}
+use Rattle.lam_meaning.specs.Scheme.{between, signs, expression, expressions, loads, gives_back, value_or_null, branches, statement, block, other_block_of, Draft, function_draft, regions_of, regions_in, regions_in_other, all_regions, drafts, all_constants}
+use Rattle.lam_meaning.specs.Long.{long_from}
 
 -- ---- nested code that puts constants alone
 

@@ -7,7 +7,7 @@ use Rattle.lam_kinds.specs.Tables.{declared_classes, declared_functions}
 use Rattle.lam_types.specs.Judgement as words
 use Rattle.lam_types.specs.Judgement.{regions_of_program, IsTyped}
 use Rattle.resolved_tree.specs.Tree.{Expression, local_value, field_of, element_of, ResolvedTree}
-use Rattle.lam_scheme.specs.Scheme.{regions_of, regions_in, regions_in_other, all_regions}
+use Rattle.lam_meaning.specs.Scheme.{regions_of, regions_in, regions_in_other, all_regions}
 use Rattle.lam_resolved.specs.Resolved.{then_some, class_names, types_of, resolve_classes, Tables, tables, Locals, State, resolve_stmt_form, resolve_else, resolve_stmts, assignment, resolve_function, resolve_functions, resolved}
 
 -- what holds of all that comes of the second step holds of what comes of both

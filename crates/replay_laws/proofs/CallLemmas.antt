@@ -18,7 +18,7 @@ use Rattle.lam_run_laws.specs.Runs.{RunsStop}
 use Rattle.audit_log.specs.Log.{entry_line, view_lines, audit_lines, lines_from, moment_line, note_line, turn_text, release_note}
 use Rattle.audit_laws.specs.Whole.{AuditsAreWhole}
 use Rattle.turn_book.specs.Reading.{turns_of}
-use Rattle.run_stops.specs.Stops.{NotReady, stopped_at}
+use Rattle.lam_run_laws.specs.Stops.{NotReady, stopped_at}
 use Rattle.world_laws.specs.Starts.{TextsStart}
 use Rattle.lam_words.specs.Words.{Text, Request}
 use Rattle.lam_plan.specs.Refusals.{Plan, prints}

@@ -8,12 +8,12 @@ use Rattle.lam_worlds.specs.Worlds.{World}
 use Rattle.lam_worlds.specs.Turns.{Moment, moments}
 use Rattle.lam_isolation.specs.Isolation.{IsIsolated}
 use Rattle.audit_log.specs.Log.{view_lines}
-use Rattle.run_ends.specs.Ends.{Runs}
-use Rattle.run_ends.specs.declared.How.{How}
+use Rattle.lam_run_laws.specs.Ends.{Runs}
+use Rattle.lam_run_laws.specs.declared.How.{How}
 use Rattle.world_terms.specs.Start.{start_of}
 use Rattle.world_laws.specs.Starts.{TextsStart}
 use Rattle.lam_make.specs.Made.{program_text, world_text}
-use Rattle.run_summary.specs.Sums.{summary_lines}
+use Rattle.run_notes.specs.Sums.{summary_lines}
 use Rattle.lam_words.specs.Words.{Text, Request, run, request_of}
 use Rattle.lam_plan.specs.declared.Status.{Status}
 use Rattle.lam_plan.specs.declared.Status.TheVariants.{NoMemory, ShelfFault, SinkFault}

@@ -9,8 +9,8 @@ use Rattle.lam_bytecode.specs.Codes.{CodeTree}
 use Rattle.lam_worlds.specs.Worlds.{World}
 use Rattle.lam_worlds.specs.Turns.{Moment}
 use Rattle.world_terms.specs.Breaks.{Break, Reading, NotJson, NoMember, BadMember, NoTag, BadPath, PathTwice}
-use Rattle.run_ends.specs.declared.How.{How}
-use Rattle.run_ends.specs.declared.How.TheVariants as how
+use Rattle.lam_run_laws.specs.declared.How.{How}
+use Rattle.lam_run_laws.specs.declared.How.TheVariants as how
 use Rattle.lam_words.specs.Words.{Text}
 use Rattle.lam_plan.specs.Refusals.{Plan, no_program, no_world}
 use Rattle.lam_plan.specs.Reading.{IsUnread, HasFile, WithFile, unread, of_file, IsCompiled, ByCode, Compiles, fine, broken}

@@ -15,12 +15,12 @@ use Rattle.lam_worlds.specs.Valid.{IsValid}
 use Rattle.lam_worlds.specs.Views.{Agree, agenda}
 use Rattle.lam_isolation.specs.Isolation.{LookSame}
 use Rattle.audit_log.specs.Log.{view_lines}
-use Rattle.run_ends.specs.Ends.{Runs}
-use Rattle.run_ends.specs.declared.How.{How}
+use Rattle.lam_run_laws.specs.Ends.{Runs}
+use Rattle.lam_run_laws.specs.declared.How.{How}
 use Rattle.world_terms.specs.Start.{start_of}
 use Rattle.turn_book.specs.Book.{book}
 use Rattle.lam_make.specs.Made.{program_text, world_text}
-use Rattle.run_summary.specs.Sums.{summary_lines}
+use Rattle.run_notes.specs.Sums.{summary_lines}
 use Rattle.lam_words.specs.Words.{Text, run, make, request_of}
 use Rattle.lam_plan.specs.declared.Status.{Status}
 use Rattle.lam_plan.specs.declared.Status.TheVariants.{Done, SinkFault, Budget, AllWait}

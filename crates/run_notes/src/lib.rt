@@ -1,12 +1,16 @@
-//! What is kept of a run for those who read it: what an observer saw, and what an auditor has to look at.
+//! What is kept of a run for those who read it: what an observer saw, what an auditor has to look at, and what was counted.
 //!
 //! An observer at a label sees the events of the threads whose label flows to its own, and the *releases* past it: a
 //! region entered or a thing copied by a thread that it does not see, with a label that it does see, which is a
 //! declassification or an endorsement. A list of [`Seen`] is that, in order. An auditor looks at every release, whoever
-//! may see it, and at every refusal; a list of [`Noted`] is that.
+//! may see it, and at every refusal; a list of [`Noted`] is that. [`refusal_of`] says what counts as a refusal.
+//! `specs/Notes.antt` says which lists of both a run of the machine has (`lam_worlds`).
 //!
-//! This crate is data, and [`refusal_of`], which says what counts as a refusal. `specs/Notes.antt` says which lists of both a run of the machine has (`lam_worlds`).
+//! [`Sums`] are how often something was said, released and refused in a run: `specs/Sums` says what is counted in its
+//! moments, and `summary` writes the lines.
 #![tactic(auto)]
+
+mod summary;
 
 ghost use Rattle.std.specs.Prelude.{◌≡◌, IfOk};
 ghost use Rattle.run_notes.specs.Notes.{refusal_of, refusal_by, refusal_in};
@@ -17,6 +21,7 @@ use capabilities::Caps;
 use flow_labels::{Denied, Label};
 use lam_asks::{Answer, Ask, Event, What};
 use lam_value::{Value, Values};
+pub use summary::summary_text;
 use want_of_memory::NoMemory;
 
 /// What is made by a release: what whoever sees it comes to know.
@@ -194,4 +199,15 @@ fn copy_by(by: &Option<Caps>) -> Result<Option<Caps>, NoMemory>
         None => Ok(None),
         Some(caps) => Ok(Some(caps.copy()?)),
     }
+}
+
+/// What was counted in a run.
+#[derive(Clone, Copy, Debug, PartialEq, Eq)]
+pub struct Sums {
+    /// How often bytes were shown.
+    pub said: u64,
+    /// How often a region was entered, or a copy made, that is not above the acting label.
+    pub releases: u64,
+    /// How often a turn was refused what it wanted, or a barrier of the code found that it would be.
+    pub refused: u64,
 }

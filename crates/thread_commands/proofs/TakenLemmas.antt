@@ -10,15 +10,15 @@ use Rattle.lam_worlds.specs.Valid.{IsValid}
 use Rattle.world_terms.specs.Breaks.{Reading}
 use Rattle.world_terms.specs.Start.{start_of}
 use Rattle.turn_book.specs.Book.{AreTurns, book}
-use Rattle.run_ends.specs.Ends.{HasEnded, Runs}
-use Rattle.run_ends.specs.declared.How.{How}
-use Rattle.run_stops.specs.Stops.{NotReady, stopped_at}
-use Rattle.run_sums.specs.Stops.{RunsAreWhole, IsStop}
-use Rattle.run_sums.specs.RunFault.TheVariants.{NotReady as not_ready}
+use Rattle.lam_run_laws.specs.Ends.{HasEnded, Runs}
+use Rattle.lam_run_laws.specs.declared.How.{How}
+use Rattle.lam_run_laws.specs.Stops.{NotReady, stopped_at}
+use Rattle.turns_noted.specs.Stops.{RunsAreWhole, IsStop}
+use Rattle.turns_noted.specs.RunFault.TheVariants.{NotReady as not_ready}
 use Rattle.thread_host.specs.Runs.{Ran, IsWhole}
 use Rattle.thread_host.specs.declared.Finished.{Finished}
 use Rattle.lam_make.specs.Made.{program_text, world_text}
-use Rattle.run_summary.specs.Sums.{summary_lines}
+use Rattle.run_notes.specs.Sums.{summary_lines}
 use Rattle.lam_words.specs.Words.{Text}
 use Rattle.lam_plan.specs.declared.Status.{Status}
 use Rattle.lam_plan.specs.Refusals.{Plan, prints}

@@ -4,8 +4,8 @@ use Rattle.lam_bytecode.specs.Codes.{CodeTree, IsCode}
 use Rattle.lam_worlds.specs.Worlds.{World}
 use Rattle.lam_worlds.specs.Valid.{IsValid}
 use Rattle.turn_book.specs.Book.{AreTurns, book}
-use Rattle.run_ends.specs.Ends.{Runs}
-use Rattle.run_stops.specs.Stops.{stopped_at}
+use Rattle.lam_run_laws.specs.Ends.{Runs}
+use Rattle.lam_run_laws.specs.Stops.{stopped_at}
 use Rattle.thread_host.specs.Runs.{IsWhole}
 use Rattle.thread_host.specs.declared.Finished.{Finished}
 use Rattle.lam_words.specs.Words.{Text}

@@ -31,10 +31,10 @@ use lam_commands::{Halt, Report, read_code};
 use lam_io::{Gate, Shelf};
 use lam_replay::read_start;
 pub use lam_replay::{Reader, RunFiles, replay};
-use run_sums::World;
 use std::alloc::Global;
 use std::sync::Wait;
 use std::thread::Threads;
+use turns_noted::World;
 
 /// The files of a run whose turns threads take, but for its program.
 #[derive(Drop)]

@@ -6,9 +6,9 @@ ghost use Rattle.lam_bytecode.specs.Codes.{IsCode};
 ghost use Rattle.lam_worlds.specs.Turns.{moments};
 ghost use Rattle.lam_worlds.specs.Valid.{IsValid};
 ghost use Rattle.world_terms.specs.Start.{start_of};
-ghost use Rattle.run_stops.specs.Stops.{stopped_at};
+ghost use Rattle.lam_run_laws.specs.Stops.{stopped_at};
 ghost use Rattle.lam_make.specs.Made.{program_text, world_text};
-ghost use Rattle.run_summary.specs.Sums.{summary_lines};
+ghost use Rattle.run_notes.specs.Sums.{summary_lines};
 ghost use Rattle.lam_words.specs.Words.{Text};
 ghost use Rattle.lam_plan.specs.Answer.{OthersKept};
 ghost use Rattle.lam_plan.specs.Replays.{ByWorld};
@@ -24,13 +24,13 @@ use lam_bytecode::Code;
 use lam_commands::{Halt, Report, compiled};
 use lam_io::{Gate, Shelf};
 use lam_replay::start_in;
-use run_summary::summary_text;
-use run_sums::{RunFault, World, sums_of};
+use run_notes::summary_text;
 use std::alloc::Global;
 use std::sync::Wait;
 use std::thread::Threads;
 use thread_host::RunParts;
 use turn_book::write_book;
+use turns_noted::{RunFault, World, sums_of};
 use want_of_memory::NoMemory;
 
 /// How many workers take the turns of a made run.

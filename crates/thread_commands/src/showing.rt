@@ -4,7 +4,7 @@ ghost use Rattle.std.specs.Prelude.{◌≡◌, ◌≢◌, ◌<◌, ◌≤◌, No
 ghost use Rattle.lam_bytecode.specs.Codes.{IsCode};
 ghost use Rattle.lam_worlds.specs.Turns.{moments};
 ghost use Rattle.lam_worlds.specs.Valid.{IsValid};
-ghost use Rattle.run_stops.specs.Stops.{stopped_at};
+ghost use Rattle.lam_run_laws.specs.Stops.{stopped_at};
 ghost use Rattle.lam_words.specs.Words.{Text};
 ghost use Rattle.lam_plan.specs.Threads.{IsOfThreads, TakesTurns};
 ghost use Rattle.lam_replay.specs.Asked.{reader_of, lines_for};
@@ -16,13 +16,13 @@ use lam_bytecode::Code;
 use lam_commands::Halt;
 use lam_io::Gate;
 use lam_replay::{Reader, Viewer, let_go_world, shown_turns, viewer_of};
-use run_ends::How;
-use run_sums::World;
+use lam_run_laws::How;
 use std::alloc::Global;
 use std::sync::Wait;
 use std::thread::Threads;
 use thread_host::RunParts;
 use turn_book::write_book;
+use turns_noted::World;
 use want_of_memory::NoMemory;
 
 /// What is made of a run: how it ended, what is printed of it, and the bytes of its book.

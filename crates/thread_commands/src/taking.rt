@@ -8,12 +8,12 @@ ghost use Rattle.thread_commands.specs.Taken.{IsParted, IsRunOf, CanBeShown};
 use crate::Bounds;
 use lam_bytecode::Code;
 use lam_io::Gate;
-use run_ends::How;
-use run_sums::{World, runs_are_whole};
+use lam_run_laws::How;
 use std::alloc::Global;
 use std::sync::Wait;
 use std::thread::Threads;
 use thread_host::{Finished, RunParts, run_on};
+use turns_noted::{World, runs_are_whole};
 use want_of_memory::NoMemory;
 
 /// The turns that were taken, with the code and the start that they are of, and how their run ended.

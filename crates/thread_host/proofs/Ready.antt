@@ -7,7 +7,7 @@ use Rattle.std.proofs.lemmas.List.FromFn.{filter_of_map_range_with_len_more}
 use Rattle.lam_bytecode.specs.Codes.{CodeTree}
 use Rattle.lam_worlds.specs.Worlds.{World}
 use Rattle.lam_worlds.specs.Turns.{ready, step, turn_in}
-use Rattle.run_ends.specs.Ends.{SomeReady, NoneReady}
+use Rattle.lam_run_laws.specs.Ends.{SomeReady, NoneReady}
 use Rattle.thread_host.specs.Visits.{ready_threads}
 
 -- ---- a thread that is not there is not ready

@@ -4,8 +4,8 @@ use Rattle.std.specs.List.{filter, range_with_len}
 use Rattle.lam_bytecode.specs.Codes.{CodeTree}
 use Rattle.lam_worlds.specs.Worlds.{World}
 use Rattle.lam_worlds.specs.Turns as turns
-use Rattle.run_ends.specs.declared.How.{How}
-use Rattle.run_ends.specs.Ends.{SomeReady, HasEnded}
+use Rattle.lam_run_laws.specs.declared.How.{How}
+use Rattle.lam_run_laws.specs.Ends.{SomeReady, HasEnded}
 use Rattle.machine_run.specs.Runs.{Ran, with_turn}
 use Rattle.thread_host.specs.declared.visits.Visit.{Visit}
 use Rattle.thread_host.specs.declared.visits.Visit.TheVariants.{Took, Ended}

@@ -6,8 +6,7 @@ ghost use Rattle.lam_worlds.specs.Valid.{IsValid};
 
 use code_copies::copy_code;
 use lam_bytecode::Code;
-use lam_world::World;
-use letting_worlds_go::{let_go_code, let_go_world};
+use lam_world::{World, let_go_code, let_go_world};
 use machine_run::{Run, RunParts};
 use std::alloc::Global;
 use want_of_memory::NoMemory;

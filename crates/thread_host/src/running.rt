@@ -3,16 +3,16 @@
 ghost use Rattle.std.specs.Prelude.{◌≡◌, ◌<◌, ◌≤◌, length, IfOk};
 ghost use Rattle.lam_bytecode.specs.Codes.{IsCode};
 ghost use Rattle.lam_worlds.specs.Valid.{IsValid};
-ghost use Rattle.run_ends.specs.Ends.{HasEnded};
+ghost use Rattle.lam_run_laws.specs.Ends.{HasEnded};
 
 use crate::origins::{Origin, copied, let_go_origin, let_go_run, own_run};
 use crate::seats::{Seated, go_on};
 use crate::workers::by_workers;
 use lam_bytecode::Code;
 use lam_io::Gate;
+use lam_run_laws::How;
 use lam_world::World;
 use machine_run::Run;
-use run_ends::How;
 use std::alloc::Global;
 use std::sync::Wait;
 use std::thread::Threads;

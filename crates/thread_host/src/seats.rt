@@ -1,15 +1,15 @@
 //! A run that is ready to be driven: with it goes the list of its ready threads.
 
 ghost use Rattle.std.specs.Prelude.{◌≡◌, ◌≤◌, length, IfOk, OnErr};
-ghost use Rattle.run_ends.specs.Ends.{HasEnded};
+ghost use Rattle.lam_run_laws.specs.Ends.{HasEnded};
 ghost use Rattle.thread_host.specs.Visits.{Visits};
 
 use crate::listing::{relist, roomy_list};
 use crate::origins::let_go_run;
 use crate::visits::{Visit, take_turn};
 use lam_io::Gate;
+use lam_run_laws::How;
 use machine_run::Run;
-use run_ends::How;
 use std::alloc::Global;
 use std::marker::Model;
 use want_of_memory::NoMemory;

@@ -6,8 +6,8 @@ ghost use Rattle.thread_host.specs.Visits.{ready_threads, GoesOn, EndsAs, Visits
 
 use crate::listing::turn_listed;
 use lam_io::Gate;
+use lam_run_laws::How;
 use machine_run::Run;
-use run_ends::How;
 use want_of_memory::NoMemory;
 
 /// What one visit did.

@@ -1,3 +1,6 @@
 mod TurnLemmas
 mod RunLemmas
 mod PrivateLemmas
+pub mod CountLemmas
+pub mod FrontLemmas
+mod UncountedLemmas

@@ -10,7 +10,7 @@ use Rattle.run_notes.specs.Notes.{noted_from}
 use Rattle.run_notes.specs.declared.Noted.{Noted}
 use Rattle.lam_run.specs.Turns.{Takes}
 use Rattle.turns_noted.specs.Turns.{noted_of}
-use Rattle.turn_products.proofs.ProductLemmas.{products_told}
+use Rattle.lam_run.proofs.ProductLemmas.{products_told}
 use Rattle.turns_noted.proofs.TurnLemmas.{noted_one}
 use Rattle.lam_run.proofs.RunLemmas.{at_hand, moments_next, goes}
 

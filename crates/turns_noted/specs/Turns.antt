@@ -8,7 +8,7 @@ use Rattle.capabilities.specs.Changes.{used}
 use Rattle.lam_asks.specs.declared.answer.Event.{Event}
 use Rattle.run_notes.specs.Notes.{refusal_of}
 use Rattle.run_notes.specs.declared.Noted.{Noted}
-use Rattle.turn_products.specs.Told.{product_label}
+use Rattle.lam_run.specs.Told.{product_label}
 
 abbrev pub taken_by : Label → Option Label → Option Caps
 taken_by p None = None

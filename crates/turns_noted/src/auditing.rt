@@ -7,21 +7,19 @@ ghost use Rattle.lam_worlds.specs.Turns.{moments};
 ghost use Rattle.lam_worlds.specs.Valid.{IsValid};
 ghost use Rattle.run_notes.specs.Notes.{noted_in, refusal_of};
 ghost use Rattle.lam_run.specs.Machine.{CopiesLive};
-ghost use Rattle.run_stops.specs.Stops.{stopped_at};
+ghost use Rattle.lam_run_laws.specs.Stops.{stopped_at};
 ghost use Rattle.lam_run.specs.Stops.{IsStop};
 ghost use Rattle.lam_run.specs.Turns.{Takes};
 ghost use Rattle.turns_noted.specs.Turns.{taken, note, noted_of};
 
 use capabilities::Caps;
 use flow_labels::flows;
-use lam_asks::Event;
+use lam_asks::{Event, let_go_event};
 use lam_bytecode::Code;
-use lam_run::{RunFault, World, step, step_privately};
-use letting_go::let_go_event;
-use letting_worlds_go::let_go_world;
+use lam_run::{RunFault, World, product_label, step, step_privately};
+use lam_world::let_go_world;
 use run_notes::{Noted, refusal_of};
 use std::alloc::Global;
-use turn_products::product_label;
 use want_of_memory::NoMemory;
 
 /// What an auditor notes of the turns of a start: each release and each refusal, with its turn.

@@ -11,7 +11,7 @@ use Rattle.run_notes.specs.Notes.{seen_by}
 use Rattle.run_notes.specs.declared.Seen.{Seen}
 use Rattle.lam_run.specs.Turns.{Takes}
 use Rattle.turns_seen.specs.Turns.{seen_of}
-use Rattle.turn_products.proofs.ProductLemmas.{products_told}
+use Rattle.lam_run.proofs.ProductLemmas.{products_told}
 use Rattle.turns_seen.proofs.TurnLemmas.{seen_one, seen_by-append}
 use Rattle.lam_run.proofs.RunLemmas.{at_hand, moments_next, goes}
 

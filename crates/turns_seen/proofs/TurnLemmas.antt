@@ -22,7 +22,7 @@ use Rattle.run_notes.specs.Notes.{released, asked, shown, seen_by}
 use Rattle.run_notes.specs.declared.Content.{Content}
 use Rattle.run_notes.specs.declared.Seen.{Seen}
 use Rattle.run_notes.specs.declared.Seen.TheVariants as seen_as
-use Rattle.turn_products.specs.Told.{product_label, product, IsProduct, IsToldBy}
+use Rattle.lam_run.specs.Told.{product_label, product, IsProduct, IsToldBy}
 use Rattle.turns_seen.specs.Turns.{is_private, own_turn, told, past_by, past, seen_of}
 
 own_listed : (e : Event) (what : What) → asked e what ++ [] ≡ option_to_list (cond (is_private what) None (Some (seen_as.Event e)))

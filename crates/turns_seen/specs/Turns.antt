@@ -11,7 +11,7 @@ use Rattle.lam_worlds.specs.Worlds.{World}
 use Rattle.run_notes.specs.declared.Content.{Content}
 use Rattle.run_notes.specs.declared.Seen.{Seen}
 use Rattle.run_notes.specs.declared.Seen.TheVariants as seen_as
-use Rattle.turn_products.specs.Told.{product_label, product}
+use Rattle.lam_run.specs.Told.{product_label, product}
 
 abbrev pub is_private : What → Bool
 is_private Private = true

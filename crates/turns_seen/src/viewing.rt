@@ -7,21 +7,19 @@ ghost use Rattle.lam_worlds.specs.Turns.{moments};
 ghost use Rattle.lam_worlds.specs.Valid.{IsValid};
 ghost use Rattle.run_notes.specs.Notes.{seen_by};
 ghost use Rattle.lam_run.specs.Machine.{CopiesLive};
-ghost use Rattle.run_stops.specs.Stops.{stopped_at};
+ghost use Rattle.lam_run_laws.specs.Stops.{stopped_at};
 ghost use Rattle.lam_run.specs.Stops.{IsStop};
 ghost use Rattle.lam_run.specs.Turns.{Takes};
 ghost use Rattle.turns_seen.specs.Turns.{is_private, own_turn, told, past, seen_of};
 
 use capabilities::Caps;
 use flow_labels::{Label, seen};
-use lam_asks::{Event, What};
+use lam_asks::{Event, What, let_go_event};
 use lam_bytecode::Code;
-use lam_run::{RunFault, World, step, step_privately};
-use letting_go::let_go_event;
-use letting_worlds_go::let_go_world;
+use lam_run::{RunFault, World, product, product_label, step, step_privately};
+use lam_world::let_go_world;
 use run_notes::{Content, Seen};
 use std::alloc::Global;
-use turn_products::{product, product_label};
 use want_of_memory::NoMemory;
 
 /// What an observer sees of the turns of a start: the asks of the threads whose labels flow to its own, and the releases

@@ -1,2 +1,5 @@
 pub mod StartLemmas
 pub mod WorldLemmas
+pub mod ArgLemmas
+pub mod ListLemmas
+pub mod CountLemmas

@@ -19,9 +19,9 @@ use Rattle.world_terms.specs.Tags.{tags_in}
 use Rattle.world_terms.specs.Stores.{Pipes, tree_in, pipes_in}
 use Rattle.world_terms.specs.Entries.{threads_in}
 use Rattle.world_terms.specs.Start.{version_in, world_in, world_of}
-use Rattle.world_reading.specs.declared.fault.WorldFault.{WorldFault}
-use Rattle.world_reading.specs.Meaning.{Fails, GivesOnto}
-use Rattle.world_reading.proofs.Steps.{fails_here, fails_same}
+use Rattle.world_stores_reading.specs.declared.fault.WorldFault.{WorldFault}
+use Rattle.world_stores_reading.specs.Meaning.{Fails, GivesOnto}
+use Rattle.world_stores_reading.proofs.Steps.{fails_here, fails_same}
 use Rattle.world_stores_reading.specs.Contents.{tree_onto}
 use Rattle.world_stores_reading.specs.Called.{called_of, pipes_of, pipes_onto}
 use Rattle.world_doc.specs.Document.{filled, with_threads, world_onto, after_tags}

@@ -1,14 +1,27 @@
 //! World documents: from a text to the world at the start of a run.
 //!
 //! [`start`] is the whole reading: the bytes are UTF-8 and a JSON text, and its members are `version`, `tags`, `tree`,
-//! `pipes` and `threads`, looked at in this order. What is said by tags is read by `world_reading`, the stores are made by
-//! `world_stores_reading`, and the threads by `world_threads_reading`.
+//! `pipes` and `threads`, looked at in this order. What is said by tags is read, and the stores are made, by
+//! `world_stores_reading`.
+//!
+//! Each thread runs a function of the code whose result is a number, with an argument of its kind for each parameter,
+//! and with capabilities. [`read_threads`] answers the threads as they just started, or the first break of them, exactly
+//! as the definition `threads_in` of `world_terms` reads it.
+//!
+//! - `document` has the whole reading.
+//! - `entry` has the functions that a thread may run.
+//! - `args` has the arguments: of several contents that may be there, exactly one is.
+//! - `threads` has the threads.
 //!
 //! The answer is the world that the definition `start_of` of `world_terms` reads, or its break, as a [`WorldFault`]: the
 //! first of the document. Only want of memory is tied to nothing.
 #![tactic(auto)]
 
+mod args;
 mod document;
+mod entry;
+mod threads;
 
 pub use document::start;
-pub use world_reading::WorldFault;
+pub use threads::read_threads;
+pub use world_stores_reading::WorldFault;

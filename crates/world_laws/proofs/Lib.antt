@@ -3,3 +3,4 @@ pub mod ReadLemmas
 pub mod StoreLemmas
 pub mod EntryLemmas
 pub mod StartLemmas
+pub mod StandLemmas

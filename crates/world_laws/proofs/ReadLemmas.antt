@@ -16,7 +16,7 @@ use Rattle.flow_labels.specs.Names.{place_of}
 use Rattle.flow_labels.specs.LabelText.{label_of}
 use Rattle.capabilities.specs.declared.Caps.{Caps}
 use Rattle.lam_worlds.specs.Valid.{AreBelow}
-use Rattle.lam_living.proofs.TagLemmas.{below_list}
+use Rattle.lam_valid_steps.proofs.TagLemmas.{below_list}
 use Rattle.world_terms.specs.Breaks.{Reading, ◌>>=◌, only_if, formed, present, member_as}
 use Rattle.world_terms.specs.Tags.{named, unless_there, names_after, names_of, tags_in, label_or, label_in, known, tag_of, tags_of, set_in, caps_in}
 use Rattle.world_laws.proofs.LabelLemmas.{IsBelow, place_below, label_below}

@@ -11,7 +11,7 @@ use Rattle.lam_bytecode.specs.Codes.{CodeTree}
 use Rattle.thread_steps.specs.Threads.{Thread}
 use Rattle.lam_worlds.specs.Worlds.{World}
 use Rattle.lam_worlds.specs.Valid.{AreSoundStores, StoresLive}
-use Rattle.lam_living.proofs.GrowLemmas.{Grows, with_list}
+use Rattle.lam_valid_steps.proofs.GrowLemmas.{Grows, with_list}
 use Rattle.lam_valid_steps.specs.Steps.{IsStart}
 use Rattle.lam_valid_steps.proofs.StoreLemmas.{all_on, all_lives_on, moved_live}
 use Rattle.lam_valid_steps.proofs.StartLemmas.{valid_starts}
@@ -20,7 +20,7 @@ use Rattle.world_terms.specs.Tags.{tags_in}
 use Rattle.world_terms.specs.Stores.{tree_in, Pipes, pipes_in}
 use Rattle.world_terms.specs.Entries.{threads_in}
 use Rattle.world_terms.specs.Start.{version_in, world_in, world_or}
-use Rattle.world_entries.proofs.StandLemmas.{stand}
+use Rattle.world_laws.proofs.StandLemmas.{stand}
 use Rattle.world_laws.specs.Starts.{IsStartOf, WorldsStart, TextsStart}
 use Rattle.world_laws.proofs.ReadLemmas.{after, onward, AreFew, tags_few}
 use Rattle.world_laws.proofs.StoreLemmas.{staged, IsGood, GoodTree, tree_good, GoodPipes, pipes_good}

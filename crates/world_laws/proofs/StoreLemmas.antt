@@ -23,7 +23,7 @@ use Rattle.thread_steps.specs.Threads.{Thread}
 use Rattle.lam_worlds.specs.Worlds.{World}
 use Rattle.lam_worlds.specs.Deeds.{adds_file, adds_dir, appends, adds_pipe}
 use Rattle.lam_worlds.specs.Valid.{Lives, AreSoundStores, StoresLive}
-use Rattle.lam_living.proofs.GrowLemmas.{lives_on, effect_grows}
+use Rattle.lam_valid_steps.proofs.GrowLemmas.{lives_on, effect_grows}
 use Rattle.lam_valid_steps.proofs.StoreLemmas.{all_on, all_append, there_now, effect_live}
 use Rattle.lam_valid_steps.proofs.StartLemmas.{valid_starts}
 use Rattle.world_terms.specs.Breaks.{BadMember, Reading, ◌>>=◌, formed, member_as}

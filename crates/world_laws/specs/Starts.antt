@@ -7,7 +7,7 @@ use Rattle.lam_bytecode.specs.Codes.{CodeTree}
 use Rattle.lam_worlds.specs.Worlds.{World}
 use Rattle.lam_worlds.specs.Valid.{IsValid}
 use Rattle.world_terms.specs.Start.{world_of, start_of}
-use Rattle.world_entries.specs.Standing.{StandsAtEntry}
+use Rattle.world_laws.specs.Standing.{StandsAtEntry}
 
 -- a world from which a run of the code starts: it is valid, and its threads stand at entries and are one to 64
 pub record IsStartOf (code : CodeTree) (w : World) : Type 0 where

@@ -8,17 +8,17 @@ use Rattle.lam_builtins.specs.Types.{int, bool, bytes, tag, pipe}
 use Rattle.lam_bytecode.specs.Codes.{CodeTree}
 use Rattle.thread_steps.specs.Threads.{Thread}
 use Rattle.resolved_tree.specs.Tree.{ResolvedType, ResolvedTree}
-use Rattle.lam_scheme.specs.Scheme.{arg_kind, scheme}
-use Rattle.lam_scheme.specs.Long.{first_long_unit, unless_long, compiled}
+use Rattle.lam_meaning.specs.Scheme.{arg_kind, scheme}
+use Rattle.lam_meaning.specs.Long.{first_long_unit, unless_long, compiled}
 use Rattle.lam_worlds.specs.Worlds.{World}
-use Rattle.lam_typed_turns.specs.Typing.{Is, Are}
+use Rattle.lam_runs_mean.specs.Typing.{Is, Are}
 use Rattle.lam_runs_mean.specs.Runs.{nothing_known, JustStarts, ThreadsStart}
 use Rattle.lam_runs_mean.proofs.Meaning.{runs_mean}
 use Rattle.lam_runs_mean.proofs.Sticking.{none_sticks}
-use Rattle.lam_entries.specs.Entries.{IsIntFunction}
-use Rattle.lam_entries.proofs.Units.{int_functions}
+use Rattle.world_runs_mean.specs.Entries.{IsIntFunction}
+use Rattle.world_runs_mean.proofs.Units.{int_functions}
 use Rattle.world_terms.specs.Entries.{fits}
-use Rattle.world_entries.specs.Standing.{AreArguments, StandsAtEntry}
+use Rattle.world_laws.specs.Standing.{AreArguments, StandsAtEntry}
 use Rattle.world_laws.proofs.StartLemmas.{text_start}
 use Rattle.world_runs_mean.specs.Documents.{DocumentsRunAsMeant}
 

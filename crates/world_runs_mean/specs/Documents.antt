@@ -7,7 +7,7 @@ use Rattle.resolved_tree.specs.Tree.{ResolvedTree}
 use Rattle.resolved_tree.specs.Typing.{IsTypedTree}
 use Rattle.resolved_tree.specs.Regions.{AreNumbered}
 use Rattle.thread_steps.specs.Threads.{Thread}
-use Rattle.lam_scheme.specs.Long.{compiled}
+use Rattle.lam_meaning.specs.Long.{compiled}
 use Rattle.lam_worlds.specs.Worlds.{World, thread_at}
 use Rattle.lam_worlds.specs.Turns.{Moment, moments, replay}
 use Rattle.lam_runs_mean.specs.Meant.{MeansItsSource, NoneStuck}

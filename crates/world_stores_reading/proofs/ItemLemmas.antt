@@ -11,10 +11,10 @@ use Rattle.world_terms.specs.Breaks.{Reading, formed, ◌>>=◌}
 use Rattle.world_terms.specs.Stores.{Pipes, with_item, with_items, with_pipe_item, with_pipes}
 use Rattle.world_stores_reading.specs.Contents.{item_in}
 use Rattle.world_stores_reading.specs.Called.{pipe_in}
-use Rattle.world_reading.specs.declared.fault.WorldFault.{WorldFault}
-use Rattle.world_reading.specs.Meaning.{Fails}
-use Rattle.world_reading.proofs.Steps.{bind_assoc, fails_same, fails_here}
-use Rattle.world_reading.proofs.ListLemmas.{items_more}
+use Rattle.world_stores_reading.specs.declared.fault.WorldFault.{WorldFault}
+use Rattle.world_stores_reading.specs.Meaning.{Fails}
+use Rattle.world_stores_reading.proofs.Steps.{bind_assoc, fails_same, fails_here}
+use Rattle.world_stores_reading.proofs.ListLemmas.{items_more}
 
 -- ---- the tree
 

@@ -2,3 +2,6 @@ pub mod PathLemmas
 pub mod CalledLemmas
 pub mod ItemLemmas
 pub mod MemberOn
+pub mod Steps
+pub mod MemberLemmas
+pub mod ListLemmas

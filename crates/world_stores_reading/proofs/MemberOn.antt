@@ -5,8 +5,8 @@ use Rattle.serde_json.specs.Data.{Data, Members}
 use Rattle.serde_json.specs.Find.{get_member}
 use Rattle.flow_labels.specs.TwoLists.{Text}
 use Rattle.world_terms.specs.Breaks.{Break, NoMember, BadMember, Reading, ◌>>=◌, present, formed, member_as}
-use Rattle.world_reading.specs.declared.fault.WorldFault.{WorldFault}
-use Rattle.world_reading.specs.Meaning.{break_of, Fails}
+use Rattle.world_stores_reading.specs.declared.fault.WorldFault.{WorldFault}
+use Rattle.world_stores_reading.specs.Meaning.{break_of, Fails}
 
 not_ok : {X Y : Type 0} (o : Option Break) (x : X) (read : Reading Y) → MatchOption o (Unit {0}) (λ b. ◌≡◌ {A = Reading X} (Ok x) (Err b)) → MatchOption o (Unit {0}) (λ b. read ≡ Err b)
 not_ok None x read h = tt

@@ -13,8 +13,8 @@ use Rattle.world_terms.specs.Breaks.{Reading, ◌>>=◌, formed, member_as}
 use Rattle.world_terms.specs.Tags.{label_in}
 use Rattle.world_terms.specs.Stores as stores
 use Rattle.world_terms.specs.Stores.{Spot, a_dir, a_text, content_of, with_content, unless_full, spot_of, with_item, with_items}
-use Rattle.world_reading.specs.declared.fault.WorldFault.{WorldFault}
-use Rattle.world_reading.specs.declared.fault.WorldFault.TheVariants.{BadPath, NoMemory}
+use Rattle.world_stores_reading.specs.declared.fault.WorldFault.{WorldFault}
+use Rattle.world_stores_reading.specs.declared.fault.WorldFault.TheVariants.{BadPath, NoMemory}
 use Rattle.world_stores_reading.specs.declared.tree.Content.{Content}
 use Rattle.world_stores_reading.specs.declared.tree.Content.TheVariants.{Dir, Text as Bytes}
 

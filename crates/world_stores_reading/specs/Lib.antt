@@ -1,2 +1,4 @@
 pub mod Contents
 pub mod Called
+pub mod Meaning
+pub mod Seen

@@ -1,19 +1,26 @@
-//! Reading the files, directories and pipes of a world document.
+//! Reading a world document up to its threads: its members, what it says by tags, and its files, directories and pipes.
 //!
-//! Each item is put into its store by the store's own call, in the order of the document: [`read_tree`] makes the
-//! directories and files of the member `tree`, and [`read_pipes`] the pipes of the member `pipes`, with a table of what
-//! the document calls them. The first break of the document is the one that is named.
+//! A document is a JSON value of `serde_json`. Each reader here is the definition of the same name in `world_terms` in
+//! code: it answers the value that the definition reads, or a [`WorldFault`] that is the definition's break. Members are
+//! looked at in the order of the calls, so the first break of the document is the one that is named.
 //!
+//! - `fault` has the faults, `members` a member of an object in the form that it must have, and `tags` the tags' names,
+//!   labels, tags by their names, and capabilities. `specs/Meaning` says what a result means.
 //! - `path` walks a path from the root down, over the entries of directories.
-//! - `tree` reads the items of the tree, and puts them into the files.
-//! - `pipes` reads the pipes. Their names are looked up in constant time.
-//!
-//! The definitions are those of `world_terms`, and each reader here gives what the one of the same name there reads.
+//! - `tree` reads the items of the tree, and puts each into the files by their own call ([`read_tree`]).
+//! - `pipes` makes the pipes ([`read_pipes`]), with a table of what the document calls them: they are looked up in
+//!   constant time.
 #![tactic(auto)]
 
+mod fault;
+mod members;
 mod path;
 mod pipes;
+mod tags;
 mod tree;
 
+pub use fault::{WorldFault, bad_member, no_member, no_tag};
+pub use members::{array_member, member, object, object_member, str_member};
 pub use pipes::{PipeNames, find_pipe, read_pipes};
+pub use tags::{read_caps, read_label, read_tag, read_tags};
 pub use tree::read_tree;

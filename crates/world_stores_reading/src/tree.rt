@@ -8,19 +8,17 @@ ghost use Rattle.serde_json.specs.View.{view, items_view};
 ghost use Rattle.serde_json.specs.Find.{get_member};
 ghost use Rattle.world_terms.specs.Breaks.{formed};
 ghost use Rattle.world_terms.specs.Stores.{as_dir, as_text, content_of, with_content, unless_full, with_items};
-ghost use Rattle.world_reading.specs.Meaning.{Gives, GivesOnto};
-ghost use Rattle.world_reading.specs.Seen.{members};
+ghost use Rattle.world_stores_reading.specs.Meaning.{Gives, GivesOnto};
+ghost use Rattle.world_stores_reading.specs.Seen.{members};
 ghost use Rattle.world_stores_reading.specs.Contents.{spot, content_seen, path_fault, filled, placed, item_in, tree_onto};
 
 use crate::path::{find_spot, is_taken};
+use crate::{WorldFault, array_member, bad_member, no_member, object, read_label, str_member};
 use flow_labels::{Label, TagNames};
 use labelled_files::{FILE_LIMIT, FileFault, Files};
 use lam_value::Name;
 use serde_json::Value;
 use std::alloc::Global;
-use world_reading::{
-    WorldFault, array_member, bad_member, no_member, object, read_label, str_member,
-};
 
 // What an item of the tree has.
 #[derive(Clone, Copy)]

@@ -2,7 +2,7 @@ use Rattle.std.proofs.Common.{arith, ap, ◌∙◌, reverse, Option, Vec, Global
 use Rattle.resolved_tree.specs.declared.Stmt.{Stmt}
 use Rattle.resolved_tree.specs.Tree.{expr_tree, stmt_tree, stmts_tree, else_tree, if_block}
 use Rattle.resolved_tree.proofs.Rows.{while_row, sync_row, if_row}
-use Rattle.lam_scheme.specs.Scheme.{block}
+use Rattle.lam_meaning.specs.Scheme.{block}
 use Rattle.emit_parts.proofs.Joins.{joins}
 use Rattle.emit_parts.proofs.Jumps.{either_emits, loop_emits}
 use Rattle.emit_blocks.proofs.Arms.{of_form, sync_emits, at_item, stmt_held, either_held, stmt_added}

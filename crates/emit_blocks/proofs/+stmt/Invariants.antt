@@ -1,6 +1,6 @@
 use Rattle.std.proofs.Common.{◌≡◌, drop, reverse}
 use Rattle.resolved_tree.specs.Tree.{stmts_tree}
-use Rattle.lam_scheme.specs.Scheme.{block}
+use Rattle.lam_meaning.specs.Scheme.{block}
 use Rattle.emit_parts.specs.Emits.{Goes}
 use Rattle.emit_blocks.proofs.+stmt.Given as goal
 

@@ -1,5 +1,5 @@
 use Rattle.std.proofs.Common.{drop}
-use Rattle.lam_scheme.specs.Scheme.{loads}
+use Rattle.lam_meaning.specs.Scheme.{loads}
 use Rattle.emit_parts.specs.Emits.{Goes}
 use Rattle.emit_blocks.proofs.emit_loads.Given as goal
 

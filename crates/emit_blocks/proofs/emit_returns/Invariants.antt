@@ -1,5 +1,5 @@
 use Rattle.std.proofs.Common.{◌≤◌, take, reverse, length}
-use Rattle.lam_scheme.specs.Scheme.{gives_back}
+use Rattle.lam_meaning.specs.Scheme.{gives_back}
 use Rattle.emit_parts.specs.Emits.{Goes}
 use Rattle.emit_blocks.proofs.emit_returns.Given as goal
 

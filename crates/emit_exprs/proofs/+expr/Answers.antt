@@ -3,7 +3,7 @@ use Rattle.resolved_tree.specs.Tree.{expr_tree}
 use Rattle.resolved_tree.proofs.Rows.{call_row, builtin_row, label_row, spawn_row}
 use Rattle.emit_parts.proofs.Joins.{joins, starts}
 use Rattle.emit_parts.proofs.Jumps.{either_emits}
-use Rattle.emit_exprs.proofs.Arms.{of_form, child, right_child, field_child, index_child, at_item, expr_added, exprs_done}
+use Rattle.emit_exprs.proofs.ExprArms.{of_form, child, right_child, field_child, index_child, at_item, expr_added, exprs_done}
 use Rattle.emit_exprs.proofs.Labels.{label_emits}
 use Rattle.emit_exprs.proofs.+expr.Goals as goal
 

@@ -1,6 +1,6 @@
 use Rattle.std.proofs.Common.{drop}
 use Rattle.resolved_tree.specs.Tree.{exprs_tree}
-use Rattle.lam_scheme.specs.Scheme.{expressions}
+use Rattle.lam_meaning.specs.Scheme.{expressions}
 use Rattle.emit_parts.specs.Emits.{Goes}
 use Rattle.emit_exprs.proofs.+expr.Given as goal
 

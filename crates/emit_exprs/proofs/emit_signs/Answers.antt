@@ -1,6 +1,6 @@
 use Rattle.std.proofs.Common.{arith}
 use Rattle.emit_parts.proofs.Joins.{starts}
-use Rattle.emit_exprs.proofs.Arms.{sign_added, signs_done}
+use Rattle.emit_exprs.proofs.ExprArms.{sign_added, signs_done}
 use Rattle.emit_exprs.proofs.emit_signs.Goals as goal
 
 pub loop-item-init : goal.loop-item-init

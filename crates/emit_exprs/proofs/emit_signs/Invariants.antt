@@ -1,6 +1,6 @@
 use Rattle.std.proofs.Common.{drop}
 use Rattle.resolved_tree.specs.Tree.{caps_tree}
-use Rattle.lam_scheme.specs.Scheme.{signs}
+use Rattle.lam_meaning.specs.Scheme.{signs}
 use Rattle.emit_parts.specs.Emits.{Goes}
 use Rattle.emit_exprs.proofs.emit_signs.Given as goal
 

@@ -1,6 +1,6 @@
 use Rattle.std.proofs.Common.{drop}
 use Rattle.resolved_tree.specs.Tree.{stmts_tree}
-use Rattle.lam_scheme.specs.Scheme.{regions_in}
+use Rattle.lam_meaning.specs.Scheme.{regions_in}
 use Rattle.emit_units.specs.Adds.{Goes}
 use Rattle.emit_units.proofs.drafts.+region.Given as goal
 

@@ -1,6 +1,6 @@
 use Rattle.std.proofs.Common.{◌∙◌, sym}
 use Rattle.resolved_tree.specs.Tree.{function_tree, stmts_tree}
-use Rattle.lam_scheme.specs.Scheme.{function_draft}
+use Rattle.lam_meaning.specs.Scheme.{function_draft}
 use Rattle.emit_units.proofs.UnitSteps.{function_unit, length-types, at_start}
 use Rattle.emit_units.proofs.drafts.add_function.Goals as goal
 

@@ -1,6 +1,6 @@
 use Rattle.std.proofs.Common.{drop, map}
 use Rattle.resolved_tree.specs.Tree.{functions_tree}
-use Rattle.lam_scheme.specs.Scheme.{function_draft}
+use Rattle.lam_meaning.specs.Scheme.{function_draft}
 use Rattle.emit_units.specs.Adds.{Goes}
 use Rattle.emit_units.proofs.drafts.add_function_units.Given as goal
 

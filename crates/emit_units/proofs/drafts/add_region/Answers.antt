@@ -1,6 +1,6 @@
 use Rattle.std.proofs.Common.{◌∙◌, sym}
 use Rattle.resolved_tree.specs.Tree.{types_tree, stmts_tree}
-use Rattle.lam_scheme.specs.Scheme.{region_draft}
+use Rattle.lam_meaning.specs.Scheme.{region_draft}
 use Rattle.emit_units.proofs.UnitSteps.{region_unit, length-types, at_start}
 use Rattle.emit_units.proofs.drafts.add_region.Goals as goal
 

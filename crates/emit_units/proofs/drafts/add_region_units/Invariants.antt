@@ -1,6 +1,6 @@
 use Rattle.std.proofs.Common.{drop}
 use Rattle.resolved_tree.specs.Tree.{functions_tree}
-use Rattle.lam_scheme.specs.Scheme.{all_regions}
+use Rattle.lam_meaning.specs.Scheme.{all_regions}
 use Rattle.emit_units.specs.Adds.{Goes}
 use Rattle.emit_units.proofs.drafts.add_region_units.Given as goal
 

@@ -1,6 +1,6 @@
 use Rattle.std.proofs.Common.{◌≡◌, ◌++◌, drop, map}
 use Rattle.resolved_tree.specs.Tree.{types_tree}
-use Rattle.lam_scheme.specs.Scheme.{arg_kind}
+use Rattle.lam_meaning.specs.Scheme.{arg_kind}
 use Rattle.emit_units.proofs.drafts.arg_kinds.Given as goal
 
 abbrev pub invariant-loop-ty : goal.invariant-loop-ty

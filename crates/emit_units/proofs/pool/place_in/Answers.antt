@@ -1,5 +1,5 @@
 use Rattle.std.proofs.Common.{ap, ◌∙◌, sym, map}
-use Rattle.lam_scheme.specs.Pieces.{is_in, with_constant, place_of}
+use Rattle.lam_meaning.specs.Pieces.{is_in, with_constant, place_of}
 use Rattle.emit_parts.specs.Views.{constant_value}
 use Rattle.emit_units.proofs.Keys.{own_eq, same, keys_view, key_found, key_place}
 use Rattle.emit_units.proofs.pool.place_in.Goals as goal

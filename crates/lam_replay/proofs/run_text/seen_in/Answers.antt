@@ -1,7 +1,7 @@
 use Rattle.std.proofs.Common.{◌≡◌}
 use Rattle.lam_worlds.specs.Turns.{moments}
 use Rattle.run_notes.specs.Notes.{seen_by}
-use Rattle.run_stops.specs.Stops.{stopped_at}
+use Rattle.lam_run_laws.specs.Stops.{stopped_at}
 use Rattle.lam_replay.proofs.RunLemmas.{mapped_ok, mapped_err}
 use Rattle.lam_replay.proofs.run_text.seen_in.Goals as goal
 

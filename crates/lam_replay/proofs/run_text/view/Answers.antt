@@ -1,6 +1,6 @@
 use Rattle.std.proofs.Common.{◌∙◌, ap}
 use Rattle.lam_worlds.specs.Turns.{moments}
-use Rattle.run_stops.specs.Stops.{stopped_at}
+use Rattle.lam_run_laws.specs.Stops.{stopped_at}
 use Rattle.audit_log.specs.Log.{seen_lines, view_lines}
 use Rattle.lam_replay.proofs.RunLemmas.{run_says, no_run_says, no_shelf_run}
 use Rattle.lam_replay.proofs.run_text.view.Goals as goal

@@ -2,7 +2,7 @@ use Rattle.std.proofs.Common.{◌≡◌, Ok, Err, subst}
 use Rattle.lam_worlds.specs.Worlds.{World}
 use Rattle.world_terms.specs.Start.{start_of}
 use Rattle.lam_words.specs.Words.{Text}
-use Rattle.run_summary.specs.Sums.{summary_lines}
+use Rattle.run_notes.specs.Sums.{summary_lines}
 use Rattle.lam_plan.specs.Replays.{NoStart}
 use Rattle.lam_commands.specs.Halts.{Finds}
 use Rattle.lam_plan.specs.Threads.{IsOfThreads, made_budget}

@@ -1,4 +1,4 @@
-use Rattle.run_summary.specs.Sums.{summary_lines}
+use Rattle.run_notes.specs.Sums.{summary_lines}
 use Rattle.lam_plan.specs.Threads.{made_budget}
 use Rattle.thread_commands.proofs.TakenLemmas.{threads_shown}
 use Rattle.thread_commands.proofs.making.made_run.Goals as goal

@@ -1,5 +1,5 @@
 use Rattle.std.proofs.Common.{length, sym, subst}
-use Rattle.run_ends.specs.Ends.{HasEnded}
+use Rattle.lam_run_laws.specs.Ends.{HasEnded}
 use Rattle.machine_run.specs.Runs.{Ran}
 use Rattle.thread_host.proofs.running.finish.Goals as goal
 

@@ -2,8 +2,8 @@ use Rattle.std.proofs.Common.{Ok}
 use Rattle.serde_json.specs.View.{view}
 use Rattle.lam_stores.specs.Parts.{world_of}
 use Rattle.world_terms.specs.Entries.{threads_in}
-use Rattle.world_reading.specs.Seen.{members}
-use Rattle.world_reading.proofs.Steps.{fails_here}
+use Rattle.world_stores_reading.specs.Seen.{members}
+use Rattle.world_stores_reading.proofs.Steps.{fails_here}
 use Rattle.world_stores_reading.specs.Called.{called_of}
 use Rattle.world_doc.proofs.document.with_threads.Goals as goal
 

@@ -1,4 +1,0 @@
-pub mod AnswerLemmas
-pub mod EventLemmas
-pub mod ReadyLemmas
-pub mod SuitLemmas

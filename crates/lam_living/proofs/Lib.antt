@@ -1,3 +1,0 @@
-pub mod TagLemmas
-pub mod PrivateLemmas
-pub mod GrowLemmas

@@ -1,2 +1,0 @@
-pub mod EffectLemmas
-pub mod NextLemmas

@@ -1,0 +1,25 @@
+-- How runs end.
+use Rattle.std.specs.Prelude.{◌≡◌, ◌≤◌, ℕ, true, false, List, length}
+use Rattle.lam_bytecode.specs.Codes.{CodeTree}
+use Rattle.lam_worlds.specs.Worlds.{World}
+use Rattle.lam_worlds.specs.Turns as turns
+use Rattle.lam_run_laws.specs.declared.How.{How}
+use Rattle.lam_run_laws.specs.declared.How.TheVariants.{Done, AllWait, Budget}
+
+abbrev pub SomeReady : CodeTree → World → Type 0
+SomeReady code w = (t : ℕ) × (turns.ready code w t ≡ true)
+
+abbrev pub NoneReady : CodeTree → World → Type 0
+NoneReady code w = (t : ℕ) → turns.ready code w t ≡ false
+
+-- a run that took so many turns to a world has ended in this way, with a budget of turns
+abbrev pub HasEnded : CodeTree → World → ℕ → ℕ → How → Type 0
+HasEnded code w taken budget Done = turns.IsDone w
+HasEnded code w taken budget AllWait = turns.AllWait code w
+HasEnded code w taken budget Budget = SomeReady code w × (taken ≡ budget)
+
+-- these turns are a run of a code from a start, within a budget, and it has ended in this way
+pub record Runs (code : CodeTree) (start : World) (budget : ℕ) (taken : List ℕ) (how : How) : Type 0 where
+  pub run : turns.IsRun code taken start
+  pub within : length taken ≤ budget
+  pub ended : HasEnded code (turns.replay code taken start) (length taken) budget how

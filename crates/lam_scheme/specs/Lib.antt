@@ -1,4 +1,0 @@
-pub mod Pieces
-pub mod Scheme
-pub mod Long
-pub mod Examples

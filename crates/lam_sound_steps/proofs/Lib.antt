@@ -1,2 +1,0 @@
-pub mod HeldSound
-pub mod SoundSteps

@@ -1,4 +1,0 @@
-pub mod BackLemmas
-pub mod AllowedLemmas
-pub mod CapsLemmas
-pub mod RefusalLemmas

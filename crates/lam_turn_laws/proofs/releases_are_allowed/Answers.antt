@@ -1,5 +1,0 @@
-use Rattle.lam_turn_laws.proofs.AllowedLemmas.{releases_allowed}
-use Rattle.lam_turn_laws.proofs.releases_are_allowed.Goals as goal
-
-pub returns : goal.returns
-returns c = releases_allowed

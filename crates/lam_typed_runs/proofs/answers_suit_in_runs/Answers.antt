@@ -1,5 +1,0 @@
-use Rattle.lam_typed_runs.proofs.Whole.{suit_in_runs}
-use Rattle.lam_typed_runs.proofs.answers_suit_in_runs.Goals as goal
-
-pub returns : goal.returns
-returns c = suit_in_runs

@@ -1,2 +1,0 @@
-pub mod HeapLemmas
-pub mod ServedLemmas

@@ -1,3 +1,0 @@
-pub mod Cut
-pub mod Meanings
-pub mod First

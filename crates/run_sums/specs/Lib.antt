@@ -1,3 +1,0 @@
-pub mod Turns
-pub use Rattle.lam_run.specs.Stops
-pub use Rattle.lam_run.specs.declared.fault.RunFault

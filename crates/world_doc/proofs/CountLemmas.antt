@@ -1,0 +1,76 @@
+-- How many arguments and threads there are.
+use Rattle.std.proofs.Common.{◌≡◌, ◌≢◌, ℕ, ◌<◌, ◌≤◌, ◌&&◌, Bool, true, false, cond, eqb, ltb, leb, List, length, Option, Some, None, Result, Ok, Err, refl, sym, ap, ◌∙◌, arith}
+use Rattle.std.specs.Prelude.{codes}
+use Rattle.std.specs.Option.{option_and_then}
+use Rattle.std.proofs.lemmas.Bool.Decides.{nat_tests}
+use Rattle.serde_json.specs.Data.{Items, Members}
+use Rattle.serde_json.specs.Events.{items_len}
+use Rattle.serde_json.specs.Find.{as_array}
+use Rattle.serde_json.specs.View.{items_view}
+use Rattle.serde_json.specs.declared.value.Value.{Value as Json}
+use Rattle.flow_labels.specs.TwoLists.{Text}
+use Rattle.lam_value.specs.declared.names.Name.{Name}
+use Rattle.lam_value.specs.declared.values.Value.{Value}
+use Rattle.lam_bytecode.specs.Codes.{CodeTree}
+use Rattle.lam_bytecode.specs.declared.unit.ArgKind.{ArgKind}
+use Rattle.thread_steps.specs.Threads.{Thread}
+use Rattle.world_terms.specs.Breaks.{BadMember, Reading, ◌>>=◌, only_if, formed, member_as}
+use Rattle.world_terms.specs.Entries.{arguments, args_in, threads_of, threads_in}
+use Rattle.world_stores_reading.specs.declared.fault.WorldFault.{WorldFault}
+use Rattle.world_stores_reading.specs.Meaning.{Fails}
+use Rattle.world_stores_reading.proofs.Steps.{fails_here}
+use Rattle.world_stores_reading.proofs.ListLemmas.{items_count}
+use Rattle.world_stores_reading.proofs.MemberOn.{member_on, member_off}
+
+-- a list that is as long as it may be
+module _ (name : Text) (test : ℕ → Bool) (ms : Members) where
+  abbrev pub counted : Reading Items
+  counted = member_as name (λ d. option_and_then (λ items. only_if (test (items_len items)) items) (as_array d)) ms
+
+  by_test : (xs : List Json) (b : Bool) → member_as name as_array ms ≡ Ok (items_view xs) → test (length xs) ≡ b → counted ≡ formed name (only_if b (items_view xs))
+  by_test xs b e is =
+      member_on name as_array (λ items. only_if (test (items_len items)) items) ms (items_view xs) e ∙
+      ap (λ (n : ℕ). formed name (only_if (test n) (items_view xs))) (items_count xs) ∙ ap (λ (b : Bool). formed name (only_if b (items_view xs))) is
+
+  pub right_count : {X : Type 0} (f : Items → Reading X) (xs : List Json) → member_as name as_array ms ≡ Ok (items_view xs) → test (length xs) ≡ true → (counted >>= f) ≡ f (items_view xs)
+  right_count f xs e is = ap (λ r. r >>= f) (by_test xs true e is)
+
+  pub wrong_count : {X : Type 0} (f : Items → Reading X) (xs : List Json) → member_as name as_array ms ≡ Ok (items_view xs) → test (length xs) ≡ false → (counted >>= f) ≡ Err (BadMember name)
+  wrong_count f xs e is = ap (λ r. r >>= f) (by_test xs false e is)
+
+  pub no_list : {X : Type 0} (f : Items → Reading X) (e : WorldFault) → Fails e (member_as name as_array ms) → Fails e (counted >>= f)
+  no_list f e h = fails_here e counted f (member_off name as_array (λ items. only_if (test (items_len items)) items) e ms h)
+
+same_test : (n m : ℕ) → n ≡ m → eqb n m ≡ true
+same_test n m e = grind (arith, nat_tests)
+
+other_test : (n m : ℕ) → n ≢ m → eqb n m ≡ false
+other_test n m e = grind (arith, nat_tests)
+
+module _ (names : List Text) (called : List (Text × Name)) (takes : List ArgKind) (ms : Members) where
+  pub args_counted : (xs : List Json) → member_as (codes "args") as_array ms ≡ Ok (items_view xs) → length xs ≡ length takes → args_in names called takes ms ≡ arguments names called takes (items_view xs)
+  args_counted xs e same = right_count (codes "args") (λ n. eqb n (length takes)) ms (arguments names called takes) xs e (same_test (length xs) (length takes) same)
+
+  pub args_other : (xs : List Json) → member_as (codes "args") as_array ms ≡ Ok (items_view xs) → length xs ≢ length takes → args_in names called takes ms ≡ Err (BadMember (codes "args"))
+  args_other xs e other = wrong_count (codes "args") (λ n. eqb n (length takes)) ms (arguments names called takes) xs e (other_test (length xs) (length takes) other)
+
+  pub args_off : (e : WorldFault) → Fails e (member_as (codes "args") as_array ms) → Fails e (args_in names called takes ms)
+  args_off e h = no_list (codes "args") (λ n. eqb n (length takes)) ms (arguments names called takes) e h
+
+module _ (code : CodeTree) (names : List Text) (called : List (Text × Name)) (ms : Members) where
+  pub threads_counted : (xs : List Json) (b : Bool) → member_as (codes "threads") as_array ms ≡ Ok (items_view xs) → b ≡ (ltb 0 (length xs) && leb (length xs) 64) → b ≡ true → threads_in code names called ms ≡ threads_of code names called (items_view xs)
+  threads_counted xs b e is t = right_count (codes "threads") (λ n. ltb 0 n && leb n 64) ms (threads_of code names called) xs e (sym is ∙ t)
+
+  pub threads_other : (xs : List Json) (b : Bool) → member_as (codes "threads") as_array ms ≡ Ok (items_view xs) → b ≡ (ltb 0 (length xs) && leb (length xs) 64) → b ≡ false → threads_in code names called ms ≡ Err (BadMember (codes "threads"))
+  threads_other xs b e is f = wrong_count (codes "threads") (λ n. ltb 0 n && leb n 64) ms (threads_of code names called) xs e (sym is ∙ f)
+
+  pub threads_off : (e : WorldFault) → Fails e (member_as (codes "threads") as_array ms) → Fails e (threads_in code names called ms)
+  threads_off e h = no_list (codes "threads") (λ n. ltb 0 n && leb n 64) ms (threads_of code names called) e h
+
+pub few_of : (n : ℕ) (b : Bool) → b ≡ (ltb 0 n && leb n 64) → b ≡ true → n ≤ 64
+few_of n b is t = by (ltb 0 n) (leb n 64) refl (sym is ∙ t)
+  where
+    by : (a e : Bool) → leb n 64 ≡ e → (a && e) ≡ true → n ≤ 64
+    by true true h k = grind (arith, nat_tests)
+    by true false h k = absurd cc
+    by false e h k = absurd cc

@@ -1,3 +1,0 @@
-pub mod ArgLemmas
-pub mod ListLemmas
-pub mod CountLemmas
