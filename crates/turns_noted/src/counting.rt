@@ -71,7 +71,7 @@ fn count_turns(
 }
 
 /// Takes a turn, and counts what it is, which is nothing where it is private; `false` where the thread is not ready.
-#[tactic(auto, using(crate::proofs::PrivateLemmas::nothing_counted))]
+#[tactic(auto, using(crate::proofs::UncountedLemmas::nothing_counted))]
 fn count_turn(
     alloc: Global,
     sums: &mut Sums,
