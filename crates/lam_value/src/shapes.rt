@@ -83,9 +83,9 @@ impl Shape {
 fn zeros(alloc: Global, kind: Kind, len: u64) -> Result<Values, NoMemory>
     ensures { IfOk result (λ vs. vs ≡ slots_of (Shape.Array kind len)) }
 {
-    let mut slots = Values::with_capacity(alloc, len)?;
+    let mut slots = Vec::with_capacity(alloc, len as usize)?;
     for _ in 0..len {
-        slots.push(kind.zero())?;
+        slots.push_reserved(kind.zero());
     }
-    Ok(slots)
+    Ok(Values::from_vec(slots))
 }
