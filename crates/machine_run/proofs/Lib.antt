@@ -3,3 +3,6 @@ mod CopyLemmas
 mod RunLemmas
 mod PrivateLemmas
 mod ReadyLemmas
+pub mod Ready
+mod Others
+mod Kept

@@ -5,13 +5,15 @@
 //! whoever does not ask what it was.
 //!
 //! `readiness` tells whether a thread is ready, without memory. `run` has the type, `taking` one turn of it, and `seeking`
-//! looks for a thread that is ready or lives.
+//! looks for a thread that is ready or lives. `listing` keeps the list of the ready threads from turn to turn.
 #![tactic(auto)]
 
+mod listing;
 mod readiness;
 mod run;
 mod seeking;
 mod taking;
 
+pub use listing::{relist, roomy_list, turn_listed};
 pub use readiness::ready;
 pub use run::{Run, RunParts, TURN_LIMIT};

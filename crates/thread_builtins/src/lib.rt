@@ -1,8 +1,11 @@
-//! The built-in calls.
+//! The built-in calls, and the barriers, accesses and monitors.
 //!
 //! A built-in call is seen before it is done, without memory: its value, fault or ask stands as [`Called`], with the
 //! parts of its arguments where they are. [`system`] is the sight of a call with the arguments on top of the operands.
+//! `access` has the sights of the operations that reach a thing or make one.
 #![tactic(auto)]
+
+mod access;
 
 ghost use Rattle.std.specs.Prelude.{◌≡◌, ◌≤◌, ◌++◌, ◌∷◌, [], pos, length, List};
 ghost use Rattle.decimal_text.specs.Decimal.{int_of};
@@ -12,6 +15,10 @@ ghost use Rattle.thread_steps.specs.Builtins.{calls, builtin, number_now, bytes_
 ghost use Rattle.thread_sights.specs.Acting.{calls_of, did_of, systems};
 ghost use Rattle.lam_value.specs.declared.values.Value.{Value};
 
+pub use access::{
+    enter_monitor, get_element, get_field, leave_monitor, new_array, new_object, put_element,
+    put_field, read_barrier, write_barrier,
+};
 use capabilities::Caps;
 use decimal_text::read_int;
 use flow_labels::Label;

@@ -1,25 +1,11 @@
 -- What a worker does to a run in one visit under the lock.
-use Rattle.std.specs.Prelude.{◌≡◌, ◌<◌, ◌≤◌, ℕ, Bool, true, not, eqb, if◌then◌else◌, List, length}
-use Rattle.std.specs.List.{filter, range_with_len}
-use Rattle.lam_bytecode.specs.Codes.{CodeTree}
-use Rattle.lam_worlds.specs.Worlds.{World}
+use Rattle.std.specs.Prelude.{◌≡◌, ◌<◌, ◌≤◌, ℕ, true, length}
 use Rattle.lam_worlds.specs.Turns as turns
 use Rattle.lam_run_laws.specs.declared.How.{How}
 use Rattle.lam_run_laws.specs.Ends.{SomeReady, HasEnded}
 use Rattle.machine_run.specs.Runs.{Ran, with_turn}
 use Rattle.thread_host.specs.declared.visits.Visit.{Visit}
 use Rattle.thread_host.specs.declared.visits.Visit.TheVariants.{Took, Ended}
-
--- the ready threads, in increasing order
-abbrev pub ready_threads : CodeTree → World → List ℕ
-ready_threads code w = filter (turns.ready code w) (range_with_len 0 (length w.threads))
-
-abbrev pub is_other : ℕ → ℕ → Bool
-is_other t u = not (eqb u t)
-
--- a list of threads, without one that is no longer ready
-abbrev pub kept_list : Bool → ℕ → List ℕ → List ℕ
-kept_list is_ready t ts = if is_ready then ts else filter (is_other t) ts
 
 -- some thread is ready, and the budget leaves a turn
 pub record GoesOn (budget : ℕ) (r : Ran) : Type 0 where

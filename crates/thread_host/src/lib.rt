@@ -6,7 +6,6 @@
 //! tell all of it. What the hook picks decides the order, and nothing that a contract says rests on it.
 #![tactic(auto)]
 
-mod listing;
 mod origins;
 mod running;
 mod seats;

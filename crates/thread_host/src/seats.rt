@@ -4,12 +4,11 @@ ghost use Rattle.std.specs.Prelude.{◌≡◌, ◌≤◌, length, IfOk, OnErr};
 ghost use Rattle.lam_run_laws.specs.Ends.{HasEnded};
 ghost use Rattle.thread_host.specs.Visits.{Visits};
 
-use crate::listing::{relist, roomy_list};
 use crate::origins::let_go_run;
 use crate::visits::{Visit, take_turn};
 use lam_io::Gate;
 use lam_run_laws::How;
-use machine_run::Run;
+use machine_run::{Run, relist, roomy_list};
 use std::alloc::Global;
 use std::marker::Model;
 use want_of_memory::NoMemory;
@@ -24,7 +23,7 @@ pub struct Seated {
 impl Model for Seated {
     ghost use Rattle.std.specs.Prelude.{◌≡◌, ◌≤◌, vec_capacity};
     ghost use Rattle.machine_run.specs.Runs.{Ran, coded_run};
-    ghost use Rattle.thread_host.specs.Visits.{ready_threads};
+    ghost use Rattle.machine_run.specs.ReadyLists.{ready_threads};
 
     ghost Value = { Ran };
 

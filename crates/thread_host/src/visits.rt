@@ -2,12 +2,12 @@
 
 ghost use Rattle.std.specs.Prelude.{◌≡◌, ◌<◌, ◌≤◌, true, length, IfOk, OnErr, MatchOption, vec_capacity};
 ghost use Rattle.lam_worlds.specs.Turns as turns;
-ghost use Rattle.thread_host.specs.Visits.{ready_threads, GoesOn, EndsAs, Visits};
+ghost use Rattle.machine_run.specs.ReadyLists.{ready_threads};
+ghost use Rattle.thread_host.specs.Visits.{GoesOn, EndsAs, Visits};
 
-use crate::listing::turn_listed;
 use lam_io::Gate;
 use lam_run_laws::How;
-use machine_run::Run;
+use machine_run::{Run, turn_listed};
 use want_of_memory::NoMemory;
 
 /// What one visit did.

@@ -1,3 +1,2 @@
 pub mod UnitLists
-pub mod Heads
 pub mod Many

@@ -4,11 +4,10 @@
 //! parts of values and asks where they stand. It takes no memory and changes nothing, so the same answer serves to say
 //! how a thread stands, to ask, to act, and to know what is left of the operands when an ask was answered.
 //!
-//! `operators` has operators and what makes labels and capabilities, `access` barriers, accesses and monitors, `units`
-//! what begins a unit, and `seeing` the operations.
+//! `operators` has operators and what makes labels and capabilities, `units` what begins a unit, and `seeing` the
+//! operations. Built-in calls, barriers, accesses and monitors stand in `thread_builtins`.
 #![tactic(auto)]
 
-mod access;
 mod operators;
 mod seeing;
 mod units;

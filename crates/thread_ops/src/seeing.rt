@@ -7,10 +7,6 @@ ghost use Rattle.lam_asks.specs.declared.fault.Fault.TheVariants as fault;
 ghost use Rattle.thread_steps.specs.Next.{around, ops_of};
 ghost use Rattle.thread_sights.specs.Acting.{did_of, calls_unit};
 
-use crate::access::{
-    enter_monitor, get_element, get_field, leave_monitor, new_array, new_object, put_element,
-    put_field, read_barrier, write_barrier,
-};
 use crate::operators::{add_cap, before, between, make_label};
 use crate::units::{enter_region, function_takes, spawn};
 use lam_asks::Fault;
@@ -18,7 +14,10 @@ use lam_bytecode::{Code, CodeUnit, Op};
 use lam_operators::{BinaryOp, UnaryOp};
 use lam_threads::{Context, Operands};
 use lam_value::Value;
-use thread_builtins::system;
+use thread_builtins::{
+    enter_monitor, get_element, get_field, leave_monitor, new_array, new_object, put_element,
+    put_field, read_barrier, system, write_barrier,
+};
 use thread_sights::{Sight, Worth, number_in, truth_in};
 
 /// How many calls may be open in a context.

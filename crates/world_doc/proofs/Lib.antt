@@ -3,3 +3,5 @@ pub mod WorldLemmas
 pub mod ArgLemmas
 pub mod ListLemmas
 pub mod CountLemmas
+pub mod CalledLemmas
+pub mod PipeLemmas

@@ -23,7 +23,7 @@ use Rattle.world_stores_reading.specs.declared.fault.WorldFault.{WorldFault}
 use Rattle.world_stores_reading.specs.Meaning.{Fails, GivesOnto}
 use Rattle.world_stores_reading.proofs.Steps.{fails_here, fails_same}
 use Rattle.world_stores_reading.specs.Contents.{tree_onto}
-use Rattle.world_stores_reading.specs.Called.{called_of, pipes_of, pipes_onto}
+use Rattle.world_doc.specs.Called.{called_of, pipes_of, pipes_onto}
 use Rattle.world_doc.specs.Document.{filled, with_threads, world_onto, after_tags}
 
 -- ---- the stores

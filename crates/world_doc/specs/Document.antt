@@ -10,7 +10,7 @@ use Rattle.lam_stores.specs.Parts.{first_stores, world_of}
 use Rattle.world_terms.specs.Breaks.{NotJson, Reading, ◌>>=◌}
 use Rattle.world_terms.specs.Entries.{threads_in}
 use Rattle.world_stores_reading.specs.Contents.{tree_onto}
-use Rattle.world_stores_reading.specs.Called.{pipes_onto}
+use Rattle.world_doc.specs.Called.{pipes_onto}
 
 -- a document that was read
 abbrev pub document_or : Option Data → Reading Data

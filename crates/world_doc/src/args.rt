@@ -10,17 +10,16 @@ ghost use Rattle.world_terms.specs.Breaks.{Reading};
 ghost use Rattle.world_terms.specs.Entries.{int_of, bool_of, text_of, tag_value, pipe_of, if_there, contents, argument, fits, arguments, args_in};
 ghost use Rattle.world_stores_reading.specs.Meaning.{Gives};
 ghost use Rattle.world_stores_reading.specs.Seen.{members};
-ghost use Rattle.world_stores_reading.specs.Called.{called_of};
+ghost use Rattle.world_doc.specs.Called.{called_of};
 ghost use Rattle.world_doc.specs.Found.{read_as, one_more, IsFound, argument_of};
 
+use crate::pipes::{PipeNames, find_pipe};
 use flow_labels::TagNames;
 use lam_bytecode::ArgKind;
 use lam_value::{ByteText, Value, Values};
 use serde_json::Value as Json;
 use std::alloc::Global;
-use world_stores_reading::{
-    PipeNames, WorldFault, array_member, bad_member, find_pipe, object, read_tag,
-};
+use world_stores_reading::{WorldFault, array_member, bad_member, object, read_tag};
 
 /// The number of bytes that a value may have.
 const TEXT_LIMIT: usize = 65_536;

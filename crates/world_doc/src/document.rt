@@ -6,9 +6,10 @@ ghost use Rattle.serde_json.specs.Read.{read};
 ghost use Rattle.world_terms.specs.Start.{version_in, world_of, world_or, start_of};
 ghost use Rattle.world_stores_reading.specs.Meaning.{Gives, GivesOnto};
 ghost use Rattle.world_stores_reading.specs.Seen.{members};
-ghost use Rattle.world_stores_reading.specs.Called.{called_of};
+ghost use Rattle.world_doc.specs.Called.{called_of};
 ghost use Rattle.world_doc.specs.Document.{document_or, filled, with_threads, world_onto, after_tags};
 
+use crate::pipes::{PipeNames, read_pipes};
 use crate::read_threads;
 use flow_labels::TagNames;
 use indexmap::IndexMap;
@@ -19,9 +20,7 @@ use serde_json::Value;
 use serde_json::error::Category;
 use std::alloc::Global;
 use std::str;
-use world_stores_reading::{
-    PipeNames, WorldFault, bad_member, member, object, read_pipes, read_tags, read_tree,
-};
+use world_stores_reading::{WorldFault, bad_member, member, object, read_tags, read_tree};
 
 fn read_version(alloc: Global, document: &Value) -> Result<(), WorldFault>
     ensures { Gives (λ _. 1) result (version_in (members (view document.now))) }

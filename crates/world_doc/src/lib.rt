@@ -1,7 +1,7 @@
 //! World documents: from a text to the world at the start of a run.
 //!
 //! [`start`] is the whole reading: the bytes are UTF-8 and a JSON text, and its members are `version`, `tags`, `tree`,
-//! `pipes` and `threads`, looked at in this order. What is said by tags is read, and the stores are made, by
+//! `pipes` and `threads`, looked at in this order. What is said by tags is read, and the files are made, by
 //! `world_stores_reading`.
 //!
 //! Each thread runs a function of the code whose result is a number, with an argument of its kind for each parameter,
@@ -9,6 +9,7 @@
 //! as the definition `threads_in` of `world_terms` reads it.
 //!
 //! - `document` has the whole reading.
+//! - `pipes` makes the pipes, with a table of what the document calls them: they are looked up in constant time.
 //! - `entry` has the functions that a thread may run.
 //! - `args` has the arguments: of several contents that may be there, exactly one is.
 //! - `threads` has the threads.
@@ -20,8 +21,10 @@
 mod args;
 mod document;
 mod entry;
+mod pipes;
 mod threads;
 
 pub use document::start;
+pub use pipes::PipeNames;
 pub use threads::read_threads;
 pub use world_stores_reading::WorldFault;

@@ -5,17 +5,18 @@ ghost use Rattle.serde_json.specs.View.{view, items_view};
 ghost use Rattle.world_terms.specs.Entries.{threads_of, threads_in};
 ghost use Rattle.world_stores_reading.specs.Meaning.{Gives};
 ghost use Rattle.world_stores_reading.specs.Seen.{members};
-ghost use Rattle.world_stores_reading.specs.Called.{called_of};
+ghost use Rattle.world_doc.specs.Called.{called_of};
 ghost use Rattle.world_doc.specs.Found.{thread_of};
 
 use crate::args::read_args;
 use crate::entry::read_entry;
+use crate::pipes::PipeNames;
 use flow_labels::TagNames;
 use lam_bytecode::Code;
 use lam_threads::LamThread;
 use serde_json::Value;
 use std::alloc::Global;
-use world_stores_reading::{PipeNames, WorldFault, array_member, bad_member, object, read_caps};
+use world_stores_reading::{WorldFault, array_member, bad_member, object, read_caps};
 
 /// The number of threads that a document may have.
 const THREAD_LIMIT: usize = 64;

@@ -1,22 +1,18 @@
--- The items of the tree and the pipes, one after another.
+-- The items of the tree, one after another.
 use Rattle.std.proofs.Common.{◌≡◌, ℕ, suc, ◌+◌, ◌<◌, List, [], ◌∷◌, ◌++◌, length, get_or, drop, Result, Ok, Err, refl, sym, ap, ◌∙◌, arith}
 use Rattle.std.specs.Prelude.{codes}
-use Rattle.serde_json.specs.Data.{Data, Items, item, Members}
 use Rattle.serde_json.specs.Find.{as_object}
 use Rattle.serde_json.specs.View.{view, items_view}
 use Rattle.serde_json.specs.declared.value.Value.{Value as Json}
 use Rattle.flow_labels.specs.TwoLists.{Text}
 use Rattle.labelled_files.specs.Trees.{Tree}
 use Rattle.world_terms.specs.Breaks.{Reading, formed, ◌>>=◌}
-use Rattle.world_terms.specs.Stores.{Pipes, with_item, with_items, with_pipe_item, with_pipes}
+use Rattle.world_terms.specs.Stores.{with_item, with_items}
 use Rattle.world_stores_reading.specs.Contents.{item_in}
-use Rattle.world_stores_reading.specs.Called.{pipe_in}
 use Rattle.world_stores_reading.specs.declared.fault.WorldFault.{WorldFault}
 use Rattle.world_stores_reading.specs.Meaning.{Fails}
 use Rattle.world_stores_reading.proofs.Steps.{bind_assoc, fails_same, fails_here}
 use Rattle.world_stores_reading.proofs.ListLemmas.{items_more}
-
--- ---- the tree
 
 module _ (names : List Text) where
   items_at : (xs : List Json) (i : ℕ) (x : Json) (t : Tree) → i < length xs → x ≡ get_or xs i x → with_items names i t (items_view (drop i xs)) ≡ (item_in names i t (view x) >>= λ u. with_items names (i + 1) u (items_view (drop (i + 1) xs)))
@@ -31,17 +27,3 @@ module _ (names : List Text) where
   pub not_placed : (f : WorldFault) (xs : List Json) (i : ℕ) (x : Json) (t : Tree) (all : Reading Tree) → i < length xs → x ≡ get_or xs i x → all ≡ with_items names i t (items_view (drop i xs)) → Fails f (item_in names i t (view x)) → Fails f all
   not_placed f xs i x t all h is so_far e =
       fails_same (sym (so_far ∙ items_at xs i x t h is)) (fails_here f (item_in names i t (view x)) (λ u. with_items names (i + 1) u (items_view (drop (i + 1) xs))) e)
-
--- ---- pipes
-
-module _ (names : List Text) where
-  pipes_at : (xs : List Json) (i : ℕ) (x : Json) (p : Pipes) → i < length xs → x ≡ get_or xs i x → with_pipes names p (items_view (drop i xs)) ≡ (pipe_in names p (view x) >>= λ q. with_pipes names q (items_view (drop (i + 1) xs)))
-  pipes_at xs i x p h is =
-      ap (with_pipes names p) (items_more xs i x h is) ∙ sym (bind_assoc (formed (codes "pipes") (as_object (view x))) (with_pipe_item names p) (λ q. with_pipes names q (items_view (drop (i + 1) xs))))
-
-  pub pipe_made : (xs : List Json) (i : ℕ) (x : Json) (p q : Pipes) (all : Reading Pipes) → i < length xs → x ≡ get_or xs i x → all ≡ with_pipes names p (items_view (drop i xs)) → pipe_in names p (view x) ≡ Ok q → all ≡ with_pipes names q (items_view (drop (i + 1) xs))
-  pipe_made xs i x p q all h is so_far e = so_far ∙ pipes_at xs i x p h is ∙ ap (λ r. r >>= λ q. with_pipes names q (items_view (drop (i + 1) xs))) e
-
-  pub no_pipe_made : (f : WorldFault) (xs : List Json) (i : ℕ) (x : Json) (p : Pipes) (all : Reading Pipes) → i < length xs → x ≡ get_or xs i x → all ≡ with_pipes names p (items_view (drop i xs)) → Fails f (pipe_in names p (view x)) → Fails f all
-  no_pipe_made f xs i x p all h is so_far e =
-      fails_same (sym (so_far ∙ pipes_at xs i x p h is)) (fails_here f (pipe_in names p (view x)) (λ q. with_pipes names q (items_view (drop (i + 1) xs))) e)

@@ -1,5 +1,4 @@
 pub mod PathLemmas
-pub mod CalledLemmas
 pub mod ItemLemmas
 pub mod MemberOn
 pub mod Steps

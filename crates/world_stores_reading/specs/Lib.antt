@@ -1,4 +1,3 @@
 pub mod Contents
-pub mod Called
 pub mod Meaning
 pub mod Seen

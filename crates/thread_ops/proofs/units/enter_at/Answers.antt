@@ -2,7 +2,7 @@ use Rattle.std.proofs.Common.{◌≡◌, ◌∙◌, suc, drop, sym, ap, add-one}
 use Rattle.std.proofs.lemmas.Option.{slice_get_within}
 use Rattle.lam_asks.specs.declared.ask.Ask.TheVariants as ask
 use Rattle.thread_steps.specs.Ops.{on_label, wants}
-use Rattle.thread_ops.proofs.Heads.{drop_none, drop_some}
+use Rattle.thread_builtins.proofs.Heads.{drop_none, drop_some}
 use Rattle.thread_ops.proofs.units.enter_at.Goals as goal
 
 pub returns-in-None : goal.returns-in-None

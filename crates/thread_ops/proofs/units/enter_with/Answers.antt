@@ -1,7 +1,7 @@
 use Rattle.std.proofs.Common.{◌≡◌, ◌∙◌, suc, drop, sym, ap, add-one}
 use Rattle.std.proofs.lemmas.Option.{slice_get_within}
 use Rattle.thread_sights.specs.Acting.{enters_with}
-use Rattle.thread_ops.proofs.Heads.{drop_none, drop_some}
+use Rattle.thread_builtins.proofs.Heads.{drop_none, drop_some}
 use Rattle.thread_ops.proofs.units.enter_with.Goals as goal
 
 pub returns-in-None : goal.returns-in-None

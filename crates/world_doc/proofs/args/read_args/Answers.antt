@@ -3,7 +3,7 @@ use Rattle.serde_json.specs.View.{view, items_view}
 use Rattle.world_terms.specs.Entries.{arguments, args_in}
 use Rattle.world_stores_reading.specs.Seen.{members}
 use Rattle.world_stores_reading.proofs.Steps.{says_fails, gives_same}
-use Rattle.world_stores_reading.specs.Called.{called_of}
+use Rattle.world_doc.specs.Called.{called_of}
 use Rattle.world_doc.proofs.CountLemmas.{args_counted, args_other}
 use Rattle.world_doc.proofs.args.read_args.Goals as goal
 

@@ -1,7 +1,7 @@
 use Rattle.serde_json.specs.View.{view}
 use Rattle.world_stores_reading.specs.Seen.{members}
 use Rattle.world_stores_reading.proofs.Steps.{gives_same}
-use Rattle.world_stores_reading.specs.Called.{called_of}
+use Rattle.world_doc.specs.Called.{called_of}
 use Rattle.world_doc.specs.Document.{world_onto, after_tags}
 use Rattle.world_doc.proofs.WorldLemmas.{from_first}
 use Rattle.world_doc.proofs.document.after_tags.Goals as goal

@@ -4,7 +4,7 @@ use Rattle.lam_stores.specs.Parts.{world_of}
 use Rattle.world_terms.specs.Entries.{threads_in}
 use Rattle.world_stores_reading.specs.Seen.{members}
 use Rattle.world_stores_reading.proofs.Steps.{fails_here}
-use Rattle.world_stores_reading.specs.Called.{called_of}
+use Rattle.world_doc.specs.Called.{called_of}
 use Rattle.world_doc.proofs.document.with_threads.Goals as goal
 
 pub returns-in-Err : goal.returns-in-Err

@@ -1,7 +1,7 @@
 use Rattle.serde_json.specs.View.{view}
 use Rattle.world_stores_reading.specs.Seen.{members}
 use Rattle.world_stores_reading.proofs.Steps.{gives_same}
-use Rattle.world_stores_reading.specs.Called.{called_of}
+use Rattle.world_doc.specs.Called.{called_of}
 use Rattle.world_doc.specs.Document.{with_threads, world_onto}
 use Rattle.world_doc.proofs.WorldLemmas.{not_onto, onto}
 use Rattle.world_doc.proofs.document.world_onto.Goals as goal

@@ -1,6 +1,6 @@
 use Rattle.lam_value.specs.Homes.{home_of}
-use Rattle.world_stores_reading.proofs.CalledLemmas.{pipe_added}
-use Rattle.world_stores_reading.proofs.pipes.add_pipe.Goals as goal
+use Rattle.world_doc.proofs.CalledLemmas.{pipe_added}
+use Rattle.world_doc.proofs.pipes.add_pipe.Goals as goal
 
 pub returns-in_ok-insert-in-Ok : goal.returns-in_ok-insert-in-Ok
 returns-in_ok-insert-in-Ok c =

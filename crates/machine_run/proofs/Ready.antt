@@ -8,7 +8,7 @@ use Rattle.lam_bytecode.specs.Codes.{CodeTree}
 use Rattle.lam_worlds.specs.Worlds.{World}
 use Rattle.lam_worlds.specs.Turns.{ready, step, turn_in}
 use Rattle.lam_run_laws.specs.Ends.{SomeReady, NoneReady}
-use Rattle.thread_host.specs.Visits.{ready_threads}
+use Rattle.machine_run.specs.ReadyLists.{ready_threads}
 
 -- ---- a thread that is not there is not ready
 

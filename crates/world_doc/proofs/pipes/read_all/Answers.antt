@@ -1,7 +1,7 @@
 use Rattle.std.proofs.lemmas.Result.{err_from_is_err_and}
-use Rattle.world_stores_reading.specs.Called.{pipes_of}
-use Rattle.world_stores_reading.proofs.ItemLemmas.{pipe_made, no_pipe_made}
-use Rattle.world_stores_reading.proofs.pipes.read_all.Goals as goal
+use Rattle.world_doc.specs.Called.{pipes_of}
+use Rattle.world_doc.proofs.PipeLemmas.{pipe_made, no_pipe_made}
+use Rattle.world_doc.proofs.pipes.read_all.Goals as goal
 
 pub loop-item-preserved : goal.loop-item-preserved
 loop-item-preserved c =

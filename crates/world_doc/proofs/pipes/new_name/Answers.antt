@@ -1,8 +1,8 @@
 use Rattle.serde_json.specs.View.{view}
 use Rattle.world_stores_reading.specs.Seen.{members}
 use Rattle.world_stores_reading.proofs.Steps.{says_fails}
-use Rattle.world_stores_reading.proofs.CalledLemmas.{name_taken, name_new}
-use Rattle.world_stores_reading.proofs.pipes.new_name.Goals as goal
+use Rattle.world_doc.proofs.CalledLemmas.{name_taken, name_new}
+use Rattle.world_doc.proofs.pipes.new_name.Goals as goal
 
 pub returns-then-contains_key : goal.returns-then-contains_key
 returns-then-contains_key c =

@@ -1,9 +1,9 @@
 use Rattle.std.proofs.Common.{ℕ, List, ◌++◌, [], ◌∷◌, ap, sym, ◌∙◌, arith}
 use Rattle.std.specs.Prelude.{vec_len, vec_capacity}
 use Rattle.lam_worlds.specs.Turns.{ready}
-use Rattle.thread_host.proofs.Ready.{taken, left_out}
-use Rattle.thread_host.proofs.listing.relist.Goals.{then-ready, else-ready}
-use Rattle.thread_host.proofs.listing.relist.Goals as goal
+use Rattle.machine_run.proofs.Ready.{taken, left_out}
+use Rattle.machine_run.proofs.listing.relist.Goals.{then-ready, else-ready}
+use Rattle.machine_run.proofs.listing.relist.Goals as goal
 
 pub loop-thread-preserved : goal.loop-thread-preserved
 loop-thread-preserved c =

@@ -2,9 +2,9 @@ use Rattle.std.proofs.Common.{◌≡◌, ap, sym, ◌∙◌, subst}
 use Rattle.lam_bytecode.specs.Codes.{CodeTree}
 use Rattle.lam_worlds.specs.Turns.{ready}
 use Rattle.machine_run.specs.Runs.{Ran, HasTurn}
-use Rattle.thread_host.specs.Visits.{ready_threads, kept_list}
-use Rattle.thread_host.proofs.Kept.{kept_list_is}
-use Rattle.thread_host.proofs.listing.turn_listed.Goals as goal
+use Rattle.machine_run.specs.ReadyLists.{ready_threads, kept_list}
+use Rattle.machine_run.proofs.Kept.{kept_list_is}
+use Rattle.machine_run.proofs.listing.turn_listed.Goals as goal
 
 pub returns-then-branch-clause-list : goal.returns-then-branch-clause-list
 returns-then-branch-clause-list c =

@@ -7,10 +7,10 @@
 ghost use Rattle.std.specs.Prelude.{◌≡◌, ◌<◌, ◌≤◌, true, [], length, IfOk, OnOk, OnErr, vec_capacity};
 ghost use Rattle.lam_worlds.specs.Turns as turns;
 ghost use Rattle.machine_run.specs.Runs.{with_turn};
-ghost use Rattle.thread_host.specs.Visits.{ready_threads, is_other, kept_list};
+ghost use Rattle.machine_run.specs.ReadyLists.{ready_threads, is_other, kept_list};
 ghost use Rattle.std.specs.List.{filter};
 
-use machine_run::Run;
+use crate::run::Run;
 use std::alloc::Global;
 use want_of_memory::NoMemory;
 

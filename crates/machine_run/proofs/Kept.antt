@@ -11,8 +11,8 @@ use Rattle.lam_worlds.specs.Turns.{ready}
 use Rattle.lam_worlds.specs.Valid.{IsValid}
 use Rattle.lam_valid_steps.proofs.WholeLemmas.{runs_valid}
 use Rattle.machine_run.specs.Runs.{Ran, IsWhole, HasTurn, is_private}
-use Rattle.thread_host.specs.Visits.{ready_threads, is_other, kept_list}
-use Rattle.thread_host.proofs.Others.{Moved, private_moves, others_ready, as_many}
+use Rattle.machine_run.specs.ReadyLists.{ready_threads, is_other, kept_list}
+use Rattle.machine_run.proofs.Others.{Moved, private_moves, others_ready, as_many}
 
 -- ---- a run has few threads
 

@@ -14,7 +14,7 @@ use Rattle.lam_value.specs.declared.names.Name.{Name}
 use Rattle.flow_labels.specs.TwoLists.{Text}
 use Rattle.labelled_files.specs.Entries.{text_eq}
 use Rattle.world_terms.specs.Stores.{Pipes, pipe_called, new_name, with_called}
-use Rattle.world_stores_reading.specs.Called.{called_of, pipes_of}
+use Rattle.world_doc.specs.Called.{called_of, pipes_of}
 use Rattle.world_stores_reading.proofs.MemberOn.{member_on}
 
 abbrev pub key_is : Text → Bor Text → Bool

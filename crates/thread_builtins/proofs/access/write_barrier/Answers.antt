@@ -1,7 +1,7 @@
 use Rattle.std.proofs.Common.{◌∙◌, suc, drop, sym}
 use Rattle.thread_steps.specs.Ops.{may_write}
-use Rattle.thread_ops.proofs.Heads.{tested_none, tested_some}
-use Rattle.thread_ops.proofs.access.write_barrier.Goals as goal
+use Rattle.thread_builtins.proofs.Heads.{tested_none, tested_some}
+use Rattle.thread_builtins.proofs.access.write_barrier.Goals as goal
 
 pub returns-in-None : goal.returns-in-None
 returns-in-None c = λ locals. sym (tested_none c.args.stack.now c.args.below (may_write c.args.label.now) (sym c.in-None.ensures))
