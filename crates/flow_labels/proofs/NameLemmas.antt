@@ -1,27 +1,18 @@
 -- laws of lists of names
 use Rattle.std.proofs.lemmas.List.{take_more, length-map, get_or-map}
-use Rattle.std.proofs.Common.{◌≡◌, ℕ, ◌+◌, ◌<◌, Bool, true, false, cond, ◌||◌, ◌&&◌, ltb, leb, lit<, List, [], ◌∷◌, ◌++◌, Option, Some, None, is_some, map, refl, sym, ap, subst, ◌∙◌, length, take, get_or, zero, suc, arith}
+use Rattle.std.proofs.Common.{◌≡◌, ℕ, ◌+◌, ◌<◌, Bool, true, false, cond, ◌||◌, ◌&&◌, ltb, leb, lit<, List, [], ◌∷◌, ◌++◌, Some, None, map, refl, sym, ap, subst, ◌∙◌, length, take, get_or, zero, suc, arith}
+use Rattle.std.specs.HashMap.{HashMap, get_by_text}
+use Rattle.std.specs.Map.{lookup, update}
 use Rattle.std.specs.Str.{bytes_eq, IsUtf8}
+use Rattle.std.specs.Prelude.{String, string_bytes}
 use Rattle.std.specs.List.{list_all, list_any, position_from}
-use Rattle.std.specs.Prelude.{position}
 use Rattle.std.specs.Bool.{Decides}
 use Rattle.std.proofs.lemmas.Iterator.Adapters.{position_from-zero}
 use Rattle.std.proofs.lemmas.Slice.Eq.{bytes_eq-Decides}
 use Rattle.std.proofs.lemmas.Bool.Decides.{same_from_decides}
 use Rattle.std.proofs.lemmas.Str.{IsUtf8-from_ascii}
 use Rattle.std.proofs.lemmas.Bool.Decides.{nat_tests}
-use Rattle.flow_labels.specs.Names.{is_letter, is_word, is_name, place_of, AreNames}
-
-position_from-map : {X Y : Type 0} (f : X → Y) (t : Y → Bool) (i : ℕ) (xs : List X) → position_from (λ x. t (f x)) i xs ≡ position_from t i (map f xs)
-position_from-map f t i [] = refl
-position_from-map f t i (x ∷ xs) = elim (t (f x)) as (λ b. cond b (Some i) (position_from (λ y. t (f y)) (i + 1) xs) ≡ cond b (Some i) (position_from t (i + 1) (map f xs))) [ true ↦ refl | false ↦ position_from-map f t (i + 1) xs ]
-
-pub position-map : {X Y : Type 0} (f : X → Y) (t : Y → Bool) (xs : List X) → position (λ x. t (f x)) xs ≡ position t (map f xs)
-position-map f t xs = position_from-zero (λ x. t (f x)) xs ∙ position_from-map f t 0 xs ∙ sym (position_from-zero t (map f xs))
-
--- what a look-up by a text says of the names
-pub place_found : {S : Type 0} (f : S → List ℕ) (ks : List S) (ns : List (List ℕ)) (n : List ℕ) (r : Option ℕ) → map f ks ≡ ns → r ≡ position (λ k. bytes_eq n (f k)) ks → r ≡ place_of ns n
-place_found f ks ns n r e is = is ∙ position-map f (bytes_eq n) ks ∙ ap (λ ms. place_of ms n) e
+use Rattle.flow_labels.specs.Names.{is_letter, is_word, is_name, place_of, AreNames, AreKept}
 
 bytes_eq_sym : (xs ys : List ℕ) → bytes_eq xs ys ≡ bytes_eq ys xs
 bytes_eq_sym xs ys =
@@ -59,23 +50,58 @@ AreNames_push ns new n all is none made = rw made (push ns n all is (no_name ns 
 pub AreNames_same : (ms ns : List (List ℕ)) → ms ≡ ns → AreNames ms → AreNames ns
 AreNames_same ms ns e all = subst AreNames e all
 
-list_any-map : {S : Type 0} (f : S → List ℕ) (t : List ℕ → Bool) (ks : List S) → list_any (λ x. t (f x)) ks ≡ list_any t (map f ks)
-list_any-map f t [] = refl
-list_any-map f t (k ∷ ks) = ap (λ b. t (f k) || b) (list_any-map f t ks)
-
 map-push : {S : Type 0} (f : S → List ℕ) (ks : List S) (k : S) → map f (ks ++ k ∷ []) ≡ map f ks ++ f k ∷ []
 map-push f [] k = refl
 map-push f (x ∷ ks) k = ap (λ ns. f x ∷ ns) (map-push f ks k)
 
-pub no_place : (r : Option ℕ) → is_some r ≡ false → r ≡ None
-no_place None e = refl
-no_place (Some i) e = cc
+-- a text put after others, seen as its bytes
+pub texts_push : {S : Type 0} (f : S → List ℕ) (ks new : List S) (k : S) (ns : List (List ℕ)) (n : List ℕ) → map f ks ≡ ns → f k ≡ n → new ≡ ks ++ k ∷ [] → map f new ≡ ns ++ n ∷ []
+texts_push f ks new k ns n e same is = ap (map f) is ∙ map-push f ks k ∙ (λ i. e i ++ same i ∷ [])
 
--- a text that no name equals goes last
-pub names_insert : {S : Type 0} (f : S → List ℕ) (ks new : List S) (k : S) (ns : List (List ℕ)) (n : List ℕ) → map f ks ≡ ns → f k ≡ n → is_some (place_of ns n) ≡ false → new ≡ cond (list_any (λ x. bytes_eq (f k) (f x)) ks) ks (ks ++ k ∷ []) → map f new ≡ ns ++ n ∷ []
-names_insert f ks new k ns n e same none is =
-    let absent = list_any-map f (bytes_eq (f k)) ks ∙ (λ i. list_any (bytes_eq (same i)) (e i)) ∙ no_name ns n (no_place _ none) in
-    ap (map f) (is ∙ ap (λ b. cond b ks (ks ++ k ∷ [])) absent) ∙ map-push f ks k ∙ (λ i. e i ++ same i ∷ [])
+-- ---- the map of tags
+found_last : (t : List ℕ → Bool) (i : ℕ) (ns : List (List ℕ)) (n : List ℕ) → list_any t ns ≡ false → t n ≡ true → position_from t i (ns ++ n ∷ []) ≡ Some (i + length ns)
+found_last t i [] n none is = rw is (ap Some (omega arith))
+found_last t i (x ∷ ns) n none is =
+    let parts : (t x ≡ false) × (list_any t ns ≡ false) = or_false (t x) (list_any t ns) none in
+    rw parts.0 (found_last t (i + 1) ns n parts.1 is ∙ ap Some (omega arith))
+
+found_before : (t : List ℕ → Bool) (i : ℕ) (ns : List (List ℕ)) (n : List ℕ) → t n ≡ false → position_from t i (ns ++ n ∷ []) ≡ position_from t i ns
+found_before t i [] n other = rw other refl
+found_before t i (x ∷ ns) n other =
+    elim (t x) as (λ b. cond b (Some i) (position_from t (i + 1) (ns ++ n ∷ [])) ≡ cond b (Some i) (position_from t (i + 1) ns)) [ true ↦ refl | false ↦ found_before t (i + 1) ns n other ]
+
+-- where texts stand once a new name stands after the others
+place_push : (ns : List (List ℕ)) (n text : List ℕ) → place_of ns n ≡ None → cond (bytes_eq n text) (Some (length ns)) (place_of ns text) ≡ place_of (ns ++ n ∷ []) text
+place_push ns n text none =
+    elim (bytes_eq n text) as (λ b. bytes_eq n text ≡ b → cond b (Some (length ns)) (place_of ns text) ≡ place_of (ns ++ n ∷ []) text) [
+      | true ↦ λ e.
+          let absent : list_any (bytes_eq text) ns ≡ false = subst (λ (t : List ℕ). list_any (bytes_eq t) ns ≡ false) ((bytes_eq-Decides n text).0 e) (no_name ns n none) in
+          ap Some (omega arith) ∙ sym (found_last (bytes_eq text) 0 ns n absent (bytes_eq_sym text n ∙ e)) ∙ sym (position_from-zero (bytes_eq text) (ns ++ n ∷ []))
+      | false ↦ λ e.
+          position_from-zero (bytes_eq text) ns ∙ sym (found_before (bytes_eq text) 0 ns n (bytes_eq_sym text n ∙ e)) ∙ sym (position_from-zero (bytes_eq text) (ns ++ n ∷ []))
+    ] refl
+
+module _ {A S : Type 0} where
+  -- no names, with a map that has nothing
+  pub kept_none : (tags : HashMap (String A) ℕ S) (ns : List (List ℕ)) → tags.entries ≡ [] → ns ≡ [] → AreKept tags ns
+  kept_none tags ns empty none = record {
+    named = AreNames_same [] ns (sym none) tt;
+    found = λ text. ap (lookup (λ k. bytes_eq text (string_bytes k))) empty ∙ ap (λ ms. place_of ms text) (sym none);
+  }
+
+  -- a new name, kept after the others
+  pub kept_push : (old new : HashMap (String A) ℕ S) (ns all : List (List ℕ)) (n : List ℕ) (tag : ℕ) → AreKept old ns → is_name n ≡ true → place_of ns n ≡ None → tag ≡ length ns → all ≡ ns ++ n ∷ [] → ((text : List ℕ) → get_by_text new text ≡ update bytes_eq (get_by_text old) n (Some tag) text) → AreKept new all
+  kept_push old new ns all n tag kept is none last made put = record {
+    named = AreNames_push ns all n kept.named is none made;
+    found = λ text. put text ∙ (λ i. cond (bytes_eq n text) (Some (last i)) (kept.found text i)) ∙ place_push ns n text none ∙ ap (λ ms. place_of ms text) (sym made);
+  }
+
+  -- the same names, with a map that finds the same
+  pub kept_same : (old new : HashMap (String A) ℕ S) (ms ns : List (List ℕ)) → AreKept old ms → new.entries ≡ old.entries → ns ≡ ms → AreKept new ns
+  kept_same old new ms ns kept same e = record {
+    named = AreNames_same ms ns (sym e) kept.named;
+    found = λ text. ap (lookup (λ k. bytes_eq text (string_bytes k))) same ∙ kept.found text ∙ ap (λ ls. place_of ls text) (sym e);
+  }
 
 -- ---- copying
 any_later : (t : List ℕ → Bool) (xs : List (List ℕ)) (i : ℕ) (d : List ℕ) → i < length xs → list_any t xs ≡ false → t (get_or xs i d) ≡ false

@@ -10,14 +10,16 @@
 //! before integrity. The rules on changes of a label, which speak of capabilities, stand in the crate
 //! `capabilities`; the variants of [`Rule`] that they need stand here with the others.
 //!
-//! The module `names` has the names of tags, and `texts` the text of a label, `{a,b}/{t}`, both ways.
-//! Both stand on `two_lists`, which reads and writes two lists of tag names in braces; the text of
-//! capabilities, `+{a}-{a,b}`, is another layout of the same. Each text has a call that makes a `String`
-//! and one, named `push_..`, that writes at the end of a text handed in and makes none.
+//! The module `names` has the names of tags, `name_lists` whether two lists of them are equal, and
+//! `texts` the text of a label, `{a,b}/{t}`, both ways. Both ways stand on `two_lists`, which reads and
+//! writes two lists of tag names in braces; the text of capabilities, `+{a}-{a,b}`, is another layout of
+//! the same. Each text has a call that makes a `String` and one, named `push_..`, that writes at the end
+//! of a text handed in and makes none.
 //!
 //! None of the calls without a Result takes memory.
 #![tactic(auto)]
 
+mod name_lists;
 mod names;
 mod texts;
 mod two_lists;
@@ -27,6 +29,7 @@ ghost use Rattle.std.specs.FinSet as set;
 ghost use Rattle.flow_labels.specs.Flow.{flows, seen, public_label};
 ghost use Rattle.flow_labels.specs.Failing.{denied_or, first_failing, read_test, write_test, mint_test, same_test};
 
+pub use name_lists::same_names;
 pub use names::{NameFault, TagNames, is_letter, is_name, is_word};
 use std::alloc::Global;
 pub use tag_sets::{NoMemory, TagId, TagSet};

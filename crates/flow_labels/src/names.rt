@@ -3,14 +3,17 @@
 //! A world's tags are numbered from 0 in the order in which they are named. Tags that are made while a
 //! world runs have no name; a text shows them as `#` and their number.
 
-ghost use Rattle.std.specs.Prelude.{◌≡◌, ◌++◌, ◌∷◌, [], length, true, false, IsSome, OnOk, OnErr, IfOk, IsErrOf, ◌↔◌, slice_get, None};
+ghost use Rattle.std.specs.Prelude.{◌≡◌, ℕ, List, ◌++◌, ◌∷◌, [], length, true, false, IsSome, OnOk, OnErr, IfOk, IsErrOf, ◌↔◌, slice_get, None, Some};
+ghost use Rattle.std.specs.HashMap.{get_by_text};
 ghost use Rattle.std.specs.Option.{option_copied};
 ghost use Rattle.std.specs.List.{list_all};
+ghost use Rattle.std.specs.Map.{update};
+ghost use Rattle.std.specs.Str.{bytes_eq};
 ghost use Rattle.flow_labels.specs.Names.{is_letter, is_word, is_name, place_of};
 ghost use Rattle.flow_labels.specs.declared.names.NameFault.TheVariants.{NoMemory as no_memory};
 
-use indexmap::IndexSet;
 use std::alloc::{AllocError, AllocFailed, Global};
+use std::collections::HashMap;
 use std::marker::Model;
 use std::str;
 use tag_sets::{NoMemory, TagId};
@@ -51,20 +54,23 @@ impl<T: Drop> From<AllocFailed<T>> for NameFault {
 }
 
 /// The names of the tags, all different. The name at place n is that of tag n.
+///
+/// Each text stands twice: at its place, and as the key at which its tag is found.
 #[derive(Drop)]
 pub struct TagNames {
-    names: IndexSet<String>,
+    texts: Vec<String>,
+    tags: HashMap<String, TagId>,
 }
 
 impl Model for TagNames {
     ghost use Rattle.std.specs.Prelude.{List, ℕ, map, string_bytes};
-    ghost use Rattle.flow_labels.specs.Names.{AreNames};
+    ghost use Rattle.flow_labels.specs.Names.{AreKept};
 
     ghost Value = { List (List ℕ) };
 
-    ghost view = { λ n. map string_bytes n.names.keys };
+    ghost view = { λ n. map string_bytes n.texts.items };
 
-    ghost invariant = { λ n. AreNames (map string_bytes n.names.keys) };
+    ghost invariant = { λ n. AreKept n.tags (map string_bytes n.texts.items) };
 }
 
 impl TagNames {
@@ -73,7 +79,8 @@ impl TagNames {
         ensures { result ≡ [] }
     {
         TagNames {
-            names: IndexSet::new(alloc),
+            texts: Vec::new(alloc),
+            tags: HashMap::new(alloc),
         }
     }
 
@@ -81,29 +88,26 @@ impl TagNames {
     pub fn count(&self) -> u64
         ensures { result ≡ length self.now }
     {
-        self.names.len() as u64
+        self.texts.len() as u64
     }
 
     /// The allocator that the names keep.
     pub fn allocator(&self) -> Global {
-        *self.names.allocator()
+        *self.texts.allocator()
     }
 
     /// The tag of a name; None exactly where the name is not there.
     pub fn find(&self, name: &str) -> Option<TagId>
         ensures { result ≡ place_of self.now name.now }
     {
-        match self.names.get_index_of(name) {
-            None => None,
-            Some(at) => Some(TagId(at as u64)),
-        }
+        self.tags.get(name).copied()
     }
 
     /// The tag of a name that is given by its bytes, whatever bytes they are.
     pub fn find_bytes(&self, name: &[u8]) -> Option<TagId>
         ensures { result ≡ place_of self.now name.now }
     {
-        let _ = &self.names;
+        let _ = &self.texts;
         match str::from_utf8(name) {
             Ok(name) => self.find(name),
             Err(_) => None,
@@ -114,10 +118,7 @@ impl TagNames {
     pub fn name(&self, tag: TagId) -> Option<&str>
         ensures { option_copied result ≡ slice_get self.now tag }
     {
-        if tag.0 >= self.names.len() as u64 {
-            return None;
-        }
-        match self.names.get_index(tag.0 as usize) {
+        match self.texts.get(tag.0 as usize) {
             None => None,
             Some(text) => Some(text.as_str()),
         }
@@ -146,8 +147,8 @@ impl TagNames {
         ensures { IfOk result (λ n. n ≡ self.now) }
     {
         let mut names = TagNames::new(self.allocator());
-        for name in self.names.as_slice() {
-            names.push(name.as_str())?;
+        for text in &self.texts {
+            names.push(text.as_str())?;
         }
         Ok(names)
     }
@@ -159,10 +160,31 @@ impl TagNames {
         ensures ok { OnOk result (self.new ≡ self.old ++ name.now ∷ []) }
         ensures err { OnErr result (self.new ≡ self.old) }
     {
-        let text = String::from_str(self.allocator(), name)?;
-        self.names.insert(text)?;
+        let alloc = self.allocator();
+        let tag = TagId(self.count());
+        self.texts.reserve(1)?;
+        let text = String::from_str(alloc, name)?;
+        put_tag(&mut self.tags, alloc, name, tag)?;
+        let Ok(_) = self.texts.push(text) else {
+            unreachable!()
+        };
         Ok(())
     }
+}
+
+/// Lets a name have a tag. After an error nothing has changed.
+fn put_tag(
+    tags: &mut HashMap<String, TagId>,
+    alloc: Global,
+    name: &str,
+    tag: TagId,
+) -> Result<(), NoMemory>
+    ensures ok { OnOk result ((text : List ℕ) → get_by_text tags.new text ≡ update bytes_eq (get_by_text tags.old) name.now (Some tag) text) }
+    ensures err { OnErr result (tags.new.entries ≡ tags.old.entries) }
+{
+    let text = String::from_str(alloc, name)?;
+    tags.insert(text, tag)?;
+    Ok(())
 }
 
 /// Whether a byte is an ASCII letter.

@@ -2,11 +2,10 @@
 
 use flow_labels::{
     Denied, Form, Label, LabelFault, NameFault, Rule, TagNames, bad_place, flows, label_form,
-    label_text, mint_rule, parse_label, push_label, read_rule, read_sets, rule_text, same_rule,
-    seen, sets_text, tag_text, write_rule,
+    label_text, mint_rule, parse_label, push_label, read_rule, read_sets, rule_text, same_names,
+    same_rule, seen, sets_text, tag_text, write_rule,
 };
 use std::alloc::Global;
-use tag_name_lists::same_names;
 use tag_sets::{NoMemory, TagId, TagSet};
 
 /// Adds the names of the tags 0, 1 and 2.

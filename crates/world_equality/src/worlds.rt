@@ -4,9 +4,9 @@ ghost use Rattle.std.specs.Prelude.{◌≡◌, ◌↔◌, IsTrue};
 ghost use Rattle.lam_stores.specs.Parts.{stores_of};
 
 use crate::threads::same_threads;
+use flow_labels::same_names;
 use lam_stores::Stores;
 use lam_world::World;
-use tag_name_lists::same_names;
 
 /// Whether two worlds are equal: all stores, and all threads with their contexts. Takes no memory.
 pub fn same_world(a: &World, b: &World) -> bool

@@ -1,5 +1,5 @@
 use Rattle.std.proofs.Common.{◌≡◌, take}
 use Rattle.flow_labels.proofs.names.TagNames.copy.Given as goal
 
-abbrev pub invariant-loop-name : goal.invariant-loop-name
-invariant-loop-name l = l.names ≡ take l.name-index l.fn.self
+abbrev pub invariant-loop-text : goal.invariant-loop-text
+invariant-loop-text l = l.names ≡ take l.text-index l.fn.self

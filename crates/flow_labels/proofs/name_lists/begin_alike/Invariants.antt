@@ -1,5 +1,5 @@
 use Rattle.std.proofs.Common.{◌≡◌, take}
-use Rattle.tag_name_lists.proofs.begin_alike.Given as goal
+use Rattle.flow_labels.proofs.name_lists.begin_alike.Given as goal
 
 abbrev pub invariant-loop-at : goal.invariant-loop-at
 invariant-loop-at l = take l.at l.a ≡ take l.at l.b

@@ -1,7 +1,7 @@
 use Rattle.std.proofs.Common.{refl, ap}
 use Rattle.std.specs.Prelude.{slice_get}
-use Rattle.tag_name_lists.proofs.ListLemmas.{alike_more, alike_all}
-use Rattle.tag_name_lists.proofs.begin_alike.Goals as goal
+use Rattle.flow_labels.proofs.ListLemmas.{alike_more, alike_all}
+use Rattle.flow_labels.proofs.name_lists.begin_alike.Goals as goal
 
 pub loop-at-preserved : goal.loop-at-preserved
 loop-at-preserved c = alike_more c.args.a.now c.args.b.now c.loop-at.at c.loop-at.invariant (c.if-not-same_name.ensures.0 refl)

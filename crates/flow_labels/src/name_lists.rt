@@ -2,11 +2,11 @@
 //!
 //! Two runs that are compared whole have the same tags by the same names, or the texts of their labels say
 //! different things.
-#![tactic(auto)]
 
 ghost use Rattle.std.specs.Prelude.{◌≡◌, ◌↔◌, IsTrue, length, slice_get};
 
-use flow_labels::{TagId, TagNames};
+use crate::names::TagNames;
+use tag_sets::TagId;
 
 /// Whether two have the same names in the same order.
 pub fn same_names(a: &TagNames, b: &TagNames) -> bool
