@@ -16,7 +16,7 @@ use Rattle.lam_resolved.specs.Resolved.{resolved}
 use Rattle.lam_resolved.proofs.Laws.{resolves_typed, resolves_slots, resolves_regions}
 use Rattle.lam_bytecode.specs.Codes.{CodeTree}
 use Rattle.lam_worlds.specs.Worlds.{World}
-use Rattle.world_runs_mean.specs.Documents.{DocumentsRunAsMeant}
+use Rattle.world_laws.specs.Documents.{DocumentsRunAsMeant}
 use Rattle.call_laws.specs.Meant.{AsksRunsOf, RunsAsMeant, CallsRunAsMeant}
 use Rattle.call_laws.proofs.Counts.{small}
 use Rattle.call_laws.proofs.Codes.{is_code}

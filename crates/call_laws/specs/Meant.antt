@@ -9,7 +9,7 @@ use Rattle.lam_bytecode.specs.Codes.{CodeTree}
 use Rattle.lam_plan.specs.Compiled.{IsCompiledTo}
 use Rattle.lam_worlds.specs.Worlds.{World}
 use Rattle.world_terms.specs.Start.{start_of}
-use Rattle.world_runs_mean.specs.Documents.{RunMeans}
+use Rattle.world_laws.specs.Documents.{RunMeans}
 use Rattle.lam_words.specs.Words.{Text, replay, audit, run, request_of}
 use Rattle.lam_plan.specs.Reading.{HasFile, program_limit, world_limit}
 

@@ -10,7 +10,7 @@ use Rattle.lam_bytecode.specs.declared.unit.CodeUnit.{CodeUnit}
 use Rattle.lam_bytecode.specs.declared.unit.UnitKind.TheVariants.{Function, Region}
 use Rattle.resolved_tree.specs.Tree.{ResolvedType, Statement, let_slot, if_block, while_block, return_value, throw_value, sync_block, region_block, do_value, set_local, set_field, set_element, Block, block_end, block_more, OtherBlock, no_other, other_block, ResolvedFunction, ResolvedTree}
 use Rattle.lam_meaning.specs.Scheme.{Draft, arg_kind, is_int, function_draft, regions_of, regions_in, regions_in_other, all_regions, drafts, all_constants, unit_of, scheme}
-use Rattle.world_runs_mean.specs.Entries.{EntriesAreFunctions}
+use Rattle.world_laws.specs.Entries.{EntriesAreFunctions}
 
 abbrev IsRegion : Draft → Type 0
 IsRegion d = (n : ℕ) × (captures : ℕ) × (at : ℕ) × (d.kind ≡ Region n captures at)

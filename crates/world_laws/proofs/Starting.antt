@@ -15,12 +15,12 @@ use Rattle.lam_runs_mean.specs.Typing.{Is, Are}
 use Rattle.lam_runs_mean.specs.Runs.{nothing_known, JustStarts, ThreadsStart}
 use Rattle.lam_runs_mean.proofs.Meaning.{runs_mean}
 use Rattle.lam_runs_mean.proofs.Sticking.{none_sticks}
-use Rattle.world_runs_mean.specs.Entries.{IsIntFunction}
-use Rattle.world_runs_mean.proofs.Units.{int_functions}
+use Rattle.world_laws.specs.Entries.{IsIntFunction}
+use Rattle.world_laws.proofs.Units.{int_functions}
 use Rattle.world_terms.specs.Entries.{fits}
 use Rattle.world_laws.specs.Standing.{AreArguments, StandsAtEntry}
 use Rattle.world_laws.proofs.StartLemmas.{text_start}
-use Rattle.world_runs_mean.specs.Documents.{DocumentsRunAsMeant}
+use Rattle.world_laws.specs.Documents.{DocumentsRunAsMeant}
 
 -- an argument of a parameter's kind is of its type
 fit_is : (t : ResolvedType) (v : Value) → IsTrue (fits (arg_kind t) v) → Is nothing_known t v
