@@ -11,8 +11,8 @@ use Rattle.lam_bytecode.specs.Codes.{CodeTree, IsUnit, IsCode}
 use Rattle.lam_meaning.specs.Pieces.{Flat, an_op, a_constant, numbered}
 use Rattle.lam_meaning.specs.Scheme.{Draft, function_draft, all_regions, drafts, all_constants, unit_of, scheme}
 use Rattle.lam_meaning.specs.Long.{long_from, first_long_unit, unless_long, compiled}
-use Rattle.barrier_emit.proofs.Given.{AllGiven, all_given}
-use Rattle.barrier_emit.proofs.Numbered.{are_counted}
+use Rattle.barrier_compiler.proofs.Given.{AllGiven, all_given}
+use Rattle.barrier_compiler.proofs.Numbered.{are_counted}
 use Rattle.call_laws.proofs.Counts.{IsSmall}
 use Rattle.call_laws.proofs.Constants.{of_program, in_units, short_first, few_in_all}
 

@@ -2,7 +2,6 @@
 //!
 //! Each access stands behind a barrier, and each region is a unit of its own. What a program comes to, its code or the
 //! number of its first unit that is too long, is the definition `compiled` of `lam_meaning`; `emit` computes it.
-#![tactic(auto)]
 
 ghost use Rattle.std.specs.Prelude.{◌≡◌, ◌<◌, ◌^◌, length, map, Ok, IfOk, IfErr};
 ghost use Rattle.resolved_tree.specs.Tree.{types_tree, classes_tree, resolved_tree};
@@ -11,8 +10,8 @@ ghost use Rattle.resolved_tree.specs.Regions.{AreNumbered};
 ghost use Rattle.lam_bytecode.specs.Codes.{IsCode};
 ghost use Rattle.lam_meaning.specs.Means.{kind_of};
 ghost use Rattle.lam_meaning.specs.Long.{compiled};
-ghost use Rattle.barrier_emit.specs.Faults.{IsFaultOf};
-ghost use Rattle.barrier_emit.specs.declared.CompileFault.TheVariants.{NoMemory as no_memory};
+ghost use Rattle.barrier_compiler.specs.Faults.{IsFaultOf};
+ghost use Rattle.barrier_compiler.specs.declared.emitting.CompileFault.TheVariants.{NoMemory as no_memory};
 
 use emit_exprs::kind_of;
 use emit_units::{Halt, Units, add_function_units, add_region_units};

@@ -1,8 +1,8 @@
 use Rattle.std.proofs.Common.{◌∙◌, ap, sym, subst, Ok, Err}
 use Rattle.resolved_tree.specs.Tree.{resolved_tree}
 use Rattle.lam_bytecode.specs.Codes.{IsCode}
-use Rattle.barrier_emit.proofs.Whole.{all_added, is_code, is_compiled, long_answer}
-use Rattle.barrier_emit.proofs.emit.Goals as goal
+use Rattle.barrier_compiler.proofs.Whole.{all_added, is_code, is_compiled, long_answer}
+use Rattle.barrier_compiler.proofs.emitting.emit.Goals as goal
 
 pub new-requires : goal.new-requires
 new-requires c =

@@ -16,8 +16,8 @@ use Rattle.emit_units.specs.declared.units.Halt.{Halt}
 use Rattle.emit_units.specs.declared.units.Halt.TheVariants.{TooLong, NoMemory}
 use Rattle.emit_units.specs.Adds.{Made, made_of, Stage, Adds_units, AddsBy, Adds}
 use Rattle.emit_units.proofs.Joins.{joins}
-use Rattle.barrier_emit.proofs.Given.{AllGiven, all_given}
-use Rattle.barrier_emit.proofs.Numbered.{are_counted}
+use Rattle.barrier_compiler.proofs.Given.{AllGiven, all_given}
+use Rattle.barrier_compiler.proofs.Numbered.{are_counted}
 
 length-numbered : (vs : List Value) (fs : List Flat) → length (numbered vs fs) ≡ length fs
 length-numbered vs [] = refl

@@ -1,6 +1,6 @@
 use Rattle.std.proofs.Common.{arith, ◌≤◌, length}
-use Rattle.barrier_emit.proofs.Classes.{room}
-use Rattle.barrier_emit.proofs.classes_of.Goals as goal
+use Rattle.barrier_compiler.proofs.Classes.{room}
+use Rattle.barrier_compiler.proofs.emitting.classes_of.Goals as goal
 
 pub returns-clause-room : goal.returns-clause-room
 returns-clause-room c =
