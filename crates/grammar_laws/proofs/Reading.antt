@@ -7,10 +7,10 @@ use Rattle.grammar_laws.proofs.Tests.{some_starts}
 use Rattle.grammar_laws.proofs.Laws.{some_of}
 use Rattle.grammar_laws.proofs.Spelling.{both_left, both_right, both_of, implied, HasAt, has_front, has_back}
 use Rattle.grammar_laws.proofs.Bodies.{chosen}
-use Rattle.grammar_derivations.specs.Deriving.{IsOneOf, first, later, MayStand, Derives, nothing, token, part}
-use Rattle.grammar_derivations.specs.Follow.{Follows, opens, meets, followed_by, all_followed_by}
-use Rattle.grammar_derivations.proofs.Passes.{Passes}
-use Rattle.grammar_derivations.proofs.Choice.{is_not, either_left, either_right, shape, shape_open, begins_of, none_starts, picks, quiet_at, picks_empty, emptied}
+use Rattle.grammar_laws.specs.Deriving.{IsOneOf, first, later, MayStand, Derives, nothing, token, part}
+use Rattle.grammar_laws.specs.Follow.{Follows, opens, meets, followed_by, all_followed_by}
+use Rattle.grammar_laws.proofs.Passes.{Passes}
+use Rattle.grammar_laws.proofs.Choice.{is_not, either_left, either_right, shape, shape_open, begins_of, none_starts, picks, quiet_at, picks_empty, emptied}
 
 module _ (G : Grammar) (F : Follows G) (P : Passes G F) where
   abbrev Body : Type 0

@@ -4,8 +4,8 @@ use Rattle.grammar_laws.specs.Grammar.{Symbol, mark, rule, Grammar, starts, pick
 use Rattle.grammar_laws.specs.Examples.{either, implies}
 use Rattle.grammar_laws.proofs.Tests.{some_starts, starts_apart, tells}
 use Rattle.grammar_laws.proofs.Spelling.{both_left, both_right}
-use Rattle.grammar_derivations.specs.Deriving.{IsOneOf, first, later}
-use Rattle.grammar_derivations.specs.Follow.{Follows, opens, well_opened}
+use Rattle.grammar_laws.specs.Deriving.{IsOneOf, first, later}
+use Rattle.grammar_laws.specs.Follow.{Follows, opens, well_opened}
 
 -- ---- truth values
 

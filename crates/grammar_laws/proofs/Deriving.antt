@@ -4,11 +4,11 @@ use Rattle.grammar_laws.specs.Grammar.{Symbol, rule, Grammar, pick, production, 
 use Rattle.grammar_laws.specs.Grammar as read
 use Rattle.grammar_laws.proofs.Laws.{free_production}
 use Rattle.grammar_laws.proofs.Spelling.{HasAt}
-use Rattle.grammar_derivations.specs.Deriving.{IsOneOf, Derives, nothing, token, part}
-use Rattle.grammar_derivations.specs.Follow.{Follows}
-use Rattle.grammar_derivations.proofs.Passes.{Passes}
-use Rattle.grammar_derivations.proofs.Choice.{picked_one, may_stand}
-use Rattle.grammar_derivations.proofs.Texts.{has_both}
+use Rattle.grammar_laws.specs.Deriving.{IsOneOf, Derives, nothing, token, part}
+use Rattle.grammar_laws.specs.Follow.{Follows}
+use Rattle.grammar_laws.proofs.Passes.{Passes}
+use Rattle.grammar_laws.proofs.Choice.{picked_one, may_stand}
+use Rattle.grammar_laws.proofs.Texts.{has_both}
 
 module _ (G : Grammar) (F : Follows G) (P : Passes G F) where
   -- the text that stands from i to before j

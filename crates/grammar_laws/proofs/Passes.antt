@@ -2,7 +2,7 @@
 use Rattle.std.proofs.Common.{◌≡◌, true}
 use Rattle.grammar_laws.specs.Grammar.{Grammar}
 use Rattle.grammar_laws.proofs.Tests.{tells}
-use Rattle.grammar_derivations.specs.Follow.{Follows, well_opened, apart}
+use Rattle.grammar_laws.specs.Follow.{Follows, well_opened, apart}
 
 pub record Passes (G : Grammar) (F : Follows G) : Type 0 where
   pub opening : (r : G.Rule) → well_opened G F (F.null r) (G.bodies r) ≡ true

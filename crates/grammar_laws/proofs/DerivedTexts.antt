@@ -7,13 +7,13 @@ use Rattle.grammar_laws.specs.Examples.{Examples, followed}
 use Rattle.grammar_laws.proofs.Laws.{once}
 use Rattle.grammar_laws.proofs.Sound.{Sound}
 use Rattle.grammar_laws.proofs.Completion.{high}
-use Rattle.grammar_derivations.specs.Deriving.{Derives, Extends}
-use Rattle.grammar_derivations.specs.Follow.{Follows, followed_by}
-use Rattle.grammar_derivations.proofs.Passes.{Passes}
-use Rattle.grammar_derivations.proofs.Texts.{GoesOn, has_all, same_text}
-use Rattle.grammar_derivations.proofs.Deriving.{derived}
-use Rattle.grammar_derivations.proofs.Reading.{reads_of}
-use Rattle.grammar_derivations.proofs.Depth.{read_or_deep}
+use Rattle.grammar_laws.specs.Deriving.{Derives, Extends}
+use Rattle.grammar_laws.specs.Follow.{Follows, followed_by}
+use Rattle.grammar_laws.proofs.Passes.{Passes}
+use Rattle.grammar_laws.proofs.Texts.{GoesOn, has_all, same_text}
+use Rattle.grammar_laws.proofs.Deriving.{derived}
+use Rattle.grammar_laws.proofs.Reading.{reads_of}
+use Rattle.grammar_laws.proofs.Depth.{read_or_deep}
 
 goes_on : {A : Type 0} (ts : List A) → GoesOn (slice_get ts) 0 ts
 goes_on ts j = let q : 0 + j ≡ j = omega arith in ap (slice_get ts) q
