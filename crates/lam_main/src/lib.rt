@@ -40,8 +40,9 @@ use call_laws::{
 use lam_commands::{Halt, Refusal, Report, check, code, done, format, play};
 use lam_io::{Gate, Shelf, Sink, SinkFault};
 pub use lam_plan::Status;
-use lam_round_trip::laws::{canonical_text_is_read_as_the_tree, canonical_text_is_steady};
-use lam_spelt::laws::canonical_text_is_lexed;
+use lam_round_trip::{
+    canonical_text_is_lexed, canonical_text_is_read_as_the_tree, canonical_text_is_steady,
+};
 pub use lam_words::{Command, WordFault, help_text, read_words};
 use play_run::scripts_are_isolated;
 use std::alloc::Global;

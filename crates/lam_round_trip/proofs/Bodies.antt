@@ -10,7 +10,7 @@ use Rattle.lam_grammar.specs.declared.Level.TheVariants.{Or as or_level, And as 
 use Rattle.lam_grammar.specs.Table.{Rule, Sym, items, item, fields, variable, params, params_tail, result_part, typ, block, stmts, stmt, else_part, value_part, assign_part, parens, region_head, captures, names, names_tail, handler, expr, comparison, comparison_tail, unary, post, post_tail, prim, chain, chain_tail, call_part, arguments, args, args_tail, new_part, cap_items, cap_item, cap_tail, ID, literal, type_word, operator, comparing, prefix, member_name, index_close, sign, brace_open, brace_close, paren_open, paren_close, bracket_open, bracket_close, comma, semicolon, colon, dot, equals, class_word, fn_word, let_word, if_word, else_word, while_word, return_word, throw_word, sync_word, region_word, catch_word, new_word, spawn_word, label_word, caps_word, operand_rule, bodies}
 use Rattle.lam_grammar.specs.Meaning.{Value, word, act}
 use Rattle.lam_print.specs.Fitting.{TypeFormFits, TypeFits, ExprFits, BlockFits, StmtFormFits}
-use Rattle.lam_spelt.proofs.Good.{some_names, a_type, no_result, a_result, a_variable, some_variables, an_expr, no_expr, some_expr, a_pair, some_exprs, no_call, a_call, a_form, some_operations, some_postfixes, a_cap, some_caps, a_stmt, some_stmts, an_else, a_handler, an_item, some_items, Good, Expression, OperationList, Holds, none, of_token, of_rule, id_fits, literal_fits, type_word_fits, type_name_fits, combine_fits, extend_fits}
+use Rattle.lam_round_trip.proofs.Good.{some_names, a_type, no_result, a_result, a_variable, some_variables, an_expr, no_expr, some_expr, a_pair, some_exprs, no_call, a_call, a_form, some_operations, some_postfixes, a_cap, some_caps, a_stmt, some_stmts, an_else, a_handler, an_item, some_items, Good, Expression, OperationList, Holds, none, of_token, of_rule, id_fits, literal_fits, type_word_fits, type_name_fits, combine_fits, extend_fits}
 
 abbrev pub Gives : Rule → List Sym → Type 0
 Gives r body = (us : List Value) → Holds body us → Good r (act r us)

@@ -1,6 +1,6 @@
 //! What holds of the words of a program that was read from a text.
 
-ghost use Rattle.lam_spelt.specs.Law.{WordsFit, ReadAgain};
+ghost use Rattle.lam_round_trip.specs.Words.{WordsFit, ReadAgain};
 
 /// Each name of the program is an identifier that is no reserved word, each number is below 2^63, and each text has at
 /// most 65,536 bytes.

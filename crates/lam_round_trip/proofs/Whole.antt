@@ -13,9 +13,9 @@ use Rattle.lam_print.specs.Fitting.{FitsTree}
 use Rattle.lam_print.proofs.TokensFit.{tokens_fit}
 use Rattle.lam_print.proofs.PiecesFit.{pieces_fit}
 use Rattle.lam_print.proofs.Parting.{text_law}
-use Rattle.lam_spelt.specs.Law.{WordsFit, ReadAgain}
-use Rattle.lam_spelt.proofs.Good.{WordFits, some_items, Holds, none, of_token, of_rule}
-use Rattle.lam_spelt.proofs.Bodies.{Gives, Each, each_gives}
+use Rattle.lam_round_trip.specs.Words.{WordsFit, ReadAgain}
+use Rattle.lam_round_trip.proofs.Good.{WordFits, some_items, Holds, none, of_token, of_rule}
+use Rattle.lam_round_trip.proofs.Bodies.{Gives, Each, each_gives}
 
 -- ---- the body that was read
 
