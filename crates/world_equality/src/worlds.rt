@@ -1,10 +1,10 @@
 //! Whether two worlds are equal.
 
 ghost use Rattle.std.specs.Prelude.{◌≡◌, ◌↔◌, IsTrue};
-ghost use Rattle.lam_stores.specs.Parts.{stores_of};
+ghost use Rattle.lam_deeds.specs.Parts.{stores_of};
 
 use crate::threads::same_threads;
-use lam_stores::Stores;
+use lam_deeds::Stores;
 use lam_world::World;
 use tag_name_lists::same_names;
 

@@ -6,13 +6,10 @@
 //! changed while the stores are changed too.
 //!
 //! Nothing here tests a label.
-#![tactic(auto)]
 
 ghost use Rattle.std.specs.Prelude.{◌≡◌, IfOk};
 ghost use Rattle.labelled_files.specs.Trees.{root_alone};
-ghost use Rattle.lam_stores.specs.Parts.{first_stores};
-
-mod both;
+ghost use Rattle.lam_deeds.specs.Parts.{first_stores};
 
 use crate::both::both;
 use flow_labels::TagNames;

@@ -4,7 +4,7 @@ use Rattle.std.specs.FinMap as map
 use Rattle.labelled_heap.specs.Things.{no_things}
 use Rattle.labelled_files.specs.Trees.{root_alone}
 use Rattle.labelled_pipes.specs.Queues.{no_pipes}
-use Rattle.lam_stores.specs.declared.Stores.{Stores}
+use Rattle.lam_deeds.specs.declared.stores.Stores.{Stores}
 use Rattle.lam_worlds.specs.Threads.{Thread}
 use Rattle.lam_worlds.specs.Worlds.{World}
 
