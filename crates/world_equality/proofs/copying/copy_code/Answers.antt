@@ -1,6 +1,6 @@
 use Rattle.std.proofs.Common.{◌∙◌}
-use Rattle.code_copies.proofs.Kept.{equal_parts_keep}
-use Rattle.code_copies.proofs.copying.copy_code.Goals as goal
+use Rattle.world_equality.proofs.Kept.{equal_parts_keep}
+use Rattle.world_equality.proofs.copying.copy_code.Goals as goal
 
 pub new-requires : goal.new-requires
 new-requires c =
