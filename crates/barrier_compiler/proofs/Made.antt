@@ -5,9 +5,9 @@ use Rattle.resolved_tree.specs.Tree.{ResolvedTree}
 use Rattle.lam_bytecode.specs.Codes.{CodeTree}
 use Rattle.lam_meaning.specs.Long.{compiled}
 use Rattle.lam_resolved.specs.Resolved.{resolved}
-use Rattle.barrier_emit.specs.declared.CompileFault.{CompileFault}
-use Rattle.barrier_emit.specs.declared.CompileFault.TheVariants.{CodeTooLong, NoMemory}
-use Rattle.barrier_emit.specs.Faults.{IsFaultOf}
+use Rattle.barrier_compiler.specs.declared.emitting.CompileFault.{CompileFault}
+use Rattle.barrier_compiler.specs.declared.emitting.CompileFault.TheVariants.{CodeTooLong, NoMemory}
+use Rattle.barrier_compiler.specs.Faults.{IsFaultOf}
 use Rattle.barrier_compiler.specs.Compiled.{IsCompiledTo}
 
 module _ (p : ProgramTree) (r : ResolvedTree) (is : Some r ≡ resolved p) where

@@ -1,16 +1,18 @@
 //! The compiler: from a checked program to its code.
 //!
-//! Names are resolved first, then each function and each region gets its operations by the scheme of `lam_meaning`.
+//! Names are resolved first (`lam_resolve`), then each function and each region gets its operations by the scheme of
+//! `lam_meaning` (`emitting`). [`compile`] does both; that the code acts as the program is a clause of it.
 #![tactic(auto)]
+
+mod emitting;
 
 ghost use Rattle.std.specs.Prelude.{◌≡◌, ◌⊎◌, ℕ, Ok, Err, IfOk, IfErr};
 ghost use Rattle.lam_bytecode.specs.Codes.{IsCode};
 ghost use Rattle.region_check.specs.Seen.{checked_tree};
-ghost use Rattle.barrier_emit.specs.declared.CompileFault.TheVariants.{CodeTooLong, NoMemory as no_memory};
+ghost use Rattle.barrier_compiler.specs.declared.emitting.CompileFault.TheVariants.{CodeTooLong, NoMemory as no_memory};
 ghost use Rattle.barrier_compiler.specs.Compiled.{IsCompiledTo, ActsAsProgram};
 
-pub use barrier_emit::CompileFault;
-use barrier_emit::emit;
+pub use emitting::{CompileFault, emit};
 use lam_acting::compiled_code_acts_as_its_source;
 use lam_bytecode::Code;
 use lam_resolve::resolve;

@@ -7,3 +7,10 @@ pub mod Stages
 pub mod Bodies
 pub mod Tests
 pub mod Shifted
+pub mod Passes
+pub mod Choice
+pub mod Texts
+pub mod Reading
+pub mod Deriving
+pub mod Depth
+pub mod DerivedTexts

@@ -9,5 +9,13 @@
 //! meaning; where reading stops, no text goes on; every text that is read so far can be finished; a token that reading
 //! could have taken does continue a text; and the depth sum passes its limit exactly where reading says so.
 //!
-//! The crate has no code: a parser states its contracts in these relations, and cites these laws.
+//! The language of a table without lookahead is the same. `Derives`, in `specs/Deriving.antt`, is the plain derivation of a
+//! context-free grammar: each rule stands for some body of its own, and the text is what its parts derive, one after
+//! another. Nothing there looks at a token before it is derived. The two are the same (`proofs/DerivedTexts`) for each
+//! table that passes the tests of `specs/Follow.antt`, which compute: the first tokens of each rule tell its bodies apart,
+//! and no token may follow a rule that may be empty with which the rule could begin. So the first tokens, the order of the
+//! bodies and the lookahead decide nothing about which texts there are.
+//!
+//! The crate has no code: a parser states its contracts in these relations, and cites these laws; `lam_derivations` states
+//! those of derivations for the table of the language.
 #![tactic(auto)]

@@ -9,8 +9,8 @@ use Rattle.lam_front.specs.Programs.{IsMisspelt, IsFine, IsBroken}
 use Rattle.lam_syntax.specs.Tree.{ProgramTree}
 use Rattle.lam_bytecode.specs.Codes.{CodeTree}
 use Rattle.lam_plan.specs.Compiled.{IsCompiledTo}
-use Rattle.barrier_emit.specs.declared.CompileFault.{CompileFault}
-use Rattle.barrier_emit.specs.declared.CompileFault.TheVariants.{CodeTooLong as too_long_code, NoMemory as no_memory_for_code}
+use Rattle.barrier_compiler.specs.declared.emitting.CompileFault.{CompileFault}
+use Rattle.barrier_compiler.specs.declared.emitting.CompileFault.TheVariants.{CodeTooLong as too_long_code, NoMemory as no_memory_for_code}
 use Rattle.lam_words.specs.Words.{Text}
 use Rattle.lam_plan.specs.Refusals.{Plan, prints}
 use Rattle.lam_plan.specs.Reading.{HasFile, WithFile, unread, of_file, Never, program_limit, IsCompiled, Compiles, fine, broken}

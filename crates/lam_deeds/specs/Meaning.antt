@@ -7,8 +7,8 @@ use Rattle.lam_bytecode.specs.Codes.{CodeTree}
 use Rattle.thread_steps.specs.Threads.{Thread}
 use Rattle.lam_worlds.specs.Deeds as told
 use Rattle.lam_worlds.specs.Deeds.{effect_of}
-use Rattle.lam_stores.specs.declared.Stores.{Stores}
-use Rattle.lam_stores.specs.Parts.{stores_of, world_of}
+use Rattle.lam_deeds.specs.declared.stores.Stores.{Stores}
+use Rattle.lam_deeds.specs.Parts.{stores_of, world_of}
 use Rattle.lam_deeds.specs.declared.effect.Effect.{Effect}
 use Rattle.lam_deeds.specs.declared.effect.Effect.TheVariants.{Nothing, TakesTag, SetsSlot, AddsThing, AddsCopy, TakesMonitor, GivesBack, Drops, AddsFile, AddsDir, Removes, Appends, Cuts, AddsPipe, Sends, Receives, AddsThread}
 use Rattle.lam_deeds.specs.declared.deed.Deed.{Deed}

@@ -5,7 +5,7 @@ use Rattle.lam_value.specs.Homes.{count_in}
 use Rattle.monitor_core.specs.Held.{is_free, takings}
 use Rattle.labelled_files.specs.Trees.{first_fault}
 use Rattle.lam_worlds.specs.Deeds.{Effect, takes_tag, adds_thing, adds_copy, takes_monitor, adds_file, adds_dir, adds_pipe}
-use Rattle.lam_stores.specs.declared.Stores.{Stores}
+use Rattle.lam_deeds.specs.declared.stores.Stores.{Stores}
 
 -- What is made has room, what is copied lives, and a monitor that a thread takes is held by no other. Each deed of the
 -- monitor has this where the thing that it copies lives and the thread does not wait

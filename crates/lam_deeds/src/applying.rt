@@ -12,11 +12,11 @@ ghost use Rattle.lam_deeds.specs.Meaning.{meaning, IsAfter};
 ghost use Rattle.lam_deeds.specs.Room.{HasRoom};
 
 use crate::effect::Effect;
+use crate::stores::Stores;
 use flow_labels::Label;
 use labelled_files::{FileFault, Files};
 use labelled_heap::{Heap, HeapFault};
 use labelled_pipes::{Message, PipeFault, Pipes};
-use lam_stores::Stores;
 use lam_value::{ByteText, Name, Shape, Value};
 use want_of_memory::NoMemory;
 

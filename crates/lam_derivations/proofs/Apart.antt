@@ -1,7 +1,7 @@
 -- The table passes the tests: the next token tells each body, and where a rule is empty.
 use Rattle.std.proofs.Common.{◌≡◌, ℕ, true, false, refl}
-use Rattle.grammar_derivations.specs.Follow.{well_opened, followed_by, apart}
-use Rattle.grammar_derivations.proofs.Passes.{Passes}
+use Rattle.grammar_laws.specs.Follow.{well_opened, followed_by, apart}
+use Rattle.grammar_laws.proofs.Passes.{Passes}
 use Rattle.lam_lexer.specs.declared.token.Token.{Token}
 use Rattle.lam_lexer.specs.declared.token.TokenKind.{TokenKind}
 use Rattle.lam_lexer.specs.declared.token.TokenKind.TheVariants.{Number}

@@ -1,7 +1,7 @@
 -- What is spelt is derived, and what is derived is spelt.
 use Rattle.std.proofs.Common.{inl, inr, List, [], ◌∷◌, refl, ap}
 use Rattle.grammar_laws.specs.Texts.{limited}
-use Rattle.grammar_derivations.proofs.Theorem.{is_derived, is_read_or_deep, derived_once, underived}
+use Rattle.grammar_laws.proofs.DerivedTexts.{is_derived, is_read_or_deep, derived_once, underived}
 use Rattle.lam_syntax.specs.Tree.{ProgramTree}
 use Rattle.lam_grammar.specs.Meaning.{Value, nothing, word, items_value}
 use Rattle.lam_grammar.specs.Program.{lam, program}

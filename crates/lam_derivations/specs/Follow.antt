@@ -1,7 +1,7 @@
 -- Which tokens may follow each rule of the table.
 use Rattle.std.specs.Prelude.{Bool, true, false}
 use Rattle.grammar_laws.specs.Examples.{either}
-use Rattle.grammar_derivations.specs.Follow.{Follows}
+use Rattle.grammar_laws.specs.Follow.{Follows}
 use Rattle.lam_lexer.specs.declared.token.TokenKind.{TokenKind}
 use Rattle.lam_lexer.specs.declared.token.TokenKind.TheVariants.{BraceOpen, BraceClose, ParenClose, BracketOpen, BracketClose, Comma, Semicolon, Dot, Assign, Else, Catch, End}
 use Rattle.lam_grammar.specs.declared.Level.TheVariants.{Or as or_level, And as and_level, Sum as sum_level, Term as term_level}

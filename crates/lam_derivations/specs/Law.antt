@@ -1,7 +1,7 @@
 -- The language is what is derived from the bodies of its rules, whatever token comes next.
 use Rattle.std.specs.Prelude.{◌≡◌, ◌⊎◌, ◌+◌, ℕ, List, [], ◌∷◌}
 use Rattle.grammar_laws.specs.Texts.{IsUnexpected, IsTooDeep}
-use Rattle.grammar_derivations.specs.Deriving.{Derives, Extends}
+use Rattle.grammar_laws.specs.Deriving.{Derives, Extends}
 use Rattle.lam_syntax.specs.Tree.{ProgramTree}
 use Rattle.lam_lexer.specs.declared.token.Token.{Token}
 use Rattle.lam_grammar.specs.Meaning.{nothing, word, items_value}

@@ -6,7 +6,7 @@
 //! that the grammar gives a text one program at most.
 //!
 //! `specs/Follow.antt` lists which tokens may follow each rule; `proofs/` computes that no rule that may be empty is
-//! followed by a token with which it could begin, and cites the theorem of `grammar_derivations`.
+//! followed by a token with which it could begin, and cites the theorem of `grammar_laws`.
 #![tactic(auto)]
 
 pub mod laws;

@@ -8,7 +8,7 @@ use Rattle.lam_lexer.specs.declared.fault.LexFault.{LexFault}
 use Rattle.lam_lexer.specs.Lexed.{Lexed, FirstFault}
 use Rattle.lam_grammar.specs.Meaning.{nothing}
 use Rattle.lam_grammar.specs.Program.{lam, program}
-use Rattle.lam_spelt.specs.Law.{IsOf}
+use Rattle.lam_round_trip.specs.Words.{IsOf}
 use Rattle.lam_parser.specs.Answers.{position_at}
 use Rattle.lam_kinds.specs.Breaks.{Break}
 use Rattle.lam_types.specs.Program.{first_type_break}

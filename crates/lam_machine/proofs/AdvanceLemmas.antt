@@ -16,8 +16,8 @@ use Rattle.thread_core.specs.declared.turn.Turn.{Turn}
 use Rattle.thread_core.specs.declared.turn.Turn.TheVariants as turn
 use Rattle.lam_worlds.specs.Worlds.{World, with_thread, thread_at}
 use Rattle.lam_worlds.specs.Turns.{turn_by, turn_on, turn_in, step}
-use Rattle.lam_stores.specs.declared.Stores.{Stores}
-use Rattle.lam_stores.specs.Parts.{world_of}
+use Rattle.lam_deeds.specs.declared.stores.Stores.{Stores}
+use Rattle.lam_deeds.specs.Parts.{world_of}
 use Rattle.lam_turn_parts.specs.Turned.{IsTurn, Acts}
 use Rattle.lam_turn_parts.proofs.PartLemmas.{private_parts}
 use Rattle.lam_machine.specs.Asking.{label_at, AsksNext, Advances}

@@ -17,8 +17,8 @@ use Rattle.lam_worlds.specs.Worlds.{World, thread_at, contexts_in, contexts_at}
 use Rattle.lam_worlds.specs.Deeds as told
 use Rattle.lam_worlds.specs.Serving.{serve}
 use Rattle.lam_worlds.specs.Turns.{Moment, is_ready, served, turn_by, turn_on, turn_in, step}
-use Rattle.lam_stores.specs.declared.Stores.{Stores}
-use Rattle.lam_stores.specs.Parts.{world_of}
+use Rattle.lam_deeds.specs.declared.stores.Stores.{Stores}
+use Rattle.lam_deeds.specs.Parts.{world_of}
 use Rattle.lam_deeds.specs.declared.effect.Effect.{Effect}
 use Rattle.lam_deeds.specs.declared.deed.Deed.{Deed}
 use Rattle.lam_deeds.specs.Meaning.{meaning, DoesAs, IsAfter}

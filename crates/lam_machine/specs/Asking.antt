@@ -15,7 +15,7 @@ use Rattle.lam_worlds.specs.Worlds.{World, contexts_at}
 use Rattle.lam_worlds.specs.Serving.{serve}
 use Rattle.lam_worlds.specs.Turns.{is_ready, step}
 use Rattle.lam_isolation.specs.Sound.{CopiesLiving}
-use Rattle.lam_stores.specs.declared.Stores.{Stores}
+use Rattle.lam_deeds.specs.declared.stores.Stores.{Stores}
 use Rattle.lam_deeds.specs.declared.effect.Effect.{Effect}
 use Rattle.lam_deeds.specs.declared.deed.Deed.{Deed}
 use Rattle.lam_deeds.specs.Meaning.{meaning, DoesAs, IsAfter}

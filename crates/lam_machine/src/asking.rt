@@ -6,14 +6,13 @@ ghost use Rattle.flow_labels.specs.declared.Label.{Label};
 ghost use Rattle.lam_asks.specs.declared.answer.What.TheVariants.{Asked};
 ghost use Rattle.thread_steps.specs.Threads.{Context as Plain};
 ghost use Rattle.lam_worlds.specs.Worlds.{contexts_in};
-ghost use Rattle.lam_stores.specs.Parts.{world_of};
+ghost use Rattle.lam_deeds.specs.Parts.{world_of};
 ghost use Rattle.lam_turn_parts.specs.Turned.{IsTurn};
 ghost use Rattle.lam_machine.specs.Asking.{label_at, IsReadiness, MayAsk, Serves, Fits, Applied, with_born, Took, TookAt};
 
 use lam_asks::{Answer, Ask};
 use lam_bytecode::Code;
-use lam_deeds::{Deed, Effect, apply};
-use lam_stores::Stores;
+use lam_deeds::{Deed, Effect, Stores, apply};
 use lam_threads::{Context, LamThread};
 use lam_world::{deed_of, is_ready};
 use std::alloc::Global;

@@ -1,8 +1,8 @@
 //! Private turns, of which there is no event to tell.
 
 ghost use Rattle.std.specs.Prelude.{◌≡◌, length, IfOk, OnErr};
-ghost use Rattle.lam_stores.specs.declared.Stores.{Stores};
-ghost use Rattle.lam_stores.specs.Parts.{world_of};
+ghost use Rattle.lam_deeds.specs.declared.stores.Stores.{Stores};
+ghost use Rattle.lam_deeds.specs.Parts.{world_of};
 ghost use Rattle.thread_core.specs.Turning.{standing_of};
 ghost use Rattle.lam_machine.specs.Privately.{IsPrivateStep, is_private_standing};
 

@@ -22,29 +22,29 @@ ghost use Rattle.lam_plan.specs.Refusals.{Plan, prints, no_word};
 ghost use Rattle.lam_plan.specs.Replays.{an_observer};
 ghost use Rattle.lam_plan.specs.Plan.{IsPlanOf, IsPlan, starts_threads, written_by, PlaysIsolated, FormatIsSteady};
 ghost use Rattle.lam_plan.specs.Answer.{outside, AsPlanned, IsAnswer, IsPlanned, OthersKept};
-ghost use Rattle.replay_laws.specs.Calls.{ReplaysAreIsolated, AuditsArePrinted};
-ghost use Rattle.make_laws.specs.Headline.{Headline, BreaksOff, EndsInOrder, RunsAreComplete, GeneratedRuns};
-ghost use Rattle.make_laws.specs.Complete.{MakesAreComplete};
-ghost use Rattle.meaning_laws.specs.Meant.{CallsRunAsMeant};
+ghost use Rattle.call_laws.specs.Calls.{ReplaysAreIsolated, AuditsArePrinted};
+ghost use Rattle.call_laws.specs.Headline.{Headline, BreaksOff, EndsInOrder, RunsAreComplete, GeneratedRuns};
+ghost use Rattle.call_laws.specs.Complete.{MakesAreComplete};
+ghost use Rattle.call_laws.specs.Meant.{CallsRunAsMeant};
 ghost use Rattle.lam_commands.specs.Halts.{Says, Reports};
 ghost use Rattle.thread_commands.specs.Asked.{reader_of};
 ghost use Rattle.lam_main.specs.Ends.{Ends};
 ghost use Rattle.lam_main.specs.Lines.{ended};
 
 use crate::print::{print_refusal, print_text};
+use call_laws::{
+    audits_are_printed, broken_runs_are_recorded, calls_run_as_meant, generated_runs_are_recorded,
+    makes_are_complete, replays_are_isolated, runs_are_complete, runs_are_recorded,
+    runs_end_in_order,
+};
 use lam_commands::{Halt, Refusal, Report, check, code, done, format, play};
 use lam_io::{Gate, Shelf, Sink, SinkFault};
 pub use lam_plan::Status;
-use lam_round_trip::laws::{canonical_text_is_read_as_the_tree, canonical_text_is_steady};
-use lam_spelt::laws::canonical_text_is_lexed;
-pub use lam_words::{Command, WordFault, help_text, read_words};
-use make_laws::{
-    broken_runs_are_recorded, generated_runs_are_recorded, makes_are_complete, runs_are_complete,
-    runs_are_recorded, runs_end_in_order,
+use lam_round_trip::{
+    canonical_text_is_lexed, canonical_text_is_read_as_the_tree, canonical_text_is_steady,
 };
-use meaning_laws::calls_run_as_meant;
+pub use lam_words::{Command, WordFault, help_text, read_words};
 use play_run::scripts_are_isolated;
-use replay_laws::{audits_are_printed, replays_are_isolated};
 use std::alloc::Global;
 use std::sync::Wait;
 use std::thread::Threads;

@@ -3,7 +3,7 @@ use Rattle.std.proofs.Common.{List, Result, ℕ, refl, sym, subst}
 use Rattle.lam_io.specs.Outside.{Files}
 use Rattle.lam_syntax.specs.Tree.{ProgramTree}
 use Rattle.lam_print.specs.Canon.{canon}
-use Rattle.lam_spelt.specs.Law.{ReadAgain}
+use Rattle.lam_round_trip.specs.Words.{ReadAgain}
 use Rattle.lam_round_trip.specs.Law.{WayRound, Steady}
 use Rattle.lam_words.specs.Words.{Text, Request}
 use Rattle.lam_plan.specs.Refusals.{prints}

@@ -9,7 +9,7 @@ ghost use Rattle.lam_replay.specs.Asked.{reader_of, lines_for};
 use crate::Reader;
 use flow_labels::{Label, LabelFault, TagNames, parse_label};
 use lam_commands::{Halt, Refusal};
-use lam_stores::Stores;
+use lam_deeds::Stores;
 
 /// Who reads of a run.
 #[derive(Drop)]

@@ -1,3 +1,6 @@
+pub mod Good
+pub mod Bodies
+pub mod Whole
 pub mod Spans
 pub mod Marks
 pub mod Parts

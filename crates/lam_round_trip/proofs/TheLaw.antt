@@ -12,7 +12,7 @@ use Rattle.lam_grammar.proofs.Passes.{sound}
 use Rattle.lam_print.specs.Pieces.{kinds}
 use Rattle.lam_print.specs.Canon.{pieces, canon}
 use Rattle.lam_print.specs.Law.{kind_of}
-use Rattle.lam_spelt.proofs.Whole.{read_again}
+use Rattle.lam_round_trip.proofs.Whole.{read_again}
 use Rattle.lam_round_trip.specs.Law.{TreeLaw, WayRound}
 use Rattle.lam_round_trip.proofs.Spans.{spelt}
 use Rattle.lam_round_trip.proofs.Marks.{ended, ended_is, all_here}

@@ -11,7 +11,7 @@ use Rattle.lam_grammar.specs.Program.{lam, program, SpellsProgram}
 use Rattle.lam_print.specs.Pieces.{kinds}
 use Rattle.lam_print.specs.Canon.{pieces, canon}
 use Rattle.lam_print.specs.Law.{kind_of}
-use Rattle.lam_spelt.specs.Law.{IsOf}
+use Rattle.lam_round_trip.specs.Words.{IsOf}
 
 -- The depth sum passes its limit at no token. An operand that loses its parentheses brings its operators and postfix
 -- parts into the rule round it, so the sum can be greater in the canonical text than in the text that was read.

@@ -11,7 +11,7 @@ use Rattle.thread_steps.specs.Threads.{Context}
 use Rattle.lam_worlds.specs.Worlds.{World, result_at}
 use Rattle.lam_worlds.specs.Deeds.{drops, does}
 use Rattle.lam_worlds.specs.Serving.{serve}
-use Rattle.lam_stores.specs.declared.Stores.{Stores}
+use Rattle.lam_deeds.specs.declared.stores.Stores.{Stores}
 use Rattle.lam_deeds.specs.declared.deed.Deed.{Deed}
 use Rattle.lam_deeds.specs.Meaning.{DoesAs}
 use Rattle.lam_serving.specs.Acting.{Acting}

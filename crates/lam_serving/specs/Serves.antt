@@ -5,8 +5,8 @@ use Rattle.lam_asks.specs.declared.ask.Ask.{Ask}
 use Rattle.lam_asks.specs.declared.ask.Ask.TheVariants.{Join}
 use Rattle.thread_steps.specs.Threads.{Context}
 use Rattle.lam_worlds.specs.Worlds.{World, result_at}
-use Rattle.lam_stores.specs.declared.Stores.{Stores}
-use Rattle.lam_stores.specs.Parts.{stores_of}
+use Rattle.lam_deeds.specs.declared.stores.Stores.{Stores}
+use Rattle.lam_deeds.specs.Parts.{stores_of}
 use Rattle.lam_serving.specs.Acting.{Acting, acting_of}
 
 -- how the thread that an ask joins ended

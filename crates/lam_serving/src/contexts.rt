@@ -16,8 +16,7 @@ use crate::rules::{enter_rule, full, spawn_rule};
 use capabilities::Caps;
 use flow_labels::{Label, TagId, mint_rule, read_rule};
 use lam_asks::{Answer, Fault, Outcome};
-use lam_deeds::{Deed, Effect};
-use lam_stores::TAG_LIMIT;
+use lam_deeds::{Deed, Effect, TAG_LIMIT};
 use lam_value::{Name, Value, Values};
 use want_of_memory::NoMemory;
 

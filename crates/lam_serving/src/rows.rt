@@ -16,8 +16,7 @@ use crate::files::{
 use crate::pipes::{make_pipe, receive, receive_caps, send, send_caps};
 use crate::things::{copy_to, enter_monitor, leave_monitor, make_thing, read, write};
 use lam_asks::{Ask, Outcome};
-use lam_deeds::Deed;
-use lam_stores::Stores;
+use lam_deeds::{Deed, Stores};
 use want_of_memory::NoMemory;
 
 /// What an ask of a context is served by: its answer, and its effect on the stores. `threads` is how many threads there

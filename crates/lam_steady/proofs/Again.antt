@@ -16,7 +16,7 @@ use Rattle.lam_grammar.specs.Examples.{examples}
 use Rattle.lam_grammar.proofs.Passes.{sound}
 use Rattle.lam_print.specs.Canon.{pieces, canon}
 use Rattle.lam_print.proofs.PiecesFit.{pieces_fit}
-use Rattle.lam_spelt.proofs.Whole.{words_fit, read_again}
+use Rattle.lam_round_trip.proofs.Whole.{words_fit, read_again}
 use Rattle.lam_round_trip.proofs.Spans.{Spans}
 use Rattle.lam_round_trip.proofs.Spans as spans
 use Rattle.lam_round_trip.proofs.Marks.{ended, ended_is, all_here}

@@ -11,8 +11,8 @@ use Rattle.lam_worlds.specs.Worlds.{World, with_thread}
 use Rattle.lam_worlds.specs.Deeds.{effect_of}
 use Rattle.lam_worlds.specs.Serving.{serve}
 use Rattle.lam_worlds.specs.Turns.{Moment, is_ready, served, turn_by, turn_on, turn_in, step}
-use Rattle.lam_stores.specs.declared.Stores.{Stores}
-use Rattle.lam_stores.specs.Parts.{stores_of, world_of}
+use Rattle.lam_deeds.specs.declared.stores.Stores.{Stores}
+use Rattle.lam_deeds.specs.Parts.{stores_of, world_of}
 use Rattle.lam_deeds.specs.declared.effect.Effect.{Effect}
 use Rattle.lam_deeds.specs.declared.effect.Effect.TheVariants.{AddsThread}
 use Rattle.lam_deeds.specs.declared.deed.Deed.{Deed}

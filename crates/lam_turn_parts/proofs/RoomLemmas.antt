@@ -22,7 +22,7 @@ use Rattle.lam_worlds.specs.Serving.{file_faults, serve}
 use Rattle.lam_worlds.specs.Turns.{is_taken, is_ready}
 use Rattle.lam_isolation.proofs.RowLemmas.{RefersTo, under_by, on_thing_by}
 use Rattle.lam_isolation.specs.Sound.{ThingLives, CopiesLiving}
-use Rattle.lam_stores.specs.Parts.{stores_of}
+use Rattle.lam_deeds.specs.Parts.{stores_of}
 use Rattle.lam_deeds.specs.Room.{HasRoom}
 
 lt_true : (a b : ℕ) → nat_lt a b ≡ true → a < b

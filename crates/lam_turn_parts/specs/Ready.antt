@@ -5,7 +5,7 @@ use Rattle.thread_steps.specs.Threads.{Context}
 use Rattle.lam_worlds.specs.Worlds.{World}
 use Rattle.lam_worlds.specs.Serving.{serve}
 use Rattle.lam_worlds.specs.Turns.{is_ready}
-use Rattle.lam_stores.specs.Parts.{stores_of}
+use Rattle.lam_deeds.specs.Parts.{stores_of}
 use Rattle.lam_deeds.specs.Room.{HasRoom}
 use Rattle.lam_isolation.specs.Sound.{CopiesLiving}
 

@@ -6,7 +6,7 @@ use Rattle.lam_asks.specs.declared.ask.Ask.{Ask}
 use Rattle.thread_steps.specs.Threads.{Context}
 use Rattle.lam_worlds.specs.Worlds.{World}
 use Rattle.lam_worlds.specs.Serving.{serve}
-use Rattle.lam_stores.specs.declared.Stores.{Stores}
+use Rattle.lam_deeds.specs.declared.stores.Stores.{Stores}
 use Rattle.lam_deeds.specs.declared.deed.Deed.{Deed}
 use Rattle.lam_deeds.specs.Meaning.{DoesAs}
 use Rattle.lam_serving.specs.Acting.{Acting}

@@ -6,7 +6,7 @@
 
 use crate::world::World;
 use lam_bytecode::Code;
-use lam_stores::Stores;
+use lam_deeds::Stores;
 
 /// Lets a world go.
 pub fn let_go_world(world: World) {

@@ -7,16 +7,15 @@ ghost use Rattle.lam_worlds.specs.Worlds.{World, result_in};
 ghost use Rattle.lam_worlds.specs.Serving.{serve};
 ghost use Rattle.lam_worlds.specs.Turns as turns;
 ghost use Rattle.lam_worlds.specs.Turns.{is_bottom, is_living};
-ghost use Rattle.lam_stores.specs.Parts.{world_of};
+ghost use Rattle.lam_deeds.specs.Parts.{world_of};
 ghost use Rattle.lam_deeds.specs.Meaning.{DoesAs};
 ghost use Rattle.lam_serving.specs.Acting.{acting_of};
 ghost use Rattle.lam_serving.specs.Serves.{Joins};
 ghost use Rattle.lam_serving.specs.Waits.{JoinsLiving};
 
 use lam_asks::{Ask, Outcome};
-use lam_deeds::Deed;
+use lam_deeds::{Deed, Stores};
 use lam_serving::{Acting, serve};
-use lam_stores::Stores;
 use lam_threads::{Context, LamThread, Phase};
 use want_of_memory::NoMemory;
 

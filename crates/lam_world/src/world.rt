@@ -1,9 +1,9 @@
 //! Worlds.
 
 ghost use Rattle.std.specs.Prelude.{◌≡◌, ◌≤◌, length, IfOk};
-ghost use Rattle.lam_stores.specs.Parts.{stores_of, world_of};
+ghost use Rattle.lam_deeds.specs.Parts.{stores_of, world_of};
 
-use lam_stores::Stores;
+use lam_deeds::Stores;
 use lam_threads::LamThread;
 use std::alloc::Global;
 use std::marker::Model;
@@ -28,7 +28,7 @@ impl Model for World {
     ghost coded = { coded_world };
 
     ghost use Rattle.std.specs.Prelude.{◌≤◌, length};
-    ghost use Rattle.lam_stores.specs.Parts.{world_of};
+    ghost use Rattle.lam_deeds.specs.Parts.{world_of};
 
     ghost view = { λ w. world_of w.stores w.threads.items };
 

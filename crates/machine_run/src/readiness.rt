@@ -9,12 +9,12 @@ ghost use Rattle.std.specs.Option.{option_copied};
 ghost use Rattle.thread_steps.specs.Next as next;
 ghost use Rattle.thread_core.specs.Turning.{ask_of, awaited, awaited_by};
 ghost use Rattle.lam_worlds.specs.Turns as turns;
-ghost use Rattle.lam_stores.specs.Parts.{world_of};
+ghost use Rattle.lam_deeds.specs.Parts.{world_of};
 ghost use Rattle.machine_run.specs.Readiness.{top_label, waits_on, ready_by};
 
 use flow_labels::{Label, read_rule, same_rule};
 use lam_bytecode::Code;
-use lam_stores::Stores;
+use lam_deeds::Stores;
 use lam_threads::LamThread;
 use lam_world::{World, lives};
 use thread_core::{Standing, Waits, standing, waits_for};

@@ -12,14 +12,13 @@ ghost use Rattle.machine_run.specs.Runs.{IsWhole, HasTurn, opened, with_turn};
 
 use crate::seeking::{count_of, living_in, ready_in};
 use crate::taking::{go_turn, take_turn};
-use code_copies::same_code;
 use lam_asks::Event;
 use lam_bytecode::Code;
 use lam_world::{World, let_go_code, let_go_world};
 use std::alloc::Global;
 use std::marker::Model;
 use want_of_memory::NoMemory;
-use world_equality::same_world;
+use world_equality::{same_code, same_world};
 
 /// The number of turns that a run may have: as many as a book of turns.
 pub const TURN_LIMIT: u64 = 1_000_000;

@@ -4,12 +4,12 @@ ghost use Rattle.std.specs.Prelude.{◌≡◌, ◌≤◌, length, IfOk};
 ghost use Rattle.lam_bytecode.specs.Codes.{IsCode};
 ghost use Rattle.lam_worlds.specs.Valid.{IsValid};
 
-use code_copies::copy_code;
 use lam_bytecode::Code;
 use lam_world::{World, let_go_code, let_go_world};
 use machine_run::{Run, RunParts};
 use std::alloc::Global;
 use want_of_memory::NoMemory;
+use world_equality::copy_code;
 
 /// A code and the world that a run of it starts in.
 #[derive(Drop)]

@@ -12,8 +12,8 @@ use Rattle.labelled_files.specs.Trees.{Tree}
 use Rattle.labelled_pipes.specs.Queues.{Queues}
 use Rattle.lam_bytecode.specs.Codes.{CodeTree}
 use Rattle.lam_worlds.specs.Worlds.{World}
-use Rattle.lam_stores.specs.declared.Stores.{Stores}
-use Rattle.lam_stores.specs.Parts.{first_stores}
+use Rattle.lam_deeds.specs.declared.stores.Stores.{Stores}
+use Rattle.lam_deeds.specs.Parts.{first_stores}
 use Rattle.world_terms.specs.Breaks.{Reading, ◌>>=◌, formed}
 use Rattle.world_terms.specs.Tags.{tags_in}
 use Rattle.world_terms.specs.Stores.{Pipes, tree_in, pipes_in}

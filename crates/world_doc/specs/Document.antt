@@ -5,8 +5,8 @@ use Rattle.flow_labels.specs.TwoLists.{Text}
 use Rattle.lam_value.specs.declared.names.Name.{Name}
 use Rattle.lam_bytecode.specs.Codes.{CodeTree}
 use Rattle.lam_worlds.specs.Worlds.{World}
-use Rattle.lam_stores.specs.declared.Stores.{Stores}
-use Rattle.lam_stores.specs.Parts.{first_stores, world_of}
+use Rattle.lam_deeds.specs.declared.stores.Stores.{Stores}
+use Rattle.lam_deeds.specs.Parts.{first_stores, world_of}
 use Rattle.world_terms.specs.Breaks.{NotJson, Reading, ◌>>=◌}
 use Rattle.world_terms.specs.Entries.{threads_in}
 use Rattle.world_stores_reading.specs.Contents.{tree_onto}

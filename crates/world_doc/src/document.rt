@@ -14,7 +14,7 @@ use crate::read_threads;
 use flow_labels::TagNames;
 use indexmap::IndexMap;
 use lam_bytecode::Code;
-use lam_stores::Stores;
+use lam_deeds::Stores;
 use lam_world::{World, let_go_stores};
 use serde_json::Value;
 use serde_json::error::Category;

@@ -1,2 +1,3 @@
 pub mod ThreadParts
 pub mod WorldParts
+pub mod Kept

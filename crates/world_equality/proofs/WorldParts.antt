@@ -6,8 +6,8 @@ use Rattle.labelled_files.specs.Trees.{Tree}
 use Rattle.labelled_pipes.specs.Queues.{Queues}
 use Rattle.thread_steps.specs.Threads.{Thread}
 use Rattle.lam_worlds.specs.Worlds.{World}
-use Rattle.lam_stores.specs.declared.Stores.{Stores}
-use Rattle.lam_stores.specs.Parts.{stores_of, world_of}
+use Rattle.lam_deeds.specs.declared.stores.Stores.{Stores}
+use Rattle.lam_deeds.specs.Parts.{stores_of, world_of}
 
 abbrev pub stores_from : List (List ℕ) → ℕ → Things → Held → Tree → Queues → Stores
 stores_from names tags heap monitors files pipes = record { names = names; tags = tags; heap = heap; monitors = monitors; files = files; pipes = pipes }

@@ -1,11 +1,11 @@
 //! Whether two worlds are equal.
 
 ghost use Rattle.std.specs.Prelude.{◌≡◌, ◌↔◌, IsTrue};
-ghost use Rattle.lam_stores.specs.Parts.{stores_of};
+ghost use Rattle.lam_deeds.specs.Parts.{stores_of};
 
 use crate::threads::same_threads;
 use flow_labels::same_names;
-use lam_stores::Stores;
+use lam_deeds::Stores;
 use lam_world::World;
 
 /// Whether two worlds are equal: all stores, and all threads with their contexts. Takes no memory.

@@ -4,3 +4,5 @@ pub mod StoreLemmas
 pub mod EntryLemmas
 pub mod StartLemmas
 pub mod StandLemmas
+pub mod Starting
+pub mod Units

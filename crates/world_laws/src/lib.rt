@@ -1,31 +1,15 @@
-//! What holds of every world that a document gives.
+//! Laws of world documents, in proofs alone.
 //!
-//! `world_of` of `world_terms` is a function on what was read of a JSON text, and says nothing of validity. Here is the
-//! law that joins it to the machine: a world that it gives is a valid world, so that everything that is proved of runs
-//! from a valid start holds of runs from a document. The proof follows the members in the order in which they are
-//! looked at: names (`proofs/ReadLemmas`), the tree and the pipes (`proofs/StoreLemmas`), which stay sound and living
-//! with each item, and the threads (`proofs/EntryLemmas`), whose arguments live. How the threads stand is a law of its
-//! own (`threads_stand_at_entries`).
+//! `world_terms` defines what a document gives: the start of a run, or its first break. Here that is joined to the machine
+//! and to the source.
+//!
+//! - `starts`: a world that a document gives is valid, so that everything that is proved of runs from a valid start holds
+//!   of runs from a document, and its threads stand at entries (`specs/Starts`, `specs/Standing`).
+//! - `runs`: every run of a typed program from there means what its source means (`specs/Documents`, `specs/Entries`).
 #![tactic(auto)]
 
-ghost use Rattle.lam_bytecode.specs.Codes.{CodeTree};
-ghost use Rattle.world_laws.specs.Starts.{WorldsStart, TextsStart};
-ghost use Rattle.world_laws.specs.Standing.{ThreadsStand};
+mod runs;
+mod starts;
 
-/// Where a document gives a world, it is valid: its stores are sound, what is named lives, all limits hold. It has one
-/// to 64 threads, and each stands at the entry of a function of the code whose result is a number, with an argument of
-/// its kind for each parameter.
-pub fn worlds_start()
-    ensures { (code : CodeTree) → WorldsStart code }
-{}
-
-/// So it is where a text gives a world.
-pub fn texts_start()
-    ensures { (code : CodeTree) → TextsStart code }
-{}
-
-/// Where a document gives a world, it has one to 64 threads, and each stands at the entry of a function of the code
-/// whose result is a number, with an argument of its kind for each parameter.
-pub fn threads_stand_at_entries()
-    ensures { (code : CodeTree) → ThreadsStand code }
-{}
+pub use runs::{entries_are_functions, runs_of_documents_mean};
+pub use starts::{texts_start, threads_stand_at_entries, worlds_start};

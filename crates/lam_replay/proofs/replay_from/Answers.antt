@@ -1,5 +1,5 @@
 use Rattle.std.proofs.Common.{◌≡◌, Ok, ap, string_bytes}
-use Rattle.lam_stores.specs.declared.Stores.{Stores}
+use Rattle.lam_deeds.specs.declared.stores.Stores.{Stores}
 use Rattle.lam_plan.specs.Replays.{read_by}
 use Rattle.lam_replay.specs.declared.eye.Viewer.{Viewer}
 use Rattle.lam_replay.specs.Asked.{reader_of, lines_for}

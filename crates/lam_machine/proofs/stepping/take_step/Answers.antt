@@ -2,7 +2,7 @@ use Rattle.std.proofs.Common.{◌≡◌, ◌∙◌, List, sym, ap, subst, IfOk, 
 use Rattle.std.specs.Prelude.{slice_get}
 use Rattle.thread_steps.specs.Threads.{Thread}
 use Rattle.lam_worlds.specs.Worlds.{World, contexts_in}
-use Rattle.lam_stores.specs.Parts.{world_of}
+use Rattle.lam_deeds.specs.Parts.{world_of}
 use Rattle.lam_machine.specs.Machine.{CopiesLive, IsStep}
 use Rattle.lam_machine.specs.Asking.{top_label, AsksNext}
 use Rattle.lam_machine.proofs.AdvanceLemmas.{took_private, handed_out, stuck_still, ended_still}

@@ -1,5 +1,5 @@
 use Rattle.std.proofs.Common.{refl, sym}
-use Rattle.lam_stores.specs.Parts.{world_of}
+use Rattle.lam_deeds.specs.Parts.{world_of}
 use Rattle.lam_world.proofs.ReadLemmas.{at_one}
 use Rattle.lam_world.proofs.reading.deed_of.Goals as goal
 

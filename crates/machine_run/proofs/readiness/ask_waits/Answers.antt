@@ -1,7 +1,7 @@
 use Rattle.std.proofs.Common.{◌∙◌, sym, ap}
 use Rattle.thread_core.specs.Turning.{asked_in, awaited, awaited_by}
 use Rattle.thread_core.proofs.Tops.{first_none}
-use Rattle.lam_stores.specs.Parts.{world_of}
+use Rattle.lam_deeds.specs.Parts.{world_of}
 use Rattle.machine_run.specs.Readiness.{top_label, waits_on}
 use Rattle.machine_run.proofs.ReadyLemmas.{top_label_some}
 use Rattle.machine_run.proofs.readiness.ask_waits.Goals as goal

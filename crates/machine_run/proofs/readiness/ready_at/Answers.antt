@@ -1,5 +1,5 @@
 use Rattle.std.proofs.Common.{◌∙◌, sym}
-use Rattle.lam_stores.specs.Parts.{world_of}
+use Rattle.lam_deeds.specs.Parts.{world_of}
 use Rattle.machine_run.proofs.ReadyLemmas.{ready_there, ready_absent}
 use Rattle.machine_run.proofs.readiness.ready_at.Goals as goal
 

@@ -1,5 +1,5 @@
 use Rattle.std.proofs.Common.{◌≡◌, ◌∙◌, Ok, Err, sym, ap, subst}
-use Rattle.lam_stores.specs.declared.Stores.{Stores}
+use Rattle.lam_deeds.specs.declared.stores.Stores.{Stores}
 use Rattle.lam_plan.specs.Reading.{Never}
 use Rattle.lam_plan.specs.Replays.{read_by, ByReader}
 use Rattle.lam_commands.specs.Halts.{Finds}

@@ -1,6 +1,6 @@
 use Rattle.std.proofs.Common.{Ok}
 use Rattle.serde_json.specs.View.{view}
-use Rattle.lam_stores.specs.Parts.{world_of}
+use Rattle.lam_deeds.specs.Parts.{world_of}
 use Rattle.world_terms.specs.Entries.{threads_in}
 use Rattle.world_stores_reading.specs.Seen.{members}
 use Rattle.world_stores_reading.proofs.Steps.{fails_here}

@@ -1,5 +1,5 @@
 use Rattle.std.proofs.Common.{ap}
-use Rattle.lam_stores.specs.declared.Stores.{Stores}
+use Rattle.lam_deeds.specs.declared.stores.Stores.{Stores}
 use Rattle.world_equality.proofs.WorldParts.{stores_same}
 use Rattle.world_equality.proofs.worlds.same_stores.Goals as goal
 

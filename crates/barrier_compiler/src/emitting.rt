@@ -1,0 +1,110 @@
+//! From a program with its names resolved to its code, by the scheme of `lam_meaning`.
+//!
+//! Each access stands behind a barrier, and each region is a unit of its own. What a program comes to, its code or the
+//! number of its first unit that is too long, is the definition `compiled` of `lam_meaning`; `emit` computes it.
+
+ghost use Rattle.std.specs.Prelude.{◌≡◌, ◌<◌, ◌^◌, length, map, Ok, IfOk, IfErr};
+ghost use Rattle.resolved_tree.specs.Tree.{types_tree, classes_tree, resolved_tree};
+ghost use Rattle.resolved_tree.specs.Slots.{SlotsDiffer};
+ghost use Rattle.resolved_tree.specs.Regions.{AreNumbered};
+ghost use Rattle.lam_bytecode.specs.Codes.{IsCode};
+ghost use Rattle.lam_meaning.specs.Means.{kind_of};
+ghost use Rattle.lam_meaning.specs.Long.{compiled};
+ghost use Rattle.barrier_compiler.specs.Faults.{IsFaultOf};
+ghost use Rattle.barrier_compiler.specs.declared.emitting.CompileFault.TheVariants.{NoMemory as no_memory};
+
+use emit_exprs::kind_of;
+use emit_units::{Halt, Units, add_function_units, add_region_units};
+use lam_bytecode::{Code, Kinds};
+use resolved_tree::{Class, Resolved, ValueType};
+use std::alloc::{AllocError, AllocFailed, Global};
+use want_of_memory::NoMemory;
+
+/// The most classes that code can name. A checked program has far fewer.
+const MOST_CLASSES: usize = 4294967295;
+
+/// Why a program has no code.
+#[derive(Clone, Copy, Debug, PartialEq, Eq)]
+pub enum CompileFault {
+    /// This unit has more than 65,535 operations, and none before it has.
+    CodeTooLong { unit: u32 },
+    /// Memory was refused. It stands as well for what code of 32 bits cannot name: 65,536 units, or a slot, field,
+    /// class, function or region past 2^32. No checked program comes near.
+    NoMemory,
+}
+
+impl From<NoMemory> for CompileFault {
+    ghost from_gives = { λ _ f. f ≡ no_memory };
+
+    fn from(_error: NoMemory) -> CompileFault {
+        CompileFault::NoMemory
+    }
+}
+
+impl From<AllocError> for CompileFault {
+    ghost from_gives = { λ _ f. f ≡ no_memory };
+
+    fn from(_error: AllocError) -> CompileFault {
+        CompileFault::NoMemory
+    }
+}
+
+impl<T: Drop> From<AllocFailed<T>> for CompileFault {
+    ghost from_gives = { λ _ f. f ≡ no_memory };
+
+    fn from(_failed: AllocFailed<T>) -> CompileFault {
+        CompileFault::NoMemory
+    }
+}
+
+/// The code of a program.
+///
+/// # Errors
+///
+/// `CodeTooLong` with the number of the first unit that has more than 65,535 operations; `NoMemory`.
+pub fn emit(alloc: Global, program: &Resolved) -> Result<Code, CompileFault>
+    requires slots { SlotsDiffer (resolved_tree program.now) }
+    requires regions { AreNumbered (resolved_tree program.now) }
+    ensures ok { IfOk result (λ code. compiled (resolved_tree program.now) ≡ Ok code) }
+    ensures sound { IfOk result (λ code. IsCode code) }
+    ensures fault { IfErr result (λ f. IsFaultOf f (compiled (resolved_tree program.now))) }
+{
+    let mut units = Units::new(alloc);
+    add_function_units(&mut units, alloc, &program.functions);
+    add_region_units(&mut units, alloc, &program.functions);
+    match units.finish() {
+        Ok(parts) => {
+            let classes = classes_of(alloc, &program.classes)?;
+            Ok(Code::new(parts.units, parts.constants, classes))
+        }
+        Err(Halt::TooLong { unit }) => Err(CompileFault::CodeTooLong { unit }),
+        Err(Halt::Wide) => Err(CompileFault::NoMemory),
+        Err(Halt::NoMemory) => Err(CompileFault::NoMemory),
+    }
+}
+
+/// The kinds of each class's fields.
+fn classes_of(alloc: Global, classes: &Vec<Class>) -> Result<Vec<Kinds>, NoMemory>
+    ensures kinds { IfOk result (λ v. v.items ≡ map (λ ts. map kind_of ts) (classes_tree classes.now.items)) }
+    ensures room { IfOk result (λ v. length v.items < 2 ^ 32) }
+{
+    if classes.len() > MOST_CLASSES {
+        return Err(NoMemory);
+    }
+    let mut all = Vec::new(alloc);
+    for class in classes {
+        all.push(kinds_of(alloc, &class.fields)?)?;
+    }
+    Ok(all)
+}
+
+/// The kinds of fields.
+fn kinds_of(alloc: Global, types: &Vec<ValueType>) -> Result<Kinds, NoMemory>
+    ensures { IfOk result (λ ks. ks ≡ map kind_of (types_tree types.now.items)) }
+{
+    let mut kinds = Vec::new(alloc);
+    for ty in types {
+        kinds.push(kind_of(ty))?;
+    }
+    Ok(Kinds::from_vec(kinds))
+}

@@ -1,4 +1,0 @@
-pub mod Given
-pub mod Numbered
-pub mod Whole
-pub mod Classes

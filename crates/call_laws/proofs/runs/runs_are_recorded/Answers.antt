@@ -1,0 +1,5 @@
+use Rattle.call_laws.proofs.CallLemmas.{recorded}
+use Rattle.call_laws.proofs.runs.runs_are_recorded.Goals as goal
+
+pub returns : goal.returns
+returns c = recorded c.runs_are_isolated.ensures.isolated c.texts_start.ensures

@@ -1,0 +1,5 @@
+pub mod Whole
+pub mod Headline
+pub mod Complete
+pub mod Calls
+pub mod Meant

@@ -1,0 +1,58 @@
+//! What a call of `run` tells.
+//!
+//! However its threads interleave, `run` prints for an observer exactly the visible events of the machine run that its
+//! book records; and any other run of the program whose start agrees below the observer's label, with the same visible
+//! turns in the same order and the same releases past the label, has the same visible events and visible state as far as
+//! both go.
+//!
+//! That is [`runs_are_recorded`]. It joins what a call did of its plan (`lam_plan`) to two-run isolation
+//! (`lam_isolation`). The plan says no more than that some run was taken; which run it was, the book tells.
+
+ghost use Rattle.std.specs.Prelude.{List};
+ghost use Rattle.lam_io.specs.Outside.{Files};
+ghost use Rattle.lam_words.specs.Words.{Text};
+ghost use Rattle.lam_plan.specs.declared.Status.{Status};
+ghost use Rattle.lam_plan.specs.Plan.{IsPlan};
+ghost use Rattle.lam_plan.specs.Answer.{Outside, IsPlanned};
+ghost use Rattle.call_laws.specs.Headline.{Headline, BreaksOff, EndsInOrder, RunsAreComplete, GeneratedRuns};
+
+use lam_isolation::runs_are_isolated;
+use world_laws::texts_start;
+
+/// A law: where words, files and label are in order, and a call ends as a run ends (`Done`, `Budget` or `AllWait`), the
+/// file of the book holds the turns of a run of the program's code from the start of the world's document, no other file
+/// changed, and what was printed is what the observer sees of that run, and not a byte more. Any other run of the code,
+/// from a valid start that the observer cannot tell apart, looks the same to it as far as both have the same agenda.
+pub fn runs_are_recorded()
+    ensures { (ws : List Text) (status : Status) (old new : Outside) → IsPlanned status (IsPlan ws old.files) old new → Headline ws status old new }
+{
+    runs_are_isolated();
+    texts_start();
+}
+
+/// A law: where the output failed in such a call, the book stands all the same, and a front of what the observer sees was
+/// printed, and not all of it.
+pub fn broken_runs_are_recorded()
+    ensures { (ws : List Text) (status : Status) (old new : Outside) → IsPlanned status (IsPlan ws old.files) old new → BreaksOff ws status old new }
+{
+    runs_are_isolated();
+    texts_start();
+}
+
+/// A law: a call of `run` ends as a run ends only where the program has code, the document gives a start, and the label is
+/// one of the start's tags.
+pub fn runs_end_in_order()
+    ensures { (ws : List Text) (status : Status) (old new : Outside) → IsPlanned status (IsPlan ws old.files) old new → EndsInOrder ws status old }
+{}
+
+/// A law: where all these are in order, nothing but a run is planned. So a call ends as a run ends, unless memory runs
+/// out, or the file store or the output fails.
+pub fn runs_are_complete()
+    ensures { (ws : List Text) (files : Files) → RunsAreComplete ws files }
+{}
+
+/// A law: where a call of `make` ends as a run ends, the file of the book holds the turns of a run of the code of the made
+/// program from the made world, no other file changed, and the summary of that run was printed.
+pub fn generated_runs_are_recorded()
+    ensures { (ws : List Text) (status : Status) (old new : Outside) → IsPlanned status (IsPlan ws old.files) old new → GeneratedRuns ws status old new }
+{}

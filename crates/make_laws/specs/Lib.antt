@@ -1,2 +1,0 @@
-pub mod Complete
-pub use Rattle.run_laws.specs.Headline

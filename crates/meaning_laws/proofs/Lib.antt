@@ -1,4 +1,0 @@
-pub mod Counts
-pub mod Constants
-pub mod Codes
-pub mod Meaning

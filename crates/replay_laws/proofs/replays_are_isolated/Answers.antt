@@ -1,5 +1,0 @@
-use Rattle.replay_laws.proofs.CallLemmas.{isolated}
-use Rattle.replay_laws.proofs.replays_are_isolated.Goals as goal
-
-pub returns : goal.returns
-returns c = isolated c.runs_are_isolated.ensures.isolated c.runs_stop.ensures c.texts_start.ensures

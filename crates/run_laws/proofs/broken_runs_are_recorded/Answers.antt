@@ -1,5 +1,0 @@
-use Rattle.run_laws.proofs.CallLemmas.{broken_off}
-use Rattle.run_laws.proofs.broken_runs_are_recorded.Goals as goal
-
-pub returns : goal.returns
-returns c = broken_off c.runs_are_isolated.ensures.isolated c.texts_start.ensures
