@@ -13,12 +13,32 @@ pub trait Calls: Threads + Wait + Sync + AllocGlobal {}
 
 impl<R: Threads + Wait + Sync + AllocGlobal> Calls for R {}
 
-/// The files of a run: `P` and `W`.
+/// A program and a world that are run.
 #[derive(Clone, Copy)]
 pub struct Given<'a> {
     pub program: &'a str,
     pub world: &'a str,
 }
+
+impl<'a> Given<'a> {
+    /// The files of a run: `P` and `W`.
+    pub fn files(self) -> [(&'a str, &'a str); 2] {
+        [("P", self.program), ("W", self.world)]
+    }
+}
+
+/// An output: its room, and the numbers of its calls that fail, from 1.
+#[derive(Clone, Copy)]
+pub struct Output<'a> {
+    pub room: u64,
+    pub failing: &'a [u64],
+}
+
+/// An output that takes all.
+pub const WIDE: Output<'static> = Output {
+    room: 65_536,
+    failing: &[],
+};
 
 /// How a call ended, and what it printed.
 #[derive(Drop)]
@@ -27,39 +47,46 @@ pub struct Told {
     pub text: String,
 }
 
-/// A store of the files, which are there after its second call. Its calls with the given numbers fail.
-pub fn store<R: Calls>(rt: &R, given: Given<'_>, failing: &[u64]) -> Result<MemShelf, Fail> {
+/// A store of the files, each of which a call writes. Its calls with the given numbers, from 1, fail.
+pub fn store<R: Calls>(rt: &R, files: &[(&str, &str)], failing: &[u64]) -> Result<MemShelf, Fail> {
     let mut shelf = MemShelf::new(Vec::new(rt.alloc()), failing.to_vec(rt.alloc())?);
-    shelf.write("P", given.program.as_bytes())?;
-    shelf.write("W", given.world.as_bytes())?;
+    for (name, text) in files {
+        shelf.write(name, text.as_bytes())?;
+    }
     Ok(shelf)
 }
 
-/// Calls the tool with the words, by a gate. The calls of the output with the given numbers fail.
+/// Calls the tool with the words, by a gate.
 pub fn tell<R: Calls, G: Gate + Sync>(
     rt: &R,
     shelf: &mut MemShelf,
     words: &[&str],
-    failing: &[u64],
+    output: Output<'_>,
     gate: &G,
 ) -> Result<Told, Fail> {
     let alloc = rt.alloc();
     let words = texts_of(alloc, words)?;
-    let mut sink = MemSink::new(alloc, 65_536, failing.to_vec(alloc)?)?;
+    let mut sink = MemSink::new(alloc, output.room, output.failing.to_vec(alloc)?)?;
     let status = lam(rt, alloc, &words, shelf, &mut sink, gate);
     let text = String::from_str(alloc, from_utf8(sink.bytes())?)?;
     Ok(Told { status, text })
 }
 
-impl Told {
-    /// Fails where the call ended in another way, or printed another text.
-    pub fn is_as_wanted(&self, status: Status, printed: &str) -> Result<(), Fail> {
-        if self.status == status && self.text.as_str() == printed {
-            return Ok(());
-        }
-        let Told { status, text } = self;
-        Err(Fail::new(format_args!("ended by {status:?}, printed {text}")))
+/// Calls the tool with the words, by a gate, and fails where the call ends in another way or prints another text.
+pub fn prints<R: Calls, G: Gate + Sync>(
+    rt: &R,
+    shelf: &mut MemShelf,
+    words: &[&str],
+    gate: &G,
+    status: Status,
+    printed: &str,
+) -> Result<(), Fail> {
+    let told = tell(rt, shelf, words, WIDE, gate)?;
+    if told.status == status && told.text.as_str() == printed {
+        return Ok(());
     }
+    let Told { status, text } = told;
+    Err(Fail::new(format_args!("ended by {status:?}, printed {text}")))
 }
 
 /// The bytes of the book that a call wrote, which is `B`.

@@ -1,56 +1,35 @@
-//! Runs that no thread ends: the turns are used up, or all that live wait.
+//! Runs, how they end, what is seen of them, and the books that they write.
 
-use crate::call::Given;
+use crate::call::{Given, WIDE, book_in, prints, store, tell};
 use crate::gates::InTurn;
-use crate::given::{BARE_WORLD, ENTERS, ENTRY_SEEN, ONE_WORKER, ZERO};
-use crate::runs::{Wanted, run, run_by};
+use crate::given::{BARE_WORLD, ENTERS, ENTRY_SEEN, ONE_WORKER, THREE, ZERO};
+use lam_io::OpenGate;
 use lam_main::Status;
 use std::test::Fail;
+
+/// A run by the program's gate, and what it comes to: how it ends, what it prints, and its book.
+#[derive(Clone, Copy)]
+struct Case<'a> {
+    shows: &'a str,
+    given: Given<'a>,
+    words: &'a [&'a str],
+    status: Status,
+    printed: &'a str,
+    book: &'a str,
+}
+
+const FAULTS: Given<'static> = Given {
+    program: "fn main(): int { let x: int = 1; region (label{;}, caps{}) [x] { x = x / 0; } catch (e) { x = 1 / 0; } return x; }",
+    world: BARE_WORLD,
+};
+
+const LOOP_SEEN: &str =
+    "t0 {}/{} enter {a}/{} caps +{}-{} region 0 () = entered\nt0 {}/{} new class 0 = obj<{}/{}|{}/{}|0>\nt0 {}/{} end value 0 = done\n";
 
 const ENDLESS: Given<'static> = Given {
     program: "fn main(): int { while (true) { } return 0; }",
     world: BARE_WORLD,
 };
-
-/// A run has no more turns than its budget, which is 100,000 where the words name none. Who ends with the last of them has
-/// ended.
-#[test]
-fn budget_of_one_turn(rt: HostRuntime) -> Result<(), Fail> {
-    let one = [
-        "run",
-        "P",
-        "W",
-        "{}/{}",
-        "B",
-        "--workers",
-        "1",
-        "--turns",
-        "1",
-    ];
-    let first = Wanted {
-        status: Status::Budget,
-        printed: "",
-        book: "lam book 1\n0 1\n",
-    };
-    run(&rt, ZERO, &one, first)?;
-    let all = Wanted {
-        status: Status::Done,
-        printed: ENTRY_SEEN,
-        book: "lam book 1\n0 8\n",
-    };
-    run(
-        &rt,
-        ENTERS,
-        &["run", "P", "W", "{}/{}", "B", "--turns", "8"],
-        all,
-    )?;
-    let spent = Wanted {
-        status: Status::Budget,
-        printed: "",
-        book: "lam book 1\n0 100000\n",
-    };
-    run(&rt, ENDLESS, &["run", "P", "W", "{}/{}", "B"], spent)
-}
 
 /// A thread that joins itself.
 const JOINS: Given<'static> = Given {
@@ -58,26 +37,117 @@ const JOINS: Given<'static> = Given {
     world: BARE_WORLD,
 };
 
+const CASES: [Case<'static>; 8] = [
+    Case {
+        shows: "a region that the thread may not enter is refused to it, and the thread ends by that",
+        given: ENTERS,
+        words: ONE_WORKER,
+        status: Status::Done,
+        printed: ENTRY_SEEN,
+        book: "lam book 1\n0 8\n",
+    },
+    Case {
+        shows: "a body's fault is caught, the catch block's is suppressed, and the thread goes on",
+        given: FAULTS,
+        words: ONE_WORKER,
+        status: Status::Done,
+        printed: "t0 {}/{} enter {}/{} caps +{}-{} region 0 (1) = entered\nt0 {}/{} caught Zero = done\nt0 {}/{} suppressed Zero = done\nt0 {}/{} end value 1 = done\n",
+        book: "lam book 1\n0 17\n",
+    },
+    Case {
+        shows: "a loop that a secret makes short",
+        given: ZERO,
+        words: ONE_WORKER,
+        status: Status::Done,
+        printed: LOOP_SEEN,
+        book: "lam book 1\n0 21\n",
+    },
+    Case {
+        shows: "one that a secret makes long looks the same, though the run has more turns",
+        given: THREE,
+        words: ONE_WORKER,
+        status: Status::Done,
+        printed: LOOP_SEEN,
+        book: "lam book 1\n0 54\n",
+    },
+    Case {
+        shows: "a run has no more turns than its budget",
+        given: ZERO,
+        words: &[
+            "run",
+            "P",
+            "W",
+            "{}/{}",
+            "B",
+            "--workers",
+            "1",
+            "--turns",
+            "1",
+        ],
+        status: Status::Budget,
+        printed: "",
+        book: "lam book 1\n0 1\n",
+    },
+    Case {
+        shows: "who ends with the last turn of the budget has ended",
+        given: ENTERS,
+        words: &["run", "P", "W", "{}/{}", "B", "--turns", "8"],
+        status: Status::Done,
+        printed: ENTRY_SEEN,
+        book: "lam book 1\n0 8\n",
+    },
+    Case {
+        shows: "the budget is 100,000 turns where the words name none",
+        given: ENDLESS,
+        words: &["run", "P", "W", "{}/{}", "B"],
+        status: Status::Budget,
+        printed: "",
+        book: "lam book 1\n0 100000\n",
+    },
+    Case {
+        shows: "a thread that joins itself waits, and who joins that one too",
+        given: JOINS,
+        words: ONE_WORKER,
+        status: Status::AllWait,
+        printed: "t0 {}/{} new class 0 = obj<{}/{}|{}/{}|0>\nt0 {}/{} spawn 0 (obj<{}/{}|{}/{}|0>) caps +{}-{} = t1\nt0 {}/{} write obj<{}/{}|{}/{}|0> 0 t1 = done\nt1 {}/{} read obj<{}/{}|{}/{}|0> 0 = t1\nt1 {}/{} read obj<{}/{}|{}/{}|0> 0 = t1\n",
+        book: "lam book 1\n0 11\n1 9\n",
+    },
+];
+
+/// Each run ends, prints and writes what its case says.
+#[test]
+fn runs_end_as_they_should(rt: HostRuntime) -> Result<(), Fail> {
+    for case in &CASES {
+        let shows = case.shows;
+        let mut shelf = store(&rt, &case.given.files(), &[])?;
+        let told = tell(&rt, &mut shelf, case.words, WIDE, &OpenGate)?;
+        assert_eq!(rt; told.status, case.status, "{shows}");
+        assert_eq!(rt; told.text.as_str(), case.printed, "{shows}");
+        let book = book_in(&rt, &mut shelf)?;
+        assert_eq!(rt; book.as_slice(), case.book.as_bytes(), "{shows}");
+    }
+    Ok(())
+}
+
 /// Two threads that lock the same two things in different orders.
 const LOCKS: Given<'static> = Given {
     program: "class C { v: int; } fn kid(x: C, y: C): int { sync (y) { sync (x) { } } return 0; } fn main(): int { let x: C = new C(); let y: C = new C(); let t: thread = spawn(caps{}) kid(x, y); sync (x) { sync (y) { } } return join(t); }",
     world: BARE_WORLD,
 };
 
-/// A thread that joins itself waits, and so do two that each hold what the other wants. The second pair is brought there by
-/// turns of the one and of the other.
+const LOCKS_SEEN: &str =
+    "t0 {}/{} new class 0 = obj<{}/{}|{}/{}|0>\nt0 {}/{} new class 0 = obj<{}/{}|{}/{}|1>\nt0 {}/{} spawn 0 (obj<{}/{}|{}/{}|0>,obj<{}/{}|{}/{}|1>) caps +{}-{} = t1\nt1 {}/{} lock obj<{}/{}|{}/{}|1> = done\nt0 {}/{} lock obj<{}/{}|{}/{}|0> = done\n";
+
+const LOCKS_BOOK: &str =
+    "lam book 1\n0 9\n1 1\n0 1\n1 1\n0 1\n1 1\n0 1\n1 1\n0 1\n1 1\n0 1\n1 1\n0 1\n1 1\n0 1\n";
+
+/// Two threads that each hold what the other wants all wait. Turns of the one and of the other bring them there.
 #[test]
-fn living_threads_all_wait(rt: HostRuntime) -> Result<(), Fail> {
-    let joined = Wanted {
-        status: Status::AllWait,
-        printed: "t0 {}/{} new class 0 = obj<{}/{}|{}/{}|0>\nt0 {}/{} spawn 0 (obj<{}/{}|{}/{}|0>) caps +{}-{} = t1\nt0 {}/{} write obj<{}/{}|{}/{}|0> 0 t1 = done\nt1 {}/{} read obj<{}/{}|{}/{}|0> 0 = t1\nt1 {}/{} read obj<{}/{}|{}/{}|0> 0 = t1\n",
-        book: "lam book 1\n0 11\n1 9\n",
-    };
-    run(&rt, JOINS, &ONE_WORKER, joined)?;
-    let locked = Wanted {
-        status: Status::AllWait,
-        printed: "t0 {}/{} new class 0 = obj<{}/{}|{}/{}|0>\nt0 {}/{} new class 0 = obj<{}/{}|{}/{}|1>\nt0 {}/{} spawn 0 (obj<{}/{}|{}/{}|0>,obj<{}/{}|{}/{}|1>) caps +{}-{} = t1\nt1 {}/{} lock obj<{}/{}|{}/{}|1> = done\nt0 {}/{} lock obj<{}/{}|{}/{}|0> = done\n",
-        book: "lam book 1\n0 9\n1 1\n0 1\n1 1\n0 1\n1 1\n0 1\n1 1\n0 1\n1 1\n0 1\n1 1\n0 1\n1 1\n0 1\n",
-    };
-    run_by(&rt, LOCKS, &ONE_WORKER, &InTurn, locked)
+fn threads_that_lock_crosswise_wait(rt: HostRuntime) -> Result<(), Fail> {
+    let mut shelf = store(&rt, &LOCKS.files(), &[])?;
+    let status = Status::AllWait;
+    prints(&rt, &mut shelf, ONE_WORKER, &InTurn, status, LOCKS_SEEN)?;
+    let book = book_in(&rt, &mut shelf)?;
+    assert_eq!(rt; book.as_slice(), LOCKS_BOOK.as_bytes());
+    Ok(())
 }

@@ -10,20 +10,16 @@ pub const BARE_WORLD: &str =
 pub const HOLDS_NOTHING: &str =
     "{\"version\":1,\"tags\":[\"a\"],\"tree\":[],\"pipes\":[],\"threads\":[{\"run\":\"main\",\"args\":[{\"tag\":\"a\"}],\"caps\":{\"plus\":[],\"minus\":[]}}]}";
 
-/// The same, and may add it.
-pub const HOLDS_PLUS: &str =
-    "{\"version\":1,\"tags\":[\"a\"],\"tree\":[],\"pipes\":[],\"threads\":[{\"run\":\"main\",\"args\":[{\"tag\":\"a\"}],\"caps\":{\"plus\":[\"a\"],\"minus\":[]}}]}";
-
-/// The same, and may add and drop it.
-pub const HOLDS_BOTH: &str =
-    "{\"version\":1,\"tags\":[\"a\"],\"tree\":[],\"pipes\":[],\"threads\":[{\"run\":\"main\",\"args\":[{\"tag\":\"a\"}],\"caps\":{\"plus\":[\"a\"],\"minus\":[\"a\"]}}]}";
-
 /// The words of a run by one worker, for the observer who sees what is public.
-pub const ONE_WORKER: [&str; 7] = ["run", "P", "W", "{}/{}", "B", "--workers", "1"];
+pub const ONE_WORKER: &[&str] = &["run", "P", "W", "{}/{}", "B", "--workers", "1"];
 
-/// A region is entered without the capability to add its tag.
+/// A region is entered.
+pub const ENTRY: &str =
+    "fn main(a: tag): int {\n  let x: int = 1;\n  region (label{a;}, caps{}) [x] { say(\"in\"); } catch (e) { say(\"no\"); }\n  return x;\n}\n";
+
+/// The same without the capability to add its tag.
 pub const ENTERS: Given<'static> = Given {
-    program: "fn main(a: tag): int {\n  let x: int = 1;\n  region (label{a;}, caps{}) [x] { say(\"in\"); } catch (e) { say(\"no\"); }\n  return x;\n}\n",
+    program: ENTRY,
     world: HOLDS_NOTHING,
 };
 

@@ -1,11 +1,12 @@
-//! Worked examples of runs: a program and a world in, and what an observer sees and the book out.
+//! Worked examples of calls of the tool that a line of words can not ask: over an outside that fails, by a gate of their own,
+//! of many workers, or with a book that is looked into. The others are data, of `call_examples`.
 //!
-//! `regions` has regions that are entered, left and refused, `views` runs that handle secrets, and `outside` calls that fail.
-//! The others are of schedules: who takes the turns (`workers`, by the gates of `gates`), where a run stops that no thread ends
-//! (`ends`), and the runs of what a number makes (`made`).
+//! `ends` has runs, what is seen of them and their books, also of those that no thread ends. `outside` has calls that fail, and
+//! `play` scripts of the greatest length. The others are of schedules: who takes the turns (`workers`, by the gates of `gates`),
+//! what is the same whoever takes them (`views`), and the runs of what a number makes (`made`).
 //!
-//! Each runs the top call over a store and an output in memory (`call`, `runs`), by a gate that may be its own. The expected
-//! bytes come from the documents of the formats, never from the tool.
+//! Each runs the top call over a store and an output in memory (`call`). The expected bytes come from the documents of the
+//! formats, never from the tool.
 #![tactic(auto)]
 
 #[cfg(test)]
@@ -21,9 +22,7 @@ mod made;
 #[cfg(test)]
 mod outside;
 #[cfg(test)]
-mod regions;
-#[cfg(test)]
-mod runs;
+mod play;
 #[cfg(test)]
 mod views;
 #[cfg(test)]

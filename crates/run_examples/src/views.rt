@@ -1,31 +1,9 @@
-//! What an observer sees of runs that handle secrets.
+//! What an observer sees of a run, whoever took its turns.
 
-use crate::call::{Given, store, tell};
-use crate::given::{ONE_WORKER, THREE, ZERO};
-use crate::runs::{Wanted, prints, run};
+use crate::call::{Given, WIDE, prints, store, tell};
 use lam_io::OpenGate;
 use lam_main::Status;
 use std::test::Fail;
-
-const LOOP_SEEN: &str =
-    "t0 {}/{} enter {a}/{} caps +{}-{} region 0 () = entered\nt0 {}/{} new class 0 = obj<{}/{}|{}/{}|0>\nt0 {}/{} end value 0 = done\n";
-
-/// Two worlds whose secrets differ look the same, though one run has more turns.
-#[test]
-fn two_secrets_one_output(rt: HostRuntime) -> Result<(), Fail> {
-    let short = Wanted {
-        status: Status::Done,
-        printed: LOOP_SEEN,
-        book: "lam book 1\n0 21\n",
-    };
-    run(&rt, ZERO, &ONE_WORKER, short)?;
-    let long = Wanted {
-        status: Status::Done,
-        printed: LOOP_SEEN,
-        book: "lam book 1\n0 54\n",
-    };
-    run(&rt, THREE, &ONE_WORKER, long)
-}
 
 /// Two people give a scheduler their capabilities, and it tells a third one the first hour at which both are free.
 const CALENDAR: Given<'static> = Given {
@@ -67,9 +45,9 @@ const HOUR_SAID: &str = "t3 {}/{} say \"2\" = done";
 /// Only the hour leaves the two calendars, by one release; and the book shows the same run again.
 #[test]
 fn calendar(rt: HostRuntime) -> Result<(), Fail> {
-    let mut shelf = store(&rt, CALENDAR, &[])?;
+    let mut shelf = store(&rt, &CALENDAR.files(), &[])?;
     let words = ["run", "P", "W", "{}/{}", "B"];
-    let told = tell(&rt, &mut shelf, &words, &[], &OpenGate)?;
+    let told = tell(&rt, &mut shelf, &words, WIDE, &OpenGate)?;
     assert_eq!(rt; told.status, Status::Done);
     let seen = told.text.as_str();
     assert_eq!(rt; beginning(seen, "release "), 1, "of {seen}");

@@ -1,8 +1,7 @@
 //! Workers at once: that they are, that the gate's picks are what the run is, and that the book shows the run again.
 
-use crate::call::{Calls, Given, book_in, store, tell};
+use crate::call::{Calls, WIDE, book_in, prints, store, tell};
 use crate::gates::{Meets, Mixes, Notes};
-use crate::runs::prints;
 use lam_io::MemShelf;
 use lam_main::Status;
 use std::process::Abort;
@@ -20,11 +19,7 @@ const TWO_WORKERS: [&str; 7] = ["run", "P", "W", "{}/{}", "B", "--workers", "2"]
 /// A store with the program and the world of four threads that seed 1 makes.
 fn four<R: Calls>(rt: &R) -> Result<MemShelf, Fail> {
     let (program, world) = lam_make::make(rt.alloc(), 1, 4)?;
-    let given = Given {
-        program: program.as_str(),
-        world: world.as_str(),
-    };
-    store(rt, given, &[])
+    store(rt, &[("P", program.as_str()), ("W", world.as_str())], &[])
 }
 
 #[test]
@@ -35,7 +30,7 @@ fn two_workers_meet(rt: HostRuntime) -> Result<(), Fail> {
         late: AtomicU64::new(0),
     };
     let mut shelf = four(&rt)?;
-    let told = tell(&rt, &mut shelf, &TWO_WORKERS, &[], &gate)?;
+    let told = tell(&rt, &mut shelf, &TWO_WORKERS, WIDE, &gate)?;
     assert_eq!(rt; told.status, Status::Done);
     assert_eq!(rt; gate.late.load(Ordering::SeqCst), 0);
     Ok(())
@@ -54,7 +49,7 @@ fn picks_make_the_run(rt: HostRuntime) -> Result<(), Fail> {
         twice: AtomicU64::new(0),
     };
     let mut shelf = four(&rt)?;
-    let told = tell(&rt, &mut shelf, &TWO_WORKERS, &[], &gate)?;
+    let told = tell(&rt, &mut shelf, &TWO_WORKERS, WIDE, &gate)?;
     assert_eq!(rt; told.status, Status::Done);
     let book = book_in(&rt, &mut shelf)?;
     let turns = read_book(rt.alloc(), book.as_slice())?;
@@ -69,11 +64,7 @@ fn picks_make_the_run(rt: HostRuntime) -> Result<(), Fail> {
 /// A store with the program and the world of sixty-four threads that seed 1 makes.
 fn sixty_four<R: Calls>(rt: &R) -> Result<MemShelf, Fail> {
     let (program, world) = lam_make::make(rt.alloc(), 1, 64)?;
-    let given = Given {
-        program: program.as_str(),
-        world: world.as_str(),
-    };
-    store(rt, given, &[])
+    store(rt, &[("P", program.as_str()), ("W", world.as_str())], &[])
 }
 
 /// Sixteen workers, whose turns the gate makes depend on which of them is first: whatever run comes, the book shows it
@@ -98,7 +89,7 @@ fn runs_and_replays<R: Calls + Abort>(rt: &R, shelf: &mut MemShelf) -> Result<()
         "--turns",
         "20000",
     ];
-    let told = tell(rt, shelf, &words, &[], &Mixes)?;
+    let told = tell(rt, shelf, &words, WIDE, &Mixes)?;
     assert_eq!(rt; told.status, Status::Budget);
     let words = ["replay", "P", "W", "B", "{}/{}"];
     prints(rt, shelf, &words, &Mixes, Status::Done, told.text.as_str())
