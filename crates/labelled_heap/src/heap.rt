@@ -79,9 +79,10 @@ struct Thing {
     slots: Values,
 }
 
-/// The things of one home; the number of each is its place.
+/// The things of one home; the number of each is its place. New names share the home of the first one's.
 #[derive(Drop)]
 struct Row {
+    first: Name,
     things: Vec<Thing>,
 }
 
@@ -374,7 +375,8 @@ impl Row {
         for thing in &self.things {
             things.push(thing.copy()?)?;
         }
-        Ok(Row { things })
+        let first = self.first.copy()?;
+        Ok(Row { first, things })
     }
 }
 
@@ -474,12 +476,23 @@ fn add_thing(
     ensures same_things { OnErr result ((h : Home) → row_at rows.new.entries h ≡ row_at rows.old.entries h) }
     ensures same_counters { OnErr result (counters.new ≡ counters.old) }
 {
-    let name = Name::of(maker, own, number)?;
+    let name = new_name(rows, maker, own, number)?;
     match rows.get_mut(name.home()) {
         Some(row) => put_last(row, counters, maker, own, number, thing)?,
-        None => put_first(rows, counters, name.home(), number, thing)?,
+        None => put_first(rows, counters, name.home(), &name, number, thing)?,
     }
     Ok(name)
+}
+
+/// A name of a home, which it shares with the names of the home's row.
+fn new_name(rows: &Rows, maker: &Label, own: &Label, number: u64) -> Result<Name, NoMemory>
+    ensures { IfOk result (λ n. n ≡ name_of (home_of maker.now own.now) number) }
+{
+    let home = Home::of(maker, own)?;
+    match rows.get(&home) {
+        Some(row) => row.first.beside(home, number),
+        None => Name::at(home, number),
+    }
 }
 
 /// Puts a thing at the end of a home's row, and counts it. The last step that can fail is the counter's, and
@@ -513,6 +526,7 @@ fn put_first(
     rows: &mut Rows,
     counters: &mut Counters,
     home: &Home,
+    first: &Name,
     number: u64,
     thing: Thing,
 ) -> Result<(), NoMemory>
@@ -525,19 +539,20 @@ fn put_first(
     ensures same_things { OnErr result ((h : Home) → row_at rows.new.entries h ≡ row_at rows.old.entries h) }
     ensures same_counters { OnErr result (counters.new ≡ counters.old) }
 {
-    let row = one_thing(home.own().allocator(), thing)?;
+    let row = one_thing(first, thing)?;
     let key = take_number(rows, counters, home, number)?;
     put_new(rows, key, row);
     Ok(())
 }
 
-/// A row with one thing alone.
-fn one_thing(alloc: Global, thing: Thing) -> Result<Row, NoMemory>
+/// A row with one thing alone, and its name.
+fn one_thing(name: &Name, thing: Thing) -> Result<Row, NoMemory>
     ensures { IfOk result (λ row. row.things.items ≡ thing ∷ []) }
 {
-    let mut things = Vec::new(alloc);
+    let first = name.copy()?;
+    let mut things = Vec::new(name.allocator());
     things.push(thing)?;
-    Ok(Row { things })
+    Ok(Row { first, things })
 }
 
 /// Makes room for one more row, and takes the next number of its home, of which it gives an equal one.

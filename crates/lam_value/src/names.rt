@@ -23,19 +23,14 @@ use std::sync::Arc;
 /// The name of a thing: the label of its maker, its own label, and a number that no other thing of these
 /// two labels and of its kind has.
 ///
-/// A name is made once, and copied and looked up often. So its copies share one block with its home and number:
-/// a copy takes no memory, and a look-up hashes two numbers. Contracts see the record of the three parts.
+/// A name is made once, and copied and looked up often. So its copies share one block with its home, and a name that
+/// is made beside another one of that home shares it too: neither takes memory, and a look-up hashes two numbers.
+/// Contracts see the record of the three parts.
 ///
 /// Names are ordered by the maker's label, then the own label, then the number.
 #[derive(Drop)]
 pub struct Name {
-    parts: Arc<Parts>,
-}
-
-/// The parts that the copies of a name share.
-#[derive(Drop)]
-struct Parts {
-    home: Home,
+    home: Arc<Home>,
     n: u64,
 }
 
@@ -47,7 +42,7 @@ impl Model for Name {
 
     ghost coded = { coded_parts };
 
-    ghost view = { λ m. record { maker = (arc_value m.parts).home.maker; own = (arc_value m.parts).home.own; n = (arc_value m.parts).n } };
+    ghost view = { λ m. record { maker = (arc_value m.home).maker; own = (arc_value m.home).own; n = m.n } };
 }
 
 impl PartialEq for Name {
@@ -97,8 +92,8 @@ impl Hash for Name {
     ghost respects_eq = { λ x y h. same_input (home_of x.maker x.own) (home_of y.maker y.own) x.n y.n (Prim.search (hashing, rules) depth 9) (Prim.search (hashing, rules) depth 9) };
 
     fn hash<H: Hasher>(&self, state: &mut H) {
-        self.parts.home.hash(state);
-        self.parts.n.hash(state);
+        self.home.hash(state);
+        self.n.hash(state);
     }
 }
 
@@ -111,13 +106,43 @@ impl Name {
     pub fn new(maker: Label, own: Label, n: u64) -> Result<Name, NoMemory>
         ensures { IfOk result (λ m. m ≡ record { maker = maker; own = own; n = n }) }
     {
-        let alloc = own.allocator();
-        let parts = Parts {
-            home: Home::new(maker, own),
-            n,
-        };
-        let parts = Arc::new(alloc, parts)?;
-        Ok(Name { parts })
+        Name::at(Home::new(maker, own), n)
+    }
+
+    /// The name of a home and a number.
+    ///
+    /// # Errors
+    ///
+    /// `NoMemory` where memory is refused.
+    pub fn at(home: Home, n: u64) -> Result<Name, NoMemory>
+        ensures { IfOk result (λ m. m ≡ record { maker = home.maker; own = home.own; n = n }) }
+    {
+        let alloc = home.own().allocator();
+        let home = Arc::new(alloc, home)?;
+        Ok(Name { home, n })
+    }
+
+    /// The name of a home and a number. Where this name is of the same home it shares that with the new one, which
+    /// takes no memory then.
+    ///
+    /// # Errors
+    ///
+    /// `NoMemory` where memory is refused, or where 2 ^ 63 names share the home.
+    pub fn beside(&self, home: Home, n: u64) -> Result<Name, NoMemory>
+        ensures { IfOk result (λ m. m ≡ record { maker = home.maker; own = home.own; n = n }) }
+    {
+        if same(self.own(), home.own()) && same(self.maker(), home.maker()) {
+            return self.numbered(n);
+        }
+        Name::at(home, n)
+    }
+
+    /// The name of the same home with a number.
+    fn numbered(&self, n: u64) -> Result<Name, NoMemory>
+        ensures { IfOk result (λ m. m ≡ record { maker = self.now.maker; own = self.now.own; n = n }) }
+    {
+        let home = Arc::try_clone(&self.home)?;
+        Ok(Name { home, n })
     }
 
     /// The name of two labels, which are copied, and a number.
@@ -136,28 +161,28 @@ impl Name {
     pub fn home(&self) -> &Home
         ensures { result.now ≡ home_of self.now.maker self.now.own }
     {
-        &self.parts.home
+        &self.home
     }
 
     /// The label of the thing's maker.
     pub fn maker(&self) -> &Label
         ensures { result.now ≡ self.now.maker }
     {
-        self.parts.home.maker()
+        self.home.maker()
     }
 
     /// The thing's own label.
     pub fn own(&self) -> &Label
         ensures { result.now ≡ self.now.own }
     {
-        self.parts.home.own()
+        self.home.own()
     }
 
     /// The thing's number among those of its two labels and its kind.
     pub fn n(&self) -> u64
         ensures { result ≡ self.now.n }
     {
-        self.parts.n
+        self.n
     }
 
     /// The allocator that the name keeps.
@@ -165,16 +190,15 @@ impl Name {
         self.own().allocator()
     }
 
-    /// An equal name, which shares its parts with this one: no memory is taken.
+    /// An equal name, which shares its home with this one: no memory is taken.
     ///
     /// # Errors
     ///
-    /// `NoMemory` where the name has 2 ^ 63 copies.
+    /// `NoMemory` where 2 ^ 63 names share the home.
     pub fn copy(&self) -> Result<Name, NoMemory>
         ensures { IfOk result (λ n. n ≡ self.now) }
     {
-        let parts = Arc::try_clone(&self.parts)?;
-        Ok(Name { parts })
+        self.numbered(self.n)
     }
 
     /// Which of two names comes first.
