@@ -3,6 +3,6 @@ mod CopyLemmas
 mod RunLemmas
 mod PrivateLemmas
 mod ReadyLemmas
-pub mod Ready
+pub mod ListedReady
 mod Others
 mod Kept

@@ -1,7 +1,7 @@
 use Rattle.std.proofs.Common.{ℕ, List, ◌++◌, [], ◌∷◌, ap, sym, ◌∙◌, arith}
 use Rattle.std.specs.Prelude.{vec_len, vec_capacity}
 use Rattle.lam_worlds.specs.Turns.{ready}
-use Rattle.machine_run.proofs.Ready.{taken, left_out}
+use Rattle.machine_run.proofs.ListedReady.{taken, left_out}
 use Rattle.machine_run.proofs.listing.relist.Goals.{then-ready, else-ready}
 use Rattle.machine_run.proofs.listing.relist.Goals as goal
 
