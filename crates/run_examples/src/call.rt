@@ -72,6 +72,28 @@ pub fn tell<R: Calls, G: Gate + Sync>(
     Ok(Told { status, text })
 }
 
+/// A call, and what it is to come to.
+#[derive(Clone, Copy)]
+pub struct Wanted<'a> {
+    pub words: &'a [&'a str],
+    pub output: Output<'a>,
+    pub status: Status,
+    pub printed: &'a str,
+}
+
+/// Calls the tool with the words, by a gate: whether the call ended as it should, and printed what it should.
+pub fn comes_to<R: Calls, G: Gate + Sync>(
+    rt: &R,
+    shelf: &mut MemShelf,
+    wanted: Wanted<'_>,
+    gate: &G,
+) -> Result<bool, Fail> {
+    let told = tell(rt, shelf, wanted.words, wanted.output, gate)?;
+    let well = told.status == wanted.status && told.text.as_str() == wanted.printed;
+    drop(told);
+    Ok(well)
+}
+
 /// Calls the tool with the words, by a gate, and fails where the call ends in another way or prints another text.
 pub fn prints<R: Calls, G: Gate + Sync>(
     rt: &R,
@@ -81,12 +103,16 @@ pub fn prints<R: Calls, G: Gate + Sync>(
     status: Status,
     printed: &str,
 ) -> Result<(), Fail> {
-    let told = tell(rt, shelf, words, WIDE, gate)?;
-    if told.status == status && told.text.as_str() == printed {
+    let wanted = Wanted {
+        words,
+        output: WIDE,
+        status,
+        printed,
+    };
+    if comes_to(rt, shelf, wanted, gate)? {
         return Ok(());
     }
-    let Told { status, text } = told;
-    Err(Fail::new(format_args!("ended by {status:?}, printed {text}")))
+    Err(Fail::new("the call ended in another way, or printed another text"))
 }
 
 /// The bytes of the book that a call wrote, which is `B`.
@@ -95,6 +121,14 @@ pub fn book_in<R: Calls>(rt: &R, shelf: &mut MemShelf) -> Result<Vec<u8>, Fail> 
         Ok(Got::Found(bytes)) => Ok(bytes),
         _ => Err(Fail::new("no book")),
     }
+}
+
+/// Whether the book that a call wrote has these bytes.
+pub fn book_is<R: Calls>(rt: &R, shelf: &mut MemShelf, wanted: &str) -> Result<bool, Fail> {
+    let book = book_in(rt, shelf)?;
+    let well = book.as_slice() == wanted.as_bytes();
+    drop(book);
+    Ok(well)
 }
 
 fn texts_of(alloc: Global, words: &[&str]) -> Result<Vec<String>, AllocError> {

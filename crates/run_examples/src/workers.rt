@@ -1,10 +1,9 @@
 //! Workers at once: that they are, that the gate's picks are what the run is, and that the book shows the run again.
 
-use crate::call::{Calls, WIDE, book_in, prints, store, tell};
+use crate::call::{Calls, Told, WIDE, Wanted, book_in, comes_to, store, tell};
 use crate::gates::{Meets, Mixes, Notes};
-use lam_io::MemShelf;
+use lam_io::{Gate, MemShelf};
 use lam_main::Status;
-use std::process::Abort;
 use std::sync::atomic::{AtomicU64, Ordering};
 use std::test::Fail;
 use turn_book::read_book;
@@ -15,6 +14,19 @@ const TURNS: usize = 26_009;
 
 /// The words of a run by two workers.
 const TWO_WORKERS: [&str; 7] = ["run", "P", "W", "{}/{}", "B", "--workers", "2"];
+
+/// The words of a run by sixteen workers, of few turns.
+const SIXTEEN_WORKERS: [&str; 9] = [
+    "run",
+    "P",
+    "W",
+    "{}/{}",
+    "B",
+    "--workers",
+    "16",
+    "--turns",
+    "20000",
+];
 
 /// A store with the program and the world of four threads that seed 1 makes.
 fn four<R: Calls>(rt: &R) -> Result<MemShelf, Fail> {
@@ -30,35 +42,85 @@ fn two_workers_meet(rt: HostRuntime) -> Result<(), Fail> {
         late: AtomicU64::new(0),
     };
     let mut shelf = four(&rt)?;
-    let told = tell(&rt, &mut shelf, &TWO_WORKERS, WIDE, &gate)?;
-    assert_eq!(rt; told.status, Status::Done);
+    let status = ends(&rt, &mut shelf, &TWO_WORKERS, &gate);
+    drop(shelf);
+    let status = status?;
+    assert_eq!(rt; status, Status::Done);
     assert_eq!(rt; gate.late.load(Ordering::SeqCst), 0);
     Ok(())
 }
 
-#[test]
-fn picks_make_the_run(rt: HostRuntime) -> Result<(), Fail> {
+/// How a run ends.
+fn ends<R: Calls, G: Gate + Sync>(
+    rt: &R,
+    shelf: &mut MemShelf,
+    words: &[&str],
+    gate: &G,
+) -> Result<Status, Fail> {
+    let Told { status, text } = tell(rt, shelf, words, WIDE, gate)?;
+    drop(text);
+    Ok(status)
+}
+
+/// As many places for picks as the run has turns.
+fn places<R: Calls>(rt: &R) -> Result<Vec<AtomicU64>, Fail> {
     let mut noted = Vec::new(rt.alloc());
     for _ in 0..TURNS {
         if noted.push(AtomicU64::new(0)).is_err() {
             return Err(Fail::new("memory"));
         }
     }
+    Ok(noted)
+}
+
+#[test]
+fn picks_make_the_run(rt: HostRuntime) -> Result<(), Fail> {
     let gate = Notes {
-        noted,
+        noted: places(&rt)?,
         twice: AtomicU64::new(0),
     };
-    let mut shelf = four(&rt)?;
-    let told = tell(&rt, &mut shelf, &TWO_WORKERS, WIDE, &gate)?;
-    assert_eq!(rt; told.status, Status::Done);
-    let book = book_in(&rt, &mut shelf)?;
-    let turns = read_book(rt.alloc(), book.as_slice())?;
-    assert_eq!(rt; turns.as_slice().len(), gate.noted.len());
-    for (word, thread) in gate.noted.iter().zip(turns.as_slice().iter()) {
-        assert_eq!(rt; word.load(Ordering::SeqCst), u64::from(*thread) + 1);
-    }
-    assert_eq!(rt; gate.twice.load(Ordering::SeqCst), 0);
+    let well = picks_are_turns(&rt, &gate);
+    let Notes { noted, twice } = gate;
+    drop(noted);
+    let well = well?;
+    assert!(rt; well);
+    assert_eq!(rt; twice.load(Ordering::SeqCst), 0);
     Ok(())
+}
+
+/// Whether the turns of the book that a run writes are the picks that its gate notes.
+fn picks_are_turns<R: Calls>(rt: &R, gate: &Notes) -> Result<bool, Fail> {
+    let mut shelf = four(rt)?;
+    let well = picks_are_written(rt, &mut shelf, gate);
+    drop(shelf);
+    well
+}
+
+/// The same over a store with the files of the run.
+fn picks_are_written<R: Calls>(rt: &R, shelf: &mut MemShelf, gate: &Notes) -> Result<bool, Fail> {
+    if ends(rt, shelf, &TWO_WORKERS, gate)? != Status::Done {
+        return Ok(false);
+    }
+    let book = book_in(rt, shelf)?;
+    let turns = read_book(rt.alloc(), book.as_slice());
+    drop(book);
+    let turns = turns?;
+    let well = are_picks(gate.noted.as_slice(), turns.as_slice());
+    drop(turns);
+    Ok(well)
+}
+
+/// Whether the noted threads, plus one each, are those of the turns.
+fn are_picks(noted: &[AtomicU64], turns: &[u32]) -> bool {
+    if noted.len() != turns.len() {
+        return false;
+    }
+    for (word, thread) in noted.iter().zip(turns.iter()) {
+        if word.load(Ordering::SeqCst) != u64::from(*thread) + 1 {
+            return false;
+        }
+    }
+    true
 }
 
 /// A store with the program and the world of sixty-four threads that seed 1 makes.
@@ -72,25 +134,28 @@ fn sixty_four<R: Calls>(rt: &R) -> Result<MemShelf, Fail> {
 #[test]
 fn many_workers_one_view(rt: HostRuntime) -> Result<(), Fail> {
     let mut shelf = sixty_four(&rt)?;
-    runs_and_replays(&rt, &mut shelf)?;
-    runs_and_replays(&rt, &mut shelf)
+    let well = both_times(&rt, &mut shelf);
+    drop(shelf);
+    let well = well?;
+    assert!(rt; well);
+    Ok(())
 }
 
-/// Runs what the store has, and compares what is printed with what is printed of the book.
-fn runs_and_replays<R: Calls + Abort>(rt: &R, shelf: &mut MemShelf) -> Result<(), Fail> {
-    let words = [
-        "run",
-        "P",
-        "W",
-        "{}/{}",
-        "B",
-        "--workers",
-        "16",
-        "--turns",
-        "20000",
-    ];
-    let told = tell(rt, shelf, &words, WIDE, &Mixes)?;
-    assert_eq!(rt; told.status, Status::Budget);
-    let words = ["replay", "P", "W", "B", "{}/{}"];
-    prints(rt, shelf, &words, &Mixes, Status::Done, told.text.as_str())
+/// Whether a run is shown again by its book, and then another one by its own.
+fn both_times<R: Calls>(rt: &R, shelf: &mut MemShelf) -> Result<bool, Fail> {
+    Ok(runs_and_replays(rt, shelf)? && runs_and_replays(rt, shelf)?)
+}
+
+/// Whether a run of what the store has prints what is printed of the book that it writes.
+fn runs_and_replays<R: Calls>(rt: &R, shelf: &mut MemShelf) -> Result<bool, Fail> {
+    let Told { status, text } = tell(rt, shelf, &SIXTEEN_WORKERS, WIDE, &Mixes)?;
+    let again = Wanted {
+        words: &["replay", "P", "W", "B", "{}/{}"],
+        output: WIDE,
+        status: Status::Done,
+        printed: text.as_str(),
+    };
+    let again = comes_to(rt, shelf, again, &Mixes);
+    drop(text);
+    Ok(again? && status == Status::Budget)
 }
