@@ -95,13 +95,13 @@ pub fn comes_to<R: Calls, G: Gate + Sync>(
 }
 
 /// Calls the tool with the words, by a gate, and fails where the call ends in another way or prints another text.
-pub fn prints<R: Calls, G: Gate + Sync>(
+pub fn prints<'a, R: Calls, G: Gate + Sync>(
     rt: &R,
     shelf: &mut MemShelf,
-    words: &[&str],
+    words: &'a [&'a str],
     gate: &G,
     status: Status,
-    printed: &str,
+    printed: &'a str,
 ) -> Result<(), Fail> {
     let wanted = Wanted {
         words,
