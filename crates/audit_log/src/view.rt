@@ -3,7 +3,6 @@
 ghost use Rattle.std.specs.Prelude.{◌≡◌, ◌++◌, ◌∷◌, [], codes, decimal, IfOk, OnOk, string_bytes};
 ghost use Rattle.flow_labels.specs.LabelText.{label_text};
 ghost use Rattle.capabilities.specs.CapsText.{caps_text};
-ghost use Rattle.lam_value.specs.Texts.{value_text, values_text};
 ghost use Rattle.event_texts.specs.Lines.{group_text, spaced};
 ghost use Rattle.audit_log.specs.Log.{content_text, release_line, seen_line, seen_lines};
 ghost use Rattle.run_notes.specs.declared.Content.TheVariants as Content;

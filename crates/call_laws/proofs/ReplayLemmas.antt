@@ -1,18 +1,17 @@
 -- From what files hold to what is printed.
-use Rattle.std.proofs.Common.{◌≡◌, ◌≤◌, ℕ, zero, suc, ◌+◌, Bool, true, false, not, ◌&&◌, cond, List, [], ◌∷◌, ◌++◌, length, take, drop, Option, Some, None, Result, Ok, Err, slice_get, refl, sym, ap, subst, ◌∙◌, append_assoc, arith}
+use Rattle.std.proofs.Common.{◌≡◌, ℕ, zero, suc, ◌+◌, Bool, true, false, not, ◌&&◌, cond, List, [], ◌∷◌, ◌++◌, length, take, drop, Option, Some, None, Result, Ok, slice_get, refl, sym, ap, subst, ◌∙◌, append_assoc, arith}
 use Rattle.std.specs.List.{flat_map}
 use Rattle.std.specs.Option.{option_map}
 use Rattle.std.proofs.lemmas.Option.{slice_get_past}
 use Rattle.flow_labels.specs.declared.Label.{Label}
 use Rattle.flow_labels.specs.Flow.{seen}
-use Rattle.capabilities.specs.declared.Caps.{Caps}
 use Rattle.capabilities.specs.Changes.{used}
 use Rattle.lam_io.specs.Outside.{Files}
 use Rattle.lam_bytecode.specs.Codes.{CodeTree}
 use Rattle.lam_worlds.specs.Worlds.{World}
 use Rattle.lam_worlds.specs.Deeds.{Made, made_label}
 use Rattle.lam_worlds.specs.Turns.{Moment, moments, IsRun}
-use Rattle.lam_worlds.specs.Views.{Entry, Agree, shows, is_release, is_past, used_by, agenda, trace}
+use Rattle.lam_worlds.specs.Views.{Entry, shows, is_release, is_past, used_by, trace}
 use Rattle.lam_isolation.specs.Isolation.{IsIsolated, TwoAsksRelease}
 use Rattle.lam_run_laws.specs.Runs.{RunsStop}
 use Rattle.audit_log.specs.Log.{entry_line, view_lines, audit_lines, lines_from, moment_line, note_line, turn_text, release_note}
@@ -21,12 +20,12 @@ use Rattle.turn_book.specs.Reading.{turns_of}
 use Rattle.lam_run_laws.specs.Stops.{NotReady, stopped_at}
 use Rattle.world_laws.specs.Starts.{TextsStart}
 use Rattle.lam_words.specs.Words.{Text, Request}
-use Rattle.lam_plan.specs.Refusals.{Plan, prints}
-use Rattle.lam_plan.specs.Reading.{HasFile, WithFile, of_file, program_limit, world_limit, book_limit, IsCompiled}
-use Rattle.lam_plan.specs.Replays.{Reader, an_observer, an_auditor, RunFiles, view_by, read_by, by_turns, by_list, by_book, IsOfBook, Starts, Runs}
+use Rattle.lam_plan.specs.Refusals.{prints}
+use Rattle.lam_plan.specs.Reading.{WithFile, of_file, program_limit}
+use Rattle.lam_plan.specs.Replays.{Reader, an_observer, an_auditor, RunFiles, view_by, read_by, by_turns, by_book, IsOfBook, Starts, Runs}
 use Rattle.lam_plan.specs.Plan.{IsPlan, IsPlanOf}
 use Rattle.lam_plan.proofs.ReadLemmas.{program_then, start_then, reader_then}
-use Rattle.call_laws.specs.Calls.{HoldRun, ReplaysRun, first_lines, PrintsFirst, PrintSame, ReplaysAreIsolated, AuditsRun, HasRelease, AuditIsPrinted, AuditsArePrinted}
+use Rattle.call_laws.specs.Calls.{HoldRun, ReplaysRun, first_lines, PrintsFirst, ReplaysAreIsolated, AuditsRun, HasRelease, AuditsArePrinted}
 
 -- ---- a run does not stop
 

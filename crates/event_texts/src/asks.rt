@@ -1,10 +1,9 @@
 //! The texts of asks.
 
-ghost use Rattle.std.specs.Prelude.{◌≡◌, ◌++◌, ◌∷◌, [], codes, decimal, OnOk, string_bytes};
+ghost use Rattle.std.specs.Prelude.{◌≡◌, ◌++◌, ◌∷◌, [], codes, OnOk, string_bytes};
 ghost use Rattle.flow_labels.specs.LabelText.{label_text};
-ghost use Rattle.capabilities.specs.CapsText.{caps_text};
 ghost use Rattle.lam_value.specs.Texts.{bytes_text, name_text, value_text};
-ghost use Rattle.event_texts.specs.Lines.{ask_text, denied_text, dir_text, fault_text, file_text, kind_text, new_text, spaced, thread_text};
+ghost use Rattle.event_texts.specs.Lines.{ask_text, dir_text, fault_text, kind_text, new_text, spaced, thread_text};
 ghost use Rattle.lam_asks.specs.declared.ask.Ask.TheVariants as Ask;
 
 use crate::words::{

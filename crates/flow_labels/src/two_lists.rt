@@ -7,7 +7,7 @@
 //! sorted.
 
 ghost use Rattle.std.specs.Prelude.{◌≡◌, ◌≤◌, ◌++◌, ◌∷◌, [], ◌+◌, ◌^◌, ◌<◌, length, map, IfSome, IsNone, ◌↔◌, IfOk, OnOk, string_bytes, decimal};
-ghost use Rattle.flow_labels.specs.TwoLists.{HasForm, IsBadPlace, joined, braced, before, between, tag_text, sets_text};
+ghost use Rattle.flow_labels.specs.TwoLists.{HasForm, IsBadPlace, joined, braced, tag_text, sets_text};
 ghost use Rattle.flow_labels.specs.Reading.{start, step, after_list, after_letter, bad_place, first_end, sets_in, tags_of_names, words, Gives, TakesWord, ListsAreRead, SetsAreRead};
 ghost use Rattle.flow_labels.specs.declared.two_lists.TagFault.TheVariants.{NoMemory as no_memory};
 

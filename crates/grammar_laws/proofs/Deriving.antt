@@ -1,6 +1,6 @@
 -- What is read is derived.
 use Rattle.std.proofs.Common.{◌≡◌, ℕ, ◌+◌, Option, Some, List, [], ◌∷◌, ◌++◌, length, subst, arith, length-append}
-use Rattle.grammar_laws.specs.Grammar.{Symbol, rule, Grammar, pick, production, Reads}
+use Rattle.grammar_laws.specs.Grammar.{Symbol, Grammar, production, Reads}
 use Rattle.grammar_laws.specs.Grammar as read
 use Rattle.grammar_laws.proofs.Laws.{free_production}
 use Rattle.grammar_laws.proofs.Spelling.{HasAt}

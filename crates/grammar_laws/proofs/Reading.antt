@@ -1,6 +1,6 @@
 -- What is derived is read by the next token.
 use Rattle.std.proofs.Common.{◌≡◌, ℕ, ◌+◌, ◌≤◌, inl, inr, Bool, true, false, cond, Option, Some, List, [], ◌∷◌, ◌++◌, length, refl, sym, ap, ◌∙◌, subst, arith, length-append}
-use Rattle.grammar_laws.specs.Grammar.{Symbol, mark, rule, Grammar, starts, pick, is_empty, production, enters, leaves, Reads}
+use Rattle.grammar_laws.specs.Grammar.{Symbol, Grammar, starts, pick, production, enters, leaves, Reads}
 use Rattle.grammar_laws.specs.Grammar as read
 use Rattle.grammar_laws.specs.Examples.{implies}
 use Rattle.grammar_laws.proofs.Tests.{some_starts}

@@ -1,5 +1,5 @@
 -- When two maps have the same at their keys, or at those that are seen at a label.
-use Rattle.std.specs.Prelude.{◌≡◌, ℕ, Bool, true, false, ◌&&◌, refl, IsTrue, ⊤, List, [], ◌∷◌, Option, Some, None}
+use Rattle.std.specs.Prelude.{◌≡◌, Bool, true, false, ◌&&◌, refl, IsTrue, ⊤, List, [], ◌∷◌, Option, Some, None}
 use Rattle.flow_labels.specs.declared.Label.{Label}
 use Rattle.flow_labels.specs.Flow.{flows}
 

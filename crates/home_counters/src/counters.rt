@@ -3,7 +3,7 @@
 ghost use Rattle.std.specs.Prelude.{◌≡◌, ◌+◌, ◌^◌, ◌<◌, ◌↔◌, IsTrue, cond, Some, None, unwrap_or, slice_get, IfOk, OnOk, OnErr};
 ghost use Rattle.std.specs.Option.{option_map};
 ghost use Rattle.std.specs.FinMap as map;
-ghost use Rattle.std.specs.HashMap.{IsUnique, IsUnchanged, Updates, get as at_key};
+ghost use Rattle.std.specs.HashMap.{IsUnique, get as at_key};
 ghost use Rattle.flow_labels.specs.declared.Label.{Label};
 ghost use Rattle.home_counters.specs.Homes.{Home, home_of, count_in, counted, raised, IsAboveZero, IsListing, AreSeenAlike, label_eq, home_eq, homes_in, home_in, AreHomes};
 

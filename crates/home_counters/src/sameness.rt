@@ -1,6 +1,6 @@
 //! Equality of maps, by length and look-up: whole, or where an observer sees.
 
-ghost use Rattle.std.specs.Prelude.{◌≡◌, ◌≤◌, ◌↔◌, true, IsTrue, length};
+ghost use Rattle.std.specs.Prelude.{◌≡◌, ◌↔◌, true, IsTrue, length};
 ghost use Rattle.std.specs.Option.{option_copied};
 ghost use Rattle.std.specs.HashMap.{IsUnique, get as at_key};
 ghost use Rattle.std.specs.List.{filter};

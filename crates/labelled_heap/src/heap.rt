@@ -8,7 +8,7 @@
 //! The numbers of a home begin at 0 and have no gap, and no thing is ever taken away. So the things of a home
 //! stand in a vector, each at its number, and a look-up by name is one look-up of the home and one index.
 
-ghost use Rattle.std.specs.Prelude.{◌≡◌, ◌≤◌, ◌<◌, ◌++◌, ◌∷◌, [], ◌↔◌, ℕ, IsTrue, IsSome, IfOk, OnOk, OnErr, IsErrOf, length, slice_get, slice_set, cond, Some, None};
+ghost use Rattle.std.specs.Prelude.{◌≡◌, ◌≤◌, ◌<◌, ◌++◌, ◌∷◌, [], ◌↔◌, ℕ, IsTrue, IfOk, OnOk, OnErr, IsErrOf, length, slice_get, slice_set, cond, Some, None};
 ghost use Rattle.std.specs.Option.{option_copied};
 ghost use Rattle.std.specs.FinMap as map;
 ghost use Rattle.std.specs.HashMap.{IsUnique, get as at_key};

@@ -21,7 +21,7 @@ use Rattle.lam_bytecode.specs.declared.unit.UnitKind.TheVariants.{Region}
 use Rattle.lam_bytecode.specs.declared.op.Op.TheVariants.{LeaveRegion}
 use Rattle.thread_steps.specs.Threads.{Frame, Phase, Body, Catch, Context}
 use Rattle.thread_steps.specs.Ops.{UnitAt, effect, region_in}
-use Rattle.thread_steps.specs.Next.{raised as raised_next, region_context, catch_place, unit_number, filled, outermost, catching, past, next_of}
+use Rattle.thread_steps.specs.Next.{raised as raised_next, region_context, catch_place, unit_number, filled, outermost, past, next_of}
 use Rattle.thread_steps.specs.Next as machine
 use Rattle.lam_meaning.specs.Trees.{Own}
 use Rattle.lam_meaning.specs.Means.{inside as means_inside}

@@ -26,7 +26,7 @@ use Rattle.thread_steps.specs.Operators.{Pure, fine, faults, wrong, is_small, so
 use Rattle.thread_steps.specs.Builtins as calls
 use Rattle.thread_steps.specs.Builtins.{Calls, builtin, own_label, copied, read_from, cut_to, byte_at, byte_now, slice_at, number_in}
 use Rattle.thread_steps.specs.Ops as ops
-use Rattle.thread_steps.specs.Ops.{Did, breaks, wants, sets, on_constant, effect, operated, barrier, new_array, monitor_of, is_held}
+use Rattle.thread_steps.specs.Ops.{Did, breaks, wants, sets, on_constant, effect, operated, barrier, is_held}
 use Rattle.thread_steps.specs.Next.{held_by, without}
 use Rattle.resolved_tree.specs.Tree.{ResolvedType}
 use Rattle.lam_meaning.specs.Trees.{Own, Asked, asked, Tree, broken, fails, asks, on_end, purely, value_reply, nothing_gained, ask_value, done_reply, ask_done, ask_unit, unless_denied, on_object, on_array, gained, local}

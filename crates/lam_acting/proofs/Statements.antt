@@ -13,7 +13,7 @@ use Rattle.thread_steps.specs.Ops.{region_in, region_takes}
 use Rattle.resolved_tree.specs.Tree.{ResolvedType, ResolvedGiven, Expression, Statement, let_slot, if_block, while_block, return_value, throw_value, sync_block, region_block, do_value, set_local, set_field, set_element, Block, block_end, block_more, OtherBlock, no_other, other_block, ResolvedTree}
 use Rattle.resolved_tree.specs.Typing.{heads_of, a_local, a_monitor, Scope, with_use, locals_of, Gives, Returning, in_region, in_function, Returns, AreCaptured, after, IsStatement, IsBlock, IsOther}
 use Rattle.lam_meaning.specs.Trees as tree
-use Rattle.lam_meaning.specs.Trees.{Own, with_local, local, Tree, ends, leaves, on_end, and_then, on_truth, spend}
+use Rattle.lam_meaning.specs.Trees.{Own, with_local, local, Tree, and_then, on_truth, spend}
 use Rattle.lam_meaning.specs.Means as means
 use Rattle.lam_meaning.specs.Means.{At, Open, take, give_back, returns, captured, inside, eval_option, exec, exec_block, exec_other}
 use Rattle.lam_meaning.specs.Scheme.{scheme}

@@ -17,9 +17,9 @@ use Rattle.lam_bytecode.specs.declared.op.Op.{Op}
 use Rattle.lam_bytecode.specs.declared.op.Op.TheVariants.{Const, Jump, JumpIfFalse, ReadBarrier, WriteBarrier}
 use Rattle.thread_steps.specs.Threads.{Context}
 use Rattle.thread_steps.specs.Ops as ops
-use Rattle.thread_steps.specs.Ops.{Did, Around, effect, barrier, on_thing, on_caps, on_label, on_many, on_known, on_constant, goes_to, region_takes, region_in}
+use Rattle.thread_steps.specs.Ops.{Did, effect, barrier, on_thing, on_constant}
 use Rattle.thread_steps.specs.Next as machine
-use Rattle.thread_steps.specs.Next.{next_by, past, called, gains, ops_of}
+use Rattle.thread_steps.specs.Next.{next_by, past, called, gains}
 use Rattle.lam_meaning.specs.Trees.{Own, gained}
 use Rattle.lam_acting.specs.Gathers.{Along, with_locals, gone, and_on, Caller, never_enters, awaits, did, around, op_does}
 use Rattle.lam_acting.specs.Lone.{Lone, runs, asked, done, turns}

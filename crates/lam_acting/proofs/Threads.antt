@@ -18,7 +18,7 @@ use Rattle.lam_meaning.specs.Trees.{End, goes, raises, leaves, Tree, on_end}
 use Rattle.lam_meaning.specs.Means.{At, Does, means, calls_limit, call_end, first_locals, body_of, deeper, calls_to, runs, block_runs, last_ask}
 use Rattle.lam_meaning.specs.Scheme.{scheme}
 use Rattle.lam_acting.specs.Nested.{Nested, block_code}
-use Rattle.lam_acting.specs.Gathers.{Along, with_locals, Out, gone, raised, use_unit, call_result, body_does, called, acts, acts_to, closing, Final, final_of, first_along, body_acts, thread_acts}
+use Rattle.lam_acting.specs.Gathers.{Along, with_locals, Out, call_result, body_does, called, acts, acts_to, closing, Final, final_of, first_along}
 use Rattle.lam_acting.specs.Gathers as nested
 use Rattle.lam_acting.proofs.Placed.{IsPlaced, BlockPlaced, OtherPlaced, functions_placed}
 use Rattle.lam_acting.specs.Joined.{NestedMeans}

@@ -16,7 +16,7 @@ use Rattle.lam_meaning.specs.Trees.{Own}
 use Rattle.lam_meaning.specs.Means.{At}
 use Rattle.lam_meaning.specs.Plays.{has_ended, waits, is_spent, is_broken}
 use Rattle.lam_acting.specs.Gathers.{Along, Out, gone, raised, returned, stops, and_on}
-use Rattle.lam_acting.specs.Lone.{Lone, runs, op_work, work_of, done, turn, turns, asks_in, work_done, NotStuck}
+use Rattle.lam_acting.specs.Lone.{Lone, runs, op_work, done, turn, turns, asks_in, work_done, NotStuck}
 use Rattle.lam_acting.specs.Lone as lone
 
 -- what stands of a context that does not change until it is left

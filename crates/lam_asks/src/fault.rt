@@ -1,6 +1,6 @@
 //! Faults, and the numbers by which a catch block knows them.
 
-ghost use Rattle.std.specs.Prelude.{◌≡◌, ◌↔◌, IsTrue};
+ghost use Rattle.std.specs.Prelude.{◌≡◌};
 ghost use Rattle.lam_asks.specs.Faults.{fault_number};
 
 /// Why a context of a thread stops what it does. A catch block gets its number.

@@ -1,8 +1,8 @@
 -- The built-in calls: for each its name, what its arguments are, and its result.
-use Rattle.std.specs.Prelude.{ℕ, Bool, true, false, if◌then◌else◌, List, [], ◌∷◌, Option, Some, None, codes}
+use Rattle.std.specs.Prelude.{if◌then◌else◌, List, [], ◌∷◌, Option, Some, None, codes}
 use Rattle.std.specs.Str.{bytes_eq}
 use Rattle.lam_operators.specs.Words.{Word}
-use Rattle.lam_builtins.specs.Types.{TypeBy, int, bool, bytes, tag, label, caps, file, dir, pipe, thread, GivenBy, a_value, nothing, PlaceBy, exactly, any_array, any_object, any_labelled}
+use Rattle.lam_builtins.specs.Types.{TypeBy, int, bytes, tag, label, caps, file, dir, pipe, thread, GivenBy, a_value, nothing, PlaceBy, exactly, any_array, any_object, any_labelled}
 use Rattle.lam_builtins.specs.declared.Builtin.{Builtin}
 use Rattle.lam_builtins.specs.declared.Builtin.TheVariants.{Len, Size, Byte, Slice, Cat, Text, Number, MyLabel, MyCaps, Root, LabelOf, Copy, Mint, Say, MakeFile, MakeDir, OpenFile, OpenDir, Remove, Read, Length, Append, Cut, MakePipe, Send, SendCaps, Receive, ReceiveCaps, Join}
 

@@ -1,7 +1,7 @@
 -- The types of operands and of what operators give.
 use Rattle.std.specs.Prelude.{Option, Some, None}
 use Rattle.lam_operators.specs.declared.BinaryOp.{BinaryOp}
-use Rattle.lam_operators.specs.declared.BinaryOp.TheVariants.{Or, And, Eq, Ne, Lt, Le, Gt, Ge, Add, Sub, Mul, Div, Rem}
+use Rattle.lam_operators.specs.declared.BinaryOp.TheVariants.{Or, And, Eq, Ne, Add, Sub, Mul, Div, Rem}
 use Rattle.lam_operators.specs.declared.UnaryOp.{UnaryOp}
 use Rattle.lam_operators.specs.declared.UnaryOp.TheVariants.{Not, Neg}
 use Rattle.lam_builtins.specs.Types.{TypeBy, int, bool}

@@ -1,6 +1,6 @@
 -- Types, what an expression gives, and what a place takes. The names C of classes are words in a program's text, and
 -- numbers once names are resolved.
-use Rattle.std.specs.Prelude.{ℕ, Bool, true, false, List, Option, Some, None}
+use Rattle.std.specs.Prelude.{Bool, true, false, Option, Some, None}
 use Rattle.std.specs.Str.{bytes_eq}
 use Rattle.lam_operators.specs.Words.{Word}
 

@@ -1,6 +1,6 @@
 //! The text of a code.
 
-ghost use Rattle.std.specs.Prelude.{◌≡◌, ◌<◌, ◌≤◌, ◌+◌, ◌++◌, ◌∷◌, [], length, codes, decimal, slice_get, IfOk, OnOk, string_bytes};
+ghost use Rattle.std.specs.Prelude.{◌≡◌, ◌<◌, ◌+◌, ◌++◌, ◌∷◌, decimal, IfOk, OnOk, string_bytes};
 ghost use Rattle.std.specs.Option.{option_copied};
 ghost use Rattle.lam_bytecode.specs.Listing.{listing_text, units_from, unit_lines, head_text, op_lines, op_line, op_word, operands_text, kind_text, constant_text};
 

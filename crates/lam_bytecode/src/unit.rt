@@ -1,6 +1,6 @@
 //! Units, and the lists in them.
 
-ghost use Rattle.std.specs.Prelude.{◌≡◌, ◌↔◌, IsTrue, string_bytes};
+ghost use Rattle.std.specs.Prelude.{◌≡◌, string_bytes};
 
 use crate::op::Op;
 use lam_value::Kind;

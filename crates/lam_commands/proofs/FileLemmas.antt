@@ -1,5 +1,5 @@
 -- What a command answers after it read its file, or did not.
-use Rattle.std.proofs.Common.{◌≡◌, ◌⊎◌, inl, inr, ℕ, List, Option, None, Result, Ok, Err, String, string_bytes, refl, sym, ap, subst, ◌∙◌}
+use Rattle.std.proofs.Common.{◌≡◌, ◌⊎◌, inl, inr, ℕ, Option, None, Result, Ok, Err, String, string_bytes, refl, sym, ap, subst, ◌∙◌}
 use Rattle.std.specs.declared.alloc.Global.{Global}
 use Rattle.std.specs.Prelude.{Vec}
 use Rattle.lam_io.specs.Outside.{Files, AllStay}
@@ -13,7 +13,7 @@ use Rattle.barrier_compiler.specs.declared.emitting.CompileFault.{CompileFault}
 use Rattle.barrier_compiler.specs.declared.emitting.CompileFault.TheVariants.{CodeTooLong as too_long_code, NoMemory as no_memory_for_code}
 use Rattle.lam_words.specs.Words.{Text}
 use Rattle.lam_plan.specs.Refusals.{Plan, prints}
-use Rattle.lam_plan.specs.Reading.{HasFile, WithFile, unread, of_file, Never, program_limit, IsCompiled, Compiles, fine, broken}
+use Rattle.lam_plan.specs.Reading.{HasFile, WithFile, of_file, Never, program_limit, IsCompiled, Compiles, fine, broken}
 use Rattle.lam_plan.specs.Plan.{Formats, misspelt}
 use Rattle.lam_plan.proofs.ReadLemmas.{program_then, no_program_then}
 use Rattle.lam_commands.specs.declared.halt.Halt.{Halt}

@@ -1,7 +1,7 @@
 //! The files of the current folder, and standard output. What a device holds is not told.
 
-ghost use Rattle.std.specs.Prelude.{◌≡◌, ◌≤◌, false, None, [], take, length, IsTrue, IfOk, OnOk, OnErr, IsErrOf};
-ghost use Rattle.lam_io.specs.Outside.{Rose, one_more};
+ghost use Rattle.std.specs.Prelude.{◌≡◌, ◌≤◌, false, None, take};
+ghost use Rattle.lam_io.specs.Outside.{Rose};
 
 use crate::{Got, Shelf, ShelfFault, Sink, SinkFault};
 use std::alloc::Global;

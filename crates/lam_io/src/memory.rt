@@ -1,6 +1,6 @@
 //! A shelf and a sink in memory, whose calls fail where a test wants it.
 
-ghost use Rattle.std.specs.Prelude.{if◌then◌else◌, ◌≡◌, ◌≤◌, Some, Ok, map, IfOk, OnOk, OnErr, IsErrOf, length, take, [], ◌/◌, true, false, string_bytes, not, IsTrue, ◌↔◌};
+ghost use Rattle.std.specs.Prelude.{if◌then◌else◌, ◌≡◌, ◌≤◌, Some, Ok, map, IfOk, OnOk, OnErr, IsErrOf, length, take, [], ◌/◌, true, string_bytes, not, IsTrue, ◌↔◌};
 ghost use Rattle.std.specs.Option.{option_copied};
 ghost use Rattle.std.specs.Str.{bytes_eq};
 ghost use Rattle.std.specs.List.{prefix_len};

@@ -19,10 +19,10 @@ use Rattle.monitor_core.specs.Held.{Held, once_more, entered, one_less, held_by,
 use Rattle.labelled_files.specs.Entries.{without}
 use Rattle.labelled_files.specs.declared.directory.EntryKind.TheVariants as kind
 use Rattle.labelled_files.specs.Trees as tree
-use Rattle.labelled_files.specs.Trees.{Tree, with_file, with_dir, without_entry, with_more, with_first, next_name, joined}
+use Rattle.labelled_files.specs.Trees.{Tree, with_file, with_dir, next_name, joined}
 use Rattle.labelled_pipes.specs.declared.message.Message.{Message}
 use Rattle.labelled_pipes.specs.Queues as queue
-use Rattle.labelled_pipes.specs.Queues.{Queues, with_pipe, with_sent, with_received}
+use Rattle.labelled_pipes.specs.Queues.{Queues, with_pipe}
 use Rattle.lam_bytecode.specs.Codes.{CodeTree}
 use Rattle.thread_steps.specs.Threads.{Context, Thread}
 use Rattle.thread_steps.specs.Next.{started, first_context}

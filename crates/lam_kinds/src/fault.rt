@@ -1,9 +1,7 @@
 //! The refusals of the type checker.
 
 ghost use Rattle.std.specs.Prelude.{◌≡◌, None, Some};
-ghost use Rattle.first_breaks.specs.Verdicts.{Stop, Fine};
 ghost use Rattle.lam_kinds.specs.Breaks.{mismatch_of, fit as fit_place, unequal as unequal_break};
-ghost use Rattle.lam_builtins.specs.Types.{wanted_type, given_type, bool as bool_type, a_value};
 ghost use Rattle.lam_kinds.specs.Values.{IsFault, option_type, Gives, given, place};
 ghost use Rattle.lam_kinds.specs.declared.fault.TypeFault.TheVariants.{NoMemory as no_memory};
 

@@ -3,7 +3,7 @@
 ghost use Rattle.std.specs.Prelude.{◌≡◌, ◌++◌, ◌∷◌, [], IfOk, IfErr, OnOk, None, Some};
 ghost use Rattle.lam_syntax.specs.Tree.{id_tree, type_tree, var_tree, vars_tree, class_tree, function_tree, items_tree, option_type_tree};
 ghost use Rattle.lam_kinds.specs.Tables.{find, fresh, new_name as new_name_break, with_class, class_table as class_table_break, function_name as function_name_break, with_function, function_table as function_table_break, tables_of, type_known, with_var, vars_known, with_field, with_fields, signature_of, places_of, answer_of};
-ghost use Rattle.lam_kinds.specs.Values.{keyed, names, fields as seen_fields, class_entries, function_entries, decls, signature, answer, places, value_type, option_type, option_fields, option_signature, Passes};
+ghost use Rattle.lam_kinds.specs.Values.{keyed, names, fields as seen_fields, class_entries, function_entries, decls, signature, answer, places, option_type, option_fields, option_signature, Passes};
 ghost use Rattle.lam_kinds.specs.Meets.{Makes, Leaves, see_classes, see_functions};
 ghost use Rattle.lam_kinds.specs.declared.fault.TypeFault.TheVariants.{NoMemory as no_memory};
 

@@ -5,7 +5,7 @@ use Rattle.lam_lexer.specs.declared.token.Token.{Token}
 use Rattle.lam_lexer.specs.declared.start.Start.{Start}
 use Rattle.lam_lexer.specs.declared.fault.LexFault.{LexFault}
 use Rattle.lam_lexer.specs.declared.fault.LexFault.TheVariants.{BadChar, BadNumber, BadEscape, OpenText, NoMemory}
-use Rattle.lam_lexer.specs.Text.{Part, part, end_quote, means, bad_escape, no_end, room, Means, ends, goes_on, TextFault, bad, open_end, too_long}
+use Rattle.lam_lexer.specs.Text.{Part, end_quote, means, bad_escape, no_end, room, Means, ends, goes_on, TextFault, bad, open_end, too_long}
 use Rattle.lam_lexer.specs.Text as text
 use Rattle.lam_lexer.specs.declared.token.TokenKind.TheVariants as Kind
 use Rattle.lam_lexer.specs.Lexed.{token, Lexes, a_space, a_comment, a_name, a_number, a_text, a_mark, a_long_mark, Wrong, strange, great, joined, in_text, LexedAt, at_end, then_on, FaultAt, here, later, Lexed, FirstFault}

@@ -1,5 +1,5 @@
 -- What was done of a turn when a thread was advanced.
-use Rattle.std.proofs.Common.{◌≡◌, ℕ, ◌<◌, ◌≤◌, List, [], ◌∷◌, Option, Some, None, length, get_or, set, refl, sym, ap, ◌∙◌, subst, arith}
+use Rattle.std.proofs.Common.{◌≡◌, ℕ, ◌<◌, ◌≤◌, List, [], ◌∷◌, Option, Some, None, length, get_or, set, refl, sym, ap, ◌∙◌, subst}
 use Rattle.std.specs.Prelude.{slice_get, slice_set}
 use Rattle.std.proofs.lemmas.Option.{slice_get_read, slice_get_past, get_or_from_slice_get}
 use Rattle.std.proofs.lemmas.List.{set-get_or}
@@ -14,8 +14,8 @@ use Rattle.thread_core.specs.Turning as turning
 use Rattle.thread_core.specs.Turning.{turned, moved, turn_of, stepped_in, stepped}
 use Rattle.thread_core.specs.declared.turn.Turn.{Turn}
 use Rattle.thread_core.specs.declared.turn.Turn.TheVariants as turn
-use Rattle.lam_worlds.specs.Worlds.{World, with_thread, thread_at}
-use Rattle.lam_worlds.specs.Turns.{turn_by, turn_on, turn_in, step}
+use Rattle.lam_worlds.specs.Worlds.{World, thread_at}
+use Rattle.lam_worlds.specs.Turns.{turn_on, turn_in, step}
 use Rattle.lam_deeds.specs.declared.stores.Stores.{Stores}
 use Rattle.lam_deeds.specs.Parts.{world_of}
 use Rattle.lam_turn_parts.specs.Turned.{IsTurn, Acts}

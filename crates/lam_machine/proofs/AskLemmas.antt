@@ -1,5 +1,5 @@
 -- A thread that asks, its deed, and the world that the answer leaves.
-use Rattle.std.proofs.Common.{◌≡◌, ℕ, zero, suc, ◌+◌, ◌<◌, ◌≤◌, Bool, true, false, List, [], ◌∷◌, ◌++◌, Option, Some, None, Result, Ok, Err, IfOk, length, take, get_or, set, refl, sym, ap, ◌∙◌, subst, arith, length-append}
+use Rattle.std.proofs.Common.{◌≡◌, ℕ, zero, suc, ◌+◌, ◌<◌, ◌≤◌, Bool, true, false, List, [], ◌∷◌, ◌++◌, Some, None, Result, Ok, Err, IfOk, length, take, get_or, set, refl, sym, ap, ◌∙◌, subst, arith, length-append}
 use Rattle.std.specs.Prelude.{slice_get, slice_set, if◌then◌else◌}
 use Rattle.std.proofs.Math.Seq.{take-append_seam}
 use Rattle.std.proofs.lemmas.Option.{slice_get_within, get_or_from_slice_get}
@@ -11,17 +11,17 @@ use Rattle.lam_asks.specs.declared.ask.Ask.{Ask}
 use Rattle.lam_asks.specs.declared.answer.Answer.{Answer}
 use Rattle.lam_asks.specs.declared.answer.What.TheVariants.{Asked}
 use Rattle.lam_bytecode.specs.Codes.{CodeTree}
-use Rattle.thread_steps.specs.Threads.{Inside, Context, Thread}
+use Rattle.thread_steps.specs.Threads.{Context, Thread}
 use Rattle.thread_steps.specs.Next.{Next, asks, next_of, takes}
-use Rattle.lam_worlds.specs.Worlds.{World, thread_at, contexts_in, contexts_at}
+use Rattle.lam_worlds.specs.Worlds.{World, contexts_in, contexts_at}
 use Rattle.lam_worlds.specs.Deeds as told
 use Rattle.lam_worlds.specs.Serving.{serve}
-use Rattle.lam_worlds.specs.Turns.{Moment, is_ready, served, turn_by, turn_on, turn_in, step}
+use Rattle.lam_worlds.specs.Turns.{is_ready, served, turn_by, turn_on, turn_in, step}
 use Rattle.lam_deeds.specs.declared.stores.Stores.{Stores}
 use Rattle.lam_deeds.specs.Parts.{world_of}
 use Rattle.lam_deeds.specs.declared.effect.Effect.{Effect}
 use Rattle.lam_deeds.specs.declared.deed.Deed.{Deed}
-use Rattle.lam_deeds.specs.Meaning.{meaning, DoesAs, IsAfter}
+use Rattle.lam_deeds.specs.Meaning.{meaning, DoesAs}
 use Rattle.lam_deeds.specs.Room.{HasRoom}
 use Rattle.lam_turn_parts.proofs.RoomLemmas.{room_row}
 use Rattle.lam_turn_parts.specs.Turned.{IsTurn, Acts, born}

@@ -15,8 +15,8 @@
 
 mod print;
 
-ghost use Rattle.std.specs.Prelude.{◌≡◌, ◌≢◌, false, [], Ok, Err, IsErr, IfErr, OnErr, map, string_bytes, IsTrue};
-ghost use Rattle.lam_io.specs.Outside.{Rose, AllStay, Took};
+ghost use Rattle.std.specs.Prelude.{◌≡◌, ◌≢◌, false, [], Ok, Err, IsErr, IfErr, map, string_bytes, IsTrue};
+ghost use Rattle.lam_io.specs.Outside.{Rose, Took};
 ghost use Rattle.lam_words.specs.Words.{request_of, asked, InRange, help_lines, commands};
 ghost use Rattle.lam_plan.specs.Refusals.{Plan, prints, no_word};
 ghost use Rattle.lam_plan.specs.Replays.{an_observer};

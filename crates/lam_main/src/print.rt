@@ -1,8 +1,8 @@
 //! What goes to the sink: the text of a command, or the line of a refusal. It takes no memory.
 
-ghost use Rattle.std.specs.Prelude.{◌≡◌, ◌≤◌, ◌++◌, ◌∷◌, [], None, OnErr, take, decimal};
+ghost use Rattle.std.specs.Prelude.{◌≡◌, ◌≤◌, ◌∷◌, [], None, OnErr, decimal};
 ghost use Rattle.lam_front.specs.declared.fault.ProgramFault.TheVariants.{At};
-ghost use Rattle.lam_io.specs.Outside.{Rose, Took};
+ghost use Rattle.lam_io.specs.Outside.{Rose};
 ghost use Rattle.lam_plan.specs.Refusals.{refused, no_program, no_world, no_turn};
 ghost use Rattle.lam_plan.specs.Threads.{status_of};
 ghost use Rattle.lam_main.specs.Lines.{texts, joined, Goes, Prints};

@@ -14,16 +14,13 @@ use Rattle.lam_value.specs.declared.shapes.Kind.TheVariants as kind
 use Rattle.lam_value.specs.declared.shapes.Shape.TheVariants.{Class, Array}
 use Rattle.lam_value.specs.Shapes.{zero_of}
 use Rattle.lam_operators.specs.declared.BinaryOp.{BinaryOp}
-use Rattle.lam_operators.specs.declared.BinaryOp.TheVariants.{Or, And, Eq, Ne, Lt, Le, Gt, Ge, Add, Sub, Mul, Div, Rem}
-use Rattle.lam_builtins.specs.declared.Builtin.{Builtin}
+use Rattle.lam_operators.specs.declared.BinaryOp.TheVariants.{Or, And}
 use Rattle.lam_builtins.specs.Types.{int, bool, bytes, tag, label, caps, file, dir, pipe, thread, object, array}
-use Rattle.lam_asks.specs.declared.fault.Fault.{Fault}
 use Rattle.lam_asks.specs.declared.fault.Fault.TheVariants.{Denied, Index, Deep, Long, Thrown}
 use Rattle.lam_asks.specs.Faults.{fault_number}
 use Rattle.lam_asks.specs.declared.answer.Outcome.TheVariants as outcome
 use Rattle.lam_asks.specs.declared.answer.Answer.{Answer}
 use Rattle.lam_asks.specs.declared.answer.Answer.TheVariants.{Done, Entered, Val, Refused, Failed}
-use Rattle.lam_asks.specs.declared.ask.Ask.{Ask}
 use Rattle.lam_asks.specs.declared.ask.Ask.TheVariants as ask
 use Rattle.lam_asks.specs.Suits as sorts
 use Rattle.lam_asks.specs.Suits.{Sort, numbers}
@@ -31,7 +28,7 @@ use Rattle.thread_steps.specs.Operators.{operator, prefix, label_from, with_sign
 use Rattle.thread_steps.specs.Builtins as calls
 use Rattle.thread_steps.specs.Builtins.{Calls, builtin}
 use Rattle.resolved_tree.specs.Tree.{ResolvedType, CapSlot, Expression, number_value, text_value, bool_value, null_value, local_value, unary_of, binary_of, field_of, element_of, call_of, builtin_of, new_object, new_array, label_of, caps_of, spawn_of, Expressions, args_end, args_more, Statement, let_slot, if_block, while_block, return_value, throw_value, sync_block, region_block, do_value, set_local, set_field, set_element, Block, block_end, block_more, OtherBlock, no_other, other_block, ResolvedFunction, ResolvedTree}
-use Rattle.lam_meaning.specs.Trees.{Own, with_locals, with_local, local, Asked, asked, End, goes, raises, leaves, Tree, ends, broken, spent, asks, on_end, and_then, gives, fails, done, spend, purely, value_reply, ask_value, ask_unit, ask_done, unless_denied, on_object, on_array, on_thing, on_truth, on_caps, on_region, gained}
+use Rattle.lam_meaning.specs.Trees.{Own, with_locals, with_local, local, asked, End, goes, raises, leaves, Tree, ends, broken, spent, asks, on_end, and_then, gives, fails, done, spend, purely, value_reply, ask_value, ask_unit, ask_done, unless_denied, on_object, on_array, on_thing, on_truth, on_caps, on_region, gained}
 
 -- ---- types
 

@@ -1,5 +1,5 @@
 -- Code whose branches are nested and whose constants stand by value, and how it is laid out flat.
-use Rattle.std.specs.Prelude.{ℕ, zero, suc, ◌+◌, Bool, true, false, if◌then◌else◌, List, [], ◌∷◌, ◌++◌, length, Option, Some, None}
+use Rattle.std.specs.Prelude.{ℕ, suc, ◌+◌, Bool, true, false, if◌then◌else◌, List, [], ◌∷◌, ◌++◌}
 use Rattle.lam_value.specs.declared.values.Value.{Value}
 use Rattle.lam_bytecode.specs.declared.op.Op.{Op}
 use Rattle.lam_bytecode.specs.declared.op.Op.TheVariants.{Const, Jump, JumpIfFalse}

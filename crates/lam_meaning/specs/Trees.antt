@@ -1,12 +1,12 @@
 -- Trees of asks: what a piece of a program does.
-use Rattle.std.specs.Prelude.{ℕ, zero, suc, Bool, true, false, if◌then◌else◌, List, [], ◌∷◌, Option, Some, None, slice_get, slice_set}
+use Rattle.std.specs.Prelude.{ℕ, zero, suc, true, false, List, Option, Some, None, slice_get, slice_set}
 use Rattle.flow_labels.specs.declared.Label.{Label}
 use Rattle.flow_labels.specs.declared.Denied.{Denied as Denial}
 use Rattle.capabilities.specs.declared.Caps.{Caps}
 use Rattle.capabilities.specs.Changes.{with_both, joined}
 use Rattle.lam_value.specs.declared.names.Name.{Name}
 use Rattle.lam_value.specs.declared.values.Value.{Value}
-use Rattle.lam_value.specs.declared.values.Value.TheVariants.{Int, Bool as Truth, Nothing, Obj, Arr, Tag, Lab, CapV}
+use Rattle.lam_value.specs.declared.values.Value.TheVariants.{Bool as Truth, Nothing, Obj, Arr, Tag, Lab, CapV}
 use Rattle.lam_asks.specs.declared.fault.Fault.{Fault}
 use Rattle.lam_asks.specs.declared.fault.Fault.TheVariants.{Denied, Null}
 use Rattle.lam_asks.specs.declared.answer.Answer.{Answer}

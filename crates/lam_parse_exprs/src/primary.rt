@@ -8,7 +8,7 @@ ghost use Rattle.lam_grammar.specs.Table as table;
 ghost use Rattle.lam_reading.specs.Classes.{fits_at};
 ghost use Rattle.lam_reading.specs.Reading.{ReadsExpr};
 ghost use Rattle.lam_reading.specs.declared.marks.Mark.TheVariants as mark;
-ghost use Rattle.lam_parse_parts.specs.Forms.{form_of, kind_form};
+ghost use Rattle.lam_parse_parts.specs.Forms.{form_of};
 ghost use Rattle.lam_parse_parts.specs.Parts.{ReadsArgs, ReadsForm};
 ghost use Rattle.lam_parse_parts.specs.declared.primary.Form.TheVariants as form;
 

@@ -1,6 +1,6 @@
 //! Names with their types, and lists of names.
 
-ghost use Rattle.std.specs.Prelude.{◌≡◌, ◌<◌, ◌≤◌, length, IfOk};
+ghost use Rattle.std.specs.Prelude.{◌<◌, ◌≤◌, length, IfOk};
 ghost use Rattle.lam_grammar.specs.Table.{fields, params, names};
 ghost use Rattle.lam_parse_parts.specs.Variables.{TakesName, ReadsVariable, ReadsVariables, ReadsNames};
 

@@ -1,11 +1,10 @@
 -- From what was read to the plan that follows, one thing after another.
-use Rattle.std.proofs.Common.{◌≡◌, ℕ, List, Option, Result, Ok, Err, refl, sym, subst}
+use Rattle.std.proofs.Common.{◌≡◌, ℕ, List, Option, Result, Ok, Err, sym, subst}
 use Rattle.lam_io.specs.Outside.{Files, AllStay}
-use Rattle.lam_front.specs.declared.fault.ProgramFault.{ProgramFault}
 use Rattle.lam_bytecode.specs.Codes.{CodeTree}
 use Rattle.lam_worlds.specs.Worlds.{World}
 use Rattle.lam_worlds.specs.Turns.{Moment}
-use Rattle.world_terms.specs.Breaks.{Reading, Break}
+use Rattle.world_terms.specs.Breaks.{Reading}
 use Rattle.world_terms.specs.Start.{start_of}
 use Rattle.lam_words.specs.Words.{Text}
 use Rattle.lam_plan.specs.Refusals.{Plan}

@@ -14,7 +14,7 @@ use Rattle.lam_lexer.specs.declared.token.TokenKind.{TokenKind}
 use Rattle.lam_lexer.specs.declared.token.TokenKind.TheVariants as Kind
 use Rattle.lam_lexer.specs.declared.start.Start.{Start}
 use Rattle.lam_lexer.specs.Characters.{is_space, is_digit, starts_name, continues_name, run, past, goes_on, first, number, number_after}
-use Rattle.lam_lexer.specs.Text.{Part, part, means, end_quote, hex_value, hex_part, room, Means, ends}
+use Rattle.lam_lexer.specs.Text.{part, means, hex_value, hex_part, room, Means, ends}
 use Rattle.lam_lexer.specs.Text as text
 use Rattle.lam_lexer.specs.Lexed.{start, marks, reserved, kind_or_name, word_kind, Lexes, a_space, a_name, a_number, a_text, a_mark, a_long_mark, LexedAt, at_end, then_on, Lexed}
 use Rattle.lam_lexer.specs.Lexed as lexed

@@ -1,10 +1,10 @@
 //! What the printer writes in one go.
 
-ghost use Rattle.std.specs.Prelude.{◌≡◌, ◌<◌, ◌/◌, ◌%◌, ◌++◌, ◌∷◌, [], OnOk, true, length};
+ghost use Rattle.std.specs.Prelude.{◌≡◌, ◌<◌, ◌/◌, ◌%◌, ◌++◌, ◌∷◌, [], OnOk};
 ghost use Rattle.std.specs.String.{string_bytes};
 ghost use Rattle.lam_lexer.specs.declared.token.TokenKind.TheVariants as Kind;
 ghost use Rattle.lam_syntax.specs.Tree.{id_tree};
-ghost use Rattle.lam_print.specs.Pieces.{hex_digit, spell_byte, spell_text, token, line, spelling};
+ghost use Rattle.lam_print.specs.Pieces.{hex_digit, spell_byte, spell_text, line, spelling};
 ghost use Rattle.lam_print.specs.Canon.{name, opened, closed, comma, spaced, gap};
 ghost use Rattle.lam_print.specs.Printing.{Puts};
 

@@ -1,6 +1,6 @@
 //! The tokens, and how one is taken.
 
-ghost use Rattle.std.specs.Prelude.{◌≡◌, true, ◌<◌, ◌≤◌, length, slice_get, IfOk, IfSome, MatchOption, MatchResult, option_copied};
+ghost use Rattle.std.specs.Prelude.{◌≡◌, true, ◌<◌, length, slice_get, IfOk, IfSome, MatchOption, MatchResult, option_copied};
 ghost use Rattle.lam_syntax.specs.Tree.{id_tree};
 ghost use Rattle.lam_grammar.specs.Meaning.{id_of};
 ghost use Rattle.lam_reading.specs.Classes.{fits_at, begins_at};

@@ -1,5 +1,5 @@
 -- What is found, and what is shown, of the parts of a run.
-use Rattle.std.proofs.Common.{◌≡◌, ◌≤◌, ℕ, List, Option, Some, None, Result, Ok, Err, String, string_bytes, IfOk, IfErr, MatchResult, refl, sym, ap, subst, ◌∙◌, ◌+◌, ◌-◌, ◌^◌, min, arith}
+use Rattle.std.proofs.Common.{◌≡◌, ◌≤◌, ℕ, List, Option, None, Result, Ok, Err, String, string_bytes, IfOk, IfErr, MatchResult, refl, sym, ap, subst, ◌∙◌, ◌+◌, ◌-◌, ◌^◌, min, arith}
 use Rattle.std.specs.declared.alloc.Global.{Global}
 use Rattle.std.specs.Prelude.{Vec}
 use Rattle.std.specs.Result.{IsErrAnd}
@@ -24,14 +24,14 @@ use Rattle.turns_seen.specs.Stops.{IsStop}
 use Rattle.turns_seen.specs.RunFault.{RunFault}
 use Rattle.turns_seen.specs.RunFault.TheVariants.{NotReady as not_ready, NoMemory as no_memory_of_run}
 use Rattle.lam_words.specs.Words.{Text}
-use Rattle.lam_plan.specs.Refusals.{Plan, prints, no_word, no_world, no_book}
+use Rattle.lam_plan.specs.Refusals.{Plan, prints, no_word, no_world}
 use Rattle.lam_plan.specs.Reading.{HasFile, WithFile, Never, Compiles, IsCompiled, program_limit, world_limit, book_limit, of_file, unread}
-use Rattle.lam_plan.specs.Replays.{Reader, an_observer, an_auditor, RunFiles, view_by, read_by, by_turns, by_list, by_book, IsOfTurns, IsOfBook, ByReader, ByWorld, NoStart, Replays, Starts, Runs}
+use Rattle.lam_plan.specs.Replays.{Reader, an_observer, RunFiles, view_by, read_by, by_turns, by_book, IsOfTurns, IsOfBook, ByReader, ByWorld, NoStart, Replays, Starts, Runs}
 use Rattle.lam_plan.proofs.ReadLemmas.{same_files, program_then, no_program_then, start_then, no_start_then, reader_then, no_reader_then}
 use Rattle.lam_commands.specs.declared.halt.Refusal.TheVariants.{NotReady as not_ready_at}
 use Rattle.lam_commands.specs.declared.halt.Halt.{Halt}
 use Rattle.lam_commands.specs.declared.halt.Halt.TheVariants.{Refused, NoMemory, ShelfFailed}
-use Rattle.lam_commands.specs.Halts.{refuses, Finds, Says, Gives, IsRead}
+use Rattle.lam_commands.specs.Halts.{Finds, Says, Gives, IsRead}
 use Rattle.lam_commands.proofs.FileLemmas.{says_map, not_found, gives_of}
 use Rattle.lam_replay.specs.Asked.{halt_of_world, halt_of_book, halt_of_run, HaltsAt}
 

@@ -1,12 +1,12 @@
 -- A program taken apart and put together again.
-use Rattle.std.proofs.Common.{◌≡◌, ℕ, ◌+◌, ◌<◌, ◌≤◌, List, [], ◌∷◌, ◌++◌, length, map, take, drop, set, get_or, Option, Some, refl, sym, ap, ◌∙◌, append_assoc, arith}
+use Rattle.std.proofs.Common.{◌≡◌, ℕ, ◌+◌, ◌<◌, ◌≤◌, List, [], ◌∷◌, ◌++◌, length, take, drop, set, get_or, Option, Some, refl, sym, ap, ◌∙◌, append_assoc, arith}
 use Rattle.std.proofs.Math.Seq.{take-append_seam}
 use Rattle.std.proofs.lemmas.List.{append-nil, take_more_set, drop-set-lt, take_all, drop_all}
 use Rattle.std.specs.Prelude.{Vec}
 use Rattle.std.specs.declared.alloc.Global.{Global}
 use Rattle.lam_syntax.specs.declared.Item.{Item}
 use Rattle.lam_syntax.specs.declared.Stmt.{Stmt}
-use Rattle.lam_syntax.specs.Tree.{StmtList, no_stmts, ItemTree, class_item, function_item, ProgramTree, item_tree, items_tree, stmts_tree}
+use Rattle.lam_syntax.specs.Tree.{StmtList, ItemTree, class_item, function_item, ProgramTree, item_tree, items_tree, stmts_tree}
 use Rattle.lam_operators.specs.Words.{Word}
 use Rattle.resolved_tree.specs.Tree.{ResolvedType}
 use Rattle.resolved_tree.specs.Typing.{Head}

@@ -1,10 +1,9 @@
 //! Functions and programs.
 
-ghost use Rattle.std.specs.Prelude.{◌≡◌, ◌∷◌, ◌++◌, [], IfOk, IsSome, OnOk, Some, option_map};
+ghost use Rattle.std.specs.Prelude.{◌≡◌, ◌∷◌, ◌++◌, [], IfOk, IsSome, OnOk, Some};
 ghost use Rattle.lam_syntax.specs.Tree.{program_tree, items_tree, item_tree, function_tree, stmts_tree};
-ghost use Rattle.resolved_tree.specs.Tree.{function_tree as resolved_function, functions_tree, classes_tree, option_type_tree, resolved_tree};
-ghost use Rattle.lam_resolved.specs.Resolved.{resolve_function as function_resolved, resolve_functions as functions_resolved, resolved, types_of};
-ghost use Rattle.lam_resolve_tables.specs.Kinds.{kind_type};
+ghost use Rattle.resolved_tree.specs.Tree.{function_tree as resolved_function, functions_tree, classes_tree, resolved_tree};
+ghost use Rattle.lam_resolved.specs.Resolved.{resolve_function as function_resolved, resolve_functions as functions_resolved, resolved};
 ghost use Rattle.lam_resolve_tables.specs.Tables.{tables, all_fields};
 ghost use Rattle.lam_resolve.specs.Meets.{IsAdded, types_of_all};
 ghost use Rattle.lam_resolve.specs.Parts.{with_body, head_of, heads_of, bodies_of, next_body, later_bodies, item_of, left_after, together, bodies_tree};

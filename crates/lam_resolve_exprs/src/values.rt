@@ -12,7 +12,7 @@ ghost use Rattle.resolved_tree.specs.Tree.{expr_tree, exprs_tree, cap_tree, caps
 ghost use Rattle.lam_resolved.specs.Resolved.{then_some, value_as, local_named as first_local, field_read as read_field, element_read as read_element, builtin_value as value_of_builtin, called as called_by, found, resolve_caps as resolved_caps};
 ghost use Rattle.lam_builtins.specs.Builtins.{builtin_named};
 ghost use Rattle.lam_resolve_tables.specs.Kinds.{base_type, kind_type, given};
-ghost use Rattle.lam_resolve_tables.specs.Tables.{tables, heads};
+ghost use Rattle.lam_resolve_tables.specs.Tables.{tables};
 ghost use Rattle.resolved_tree.specs.Typing.{given_by as result_given};
 ghost use Rattle.lam_resolve_exprs.specs.Values.{local, locals, value, args as seen_args, field_seen, function_seen, called_seen, cap_at};
 

@@ -1,7 +1,7 @@
 //! Statements, of resolved parts.
 
 ghost use Rattle.std.specs.Prelude.{◌≡◌, IfOk, IsSome, OnOk, Some};
-ghost use Rattle.lam_syntax.specs.Tree.{expr_tree as written_tree, option_expr_tree as written_option, var_tree, let_stmt, assign_stmt};
+ghost use Rattle.lam_syntax.specs.Tree.{expr_tree as written_tree, option_expr_tree as written_option, var_tree, let_stmt};
 ghost use Rattle.resolved_tree.specs.Tree.{expr_tree, option_expr_tree, stmt_tree, stmts_tree, types_tree, else_tree, if_block, while_block, sync_block, region_block};
 ghost use Rattle.lam_resolved.specs.Resolved.{resolve_stmt_form, resolve_value as resolved_value, assignment as assigned, step_as};
 ghost use Rattle.lam_resolve_tables.specs.Tables.{tables};

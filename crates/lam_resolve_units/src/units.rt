@@ -2,7 +2,6 @@
 
 ghost use Rattle.std.specs.Prelude.{◌≡◌, ◌+◌, IfOk, IsSome, OnOk, Some, length, take};
 ghost use Rattle.lam_syntax.specs.Tree.{ids_tree, id_tree};
-ghost use Rattle.resolved_tree.specs.Tree.{types_tree};
 ghost use Rattle.lam_resolved.specs.Resolved.{then_some, with_local, locals_from, local_named as first_local, next_slot, state_as, types_of, resolve_captures as resolved_captures, slots_of as slots_of_locals, taken_over as taken};
 ghost use Rattle.lam_resolve_tables.specs.Kinds.{kind_type};
 ghost use Rattle.lam_resolve_tables.specs.Tables.{vars as seen_vars};

@@ -12,13 +12,13 @@ use Rattle.lam_syntax.specs.Tree.{IdTree, TypeTree, CapTree, ExprTree, ExprForm,
 use Rattle.lam_syntax.specs.Unplaced.{unplaced_id, unplaced_expr, unplaced_expr_form, unplaced_exprs}
 use Rattle.lam_grammar.specs.declared.Level.TheVariants.{Or as or_level, And as and_level, Sum as sum_level, Term as term_level}
 use Rattle.lam_grammar.specs.Table.{Rule, begins_expr, begins_prim, expr, comparison, unary, post, post_tail, prim, chain, parens, call_part, arguments, args, args_tail, new_part, cap_items, typ, operates, compares, prefix, negates, dot, member_name, bracket_open, bracket_close, index_close, paren_open, paren_close, brace_open, brace_close, comma as comma_mark, semicolon, ID, literal, is_literal, new_word, label_word, caps_word, spawn_word}
-use Rattle.lam_grammar.specs.Meaning.{Value, word, expr_value, exprs_value, form_value, caps_value, type_value, postfixes_value, Postfixes, member, index, literal_form, id_of}
+use Rattle.lam_grammar.specs.Meaning.{Value, word, expr_value, exprs_value, form_value, caps_value, type_value, postfixes_value, member, index, literal_form, id_of}
 use Rattle.lam_grammar.specs.Meaning as mean
 use Rattle.lam_grammar.specs.Program.{lam}
 use Rattle.lam_print.specs.Pieces.{Piece, token as piece, blank}
 use Rattle.lam_print.specs.Canon.{name, truth, lay, lay_form, lay_args, lay_tags, lay_type, lay_caps}
 use Rattle.lam_round_trip.proofs.Spans.{nothing, token, joins}
-use Rattle.lam_round_trip.proofs.Marks.{tok, ended, Here, Stands, Gives, made, Back, strength, Follow, looser, Closed, paren, bracket, brace, follow_closed, call_ends, nil}
+use Rattle.lam_round_trip.proofs.Marks.{tok, ended, Here, Stands, Gives, made, Back, strength, Follow, looser, Closed, paren, brace, follow_closed, call_ends, nil}
 use Rattle.lam_round_trip.proofs.Marks as m
 use Rattle.lam_round_trip.proofs.Parts.{Typed, a_type, Capabilities, some_caps}
 use Rattle.lam_round_trip.proofs.Levels.{Read, Left, Core, core, chained, operated, comparing_two, Own, All, in_parens, step7, all0, all1, all2, all3, all4, all5, all6}

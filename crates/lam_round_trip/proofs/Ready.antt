@@ -7,7 +7,7 @@ use Rattle.lam_lexer.specs.declared.token.TokenKind.{TokenKind}
 use Rattle.lam_lexer.specs.declared.token.TokenKind.TheVariants as Kind
 use Rattle.lam_syntax.specs.Tree.{ExprTree, StmtList, while_stmt, sync_stmt, return_stmt, throw_stmt, ProgramTree}
 use Rattle.lam_grammar.specs.Table.{Class, Rule, Sym, items, item, fields, variable, params, params_tail, result_part, typ, block, stmts, stmt, else_part, value_part, assign_part, parens, region_head, captures, names, names_tail, handler, expr, comparison, comparison_tail, unary, post, post_tail, prim, chain, chain_tail, call_part, arguments, args, args_tail, new_part, cap_items, cap_item, cap_tail, bodies, semicolon}
-use Rattle.lam_grammar.specs.Meaning.{Value, word, id_value, ids_value, type_value, variable_value, variables_value, expr_value, two_exprs, exprs_value, form_value, operations_value, postfixes_value, cap_value, caps_value, stmt_value, stmts_value, else_value, handler_value, item_value, items_value, is_place, permits, act, first, second, act_items, act_item, act_variable, act_variables, act_type, act_stmts, act_stmt, act_else, act_parens, act_region_head, act_names, act_handler, act_operations, act_chain, act_unary, act_post, act_post_tail, act_prim, act_args, act_new, act_cap_item, act_caps}
+use Rattle.lam_grammar.specs.Meaning.{Value, word, ids_value, type_value, variable_value, variables_value, expr_value, two_exprs, exprs_value, form_value, operations_value, postfixes_value, cap_value, caps_value, stmt_value, stmts_value, else_value, handler_value, item_value, items_value, is_place, permits, act, first, second, act_items, act_item, act_variable, act_variables, act_type, act_stmts, act_stmt, act_else, act_parens, act_region_head, act_names, act_handler, act_operations, act_chain, act_unary, act_post, act_post_tail, act_prim, act_args, act_new, act_cap_item, act_caps}
 use Rattle.lam_grammar.specs.Meaning as mean
 use Rattle.lam_grammar.specs.Program.{lam, SpellsProgram}
 use Rattle.lam_round_trip.proofs.Statements.{ReadyForm, Ready, ReadyAll, ReadyElse}

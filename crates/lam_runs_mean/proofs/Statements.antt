@@ -16,7 +16,7 @@ use Rattle.lam_asks.specs.declared.ask.Ask.TheVariants as ask
 use Rattle.lam_asks.specs.Suits.{numbers, want_of, fits}
 use Rattle.resolved_tree.specs.Tree.{ResolvedType, ResolvedGiven, Expression, Statement, let_slot, if_block, while_block, return_value, throw_value, sync_block, region_block, do_value, set_local, set_field, set_element, Block, block_end, block_more, OtherBlock, no_other, other_block, ResolvedTree}
 use Rattle.resolved_tree.specs.Typing as typing
-use Rattle.resolved_tree.specs.Typing.{heads_of, given_by, a_local, a_monitor, Scope, with_use, locals_of, is_object, FitsBy, Gives, Stands, Returning, in_region, in_function, Returns, use_of, after, IsStatement, IsBlock, IsOther, block_ends, other_ends}
+use Rattle.resolved_tree.specs.Typing.{heads_of, given_by, a_local, a_monitor, Scope, with_use, locals_of, is_object, Gives, Stands, Returning, in_region, in_function, Returns, after, IsStatement, IsBlock, IsOther, block_ends, other_ends}
 use Rattle.lam_meaning.specs.Trees.{Own, with_local, local, End, goes, raises, leaves, Tree, and_then}
 use Rattle.lam_meaning.specs.Means.{At, may_write, Caller, Does, Open, take, give_back, returns, captured, caught_end, body_end, enter_reply, inside, throws, eval, eval_option, exec, exec_block, exec_other}
 use Rattle.lam_typed.proofs.Locals.{Within, slot_here, within_new, within_after, length-captured}

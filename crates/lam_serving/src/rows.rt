@@ -1,6 +1,6 @@
 //! Each ask is led to its row.
 
-ghost use Rattle.std.specs.Prelude.{◌≡◌, length, IfOk};
+ghost use Rattle.std.specs.Prelude.{IfOk};
 ghost use Rattle.std.specs.Option.{option_copied};
 ghost use Rattle.thread_steps.specs.Threads.{Context};
 ghost use Rattle.lam_worlds.specs.Worlds.{World};

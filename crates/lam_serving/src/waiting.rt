@@ -1,6 +1,6 @@
 //! Which ask a context may make, and which one waits.
 
-ghost use Rattle.std.specs.Prelude.{◌≡◌, ℕ, reverse};
+ghost use Rattle.std.specs.Prelude.{◌≡◌};
 ghost use Rattle.thread_steps.specs.Threads.{Context};
 ghost use Rattle.lam_worlds.specs.Worlds.{World};
 ghost use Rattle.lam_worlds.specs.Turns as turns;

@@ -24,7 +24,7 @@ use Rattle.lam_round_trip.proofs.Items.{Whole, a_program}
 use Rattle.lam_round_trip.proofs.Ready.{spelt_ready}
 use Rattle.lam_round_trip.proofs.Steady.{steady}
 use Rattle.lam_front.specs.Programs.{IsLexed}
-use Rattle.lam_steady.specs.Law.{ReadAs, SpeltAgain}
+use Rattle.lam_steady.specs.Law.{SpeltAgain}
 use Rattle.lam_steady.specs.Law as law
 use Rattle.lam_steady.proofs.Written.{written_utf8}
 

@@ -1,6 +1,6 @@
 //! Contexts.
 
-ghost use Rattle.std.specs.Prelude.{◌≡◌, ◌↔◌, IsTrue, IfOk, reverse, length};
+ghost use Rattle.std.specs.Prelude.{◌≡◌, IfOk, reverse};
 ghost use Rattle.lam_threads.specs.Seen.{phase_of};
 
 use crate::frame::Frame;

@@ -1,6 +1,6 @@
 //! Calls that wait for another one.
 
-ghost use Rattle.std.specs.Prelude.{◌≡◌, ◌↔◌, IsTrue, IfOk, reverse};
+ghost use Rattle.std.specs.Prelude.{◌≡◌, ◌↔◌, IsTrue, IfOk};
 
 use crate::operands::Operands;
 use lam_value::Values;

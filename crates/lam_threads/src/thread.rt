@@ -1,6 +1,6 @@
 //! Threads.
 
-ghost use Rattle.std.specs.Prelude.{◌≡◌, ◌↔◌, IsTrue, IfOk, [], None, reverse, length, slice_get};
+ghost use Rattle.std.specs.Prelude.{◌≡◌, IfOk, [], None, reverse, length, slice_get};
 ghost use Rattle.std.specs.Option.{option_copied};
 ghost use Rattle.thread_steps.specs.Next.{started, locals_in};
 ghost use Rattle.flow_labels.specs.Flow.{public_label};

@@ -1,13 +1,13 @@
 //! The typing of statements.
 
-ghost use Rattle.std.specs.Prelude.{◌≡◌, ◌++◌, ◌∷◌, [], OnOk, IfErr, None};
-ghost use Rattle.lam_syntax.specs.Tree.{expr_tree, id_tree, ids_tree, option_expr_tree, stmt_tree, stmts_tree, type_tree, var_tree};
+ghost use Rattle.std.specs.Prelude.{◌≡◌, OnOk, IfErr, None};
+ghost use Rattle.lam_syntax.specs.Tree.{expr_tree, id_tree, ids_tree, option_expr_tree, stmt_tree, stmts_tree, var_tree};
 ghost use Rattle.lam_builtins.specs.Types.{exactly, int};
 ghost use Rattle.first_breaks.specs.Verdicts.{Fine, then_on};
-ghost use Rattle.lam_kinds.specs.Tables.{find, room};
+ghost use Rattle.lam_kinds.specs.Tables.{find};
 ghost use Rattle.lam_kinds.specs.Values.{decls, names, value_type, option_type, given, place, Passes, Extends};
 ghost use Rattle.lam_exprs.specs.Exprs.{at_of, given_of};
-ghost use Rattle.lam_types.specs.Stmts.{stands, one_slot, one_region, back_in, with_local, new_local, capture, captured, returned, is_place as is_a_place, place_type, assigned, let_checked, head_checked, closed, stmt_checked, stmts_checked, block_checked};
+ghost use Rattle.lam_types.specs.Stmts.{stands, one_slot, one_region, with_local, new_local, capture, captured, returned, is_place as is_a_place, place_type, assigned, let_checked, head_checked, stmt_checked, stmts_checked, block_checked};
 ghost use Rattle.lam_types.specs.Parts.{guarded, synced, opened, caught};
 ghost use Rattle.lam_types.specs.Meets.{Counted, Steps};
 ghost use Rattle.lam_kinds.specs.declared.fault.TypeFault.TheVariants.{NoMemory as no_memory};

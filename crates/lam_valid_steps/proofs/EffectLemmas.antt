@@ -22,7 +22,7 @@ use Rattle.lam_operators.specs.declared.UnaryOp.TheVariants as unary
 use Rattle.thread_steps.specs.Operators as operators
 use Rattle.thread_steps.specs.Operators.{Pure, fine, is_small, some_null, label_from}
 use Rattle.thread_steps.specs.Builtins as builtins
-use Rattle.thread_steps.specs.Builtins.{Calls, now, asks, acts, number_now, bytes_now, byte_now, byte_at, slice_at, number_in, own_label, copied, read_from, cut_to, send_into, builtin}
+use Rattle.thread_steps.specs.Builtins.{Calls, now, asks, acts, byte_now, byte_at, slice_at, number_in, own_label, copied, read_from, cut_to, builtin}
 use Rattle.thread_steps.specs.Ops.{Did, calls, fails, wants, on_any, on_int, on_truth, on_many, on_thing, on_caps, on_label, operated, between, before, unless_denied, barrier, may_read, may_write, within, gets_field, puts_field, gets_element, puts_element, new_object, new_array, on_known, called, is_held, monitor_of, frames_limit, on_constant, goes_to, Around, effect}
 use Rattle.lam_worlds.specs.Turns.{lists}
 use Rattle.lam_valid_steps.specs.Laws.{IsTop, IsBarred, LeadsTo, IsRead, IsWritten}

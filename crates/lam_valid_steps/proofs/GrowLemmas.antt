@@ -15,7 +15,7 @@ use Rattle.lam_value.specs.Homes.{Home, name_of, count_in}
 use Rattle.lam_value.proofs.Keys.{name_total, name_exact}
 use Rattle.lam_value.proofs.CountLemmas.{next_is_new}
 use Rattle.labelled_heap.specs.Things as heap
-use Rattle.labelled_heap.specs.Things.{Things, slots_at, with_slot}
+use Rattle.labelled_heap.specs.Things.{Things, slots_at}
 use Rattle.monitor_core.specs.Held.{Held}
 use Rattle.labelled_files.specs.Trees as tree
 use Rattle.labelled_files.specs.Trees.{Tree}

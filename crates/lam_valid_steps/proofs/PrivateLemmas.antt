@@ -33,10 +33,10 @@ use Rattle.thread_steps.specs.Threads.{Frame, Inside, Phase, Bottom, Body, Catch
 use Rattle.thread_steps.specs.Operators as operators
 use Rattle.thread_steps.specs.Operators.{Pure, fine, of_numbers, by_divisor, number, is_small, is_zero, operator, prefix, some_null, tag_before, tags_in, label_by, label_from, with_sign}
 use Rattle.thread_steps.specs.Builtins as builtins
-use Rattle.thread_steps.specs.Builtins.{Calls, now, faults, asks, acts, wrong, root_name, number_now, bytes_now, byte_now, byte_at, slice_at, number_in, own_label, copied, read_from, cut_to, send_into, builtin}
+use Rattle.thread_steps.specs.Builtins.{Calls, now, faults, asks, acts, wrong, root_name, byte_now, byte_at, slice_at, number_in, own_label, copied, read_from, cut_to, send_into, builtin}
 use Rattle.thread_steps.specs.Ops.{Did, gives, sets, jumps, calls, returns, fails, wants, leaves, breaks, on_any, on_int, on_truth, on_many, on_thing, on_caps, on_label, operated, between, before, unless_denied, barrier, within, gets_field, puts_field, gets_element, puts_element, may_read, may_write, new_object, new_array, on_known, called, is_held, monitor_of, frames_limit, on_constant, goes_to, Around, effect}
 use Rattle.thread_steps.specs.Next as next
-use Rattle.thread_steps.specs.Next.{Next, next_of, next_by, next_in, next_op, past, entry, returned, ending, leaving, raised, around}
+use Rattle.thread_steps.specs.Next.{next_of, next_by, next_in, next_op, entry, returned, ending, leaving, raised, around}
 use Rattle.lam_worlds.specs.Worlds.{World}
 use Rattle.lam_worlds.specs.Valid.{IsKnown, AreKnown, Lives, AllLive, FrameLives, ContextLives, IsValid}
 use Rattle.lam_valid_steps.specs.Living.{InsideLives, AskLives, NextLives, NamesWhatLives}

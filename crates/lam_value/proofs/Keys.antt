@@ -1,6 +1,5 @@
 -- The orders of labels, names and homes are total and tell all apart, and `==` is true where they tie. Here those of names.
 use Rattle.std.proofs.Common.{◌≡◌}
-use Rattle.std.specs.Prelude.{◌&&◌, nat_eq}
 use Rattle.std.specs.Ordering.{nat_cmp, ordering_then, eq_by_cmp}
 use Rattle.std.specs.Cmp.{IsTotalOrder, both_tied, unsigned_ties}
 use Rattle.std.proofs.lemmas.Cmp.{nat_cmp_total, on_total, then_total}

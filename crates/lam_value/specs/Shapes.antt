@@ -1,5 +1,5 @@
 -- The slots of a new thing.
-use Rattle.std.specs.Prelude.{ℕ, pos, false, List, replicate}
+use Rattle.std.specs.Prelude.{pos, false, List, replicate}
 use Rattle.lam_value.specs.declared.values.Value.{Value}
 use Rattle.lam_value.specs.declared.values.Value.TheVariants.{Int as an_int, Bool as a_bool, Nothing}
 use Rattle.lam_value.specs.declared.shapes.Kind.{Kind}

@@ -3,7 +3,7 @@
 -- With the name a of tag 0: the number -5 is `-5`; the bytes `a"` and 0 and 255 are `"a\"\x00\xff"`; the object
 -- with number 3 that was made at `{a}/{}` with that label is `obj<{a}/{}|{a}/{}|3>`; an array of length 2
 -- is `arr<{}/{}|{}/{}|0>[2]`; thread 7 is `t7`; tag 4 is `#4`; plus {0} alone is `+{a}-{}`.
-use Rattle.std.specs.Prelude.{◌≡◌, ℕ, ◌+◌, ◌-◌, ◌/◌, ◌%◌, Bool, true, false, nat_eq, nat_le, nat_lt, ◌||◌, ◌&&◌, if◌then◌else◌, List, [], ◌∷◌, ◌++◌, codes, decimal, refl}
+use Rattle.std.specs.Prelude.{◌≡◌, ℕ, ◌+◌, ◌-◌, ◌/◌, ◌%◌, true, false, nat_eq, nat_le, nat_lt, ◌||◌, ◌&&◌, if◌then◌else◌, List, [], ◌∷◌, ◌++◌, codes, decimal, refl}
 use Rattle.std.specs.Fmt.{signed_decimal}
 use Rattle.home_counters.specs.TwoLists.{Text, tag_text, sets_text}
 use Rattle.home_counters.specs.LabelText.{label_text}

@@ -1,8 +1,7 @@
 //! The texts of values.
 
 ghost use Rattle.std.specs.Prelude.{◌≡◌, ◌<◌, ◌/◌, ◌%◌, ◌++◌, ◌∷◌, [], codes, decimal, IfOk, OnOk, string_bytes};
-ghost use Rattle.std.specs.Fmt.{signed_decimal};
-ghost use Rattle.lam_value.specs.Texts.{hex_digit, escaped, all_escaped, bytes_text, name_text, value_text, values_text, after_commas};
+ghost use Rattle.lam_value.specs.Texts.{hex_digit, escaped, bytes_text, name_text, value_text, values_text, after_commas};
 
 use crate::names::Name;
 use crate::values::Value;

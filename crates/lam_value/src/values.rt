@@ -1,6 +1,6 @@
 //! Values, and lists of them.
 
-ghost use Rattle.std.specs.Prelude.{◌≡◌, ◌<◌, ◌++◌, ◌-◌, ◌∷◌, [], ℕ, length, IsTrue, ◌↔◌, IfOk, OnOk, OnErr, take, slice_get, slice_set, Some};
+ghost use Rattle.std.specs.Prelude.{◌≡◌, ◌<◌, ◌++◌, ◌-◌, ◌∷◌, [], length, IsTrue, ◌↔◌, IfOk, OnOk, OnErr, take, slice_get, slice_set, Some};
 ghost use Rattle.std.specs.Option.{option_copied};
 
 use crate::byte_text::ByteText;

@@ -1,6 +1,6 @@
 //! Code that is written by hand.
 
-ghost use Rattle.std.specs.Prelude.{◌≡◌, ◌<◌, ◌^◌, true, length, IfOk};
+ghost use Rattle.std.specs.Prelude.{◌≡◌, ◌<◌, ◌^◌, true, IfOk};
 ghost use Rattle.std.specs.List.{All};
 ghost use Rattle.lam_bytecode.specs.Codes.{given, IsUnit, IsConstant, IsCode, AreCounted, region_numbers};
 

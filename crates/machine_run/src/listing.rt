@@ -4,7 +4,7 @@
 //! thread is ready where it was, and only that thread is looked at again. After a turn that asks, the list is made anew.
 //! Its room is taken once, for as many threads as a run can have, and no turn takes more.
 
-ghost use Rattle.std.specs.Prelude.{◌≡◌, ◌<◌, ◌≤◌, true, [], length, IfOk, OnOk, OnErr, vec_capacity};
+ghost use Rattle.std.specs.Prelude.{◌≡◌, ◌<◌, ◌≤◌, true, length, IfOk, OnOk, OnErr, vec_capacity};
 ghost use Rattle.lam_worlds.specs.Turns as turns;
 ghost use Rattle.machine_run.specs.Runs.{with_turn};
 ghost use Rattle.machine_run.specs.ReadyLists.{ready_threads, is_other, kept_list};

@@ -1,6 +1,6 @@
 //! The first thread of a world that lives, and the first that is ready.
 
-ghost use Rattle.std.specs.Prelude.{◌≡◌, ℕ, true, false, length, slice_get, MatchOption};
+ghost use Rattle.std.specs.Prelude.{◌≡◌, true, length, MatchOption};
 ghost use Rattle.lam_worlds.specs.Worlds.{thread_at};
 ghost use Rattle.lam_worlds.specs.Turns as turns;
 ghost use Rattle.lam_worlds.specs.Turns.{IsDone, is_living};

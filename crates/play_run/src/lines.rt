@@ -4,7 +4,7 @@ ghost use Rattle.std.specs.Prelude.{◌≡◌, ◌++◌, ◌∷◌, [], OnOk, st
 ghost use Rattle.std.specs.Fmt.{signed_decimal};
 ghost use Rattle.capabilities.specs.CapsText.{caps_text};
 ghost use Rattle.play_script.specs.Script.{play_of};
-ghost use Rattle.play_run.specs.Lines.{name_of, words_of, told, answer_of};
+ghost use Rattle.play_run.specs.Lines.{name_of, words_of, answer_of};
 
 use crate::steps::Outcome;
 use capabilities::{Caps, push_caps};

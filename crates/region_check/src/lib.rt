@@ -8,10 +8,10 @@
 //! keep them, without positions and without order. `regions` joins the two.
 #![tactic(auto)]
 
-ghost use Rattle.std.specs.Prelude.{◌≡◌, ◌++◌, ◌∷◌, [], OnOk, IfErr, false};
-ghost use Rattle.lam_syntax.specs.Tree.{cap_tree, caps_tree, expr_tree, exprs_tree, id_tree, ids_tree, items_tree, option_expr_tree, stmt_tree, stmts_tree};
-ghost use Rattle.region_check.specs.Parts.{guarded, region_checked};
-ghost use Rattle.region_check.specs.Breaks.{allowed, has, with_name, read_checked, caps_checked, expr_checked, form_checked, exprs_checked, capture_checked, captures_checked, value_checked, return_checked, place_checked, closed, head_checked, stmt_checked, stmts_checked, program_checked};
+ghost use Rattle.std.specs.Prelude.{◌≡◌, [], OnOk, IfErr, false};
+ghost use Rattle.lam_syntax.specs.Tree.{caps_tree, expr_tree, exprs_tree, id_tree, ids_tree, items_tree, option_expr_tree, stmt_tree, stmts_tree};
+ghost use Rattle.region_check.specs.Parts.{guarded};
+ghost use Rattle.region_check.specs.Breaks.{allowed, has, with_name, read_checked, caps_checked, expr_checked, exprs_checked, capture_checked, captures_checked, value_checked, return_checked, place_checked, closed, head_checked, stmt_checked, stmts_checked, program_checked};
 ghost use Rattle.region_check.specs.Values.{texts, Passes, Leaves, Makes, Extends};
 ghost use Rattle.region_check.specs.Sees.{see_names};
 ghost use Rattle.region_check.specs.declared.RegionFault.TheVariants.{NoMemory as no_memory};

@@ -1,6 +1,6 @@
 //! What an answer will do to a thread, and the memory for it.
 
-ghost use Rattle.std.specs.Prelude.{◌≡◌, ◌<◌, ◌≤◌, ◌∷◌, ◌++◌, [], List, length, take, drop, reverse, IfOk, OnOk, OnErr, IfErr};
+ghost use Rattle.std.specs.Prelude.{◌≡◌, ◌<◌, ◌≤◌, ◌∷◌, ◌++◌, [], List, length, take, drop, reverse, IfOk, OnOk, OnErr};
 ghost use Rattle.std.specs.Option.{option_copied};
 ghost use Rattle.thread_steps.specs.Ops.{region_in};
 ghost use Rattle.lam_asks.specs.declared.ask.Ask.{Ask};
@@ -9,7 +9,7 @@ ghost use Rattle.thread_steps.specs.Next.{next_of, asks, answered, done, entered
 ghost use Rattle.capabilities.specs.Changes.{joined};
 ghost use Rattle.lam_value.specs.declared.names.Name.{Name as NameOf};
 ghost use Rattle.lam_threads.specs.Seen.{phase_of};
-ghost use Rattle.thread_answers.specs.Preparing.{held_after, held_before, taken_by, given_by, thing_in, catch_place_in, after_of, nulls, added_ones, without_at, caps_or, gone, undone, done_in, undone_in, ending_of};
+ghost use Rattle.thread_answers.specs.Preparing.{held_after, held_before, taken_by, given_by, thing_in, catch_place_in, after_of, nulls, without_at, caps_or, gone, undone, done_in, undone_in, ending_of};
 
 use crate::both::both;
 use crate::plan::{Going, Left, Monitor, Plan};

@@ -1,5 +1,5 @@
 -- What is reported after the parts that were read, and what became of the files.
-use Rattle.std.proofs.Common.{◌≡◌, ◌≢◌, ◌≤◌, ℕ, ◌+◌, ◌-◌, ◌^◌, min, List, Option, Some, None, Result, Ok, Err, String, string_bytes, IfErr, refl, sym, ap, subst, ◌∙◌, arith}
+use Rattle.std.proofs.Common.{◌≡◌, ◌≤◌, ℕ, ◌+◌, ◌-◌, ◌^◌, min, Some, Result, Ok, Err, String, string_bytes, IfErr, refl, sym, ap, subst, ◌∙◌, arith}
 use Rattle.std.specs.declared.alloc.Global.{Global}
 use Rattle.lam_io.specs.Outside.{Files, AllStay, OthersStay, Rose}
 use Rattle.lam_bytecode.specs.Codes.{CodeTree}
@@ -7,10 +7,10 @@ use Rattle.lam_worlds.specs.Worlds.{World}
 use Rattle.world_terms.specs.Start.{start_of}
 use Rattle.lam_words.specs.Words.{Text}
 use Rattle.lam_plan.specs.Refusals.{Plan}
-use Rattle.lam_plan.specs.Answer.{IsWritten, OthersKept}
+use Rattle.lam_plan.specs.Answer.{OthersKept}
 use Rattle.lam_plan.specs.Reading.{HasFile, WithFile, of_file, Never, Compiles, IsCompiled, program_limit, world_limit}
 use Rattle.lam_plan.specs.Replays.{Reader, ByWorld, NoStart}
-use Rattle.lam_plan.specs.Threads.{ThreadFiles, status_of, TakesTurns, StartsThreads, RunsThreads}
+use Rattle.lam_plan.specs.Threads.{ThreadFiles, TakesTurns, StartsThreads, RunsThreads}
 use Rattle.lam_plan.proofs.ReadLemmas.{same_files, file_map, program_then, no_program_then, by_no_world, by_this_world}
 use Rattle.lam_commands.specs.declared.report.Report.{Report}
 use Rattle.lam_commands.specs.declared.halt.Halt.{Halt}

@@ -1,11 +1,10 @@
 -- The turns that threads took, and what is made of them.
 use Rattle.std.proofs.Common.{◌≡◌, ◌≤◌, ℕ, List, length, Option, Some, None, Result, Ok, Err, String, string_bytes, IfOk, refl, sym, ap, subst, ◌∙◌}
 use Rattle.std.specs.declared.alloc.Global.{Global}
-use Rattle.std.specs.Prelude.{◌↔◌}
 use Rattle.want_of_memory.specs.declared.NoMemory.{NoMemory as NoMem}
 use Rattle.lam_bytecode.specs.Codes.{CodeTree, IsCode}
 use Rattle.lam_worlds.specs.Worlds.{World}
-use Rattle.lam_worlds.specs.Turns.{Moment, moments, replay}
+use Rattle.lam_worlds.specs.Turns.{Moment, moments}
 use Rattle.lam_worlds.specs.Valid.{IsValid}
 use Rattle.world_terms.specs.Breaks.{Reading}
 use Rattle.world_terms.specs.Start.{start_of}
@@ -20,10 +19,9 @@ use Rattle.thread_host.specs.declared.Finished.{Finished}
 use Rattle.lam_make.specs.Made.{program_text, world_text}
 use Rattle.run_notes.specs.Sums.{summary_lines}
 use Rattle.lam_words.specs.Words.{Text}
-use Rattle.lam_plan.specs.declared.Status.{Status}
 use Rattle.lam_plan.specs.Refusals.{Plan, prints}
 use Rattle.lam_plan.specs.Reading.{Never, IsCompiled, Compiles, fine}
-use Rattle.lam_plan.specs.Replays.{by_turns, IsOfTurns, ByReader, ByWorld, NoStart}
+use Rattle.lam_plan.specs.Replays.{by_turns, IsOfTurns, ByReader, ByWorld}
 use Rattle.lam_plan.specs.Threads.{status_of, IsOfThreads, made_budget, Makes}
 use Rattle.lam_plan.proofs.ReadLemmas.{no_code_then, by_no_world, by_this_world, by_no_reader, by_this_reader}
 use Rattle.lam_commands.specs.declared.halt.WorldBreak.TheVariants.{NotJson, NoMember, BadMember, NoTag, BadPath, PathTwice}

@@ -1,5 +1,5 @@
 -- The turns that threads took, and what is made of them.
-use Rattle.std.specs.Prelude.{◌≡◌, ℕ, Option, Some, None, Result, Ok, Err, string_bytes}
+use Rattle.std.specs.Prelude.{◌≡◌, ℕ, Some, None, Result, Ok, Err, string_bytes}
 use Rattle.lam_bytecode.specs.Codes.{CodeTree, IsCode}
 use Rattle.lam_worlds.specs.Worlds.{World}
 use Rattle.lam_worlds.specs.Valid.{IsValid}

@@ -1,5 +1,5 @@
 -- How many arguments and threads there are.
-use Rattle.std.proofs.Common.{◌≡◌, ◌≢◌, ℕ, ◌<◌, ◌≤◌, ◌&&◌, Bool, true, false, cond, eqb, ltb, leb, List, length, Option, Some, None, Result, Ok, Err, refl, sym, ap, ◌∙◌, arith}
+use Rattle.std.proofs.Common.{◌≡◌, ◌≢◌, ℕ, ◌≤◌, ◌&&◌, Bool, true, false, eqb, ltb, leb, List, length, Ok, Err, refl, sym, ap, ◌∙◌, arith}
 use Rattle.std.specs.Prelude.{codes}
 use Rattle.std.specs.Option.{option_and_then}
 use Rattle.std.proofs.lemmas.Bool.Decides.{nat_tests}
@@ -10,10 +10,8 @@ use Rattle.serde_json.specs.View.{items_view}
 use Rattle.serde_json.specs.declared.value.Value.{Value as Json}
 use Rattle.flow_labels.specs.TwoLists.{Text}
 use Rattle.lam_value.specs.declared.names.Name.{Name}
-use Rattle.lam_value.specs.declared.values.Value.{Value}
 use Rattle.lam_bytecode.specs.Codes.{CodeTree}
 use Rattle.lam_bytecode.specs.declared.unit.ArgKind.{ArgKind}
-use Rattle.thread_steps.specs.Threads.{Thread}
 use Rattle.world_terms.specs.Breaks.{BadMember, Reading, ◌>>=◌, only_if, formed, member_as}
 use Rattle.world_terms.specs.Entries.{arguments, args_in, threads_of, threads_in}
 use Rattle.world_stores_reading.specs.declared.fault.WorldFault.{WorldFault}

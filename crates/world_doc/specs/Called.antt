@@ -1,5 +1,5 @@
 -- The pipes of a document, by what it calls them.
-use Rattle.std.specs.Prelude.{ℕ, List, map, codes}
+use Rattle.std.specs.Prelude.{List, map, codes}
 use Rattle.std.specs.Borrow.{Bor}
 use Rattle.lam_value.specs.declared.names.Name.{Name}
 use Rattle.labelled_pipes.specs.Queues.{Queues}

@@ -1,5 +1,5 @@
 -- What the readers of threads see of what they found.
-use Rattle.std.specs.Prelude.{◌≡◌, ℕ, codes, List, [], ◌∷◌}
+use Rattle.std.specs.Prelude.{◌≡◌, codes, List, [], ◌∷◌}
 use Rattle.std.specs.Borrow.{Bor}
 use Rattle.serde_json.specs.Data.{Data}
 use Rattle.serde_json.specs.Find.{as_object}

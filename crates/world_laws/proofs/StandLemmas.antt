@@ -25,7 +25,7 @@ use Rattle.world_terms.specs.Breaks.{Reading, ◌>>=◌, only_if, formed, presen
 use Rattle.world_terms.specs.Tags.{tags_in, caps_in}
 use Rattle.world_terms.specs.Stores.{tree_in, Pipes, pipes_in}
 use Rattle.world_terms.specs.Entries.{Entry, entry_by, entry_named, argument, fits, fitting, arguments, args_in, thread_in, threads_of, threads_in}
-use Rattle.world_terms.specs.Start.{version_in, world_in, world_of}
+use Rattle.world_terms.specs.Start.{version_in, world_in}
 use Rattle.world_laws.specs.Standing.{AreArguments, IsEntry, StandsAtEntry, ThreadsStand}
 
 -- ---- readings

@@ -1,5 +1,5 @@
 -- The names of tags, and tags by their names, item by item.
-use Rattle.std.proofs.Common.{◌≡◌, ℕ, suc, ◌+◌, ◌<◌, ◌≤◌, Bool, true, false, cond, leb, List, [], ◌∷◌, ◌++◌, length, get_or, take, drop, zero, lit<, Option, Some, None, Result, Ok, Err, refl, sym, ap, subst, ◌∙◌, arith}
+use Rattle.std.proofs.Common.{◌≡◌, ℕ, suc, ◌+◌, ◌<◌, ◌≤◌, Bool, true, false, cond, leb, List, [], ◌∷◌, ◌++◌, length, get_or, take, drop, zero, lit<, Option, Some, None, Ok, Err, refl, sym, ap, subst, ◌∙◌, arith}
 use Rattle.std.specs.Option.{MatchOption, option_map, option_and_then}
 use Rattle.std.specs.Prelude.{codes}
 use Rattle.std.proofs.lemmas.List.{drop_more}
@@ -14,11 +14,11 @@ use Rattle.serde_json.specs.Data.{Data, Items, item}
 use Rattle.serde_json.specs.View.{view, items_view}
 use Rattle.serde_json.specs.declared.value.Value.{Value}
 use Rattle.flow_labels.specs.TwoLists.{Text}
-use Rattle.world_terms.specs.Breaks.{Break, BadMember, Reading, formed, ◌>>=◌}
+use Rattle.world_terms.specs.Breaks.{Break, Reading, formed}
 use Rattle.world_terms.specs.Tags.{named, unless_there, names_after, names_of, tag_of, tags_of}
 use Rattle.world_stores_reading.specs.declared.fault.WorldFault.{WorldFault}
 use Rattle.world_stores_reading.specs.Meaning.{break_of, Fails}
-use Rattle.world_stores_reading.proofs.Steps.{fails_same, onto, then_later, onto_more, onto_fails}
+use Rattle.world_stores_reading.proofs.Steps.{fails_same, onto, onto_more, onto_fails}
 
 -- the items from a place on
 pub items_more : (xs : List Value) (i : ℕ) (x : Value) → i < length xs → x ≡ get_or xs i x → items_view (drop i xs) ≡ item (view x) (items_view (drop (i + 1) xs))

@@ -1,5 +1,5 @@
 -- What an item of the tree has, and where it stands.
-use Rattle.std.specs.Prelude.{ℕ, List, Option, codes}
+use Rattle.std.specs.Prelude.{ℕ, List, codes}
 use Rattle.std.specs.Borrow.{Bor}
 use Rattle.serde_json.specs.Data.{Data, Members}
 use Rattle.serde_json.specs.Find.{get_member, as_array, as_object}

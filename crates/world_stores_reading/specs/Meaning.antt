@@ -1,6 +1,6 @@
 -- What a reading in code gave, beside what the definition reads: the same value, or a fault that is the same break.
 -- Want of memory is no break, and says nothing.
-use Rattle.std.specs.Prelude.{◌≡◌, List, ℕ, Option, Some, None, Result, Ok, Err, string_bytes, MatchOption}
+use Rattle.std.specs.Prelude.{◌≡◌, Option, Some, None, Result, Ok, Err, string_bytes, MatchOption}
 use Rattle.world_terms.specs.Breaks.{Break, Reading}
 use Rattle.world_terms.specs.Breaks as broken
 use Rattle.world_stores_reading.specs.declared.fault.WorldFault.{WorldFault}

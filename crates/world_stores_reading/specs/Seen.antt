@@ -1,5 +1,5 @@
 -- The members of a value that was read, none where it is no object.
-use Rattle.serde_json.specs.Data.{Data, null, boolean, number, string, array, object, Items, Members, no_members}
+use Rattle.serde_json.specs.Data.{Data, null, boolean, number, string, array, object, Members, no_members}
 
 abbrev pub members : Data → Members
 members null = no_members

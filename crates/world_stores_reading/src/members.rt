@@ -1,6 +1,5 @@
 //! The members of an object, in the form that they must have.
 
-ghost use Rattle.std.specs.Prelude.{◌≡◌};
 ghost use Rattle.serde_json.specs.View.{view, items_view};
 ghost use Rattle.serde_json.specs.Find.{get_member, as_str, as_array, as_object};
 ghost use Rattle.world_terms.specs.Breaks.{present, formed, member_as};

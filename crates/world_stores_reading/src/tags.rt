@@ -6,8 +6,8 @@ ghost use Rattle.std.specs.List.{prefix_len};
 ghost use Rattle.flow_labels.specs.Names.{is_word};
 ghost use Rattle.flow_labels.specs.LabelText.{label_of};
 ghost use Rattle.world_terms.specs.Breaks.{formed};
-ghost use Rattle.world_terms.specs.Tags.{named, unless_there, names_after, names_of, tags_in, word_at, label_or, label_in, known, tag_of, tags_of, set_in, caps_in};
-ghost use Rattle.world_stores_reading.specs.Meaning.{Gives, GivesOnto, Says};
+ghost use Rattle.world_terms.specs.Tags.{named, unless_there, names_after, names_of, tags_in, word_at, label_or, label_in, tag_of, tags_of, set_in, caps_in};
+ghost use Rattle.world_stores_reading.specs.Meaning.{Gives, GivesOnto};
 ghost use Rattle.world_stores_reading.specs.Seen.{members};
 
 use crate::fault::{WorldFault, bad_member, no_tag};

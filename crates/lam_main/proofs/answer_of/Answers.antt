@@ -1,4 +1,4 @@
-use Rattle.std.proofs.Common.{◌≡◌, ℕ, Result, Ok, Err, map, string_bytes, refl, sym, subst}
+use Rattle.std.proofs.Common.{◌≡◌, ℕ, Result, Err, map, string_bytes, refl, sym, subst}
 use Rattle.lam_words.specs.Words.{Request, request_of}
 use Rattle.lam_plan.specs.Answer.{OthersKept}
 use Rattle.lam_plan.specs.Plan.{IsPlanOf, written_by}

@@ -1,4 +1,4 @@
-use Rattle.std.proofs.Common.{◌≡◌, ◌≤◌, ◌<◌, ◌+◌, ◌∙◌, ℕ, Bool, true, false, sym, ap, cond, length, take, arith}
+use Rattle.std.proofs.Common.{◌≡◌, ◌+◌, ◌∙◌, ℕ, true, false, sym, ap, cond, length, take, arith}
 use Rattle.std.specs.Option.{option_copied}
 use Rattle.std.specs.List.{filter}
 use Rattle.home_counters.specs.Alike.{is_shown}

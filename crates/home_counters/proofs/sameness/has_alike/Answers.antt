@@ -1,4 +1,4 @@
-use Rattle.std.proofs.Common.{◌≡◌, ◌<◌, ◌∙◌, false, refl, sym, ap, subst, arith}
+use Rattle.std.proofs.Common.{false, refl, sym, subst, arith}
 use Rattle.std.specs.Option.{option_copied}
 use Rattle.std.specs.Map.{lookup}
 use Rattle.home_counters.specs.Alike.{is_shown, HasAlike}

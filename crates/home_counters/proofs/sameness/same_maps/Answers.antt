@@ -1,7 +1,5 @@
 use Rattle.std.proofs.Common.{◌≡◌, ◌∙◌, sym, ap, true, false}
-use Rattle.std.specs.Prelude.{nat_eq}
 use Rattle.std.specs.Option.{option_copied}
-use Rattle.std.specs.Map.{lookup}
 use Rattle.std.proofs.lemmas.Bool.{eqb-true}
 use Rattle.home_counters.specs.Alike.{is_shown}
 use Rattle.home_counters.proofs.Rows.{label_same}

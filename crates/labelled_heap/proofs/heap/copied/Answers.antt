@@ -1,7 +1,7 @@
 use Rattle.std.proofs.Common.{◌<◌, ◌∙◌, ap, sym, Some, [], length, arith, subst, List}
 use Rattle.std.specs.Prelude.{option_and_then, unwrap_or}
 use Rattle.std.specs.Map.{lookup}
-use Rattle.lam_value.specs.Homes.{Home, home_eq}
+use Rattle.lam_value.specs.Homes.{home_eq}
 use Rattle.lam_value.proofs.Keys.{home_total, home_exact, home_ties}
 use Rattle.lam_value.proofs.Maps.{not_none}
 use Rattle.lam_value.proofs.Rows.{copy_more, taken_all}

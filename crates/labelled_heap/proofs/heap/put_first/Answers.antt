@@ -1,4 +1,4 @@
-use Rattle.std.proofs.Common.{◌≡◌, ◌<◌, ◌∙◌, sym, ap, subst, cond, length, List, Some, arith}
+use Rattle.std.proofs.Common.{◌<◌, ◌∙◌, sym, ap, subst, cond, length, List, Some, arith}
 use Rattle.std.specs.Map.{lookup}
 use Rattle.lam_value.specs.Homes.{Home, home_eq}
 use Rattle.labelled_heap.specs.declared.heap.Thing.{Thing}

@@ -1,4 +1,4 @@
-use Rattle.std.proofs.Common.{◌≡◌, ◌∙◌, ap, cond, Some}
+use Rattle.std.proofs.Common.{◌≡◌, ◌∙◌, cond, Some}
 use Rattle.std.specs.Map.{lookup}
 use Rattle.lam_value.specs.Homes.{home_of, name_of}
 use Rattle.lam_value.proofs.Keys.{name_eq}

@@ -1,6 +1,5 @@
 use Rattle.std.proofs.Common.{ap}
 use Rattle.lam_plan.specs.Replays.{view_by}
-use Rattle.lam_replay.proofs.RunLemmas.{bad_label}
 use Rattle.lam_replay.proofs.eye.observer.Goals as goal
 
 pub returns-in-Ok-clause-finds : goal.returns-in-Ok-clause-finds

@@ -1,4 +1,4 @@
-use Rattle.std.proofs.Common.{◌≡◌, ◌∙◌, sym, ap}
+use Rattle.std.proofs.Common.{◌∙◌, sym, ap}
 use Rattle.std.proofs.Math.ListN.{drop_of_length-le}
 use Rattle.monitor_core.specs.Held.{takings, dropped}
 use Rattle.monitor_core.proofs.HeldLemmas.{dropped_takings}

@@ -1,10 +1,10 @@
-use Rattle.std.proofs.Common.{◌≡◌, ◌∙◌, ◌<◌, ap, sym, subst}
+use Rattle.std.proofs.Common.{◌∙◌, ◌<◌, ap, sym, subst}
 use Rattle.std.specs.Map.{lookup}
 use Rattle.std.specs.FinMap.{insert}
 use Rattle.lam_value.proofs.Keys.{name_eq}
 use Rattle.lam_value.proofs.Maps.{on_ok_so, on_err_so}
 use Rattle.lam_value.proofs.CountLemmas.{either_way}
-use Rattle.monitor_core.specs.Held.{once_more, count_of, entered, held_in, IsSound}
+use Rattle.monitor_core.specs.Held.{once_more, count_of, held_in, IsSound}
 use Rattle.monitor_core.proofs.HeldLemmas.{holder_seen, put, kept, entered_sound}
 use Rattle.monitor_core.proofs.Monitors.enter.Goals as goal
 

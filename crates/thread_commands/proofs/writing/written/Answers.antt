@@ -1,5 +1,5 @@
 use Rattle.std.proofs.Common.{refl, string_bytes}
-use Rattle.thread_commands.proofs.ReportLemmas.{book_reported, book_kept}
+use Rattle.thread_commands.proofs.ReportLemmas.{book_reported}
 use Rattle.thread_commands.proofs.writing.written.Goals as goal
 
 pub returns-in-Ok-clause-gives : goal.returns-in-Ok-clause-gives

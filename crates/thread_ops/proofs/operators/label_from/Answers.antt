@@ -1,4 +1,4 @@
-use Rattle.std.proofs.Common.{◌≡◌, ◌++◌, Bool, true, false, sym}
+use Rattle.std.proofs.Common.{◌≡◌, ◌++◌, true, false, sym}
 use Rattle.std.specs.Prelude.{◌&&◌, is_some}
 use Rattle.thread_steps.specs.Operators.{some_null, tags_in}
 use Rattle.thread_ops.proofs.Many.{label_null, label_fine, label_wrong}

@@ -2,10 +2,10 @@ use Rattle.std.proofs.Common.{sym}
 use Rattle.serde_json.specs.View.{view}
 use Rattle.world_terms.specs.Entries.{argument, contents}
 use Rattle.world_stores_reading.specs.Seen.{members}
-use Rattle.world_stores_reading.proofs.Steps.{says_fails, gives_same}
+use Rattle.world_stores_reading.proofs.Steps.{gives_same}
 use Rattle.world_doc.specs.Called.{called_of}
 use Rattle.world_doc.specs.Found.{read_as}
-use Rattle.world_doc.proofs.ArgLemmas.{one_is, not_one}
+use Rattle.world_doc.proofs.ArgLemmas.{one_is}
 use Rattle.world_doc.proofs.args.argument.Goals as goal
 
 pub returns-in-One : goal.returns-in-One

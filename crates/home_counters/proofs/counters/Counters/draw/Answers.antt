@@ -1,6 +1,6 @@
-use Rattle.std.proofs.Common.{◌≡◌, ◌+◌, ◌∙◌, ap}
+use Rattle.std.proofs.Common.{◌+◌, ◌∙◌, ap}
 use Rattle.std.specs.FinMap.{insert}
-use Rattle.home_counters.specs.Homes.{home_of, count_in}
+use Rattle.home_counters.specs.Homes.{home_of}
 use Rattle.home_counters.proofs.Maps.{on_err}
 use Rattle.home_counters.proofs.Rows.{same_seen, set_seen}
 use Rattle.home_counters.proofs.counters.Counters.draw.Goals as goal

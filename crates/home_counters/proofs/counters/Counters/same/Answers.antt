@@ -1,4 +1,4 @@
-use Rattle.std.proofs.Common.{◌≡◌, ◌∙◌, refl, true, sym, ap}
+use Rattle.std.proofs.Common.{◌∙◌, refl, true, sym, ap}
 use Rattle.std.specs.FinMap.{get, same_map}
 use Rattle.home_counters.proofs.Keys.{home_total, home_exact}
 use Rattle.home_counters.proofs.Rows.{home_seen, homes_alike, rows_alike}

@@ -1,4 +1,4 @@
-use Rattle.std.proofs.Common.{◌≡◌, ◌∙◌, sym}
+use Rattle.std.proofs.Common.{◌∙◌, sym}
 use Rattle.flow_labels.specs.Flow.{flows}
 use Rattle.home_counters.proofs.Rows.{home_seen, homes_alike, rows_alike}
 use Rattle.home_counters.proofs.counters.Counters.same_seen.Goals as goal

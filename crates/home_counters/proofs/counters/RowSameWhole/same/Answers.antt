@@ -1,4 +1,4 @@
-use Rattle.std.proofs.Common.{◌≡◌, ◌∙◌, refl, sym, ℕ}
+use Rattle.std.proofs.Common.{◌∙◌, refl, sym, ℕ}
 use Rattle.std.specs.Map.{lookup}
 use Rattle.home_counters.specs.Homes.{label_eq}
 use Rattle.home_counters.proofs.SameLemmas.{mapped_same, alike_mapped, map_self}

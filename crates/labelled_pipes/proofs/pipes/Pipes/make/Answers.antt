@@ -1,5 +1,5 @@
-use Rattle.std.proofs.Common.{◌≡◌, ◌<◌, ◌∙◌, sym, subst, arith}
-use Rattle.lam_value.specs.Homes.{home_of, count_in}
+use Rattle.std.proofs.Common.{◌≡◌, ◌∙◌, sym, subst, arith}
+use Rattle.lam_value.specs.Homes.{home_of}
 use Rattle.lam_value.proofs.Maps.{on_err}
 use Rattle.labelled_pipes.specs.Queues.{with_pipe, IsSound}
 use Rattle.labelled_pipes.specs.Seen.{queues_of}
