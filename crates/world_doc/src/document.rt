@@ -1,6 +1,5 @@
 //! The whole document, member after member.
 
-ghost use Rattle.std.specs.Prelude.{◌≡◌};
 ghost use Rattle.serde_json.specs.View.{view};
 ghost use Rattle.serde_json.specs.Read.{read};
 ghost use Rattle.world_terms.specs.Start.{version_in, world_of, world_or, start_of};
@@ -10,7 +9,7 @@ ghost use Rattle.world_doc.specs.Called.{called_of};
 ghost use Rattle.world_doc.specs.Document.{document_or, filled, with_threads, world_onto, after_tags};
 
 use crate::pipes::{PipeNames, read_pipes};
-use crate::read_threads;
+use crate::threads::read_threads;
 use flow_labels::TagNames;
 use indexmap::IndexMap;
 use lam_bytecode::Code;

@@ -5,8 +5,8 @@
 //! `world_stores_reading`.
 //!
 //! Each thread runs a function of the code whose result is a number, with an argument of its kind for each parameter,
-//! and with capabilities. [`read_threads`] answers the threads as they just started, or the first break of them, exactly
-//! as the definition `threads_in` of `world_terms` reads it.
+//! and with capabilities. The threads are answered as they just started, or their first break, exactly as the definition
+//! `threads_in` of `world_terms` reads them.
 //!
 //! - `document` has the whole reading.
 //! - `pipes` makes the pipes, with a table of what the document calls them: they are looked up in constant time.
@@ -25,6 +25,4 @@ mod pipes;
 mod threads;
 
 pub use document::start;
-pub use pipes::PipeNames;
-pub use threads::read_threads;
 pub use world_stores_reading::WorldFault;
