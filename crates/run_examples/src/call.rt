@@ -75,44 +75,34 @@ pub fn tell<R: Calls, G: Gate + Sync>(
 /// A call, and what it is to come to.
 #[derive(Clone, Copy)]
 pub struct Wanted<'a> {
+    /// What the call shows, in the words of a failure.
+    pub shows: &'a str,
     pub words: &'a [&'a str],
     pub output: Output<'a>,
     pub status: Status,
     pub printed: &'a str,
 }
 
-/// Calls the tool with the words, by a gate: whether the call ended as it should, and printed what it should.
+/// Calls the tool with the words, by a gate. It fails, with what was printed, where the call ends in another way than it
+/// should or prints another text.
 pub fn comes_to<R: Calls, G: Gate + Sync>(
     rt: &R,
     shelf: &mut MemShelf,
     wanted: Wanted<'_>,
     gate: &G,
-) -> Result<bool, Fail> {
-    let told = tell(rt, shelf, wanted.words, wanted.output, gate)?;
-    let well = told.status == wanted.status && told.text.as_str() == wanted.printed;
-    drop(told);
-    Ok(well)
-}
-
-/// Calls the tool with the words, by a gate, and fails where the call ends in another way or prints another text.
-pub fn prints<'a, R: Calls, G: Gate + Sync>(
-    rt: &R,
-    shelf: &mut MemShelf,
-    words: &'a [&'a str],
-    gate: &G,
-    status: Status,
-    printed: &'a str,
 ) -> Result<(), Fail> {
-    let wanted = Wanted {
-        words,
-        output: WIDE,
-        status,
-        printed,
-    };
-    if comes_to(rt, shelf, wanted, gate)? {
+    let told = tell(rt, shelf, wanted.words, wanted.output, gate)?;
+    if told.status == wanted.status && told.text.as_str() == wanted.printed {
+        drop(told);
         return Ok(());
     }
-    Err(Fail::new("the call ended in another way, or printed another text"))
+    Err(another_end(wanted.shows, told))
+}
+
+/// The failure of a call that came to something else.
+fn another_end(shows: &str, told: Told) -> Fail {
+    let Told { status, text } = told;
+    Fail::new(format_args!("{shows}: ended with {status:?}, and printed:\n{text}"))
 }
 
 /// The bytes of the book that a call wrote, which is `B`.
@@ -123,12 +113,20 @@ pub fn book_in<R: Calls>(rt: &R, shelf: &mut MemShelf) -> Result<Vec<u8>, Fail> 
     }
 }
 
-/// Whether the book that a call wrote has these bytes.
-pub fn book_is<R: Calls>(rt: &R, shelf: &mut MemShelf, wanted: &str) -> Result<bool, Fail> {
+/// Fails where the book that a call wrote has another text.
+pub fn wrote<R: Calls>(
+    rt: &R,
+    shelf: &mut MemShelf,
+    shows: &str,
+    wanted: &str,
+) -> Result<(), Fail> {
     let book = book_in(rt, shelf)?;
     let well = book.as_slice() == wanted.as_bytes();
     drop(book);
-    Ok(well)
+    if well {
+        return Ok(());
+    }
+    Err(Fail::new(format_args!("{shows}: another book was written")))
 }
 
 fn texts_of(alloc: Global, words: &[&str]) -> Result<Vec<String>, AllocError> {

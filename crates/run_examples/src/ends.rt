@@ -1,20 +1,17 @@
 //! Runs, how they end, what is seen of them, and the books that they write.
 
-use crate::call::{Calls, Given, WIDE, Wanted, book_is, comes_to, store};
+use crate::call::{Calls, Given, WIDE, Wanted, comes_to, store, wrote};
 use crate::gates::InTurn;
 use crate::given::{BARE_WORLD, ENTERS, ENTRY_SEEN, ONE_WORKER, THREE, ZERO};
 use lam_io::{Gate, MemShelf, OpenGate};
 use lam_main::Status;
 use std::test::Fail;
 
-/// A run by the program's gate, and what it comes to: how it ends, what it prints, and its book.
+/// A run by the program's gate, what it comes to, and the book that it writes.
 #[derive(Clone, Copy)]
 struct Case<'a> {
-    shows: &'a str,
     given: Given<'a>,
-    words: &'a [&'a str],
-    status: Status,
-    printed: &'a str,
+    call: Wanted<'a>,
     book: &'a str,
 }
 
@@ -39,77 +36,101 @@ const JOINS: Given<'static> = Given {
 
 const CASES: [Case<'static>; 8] = [
     Case {
-        shows: "a region that the thread may not enter is refused to it, and the thread ends by that",
         given: ENTERS,
-        words: ONE_WORKER,
-        status: Status::Done,
-        printed: ENTRY_SEEN,
+        call: Wanted {
+            shows: "a region that the thread may not enter is refused to it, and the thread ends by that",
+            words: ONE_WORKER,
+            output: WIDE,
+            status: Status::Done,
+            printed: ENTRY_SEEN,
+        },
         book: "lam book 1\n0 8\n",
     },
     Case {
-        shows: "a body's fault is caught, the catch block's is suppressed, and the thread goes on",
         given: FAULTS,
-        words: ONE_WORKER,
-        status: Status::Done,
-        printed: "t0 {}/{} enter {}/{} caps +{}-{} region 0 (1) = entered\nt0 {}/{} caught Zero = done\nt0 {}/{} suppressed Zero = done\nt0 {}/{} end value 1 = done\n",
+        call: Wanted {
+            shows: "a body's fault is caught, the catch block's is suppressed, and the thread goes on",
+            words: ONE_WORKER,
+            output: WIDE,
+            status: Status::Done,
+            printed: "t0 {}/{} enter {}/{} caps +{}-{} region 0 (1) = entered\nt0 {}/{} caught Zero = done\nt0 {}/{} suppressed Zero = done\nt0 {}/{} end value 1 = done\n",
+        },
         book: "lam book 1\n0 17\n",
     },
     Case {
-        shows: "a loop that a secret makes short",
         given: ZERO,
-        words: ONE_WORKER,
-        status: Status::Done,
-        printed: LOOP_SEEN,
+        call: Wanted {
+            shows: "a loop that a secret makes short",
+            words: ONE_WORKER,
+            output: WIDE,
+            status: Status::Done,
+            printed: LOOP_SEEN,
+        },
         book: "lam book 1\n0 21\n",
     },
     Case {
-        shows: "one that a secret makes long looks the same, though the run has more turns",
         given: THREE,
-        words: ONE_WORKER,
-        status: Status::Done,
-        printed: LOOP_SEEN,
+        call: Wanted {
+            shows: "one that a secret makes long looks the same, though the run has more turns",
+            words: ONE_WORKER,
+            output: WIDE,
+            status: Status::Done,
+            printed: LOOP_SEEN,
+        },
         book: "lam book 1\n0 54\n",
     },
     Case {
-        shows: "a run has no more turns than its budget",
         given: ZERO,
-        words: &[
-            "run",
-            "P",
-            "W",
-            "{}/{}",
-            "B",
-            "--workers",
-            "1",
-            "--turns",
-            "1",
-        ],
-        status: Status::Budget,
-        printed: "",
+        call: Wanted {
+            shows: "a run has no more turns than its budget",
+            words: &[
+                "run",
+                "P",
+                "W",
+                "{}/{}",
+                "B",
+                "--workers",
+                "1",
+                "--turns",
+                "1",
+            ],
+            output: WIDE,
+            status: Status::Budget,
+            printed: "",
+        },
         book: "lam book 1\n0 1\n",
     },
     Case {
-        shows: "who ends with the last turn of the budget has ended",
         given: ENTERS,
-        words: &["run", "P", "W", "{}/{}", "B", "--turns", "8"],
-        status: Status::Done,
-        printed: ENTRY_SEEN,
+        call: Wanted {
+            shows: "who ends with the last turn of the budget has ended",
+            words: &["run", "P", "W", "{}/{}", "B", "--turns", "8"],
+            output: WIDE,
+            status: Status::Done,
+            printed: ENTRY_SEEN,
+        },
         book: "lam book 1\n0 8\n",
     },
     Case {
-        shows: "the budget is 100,000 turns where the words name none",
         given: ENDLESS,
-        words: &["run", "P", "W", "{}/{}", "B"],
-        status: Status::Budget,
-        printed: "",
+        call: Wanted {
+            shows: "the budget is 100,000 turns where the words name none",
+            words: &["run", "P", "W", "{}/{}", "B"],
+            output: WIDE,
+            status: Status::Budget,
+            printed: "",
+        },
         book: "lam book 1\n0 100000\n",
     },
     Case {
-        shows: "a thread that joins itself waits, and who joins that one too",
         given: JOINS,
-        words: ONE_WORKER,
-        status: Status::AllWait,
-        printed: "t0 {}/{} new class 0 = obj<{}/{}|{}/{}|0>\nt0 {}/{} spawn 0 (obj<{}/{}|{}/{}|0>) caps +{}-{} = t1\nt0 {}/{} write obj<{}/{}|{}/{}|0> 0 t1 = done\nt1 {}/{} read obj<{}/{}|{}/{}|0> 0 = t1\nt1 {}/{} read obj<{}/{}|{}/{}|0> 0 = t1\n",
+        call: Wanted {
+            shows: "a thread that joins itself waits, and who joins that one too",
+            words: ONE_WORKER,
+            output: WIDE,
+            status: Status::AllWait,
+            printed: "t0 {}/{} new class 0 = obj<{}/{}|{}/{}|0>\nt0 {}/{} spawn 0 (obj<{}/{}|{}/{}|0>) caps +{}-{} = t1\nt0 {}/{} write obj<{}/{}|{}/{}|0> 0 t1 = done\nt1 {}/{} read obj<{}/{}|{}/{}|0> 0 = t1\nt1 {}/{} read obj<{}/{}|{}/{}|0> 0 = t1\n",
+        },
         book: "lam book 1\n0 11\n1 9\n",
     },
 ];
@@ -118,38 +139,29 @@ const CASES: [Case<'static>; 8] = [
 #[test]
 fn runs_end_as_they_should(rt: HostRuntime) -> Result<(), Fail> {
     for case in &CASES {
-        let well = goes_so(&rt, case)?;
-        assert!(rt; well, "{}", case.shows);
+        goes_so(&rt, case)?;
     }
     Ok(())
 }
 
-/// Whether a run goes as its case says.
-fn goes_so<R: Calls>(rt: &R, case: &Case<'_>) -> Result<bool, Fail> {
+/// Makes the run of a case.
+fn goes_so<R: Calls>(rt: &R, case: &Case<'_>) -> Result<(), Fail> {
     let mut shelf = store(rt, &case.given.files(), &[])?;
-    let wanted = Wanted {
-        words: case.words,
-        output: WIDE,
-        status: case.status,
-        printed: case.printed,
-    };
-    let well = runs_and_writes(rt, &mut shelf, wanted, case.book, &OpenGate);
+    let well = runs_and_writes(rt, &mut shelf, case.call, case.book, &OpenGate);
     drop(shelf);
     well
 }
 
-/// Whether a run by a gate comes to what is wanted, and writes this book.
+/// Makes a run by a gate, which comes to what is wanted, and writes this book.
 fn runs_and_writes<R: Calls, G: Gate + Sync>(
     rt: &R,
     shelf: &mut MemShelf,
     wanted: Wanted<'_>,
     book: &str,
     gate: &G,
-) -> Result<bool, Fail> {
-    if !comes_to(rt, shelf, wanted, gate)? {
-        return Ok(false);
-    }
-    book_is(rt, shelf, book)
+) -> Result<(), Fail> {
+    comes_to(rt, shelf, wanted, gate)?;
+    wrote(rt, shelf, wanted.shows, book)
 }
 
 /// Two threads that lock the same two things in different orders.
@@ -164,19 +176,19 @@ const LOCKS_SEEN: &str =
 const LOCKS_BOOK: &str =
     "lam book 1\n0 9\n1 1\n0 1\n1 1\n0 1\n1 1\n0 1\n1 1\n0 1\n1 1\n0 1\n1 1\n0 1\n1 1\n0 1\n";
 
-/// Two threads that each hold what the other wants all wait. Turns of the one and of the other bring them there.
+const LOCKED: Wanted<'static> = Wanted {
+    shows: "two threads that each hold what the other wants wait",
+    words: ONE_WORKER,
+    output: WIDE,
+    status: Status::AllWait,
+    printed: LOCKS_SEEN,
+};
+
+/// Turns of the one thread and of the other bring them to where both wait.
 #[test]
 fn threads_that_lock_crosswise_wait(rt: HostRuntime) -> Result<(), Fail> {
-    let wanted = Wanted {
-        words: ONE_WORKER,
-        output: WIDE,
-        status: Status::AllWait,
-        printed: LOCKS_SEEN,
-    };
     let mut shelf = store(&rt, &LOCKS.files(), &[])?;
-    let well = runs_and_writes(&rt, &mut shelf, wanted, LOCKS_BOOK, &InTurn);
+    let well = runs_and_writes(&rt, &mut shelf, LOCKED, LOCKS_BOOK, &InTurn);
     drop(shelf);
-    let well = well?;
-    assert!(rt; well);
-    Ok(())
+    well
 }

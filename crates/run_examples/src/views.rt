@@ -46,27 +46,38 @@ const HOUR_SAID: &str = "t3 {}/{} say \"2\" = done";
 #[test]
 fn calendar(rt: HostRuntime) -> Result<(), Fail> {
     let mut shelf = store(&rt, &CALENDAR.files(), &[])?;
-    let well = tells_the_hour(&rt, &mut shelf);
+    let well = runs_and_replays(&rt, &mut shelf);
     drop(shelf);
-    let well = well?;
-    assert!(rt; well);
-    Ok(())
+    well
 }
 
-/// Whether the run over a store tells the hour alone, and the book that it wrote shows it again.
-fn tells_the_hour<R: Calls>(rt: &R, shelf: &mut MemShelf) -> Result<bool, Fail> {
+/// Runs what a store has, and replays the book that the run wrote.
+fn runs_and_replays<R: Calls>(rt: &R, shelf: &mut MemShelf) -> Result<(), Fail> {
     let words = ["run", "P", "W", "{}/{}", "B"];
     let Told { status, text } = tell(rt, shelf, &words, WIDE, &OpenGate)?;
+    let well = tells_the_hour(rt, shelf, status, text.as_str());
+    drop(text);
+    well
+}
+
+/// A run ended, and what was seen of it has one release, of the hour, and says it once. Its book shows the same.
+fn tells_the_hour<R: Calls>(
+    rt: &R,
+    shelf: &mut MemShelf,
+    status: Status,
+    seen: &str,
+) -> Result<(), Fail> {
+    if status != Status::Done || !has_the_hour(seen) {
+        return Err(Fail::new(format_args!("{status:?}, and not the hour alone: {seen}")));
+    }
     let again = Wanted {
+        shows: "the book shows the run again",
         words: &["replay", "P", "W", "B", "{}/{}"],
         output: WIDE,
         status: Status::Done,
-        printed: text.as_str(),
+        printed: seen,
     };
-    let again = comes_to(rt, shelf, again, &OpenGate);
-    let hour = has_the_hour(text.as_str());
-    drop(text);
-    Ok(again? && status == Status::Done && hour)
+    comes_to(rt, shelf, again, &OpenGate)
 }
 
 /// Whether a text has one release, of the hour, and says it once.

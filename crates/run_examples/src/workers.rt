@@ -82,14 +82,13 @@ fn picks_make_the_run(rt: HostRuntime) -> Result<(), Fail> {
     let well = picks_are_turns(&rt, &gate);
     let Notes { noted, twice } = gate;
     drop(noted);
-    let well = well?;
-    assert!(rt; well);
+    well?;
     assert_eq!(rt; twice.load(Ordering::SeqCst), 0);
     Ok(())
 }
 
-/// Whether the turns of the book that a run writes are the picks that its gate notes.
-fn picks_are_turns<R: Calls>(rt: &R, gate: &Notes) -> Result<bool, Fail> {
+/// The turns of the book that a run writes are the picks that its gate notes.
+fn picks_are_turns<R: Calls>(rt: &R, gate: &Notes) -> Result<(), Fail> {
     let mut shelf = four(rt)?;
     let well = picks_are_written(rt, &mut shelf, gate);
     drop(shelf);
@@ -97,9 +96,10 @@ fn picks_are_turns<R: Calls>(rt: &R, gate: &Notes) -> Result<bool, Fail> {
 }
 
 /// The same over a store with the files of the run.
-fn picks_are_written<R: Calls>(rt: &R, shelf: &mut MemShelf, gate: &Notes) -> Result<bool, Fail> {
-    if ends(rt, shelf, &TWO_WORKERS, gate)? != Status::Done {
-        return Ok(false);
+fn picks_are_written<R: Calls>(rt: &R, shelf: &mut MemShelf, gate: &Notes) -> Result<(), Fail> {
+    let status = ends(rt, shelf, &TWO_WORKERS, gate)?;
+    if status != Status::Done {
+        return Err(Fail::new(format_args!("the run ended with {status:?}")));
     }
     let book = book_in(rt, shelf)?;
     let turns = read_book(rt.alloc(), book.as_slice());
@@ -107,7 +107,10 @@ fn picks_are_written<R: Calls>(rt: &R, shelf: &mut MemShelf, gate: &Notes) -> Re
     let turns = turns?;
     let well = are_picks(gate.noted.as_slice(), turns.as_slice());
     drop(turns);
-    Ok(well)
+    if well {
+        return Ok(());
+    }
+    Err(Fail::new("the turns of the book are not the picks"))
 }
 
 /// Whether the noted threads, plus one each, are those of the turns.
@@ -136,26 +139,39 @@ fn many_workers_one_view(rt: HostRuntime) -> Result<(), Fail> {
     let mut shelf = sixty_four(&rt)?;
     let well = both_times(&rt, &mut shelf);
     drop(shelf);
-    let well = well?;
-    assert!(rt; well);
-    Ok(())
+    well
 }
 
-/// Whether a run is shown again by its book, and then another one by its own.
-fn both_times<R: Calls>(rt: &R, shelf: &mut MemShelf) -> Result<bool, Fail> {
-    Ok(runs_and_replays(rt, shelf)? && runs_and_replays(rt, shelf)?)
+/// A run is shown again by its book, and then another one by its own.
+fn both_times<R: Calls>(rt: &R, shelf: &mut MemShelf) -> Result<(), Fail> {
+    runs_and_replays(rt, shelf)?;
+    runs_and_replays(rt, shelf)
 }
 
-/// Whether a run of what the store has prints what is printed of the book that it writes.
-fn runs_and_replays<R: Calls>(rt: &R, shelf: &mut MemShelf) -> Result<bool, Fail> {
+/// Runs what the store has: the book that the run writes shows what was printed.
+fn runs_and_replays<R: Calls>(rt: &R, shelf: &mut MemShelf) -> Result<(), Fail> {
     let Told { status, text } = tell(rt, shelf, &SIXTEEN_WORKERS, WIDE, &Mixes)?;
+    let well = is_shown_again(rt, shelf, status, text.as_str());
+    drop(text);
+    well
+}
+
+/// A run used its turns up, and its book shows what was seen of it.
+fn is_shown_again<R: Calls>(
+    rt: &R,
+    shelf: &mut MemShelf,
+    status: Status,
+    seen: &str,
+) -> Result<(), Fail> {
+    if status != Status::Budget {
+        return Err(Fail::new(format_args!("{status:?}, and not the budget: {seen}")));
+    }
     let again = Wanted {
+        shows: "the book shows the run again",
         words: &["replay", "P", "W", "B", "{}/{}"],
         output: WIDE,
         status: Status::Done,
-        printed: text.as_str(),
+        printed: seen,
     };
-    let again = comes_to(rt, shelf, again, &Mixes);
-    drop(text);
-    Ok(again? && status == Status::Budget)
+    comes_to(rt, shelf, again, &Mixes)
 }
