@@ -23,7 +23,9 @@ ghost use Rattle.labelled_heap.specs.declared.heap.HeapFault.TheVariants.{NoMemo
 
 use flow_labels::{Label, NoMemory};
 use indexmap::IndexMap;
-use lam_value::{Counters, Home, Kind, Name, Same, Shape, Value, Values, Whole, same_maps};
+use lam_value::{
+    Counters, Home, Kind, Name, Same, Shape, Value, Values, Whole, at_home, same_maps,
+};
 use std::alloc::{AllocError, AllocFailed, Global};
 use std::marker::Model;
 
@@ -413,7 +415,7 @@ fn sort_of(shape: &Shape) -> Sort
 fn thing_of<'a>(rows: &'a Rows, r: &Name) -> Option<&'a Thing>
     ensures { option_copied result ≡ thing_at rows.now.entries r.now }
 {
-    match rows.get(r.home()) {
+    match at_home(rows, r.home()) {
         None => None,
         Some(row) => row.things.get(r.n() as usize),
     }
@@ -484,14 +486,14 @@ fn add_thing(
     Ok(name)
 }
 
-/// A name of a home, which it shares with the names of the home's row.
+/// A name of a home, which it shares with the names of the home's row. The first one remembers where the row will stand.
 fn new_name(rows: &Rows, maker: &Label, own: &Label, number: u64) -> Result<Name, NoMemory>
     ensures { IfOk result (λ n. n ≡ name_of (home_of maker.now own.now) number) }
 {
     let home = Home::of(maker, own)?;
     match rows.get(&home) {
         Some(row) => row.first.beside(home, number),
-        None => Name::at(home, number),
+        None => Name::at(home.placed(rows.len()), number),
     }
 }
 

@@ -1,4 +1,4 @@
-//! The homes of things.
+//! The homes of things, and what a map has at a home.
 
 ghost use Rattle.std.specs.Prelude.{◌≡◌, nat_eq, IfOk};
 ghost use Rattle.std.proofs.Common.{rules, ap};
@@ -6,23 +6,28 @@ ghost use Rattle.std.specs.Cmp.Rules.{comparing, hashing};
 ghost use Rattle.std.specs.Cmp.Lexicographic.{pointwise};
 ghost use Rattle.std.specs.Ordering.{on, eq_of_both};
 ghost use Rattle.std.specs.Hash as fed;
+ghost use Rattle.std.specs.HashMap.{get as at_key};
+ghost use Rattle.std.specs.Option.{option_copied};
 ghost use Rattle.home_counters.specs.Tags.{tags_of};
 ghost use Rattle.home_counters.specs.Alike.{second};
 ghost use Rattle.lam_value.specs.NameParts.{home_writes, home_input, folded};
-ghost use Rattle.lam_value.specs.Homes.{label_eq};
+ghost use Rattle.lam_value.specs.Homes.{label_eq, home_eq};
 
 use home_counters::{Label, Labelled, NoMemory};
+use indexmap::IndexMap;
 use std::hash::{FoldHasher, Hash, Hasher};
 use std::marker::Model;
 
 /// A home: the label of a maker and an own label. What is made at a home is numbered there, from 0.
 ///
-/// A home is made once and looked up often, so it keeps its hash. Contracts see the record of its two labels.
+/// A home is made once and looked up often, so it keeps its hash, and the place where a map has it. Contracts see the
+/// record of its two labels.
 #[derive(Drop)]
 pub struct Home {
     maker: Label,
     own: Label,
     digest: u64,
+    place: usize,
 }
 
 impl Model for Home {
@@ -68,7 +73,12 @@ impl Home {
         ensures { result ≡ record { maker = maker; own = own } }
     {
         let digest = digest_of(&maker, &own);
-        Home { maker, own, digest }
+        Home {
+            maker,
+            own,
+            digest,
+            place: 0,
+        }
     }
 
     /// The home of a maker's label and an own label, which are copied.
@@ -81,6 +91,25 @@ impl Home {
     {
         let (maker, own) = copied_labels(maker, own)?;
         Ok(Home::new(maker, own))
+    }
+
+    /// The same home, which remembers that a map has it at this place. That is a hint for [`at_home`], which looks there
+    /// first, and no part of the home.
+    pub fn placed(self, place: usize) -> Home
+        ensures { result ≡ self }
+    {
+        let Home {
+            maker,
+            own,
+            digest,
+            place: _,
+        } = self;
+        Home {
+            maker,
+            own,
+            digest,
+            place,
+        }
     }
 
     /// The label of the maker.
@@ -110,6 +139,7 @@ impl Home {
             maker,
             own,
             digest: self.digest,
+            place: self.place,
         })
     }
 }
@@ -122,6 +152,21 @@ impl Labelled for Home {
     }
 
     ghost label_follows = { λ x y e. second (label_eq x.maker y.maker) (label_eq x.own y.own) e };
+}
+
+/// What a map has at a home.
+///
+/// The map is asked first for what stands at the place that the home remembers, which costs one comparison of homes.
+/// Only where another home stands there, or none, is the home found by its hash.
+pub fn at_home<'a, V>(map: &'a IndexMap<Home, V>, home: &Home) -> Option<&'a V>
+    ensures { option_copied result ≡ at_key home_eq map.now home.now }
+{
+    if let Some((there, value)) = map.get_index(home.place) {
+        if there == home {
+            return Some(value);
+        }
+    }
+    map.get(home)
 }
 
 /// Two labels equal to these.

@@ -4,8 +4,8 @@
 //! name tells all that a reference monitor asks about a thing, so no test on a reference reads the thing.
 //! A *value* is what a local, a field or an array's element holds; references among them are names.
 //!
-//! - `homes` has homes, each a pair of a maker's label and an own label, and `names` names and their order, by which
-//!   stores are maps from names.
+//! - `homes` has homes, each a pair of a maker's label and an own label, and what a map has at one; `names` has names and
+//!   their order, by which stores are maps from names.
 //! - `byte_text` and `values` have the values; `shapes` what a new thing looks like.
 //! - `text` prints values.
 //!
@@ -28,7 +28,7 @@ pub use decimal_text::push_number;
 pub use home_counters::{
     Counters, Denied, HomeCounts, Label, Labelled, Same, TagNames, Whole, same_maps,
 };
-pub use homes::Home;
+pub use homes::{Home, at_home};
 pub use names::Name;
 pub use same_lists::same_values;
 pub use shapes::{Kind, Shape};
