@@ -1,6 +1,7 @@
 //! One call of the tool over files in memory, and what came of it.
 
-use lam_io::{Gate, Got, MemShelf, MemSink, Shelf};
+use crate::gates::Hook;
+use lam_io::{Got, MemShelf, MemSink, Shelf};
 use lam_main::{Status, lam};
 use std::alloc::{AllocError, Global};
 use std::str::from_utf8;
@@ -57,17 +58,17 @@ pub fn store<R: Calls>(rt: &R, files: &[(&str, &str)], failing: &[u64]) -> Resul
 }
 
 /// Calls the tool with the words, by a gate.
-pub fn tell<R: Calls, G: Gate + Sync>(
+pub fn tell<R: Calls>(
     rt: &R,
     shelf: &mut MemShelf,
     words: &[&str],
     output: Output<'_>,
-    gate: &G,
+    gate: Hook<'_>,
 ) -> Result<Told, Fail> {
     let alloc = rt.alloc();
     let words = texts_of(alloc, words)?;
     let mut sink = MemSink::new(alloc, output.room, output.failing.to_vec(alloc)?)?;
-    let status = lam(rt, alloc, &words, shelf, &mut sink, gate);
+    let status = lam(rt, alloc, &words, shelf, &mut sink, &gate);
     let text = String::from_str(alloc, from_utf8(sink.bytes())?)?;
     Ok(Told { status, text })
 }
@@ -85,11 +86,11 @@ pub struct Wanted<'a> {
 
 /// Calls the tool with the words, by a gate. It fails, with what was printed, where the call ends in another way than it
 /// should or prints another text.
-pub fn comes_to<R: Calls, G: Gate + Sync>(
+pub fn comes_to<R: Calls>(
     rt: &R,
     shelf: &mut MemShelf,
     wanted: Wanted<'_>,
-    gate: &G,
+    gate: Hook<'_>,
 ) -> Result<(), Fail> {
     let told = tell(rt, shelf, wanted.words, wanted.output, gate)?;
     if told.status == wanted.status && told.text.as_str() == wanted.printed {

@@ -1,9 +1,9 @@
 //! Runs, how they end, what is seen of them, and the books that they write.
 
 use crate::call::{Calls, Given, WIDE, Wanted, comes_to, store, wrote};
-use crate::gates::InTurn;
+use crate::gates::Hook;
 use crate::given::{BARE_WORLD, ENTERS, ENTRY_SEEN, ONE_WORKER, THREE, ZERO};
-use lam_io::{Gate, MemShelf, OpenGate};
+use lam_io::MemShelf;
 use lam_main::Status;
 use std::test::Fail;
 
@@ -147,18 +147,18 @@ fn runs_end_as_they_should(rt: HostRuntime) -> Result<(), Fail> {
 /// Makes the run of a case.
 fn goes_so<R: Calls>(rt: &R, case: &Case<'_>) -> Result<(), Fail> {
     let mut shelf = store(rt, &case.given.files(), &[])?;
-    let well = runs_and_writes(rt, &mut shelf, case.call, case.book, &OpenGate);
+    let well = runs_and_writes(rt, &mut shelf, case.call, case.book, Hook::Open);
     drop(shelf);
     well
 }
 
 /// Makes a run by a gate, which comes to what is wanted, and writes this book.
-fn runs_and_writes<R: Calls, G: Gate + Sync>(
+fn runs_and_writes<R: Calls>(
     rt: &R,
     shelf: &mut MemShelf,
     wanted: Wanted<'_>,
     book: &str,
-    gate: &G,
+    gate: Hook<'_>,
 ) -> Result<(), Fail> {
     comes_to(rt, shelf, wanted, gate)?;
     wrote(rt, shelf, wanted.shows, book)
@@ -188,7 +188,7 @@ const LOCKED: Wanted<'static> = Wanted {
 #[test]
 fn threads_that_lock_crosswise_wait(rt: HostRuntime) -> Result<(), Fail> {
     let mut shelf = store(&rt, &LOCKS.files(), &[])?;
-    let well = runs_and_writes(&rt, &mut shelf, LOCKED, LOCKS_BOOK, &InTurn);
+    let well = runs_and_writes(&rt, &mut shelf, LOCKED, LOCKS_BOOK, Hook::InTurn);
     drop(shelf);
     well
 }

@@ -1,30 +1,43 @@
 //! Hooks of the scheduler.
 
-use lam_io::Gate;
+use lam_io::{Gate, OpenGate};
 use std::sync::atomic::{AtomicU64, Ordering};
 
-/// The ready threads one after another.
-#[derive(Clone, Copy, Debug)]
-pub struct InTurn;
-
-impl Gate for InTurn {
-    fn pick(&self, _worker: u64, turn: u64, _ready: &[u32]) -> u64 {
-        turn
-    }
-
-    fn between(&self, _worker: u64, _thread: u32) {}
+/// The hook of an example. All hooks are one type, so that the tool is compiled once for all examples.
+#[derive(Clone, Copy)]
+pub enum Hook<'a> {
+    /// The one that the program has.
+    Open,
+    /// The ready threads one after another.
+    InTurn,
+    /// A thread that depends on the worker.
+    Mixes,
+    /// The ready threads one after another, by two workers that meet.
+    Meets(&'a Meets),
+    /// A thread that depends on the worker, and is noted.
+    Notes(&'a Notes),
 }
 
-/// A thread that depends on the worker.
-#[derive(Clone, Copy, Debug)]
-pub struct Mixes;
-
-impl Gate for Mixes {
-    fn pick(&self, worker: u64, turn: u64, _ready: &[u32]) -> u64 {
-        turn.wrapping_mul(7).wrapping_add(worker)
+impl<'a> Gate for Hook<'a> {
+    fn pick(&self, worker: u64, turn: u64, ready: &[u32]) -> u64 {
+        match self {
+            Hook::Open => OpenGate.pick(worker, turn, ready),
+            Hook::InTurn | Hook::Meets(_) => turn,
+            Hook::Mixes => mixed(worker, turn),
+            Hook::Notes(notes) => notes.pick(worker, turn, ready),
+        }
     }
 
-    fn between(&self, _worker: u64, _thread: u32) {}
+    fn between(&self, worker: u64, _thread: u32) {
+        if let Hook::Meets(meets) = self {
+            meets.wait(worker);
+        }
+    }
+}
+
+/// An answer that depends on the worker.
+fn mixed(worker: u64, turn: u64) -> u64 {
+    turn.wrapping_mul(7).wrapping_add(worker)
 }
 
 /// How often a worker looks for the other one.
@@ -39,12 +52,8 @@ pub struct Meets {
     pub late: AtomicU64,
 }
 
-impl Gate for Meets {
-    fn pick(&self, _worker: u64, turn: u64, _ready: &[u32]) -> u64 {
-        turn
-    }
-
-    fn between(&self, worker: u64, _thread: u32) {
+impl Meets {
+    fn wait(&self, worker: u64) {
         let (own, other) = if worker == 0 {
             (&self.first, &self.second)
         } else {
@@ -68,9 +77,9 @@ pub struct Notes {
     pub twice: AtomicU64,
 }
 
-impl Gate for Notes {
+impl Notes {
     fn pick(&self, worker: u64, turn: u64, ready: &[u32]) -> u64 {
-        let answer = turn.wrapping_mul(7).wrapping_add(worker);
+        let answer = mixed(worker, turn);
         if ready.is_empty() || turn >= self.noted.len() as u64 {
             return answer;
         }
@@ -80,6 +89,4 @@ impl Gate for Notes {
         }
         answer
     }
-
-    fn between(&self, _worker: u64, _thread: u32) {}
 }

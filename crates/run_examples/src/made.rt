@@ -1,9 +1,9 @@
 //! Runs of what a number makes.
 
 use crate::call::{Calls, WIDE, Wanted, comes_to, store};
-use crate::gates::Mixes;
+use crate::gates::Hook;
 use crate::given::ENTERS;
-use lam_io::{MemShelf, OpenGate};
+use lam_io::MemShelf;
 use lam_main::Status;
 use std::test::Fail;
 
@@ -25,6 +25,6 @@ fn generated_run_repeats(rt: HostRuntime) -> Result<(), Fail> {
 
 /// Makes the run by two gates.
 fn repeats<R: Calls>(rt: &R, shelf: &mut MemShelf) -> Result<(), Fail> {
-    comes_to(rt, shelf, MADE, &OpenGate)?;
-    comes_to(rt, shelf, MADE, &Mixes)
+    comes_to(rt, shelf, MADE, Hook::Open)?;
+    comes_to(rt, shelf, MADE, Hook::Mixes)
 }

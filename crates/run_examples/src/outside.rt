@@ -1,8 +1,9 @@
 //! Calls of the outside that fail.
 
 use crate::call::{Calls, Output, WIDE, Wanted, comes_to, store, wrote};
+use crate::gates::Hook;
 use crate::given::{ENTRY, ENTRY_SEEN, HOLDS_NOTHING, ONE_WORKER};
-use lam_io::{MemShelf, OpenGate};
+use lam_io::MemShelf;
 use lam_main::Status;
 use std::test::Fail;
 
@@ -208,7 +209,7 @@ fn goes_so<R: Calls>(rt: &R, case: &Case<'_>) -> Result<(), Fail> {
 
 /// Makes the call of a case over a store with its files.
 fn goes_so_over<R: Calls>(rt: &R, shelf: &mut MemShelf, case: &Case<'_>) -> Result<(), Fail> {
-    comes_to(rt, shelf, case.call, &OpenGate)?;
+    comes_to(rt, shelf, case.call, Hook::Open)?;
     match case.book {
         None => Ok(()),
         Some(wanted) => wrote(rt, shelf, case.call.shows, wanted),

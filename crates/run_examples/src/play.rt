@@ -1,7 +1,8 @@
 //! Scripts of the greatest length.
 
 use crate::call::{Calls, WIDE, Wanted, comes_to, store};
-use lam_io::{MemShelf, OpenGate, Shelf};
+use crate::gates::Hook;
+use lam_io::{MemShelf, Shelf};
 use lam_main::Status;
 use std::alloc::{AllocError, Global};
 use std::test::Fail;
@@ -33,9 +34,9 @@ fn long_script_is_refused(rt: HostRuntime) -> Result<(), Fail> {
 /// Plays a script of a mebibyte, and one of a byte more.
 fn longest_are_played<R: Calls>(rt: &R, shelf: &mut MemShelf) -> Result<(), Fail> {
     write_script(rt, shelf, "")?;
-    comes_to(rt, shelf, READ, &OpenGate)?;
+    comes_to(rt, shelf, READ, Hook::Open)?;
     write_script(rt, shelf, "x")?;
-    comes_to(rt, shelf, NOT_READ, &OpenGate)
+    comes_to(rt, shelf, NOT_READ, Hook::Open)
 }
 
 /// Writes a script of a mebibyte, with an end behind it.

@@ -1,7 +1,8 @@
 //! What an observer sees of a run, whoever took its turns.
 
 use crate::call::{Calls, Given, Told, WIDE, Wanted, comes_to, store, tell};
-use lam_io::{MemShelf, OpenGate};
+use crate::gates::Hook;
+use lam_io::MemShelf;
 use lam_main::Status;
 use std::test::Fail;
 
@@ -54,7 +55,7 @@ fn calendar(rt: HostRuntime) -> Result<(), Fail> {
 /// Runs what a store has, and replays the book that the run wrote.
 fn runs_and_replays<R: Calls>(rt: &R, shelf: &mut MemShelf) -> Result<(), Fail> {
     let words = ["run", "P", "W", "{}/{}", "B"];
-    let Told { status, text } = tell(rt, shelf, &words, WIDE, &OpenGate)?;
+    let Told { status, text } = tell(rt, shelf, &words, WIDE, Hook::Open)?;
     let well = tells_the_hour(rt, shelf, status, text.as_str());
     drop(text);
     well
@@ -77,7 +78,7 @@ fn tells_the_hour<R: Calls>(
         status: Status::Done,
         printed: seen,
     };
-    comes_to(rt, shelf, again, &OpenGate)
+    comes_to(rt, shelf, again, Hook::Open)
 }
 
 /// Whether a text has one release, of the hour, and says it once.

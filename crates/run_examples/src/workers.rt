@@ -1,8 +1,8 @@
 //! Workers at once: that they are, that the gate's picks are what the run is, and that the book shows the run again.
 
 use crate::call::{Calls, Told, WIDE, Wanted, book_in, comes_to, store, tell};
-use crate::gates::{Meets, Mixes, Notes};
-use lam_io::{Gate, MemShelf};
+use crate::gates::{Hook, Meets, Notes};
+use lam_io::MemShelf;
 use lam_main::Status;
 use std::sync::atomic::{AtomicU64, Ordering};
 use std::test::Fail;
@@ -42,7 +42,7 @@ fn two_workers_meet(rt: HostRuntime) -> Result<(), Fail> {
         late: AtomicU64::new(0),
     };
     let mut shelf = four(&rt)?;
-    let status = ends(&rt, &mut shelf, &TWO_WORKERS, &gate);
+    let status = ends(&rt, &mut shelf, &TWO_WORKERS, Hook::Meets(&gate));
     drop(shelf);
     let status = status?;
     assert_eq!(rt; status, Status::Done);
@@ -51,11 +51,11 @@ fn two_workers_meet(rt: HostRuntime) -> Result<(), Fail> {
 }
 
 /// How a run ends.
-fn ends<R: Calls, G: Gate + Sync>(
+fn ends<R: Calls>(
     rt: &R,
     shelf: &mut MemShelf,
     words: &[&str],
-    gate: &G,
+    gate: Hook<'_>,
 ) -> Result<Status, Fail> {
     let Told { status, text } = tell(rt, shelf, words, WIDE, gate)?;
     drop(text);
@@ -97,7 +97,7 @@ fn picks_are_turns<R: Calls>(rt: &R, gate: &Notes) -> Result<(), Fail> {
 
 /// The same over a store with the files of the run.
 fn picks_are_written<R: Calls>(rt: &R, shelf: &mut MemShelf, gate: &Notes) -> Result<(), Fail> {
-    let status = ends(rt, shelf, &TWO_WORKERS, gate)?;
+    let status = ends(rt, shelf, &TWO_WORKERS, Hook::Notes(gate))?;
     if status != Status::Done {
         return Err(Fail::new(format_args!("the run ended with {status:?}")));
     }
@@ -150,7 +150,7 @@ fn both_times<R: Calls>(rt: &R, shelf: &mut MemShelf) -> Result<(), Fail> {
 
 /// Runs what the store has: the book that the run writes shows what was printed.
 fn runs_and_replays<R: Calls>(rt: &R, shelf: &mut MemShelf) -> Result<(), Fail> {
-    let Told { status, text } = tell(rt, shelf, &SIXTEEN_WORKERS, WIDE, &Mixes)?;
+    let Told { status, text } = tell(rt, shelf, &SIXTEEN_WORKERS, WIDE, Hook::Mixes)?;
     let well = is_shown_again(rt, shelf, status, text.as_str());
     drop(text);
     well
@@ -173,5 +173,5 @@ fn is_shown_again<R: Calls>(
         status: Status::Done,
         printed: seen,
     };
-    comes_to(rt, shelf, again, &Mixes)
+    comes_to(rt, shelf, again, Hook::Mixes)
 }
