@@ -1,5 +1,5 @@
 -- Two worlds that look alike to an observer, store by store.
-use Rattle.std.proofs.Common.{◌≡◌, ℕ, Bool, true, List, Option, Some, None, length, refl, sym, ap, ◌∙◌}
+use Rattle.std.proofs.Common.{◌≡◌, ℕ, Bool, true, false, List, Option, Some, None, length, refl, sym, ap, ◌∙◌}
 use Rattle.std.specs.Prelude.{cond, slice_get, filter}
 use Rattle.std.proofs.Math.Path.{fun_ext}
 use Rattle.std.specs.FinMap.{FinMap}
@@ -7,15 +7,15 @@ use Rattle.flow_labels.specs.declared.Label.{Label}
 use Rattle.flow_labels.specs.Flow.{flows, public_label}
 use Rattle.lam_value.specs.declared.names.Name.{Name}
 use Rattle.lam_value.specs.Names.{name_cmp}
-use Rattle.lam_value.specs.Homes.{Home, Counts}
-use Rattle.lam_value.proofs.Keys.{name_total, name_exact, home_total, home_exact}
+use Rattle.lam_value.specs.Homes.{Home, Counts, count_in}
+use Rattle.lam_value.proofs.Keys.{name_total, name_exact}
 use Rattle.labelled_heap.specs.Things.{Things}
 use Rattle.monitor_core.specs.Held.{Held}
 use Rattle.labelled_files.specs.Trees.{Tree}
 use Rattle.labelled_pipes.specs.Queues.{Queues}
 use Rattle.thread_steps.specs.Threads.{Thread}
 use Rattle.lam_worlds.specs.Worlds.{World, contexts_in, result_in}
-use Rattle.lam_worlds.specs.Views.{is_seen, where_public, view}
+use Rattle.lam_worlds.specs.Views.{shown_counts, is_seen, where_public, view}
 use Rattle.lam_isolation.proofs.PointLemmas.{Same, cond_same, seen_get, seen_map}
 
 abbrev pub own_seen : Label → Name → Bool
@@ -28,7 +28,7 @@ abbrev pub SameNames : {X : Type 0} → Label → FinMap name_cmp X → FinMap n
 SameNames o m n = Same (own_seen o) m n
 
 abbrev pub SameHomes : Label → Counts → Counts → Type 0
-SameHomes o m n = Same (maker_seen o) m n
+SameHomes o m n = (h : Home) → maker_seen o h ≡ true → count_in m h ≡ count_in n h
 
 pub record AlikeHeaps (o : Label) (h k : Things) : Type 0 where
   pub slots : SameNames o h.slots k.slots
@@ -68,6 +68,16 @@ pub record Alike (o : Label) (w u : World) : Type 0 where
 public_shown : {X : Type 0} (o : Label) (x : Option X) → flows public_label o ≡ true → where_public o x ≡ x
 public_shown o x t = ap (λ b. cond b x None) t
 
+counts_shown : (o : Label) (m : Counts) (h : Home) → maker_seen o h ≡ true → shown_counts o m h ≡ count_in m h
+counts_shown o m h t = ap (λ b. cond b (count_in m h) 0) t
+
+counts_alike : (o : Label) (m n : Counts) → SameHomes o m n → (h : Home) → shown_counts o m h ≡ shown_counts o n h
+counts_alike o m n same h = by (maker_seen o h) (same h)
+  where
+    by : (b : Bool) → (b ≡ true → count_in m h ≡ count_in n h) → cond b (count_in m h) 0 ≡ cond b (count_in n h) 0
+    by true e = e refl
+    by false e = refl
+
 some_same : (m n : ℕ) → Some m ≡ Some n → m ≡ n
 some_same m n e = cc
 
@@ -76,17 +86,17 @@ alike_by_view o w u e =
     record {
       heap = record {
         slots = seen_get name_total name_exact (own_seen o) w.heap.slots u.heap.slots (ap (λ v. v.slots) e);
-        counts = seen_get home_total home_exact (maker_seen o) w.heap.counts u.heap.counts (ap (λ v. v.heap_counts) e);
+        counts = λ h s. sym (counts_shown o w.heap.counts h s) ∙ ap (λ v. v.heap_counts h) e ∙ counts_shown o u.heap.counts h s;
       };
       monitors = seen_get name_total name_exact (own_seen o) w.monitors u.monitors (ap (λ v. v.monitors) e);
       files = record {
         dirs = seen_get name_total name_exact (own_seen o) w.files.dirs u.files.dirs (ap (λ v. v.dirs) e);
         files = seen_get name_total name_exact (own_seen o) w.files.files u.files.files (ap (λ v. v.files) e);
-        counts = seen_get home_total home_exact (maker_seen o) w.files.counts u.files.counts (ap (λ v. v.file_counts) e);
+        counts = λ h s. sym (counts_shown o w.files.counts h s) ∙ ap (λ v. v.file_counts h) e ∙ counts_shown o u.files.counts h s;
       };
       pipes = record {
         waiting = seen_get name_total name_exact (own_seen o) w.pipes.waiting u.pipes.waiting (ap (λ v. v.pipes) e);
-        counts = seen_get home_total home_exact (maker_seen o) w.pipes.counts u.pipes.counts (ap (λ v. v.pipe_counts) e);
+        counts = λ h s. sym (counts_shown o w.pipes.counts h s) ∙ ap (λ v. v.pipe_counts h) e ∙ counts_shown o u.pipes.counts h s;
       };
       threads = record {
         contexts = λ t. ap (λ v. v.contexts t) e;
@@ -103,9 +113,9 @@ view_by_alike o w u a =
     let dirs = seen_map name_total name_exact (own_seen o) w.files.dirs u.files.dirs a.files.dirs in
     let files = seen_map name_total name_exact (own_seen o) w.files.files u.files.files a.files.files in
     let pipes = seen_map name_total name_exact (own_seen o) w.pipes.waiting u.pipes.waiting a.pipes.waiting in
-    let heap_counts = seen_map home_total home_exact (maker_seen o) w.heap.counts u.heap.counts a.heap.counts in
-    let file_counts = seen_map home_total home_exact (maker_seen o) w.files.counts u.files.counts a.files.counts in
-    let pipe_counts = seen_map home_total home_exact (maker_seen o) w.pipes.counts u.pipes.counts a.pipes.counts in
+    let heap_counts = fun_ext (counts_alike o w.heap.counts u.heap.counts a.heap.counts) in
+    let file_counts = fun_ext (counts_alike o w.files.counts u.files.counts a.files.counts) in
+    let pipe_counts = fun_ext (counts_alike o w.pipes.counts u.pipes.counts a.pipes.counts) in
     let contexts = fun_ext a.threads.contexts in
     let next_tag = cond_same (flows public_label o) (Some w.next_tag) (Some u.next_tag) (λ t. ap Some (a.tags t)) in
     let threads = cond_same (flows public_label o) (Some (length w.threads)) (Some (length u.threads)) (λ t. ap Some (a.threads.count t)) in

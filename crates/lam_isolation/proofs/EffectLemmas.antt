@@ -3,13 +3,15 @@
 use Rattle.std.proofs.Common.{◌≡◌, ℕ, zero, suc, ◌+◌, Bool, true, false, List, [], ◌∷◌, ◌++◌, Option, Some, None, length, refl, sym, ap, ◌∙◌, subst, arith, length-append}
 use Rattle.std.specs.Prelude.{cond, slice_get, slice_set, filter, unwrap_or}
 use Rattle.std.specs.List.{AllByRecursion}
+use Rattle.std.specs.Ordering.{eq_by_cmp}
+use Rattle.std.specs.Cmp.{Equal-is}
 use Rattle.std.specs.FinMap.{FinMap, get, insert}
 use Rattle.flow_labels.specs.declared.Label.{Label}
 use Rattle.flow_labels.specs.Flow.{flows, public_label}
 use Rattle.lam_value.specs.declared.names.Name.{Name}
 use Rattle.lam_value.specs.declared.values.Value.{Value}
 use Rattle.lam_value.specs.Names.{name_cmp}
-use Rattle.lam_value.specs.Homes.{Home, Counts, name_of, count_in, counted}
+use Rattle.lam_value.specs.Homes.{Home, home_cmp, Counts, name_of, count_in, counted}
 use Rattle.lam_value.proofs.Keys.{name_total, name_exact, home_total, home_exact}
 use Rattle.labelled_heap.specs.declared.heap.Sort.{Sort}
 use Rattle.labelled_heap.specs.Things as heap
@@ -30,7 +32,7 @@ use Rattle.lam_worlds.specs.Worlds.{World}
 use Rattle.lam_worlds.specs.Deeds.{Effect, nothing, takes_tag, sets_slot, adds_thing, adds_copy, takes_monitor, gives_back, drops, adds_file, adds_dir, removes, appends, cuts, adds_pipe, sends, receives, adds_thread, effect_of, Made, a_region, a_thing, a_file, a_dir, a_pipe, a_thread}
 use Rattle.lam_worlds.specs.Views.{is_seen, shows}
 use Rattle.lam_isolation.proofs.FlowLemmas.{not_both}
-use Rattle.lam_isolation.proofs.PointLemmas.{IsPoint, insert_point, remove_point, same_point, point_kept, point_same, same_trans, same_sym}
+use Rattle.lam_isolation.proofs.PointLemmas.{IsPoint, insert_point, remove_point, same_point, point_kept, point_same, same_trans}
 use Rattle.lam_isolation.proofs.AlikeLemmas.{own_seen, maker_seen, SameNames, SameHomes, AlikeHeaps, AlikeTrees, AlikeQueues, SameStacks, SameResults, AlikeThreads, Alike, alike_refl, alike_sym, with_heaps, with_monitors, with_trees, with_queues, with_threads, with_tags}
 
 -- ---- changes at one name
@@ -57,15 +59,17 @@ counted_point : (m : Counts) (h : Home) → IsPoint m (counted m h) h (Some (cou
 counted_point m h = insert_point home_total home_exact m h (count_in m h + 1)
 
 counted_kept : (o : Label) (m : Counts) (h : Home) → flows h.maker o ≡ false → SameHomes o m (counted m h)
-counted_kept o m h hid = point_kept home_total home_exact (maker_seen o) m (counted m h) h (Some (count_in m h + 1)) hid (counted_point m h)
+counted_kept o m h hid q s = ap (λ x. unwrap_or x 0) (point_kept home_total home_exact (maker_seen o) m (counted m h) h (Some (count_in m h + 1)) hid (counted_point m h) q s)
 
 counted_same : (o : Label) (m m' : Counts) (h : Home) → SameHomes o m m' → SameHomes o (counted m h) (counted m' h)
-counted_same o m m' h all =
-    point_same home_total home_exact (maker_seen o) m m' (counted m h) (counted m' h) h (Some (count_in m h + 1)) (Some (count_in m' h + 1)) (counted_point m h) (counted_point m' h)
-    (λ s. ap (λ x. Some (unwrap_or x 0 + 1)) (all h s)) all
+counted_same o m m' h all q s = ap (λ x. unwrap_or x 0) (counted_point m h q) ∙ by (eq_by_cmp home_cmp q h) refl ∙ sym (ap (λ x. unwrap_or x 0) (counted_point m' h q))
+  where
+    by : (b : Bool) → eq_by_cmp home_cmp q h ≡ b → unwrap_or (cond b (Some (count_in m h + 1)) (get m q)) 0 ≡ unwrap_or (cond b (Some (count_in m' h + 1)) (get m' q)) 0
+    by true e = ap (λ n. n + 1) (all h (sym (ap (maker_seen o) (home_exact q h ((Equal-is (home_cmp q h)).0 e))) ∙ s))
+    by false e = all q s
 
 pub count_same : (o : Label) (m m' : Counts) (h : Home) → SameHomes o m m' → flows h.maker o ≡ true → count_in m h ≡ count_in m' h
-count_same o m m' h all s = ap (λ x. unwrap_or x 0) (all h s)
+count_same o m m' h all s = all h s
 
 -- ---- the heap
 
@@ -81,7 +85,7 @@ heap_slot_kept : (o : Label) (h : Things) (n : Name) (at : ℕ) (v : Value) → 
 heap_slot_kept o h n at v hid =
     record {
       slots = name_kept o h.slots _ n _ hid (slot_point (get h.slots n) h n (λ xs. slice_set xs at v) refl);
-      counts = λ q s. ap (λ (c : Counts). get c q) (sym (slot_counts (get h.slots n) h n (λ xs. slice_set xs at v)));
+      counts = λ q s. ap (λ (c : Counts). count_in c q) (sym (slot_counts (get h.slots n) h n (λ xs. slice_set xs at v)));
     }
 
 heap_slot_same : (o : Label) (h k : Things) (n : Name) (at : ℕ) (v : Value) → AlikeHeaps o h k → AlikeHeaps o (with_slot h n at v) (with_slot k n at v)
@@ -89,7 +93,7 @@ heap_slot_same o h k n at v a =
     let f = λ (xs : List Value). slice_set xs at v in
     record {
       slots = name_same o h.slots k.slots _ _ n _ _ (slot_point (get h.slots n) h n f refl) (slot_point (get k.slots n) k n f refl) (λ s. ap (λ x. mapped x f) (a.slots n s)) a.slots;
-      counts = λ q s. ap (λ (c : Counts). get c q) (slot_counts (get h.slots n) h n f) ∙ a.counts q s ∙ sym (ap (λ (c : Counts). get c q) (slot_counts (get k.slots n) k n f));
+      counts = λ q s. ap (λ (c : Counts). count_in c q) (slot_counts (get h.slots n) h n f) ∙ a.counts q s ∙ sym (ap (λ (c : Counts). count_in c q) (slot_counts (get k.slots n) k n f));
     }
 
 -- a new thing: the same name on both sides
@@ -205,14 +209,14 @@ line_kept : (o : Label) (q : Queues) (n : Name) (f : List Message → List Messa
 line_kept o q n f hid =
     record {
       waiting = name_kept o q.waiting _ n _ hid (line_point (get q.waiting n) q n f refl);
-      counts = λ k s. ap (λ (c : Counts). get c k) (sym (line_counts (get q.waiting n) q n f));
+      counts = λ k s. ap (λ (c : Counts). count_in c k) (sym (line_counts (get q.waiting n) q n f));
     }
 
 line_same : (o : Label) (q r : Queues) (n : Name) (f : List Message → List Message) → AlikeQueues o q r → AlikeQueues o (queue.changed_at (get q.waiting n) q n f) (queue.changed_at (get r.waiting n) r n f)
 line_same o q r n f a =
     record {
       waiting = name_same o q.waiting r.waiting _ _ n _ _ (line_point (get q.waiting n) q n f refl) (line_point (get r.waiting n) r n f refl) (λ s. ap (λ x. mapped x f) (a.waiting n s)) a.waiting;
-      counts = λ k s. ap (λ (c : Counts). get c k) (line_counts (get q.waiting n) q n f) ∙ a.counts k s ∙ sym (ap (λ (c : Counts). get c k) (line_counts (get r.waiting n) r n f));
+      counts = λ k s. ap (λ (c : Counts). count_in c k) (line_counts (get q.waiting n) q n f) ∙ a.counts k s ∙ sym (ap (λ (c : Counts). count_in c k) (line_counts (get r.waiting n) r n f));
     }
 
 pipe_kept : (o : Label) (q : Queues) (home : Home) → flows home.maker o ≡ false → flows home.own o ≡ false → AlikeQueues o q (with_pipe q home)
@@ -321,10 +325,10 @@ hidden_shown o code t takes_tag w m h = unshown o w _ m h.1 (with_tags o w w _ _
 hidden_shown o code t (sets_slot n at v) w m h = unshown o w _ m h.1 (with_heaps o w w _ _ (alike_refl o w) (heap_slot_kept o w.heap n at v h.0))
 hidden_shown o code t (adds_thing home sort xs) w m h =
     subst (λ m. Alike o (effect_of code t (adds_thing home sort xs) w) (shown m w)) (sym h.1.1)
-    (with_heaps o w w _ _ (alike_refl o w) (record { slots = λ n s. refl; counts = same_sym home_total home_exact (maker_seen o) w.heap.counts _ (counted_kept o w.heap.counts home h.0) }))
+    (with_heaps o w w _ _ (alike_refl o w) (record { slots = λ n s. refl; counts = λ q s. sym (counted_kept o w.heap.counts home h.0 q s) }))
 hidden_shown o code t (adds_copy n home) w m h =
     subst (λ m. Alike o (effect_of code t (adds_copy n home) w) (shown m w)) (sym h.1.1)
-    (with_heaps o w w _ _ (alike_refl o w) (record { slots = λ n s. refl; counts = same_sym home_total home_exact (maker_seen o) w.heap.counts _ (counted_kept o w.heap.counts home h.0) }))
+    (with_heaps o w w _ _ (alike_refl o w) (record { slots = λ n s. refl; counts = λ q s. sym (counted_kept o w.heap.counts home h.0 q s) }))
 hidden_shown o code t (takes_monitor n) w m h = unshown o w _ m h.1 (with_monitors o w w _ _ (alike_refl o w) (name_kept o w.monitors _ n _ h.0 (entered_point w.monitors n t)))
 hidden_shown o code t (gives_back n) w m h = unshown o w _ m h.1 (with_monitors o w w _ _ (alike_refl o w) (left_kept o w.monitors n t h.0))
 hidden_shown o code t (drops ns) w m h = unshown o w _ m h.1 (with_monitors o w w _ _ (alike_refl o w) (dropped_kept o w.monitors ns t h.0))

@@ -32,7 +32,8 @@ use Rattle.lam_worlds.specs.Turns.{may_ask, lists}
 use Rattle.lam_worlds.specs.Views.{goes_down}
 use Rattle.lam_isolation.proofs.FlowLemmas.{flows_refl, flows_trans, hidden_up, each_passes, read_passes, write_passes, same_passes, mint_passes}
 use Rattle.lam_isolation.proofs.EffectLemmas.{IsHidden, IsOpen}
-use Rattle.lam_isolation.proofs.ThreadLemmas.{IsSafe, IsOwn, KeepsOwn, NoRegion, Fits, listed_own}
+use Rattle.lam_isolation.specs.Isolation.{IsWellLabelled}
+use Rattle.lam_isolation.proofs.ThreadLemmas.{IsOwn, KeepsOwn, NoRegion, Fits, listed_own}
 
 -- ---- what a deed stands under
 
@@ -87,7 +88,7 @@ pub record IsProper (w : World) (c : Context) (a : Ask) (d : Deed) : Type 0 wher
   -- a seen actor makes things of its own, and copies what is seen
   pub openly : (o : Label) → flows c.label o ≡ true → IsOpen o d.effect
   -- an unseen actor changes nothing that is seen, but for what is made
-  pub hidden : IsSafe c → may_ask c a ≡ true → (o : Label) → flows c.label o ≡ false → IsHidden o w.heap d.effect d.made
+  pub hidden : IsWellLabelled c → may_ask c a ≡ true → (o : Label) → flows c.label o ≡ false → IsHidden o w.heap d.effect d.made
 
 refused : (w : World) (c : Context) (a : Ask) (x : Denied) → IsProper w c a (answers (Refused x))
 refused w c a x = record { fits = tt; own = tt; above = λ e. refl; openly = λ o s. tt; hidden = λ s may o h. tt }
@@ -133,11 +134,11 @@ joined_proper w c a (Some (outcome.Value v)) = given w c a v
 joined_proper w c a (Some (outcome.Failed f)) = failed w c a Child
 
 -- it is done, with an effect
-done_proper : (w : World) (c : Context) (a : Ask) (e : Effect) → KeepsOwn c.label a Done → ((o : Label) → IsOpen o e) → (IsSafe c → may_ask c a ≡ true → (o : Label) → flows c.label o ≡ false → IsHidden o w.heap e None) → IsProper w c a (does e)
+done_proper : (w : World) (c : Context) (a : Ask) (e : Effect) → KeepsOwn c.label a Done → ((o : Label) → IsOpen o e) → (IsWellLabelled c → may_ask c a ≡ true → (o : Label) → flows c.label o ≡ false → IsHidden o w.heap e None) → IsProper w c a (does e)
 done_proper w c a e own open_e hid = record { fits = tt; own = own; above = λ x. refl; openly = λ o s. open_e o; hidden = hid }
 
 -- a value is given, with an effect
-gives_proper : (w : World) (c : Context) (a : Ask) (v : Value) (e : Effect) → ((o : Label) → IsOpen o e) → (IsSafe c → may_ask c a ≡ true → (o : Label) → flows c.label o ≡ false → IsHidden o w.heap e None) → IsProper w c a (gives v e)
+gives_proper : (w : World) (c : Context) (a : Ask) (v : Value) (e : Effect) → ((o : Label) → IsOpen o e) → (IsWellLabelled c → may_ask c a ≡ true → (o : Label) → flows c.label o ≡ false → IsHidden o w.heap e None) → IsProper w c a (gives v e)
 gives_proper w c a v e open_e hid = record { fits = tt; own = tt; above = λ x. refl; openly = λ o s. open_e o; hidden = hid }
 
 creates_proper : (w : World) (c : Context) (a : Ask) (home : Home) (slots : List Value) (refer : Name → Value) (e : Effect) → (may_release a ≡ false → flows c.label home.own ≡ true) → ((o : Label) → flows c.label o ≡ true → IsOpen o e) → ((o : Label) → flows c.label o ≡ false → IsHidden o w.heap e (Some (a_thing (name_of home (count_in w.heap.counts home)) (refer (name_of home (count_in w.heap.counts home))) slots))) → IsProper w c a (creates w home slots refer e)

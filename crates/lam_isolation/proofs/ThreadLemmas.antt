@@ -27,6 +27,7 @@ use Rattle.thread_steps.specs.Next.{entry, faulted, with_inside, with_held, give
 use Rattle.lam_worlds.specs.Deeds.{Made, a_region, a_thing, a_file, a_dir, a_pipe, a_thread}
 use Rattle.lam_worlds.specs.Turns.{is_bottom, may_ask}
 use Rattle.lam_worlds.specs.Views.{is_seen}
+use Rattle.lam_isolation.specs.Isolation.{IsWellLabelled}
 use Rattle.lam_isolation.proofs.FlowLemmas.{not_both}
 use Rattle.lam_isolation.proofs.AlikeLemmas.{SameStacks, SameResults, AlikeThreads}
 
@@ -75,20 +76,15 @@ filter-append {X} p (x ∷ xs) ys = go (p x) (filter-append p xs ys)
 
 -- ---- contexts
 
--- what isolation needs of a context: a first one is public, and the monitors that it lists have its label
-pub record IsSafe (c : Context) : Type 0 where
-  pub bottom : c.phase ≡ Bottom → c.label ≡ public_label
-  pub held : AllByRecursion (λ (n : Name). n.own ≡ c.label) c.held
-
--- it has the other's label, and is safe
+-- it has the other's label, and is well labelled
 pub record IsHeir (c d : Context) : Type 0 where
   pub label : d.label ≡ c.label
-  pub safe : IsSafe d
+  pub safe : IsWellLabelled d
 
-pub heir_inside : (c : Context) (i : Inside) → IsSafe c → IsHeir c (with_inside c i)
+pub heir_inside : (c : Context) (i : Inside) → IsWellLabelled c → IsHeir c (with_inside c i)
 heir_inside c i s = record { label = refl; safe = record { bottom = s.bottom; held = s.held } }
 
-heir_held : (c : Context) (i : Inside) (ns : List Name) → IsSafe c → AllByRecursion (λ (n : Name). n.own ≡ c.label) ns → IsHeir c (with_held (with_inside c i) ns)
+heir_held : (c : Context) (i : Inside) (ns : List Name) → IsWellLabelled c → AllByRecursion (λ (n : Name). n.own ≡ c.label) ns → IsHeir c (with_held (with_inside c i) ns)
 heir_held c i ns s h = record { label = refl; safe = record { bottom = s.bottom; held = h } }
 
 heir_catching : (c : Context) (f : Fault) → IsHeir c (catching c f)
@@ -199,7 +195,7 @@ Fits c a (Val v) m = NoRegion m
 Fits c a (Refused d) m = NoRegion m
 Fits c a (Failed f) m = NoRegion m
 
-done_heirs : (code : CodeTree) (c : Context) (after : Inside) (a : Ask) → IsSafe c → OwnDone c.label a → AllByRecursion (IsHeir c) (done code c [] after a)
+done_heirs : (code : CodeTree) (c : Context) (after : Inside) (a : Ask) → IsWellLabelled c → OwnDone c.label a → AllByRecursion (IsHeir c) (done code c [] after a)
 done_heirs code c after ask.Leave s own = tt
 done_heirs code c after (ask.Barred d) s own = (heir_inside c _ s, tt)
 done_heirs code c after (ask.Caught f) s own = (heir_catching c f, tt)
@@ -256,7 +252,7 @@ heirs_hidden : (o : Label) (code : CodeTree) (c : Context) (ds : List Context) (
 heirs_hidden o code c ds m hid none h = none_seen o c ds hid h ∙ ap (filter (is_seen o)) (no_contexts code m none)
 
 -- in front of the contexts below, an unseen actor leaves what it makes, and nothing that is seen beside it
-pub front_hidden : (o : Label) (code : CodeTree) (c : Context) (after : Inside) (a : Ask) (x : Answer) (m : Option Made) → flows c.label o ≡ false → IsSafe c → KeepsOwn c.label a x → Fits c a x m → filter (is_seen o) (front code c after a x) ≡ filter (is_seen o) (new_contexts code m)
+pub front_hidden : (o : Label) (code : CodeTree) (c : Context) (after : Inside) (a : Ask) (x : Answer) (m : Option Made) → flows c.label o ≡ false → IsWellLabelled c → KeepsOwn c.label a x → Fits c a x m → filter (is_seen o) (front code c after a x) ≡ filter (is_seen o) (new_contexts code m)
 front_hidden o code c after a Done m hid s own fits = heirs_hidden o code c _ m hid fits (done_heirs code c after a s own)
 front_hidden o code c after a Entered m hid s own fits = entered_hidden o code c after a m hid fits
 front_hidden o code c after a (Val v) m hid s own fits = heirs_hidden o code c (gains a v (given c after v) ∷ []) m hid fits (heir_gains a v c (given c after v) (heir_inside c _ s), tt)
@@ -266,7 +262,7 @@ front_hidden o code c after a (Failed f) m hid s own fits = heirs_hidden o code 
 -- ---- contexts stay safe
 
 abbrev pub AllSafe : List Context → Type 0
-AllSafe cs = AllByRecursion IsSafe cs
+AllSafe cs = AllByRecursion IsWellLabelled cs
 
 pub safe_append : (cs ds : List Context) → AllSafe cs → AllSafe ds → AllSafe (cs ++ ds)
 safe_append [] ds h k = k
@@ -276,11 +272,11 @@ heirs_safe : (c : Context) (ds : List Context) → AllByRecursion (IsHeir c) ds 
 heirs_safe c [] h = tt
 heirs_safe c (d ∷ ds) h = ((h.0).safe, heirs_safe c ds h.1)
 
-entered_safe : (code : CodeTree) (c : Context) (after : Inside) (a : Ask) → IsSafe c → AllSafe (entered code c [] after a)
+entered_safe : (code : CodeTree) (c : Context) (after : Inside) (a : Ask) → IsWellLabelled c → AllSafe (entered code c [] after a)
 entered_safe code c after (ask.Enter l k r vs) s = (record { bottom = λ e. cc; held = tt }, ((heir_inside c after s).safe, tt))
 entered_safe code c after a s = ((heir_inside c after s).safe, tt)
 
-pub front_safe : (code : CodeTree) (c : Context) (after : Inside) (a : Ask) (x : Answer) → IsSafe c → KeepsOwn c.label a x → AllSafe (front code c after a x)
+pub front_safe : (code : CodeTree) (c : Context) (after : Inside) (a : Ask) (x : Answer) → IsWellLabelled c → KeepsOwn c.label a x → AllSafe (front code c after a x)
 front_safe code c after a Done s own = heirs_safe c _ (done_heirs code c after a s own)
 front_safe code c after a Entered s own = entered_safe code c after a s
 front_safe code c after a (Val v) s own = ((heir_gains a v c (given c after v) (heir_inside c _ s)).safe, tt)
@@ -290,6 +286,6 @@ front_safe code c after a (Failed f) s own = ((heir_inside c _ s).safe, tt)
 -- ---- results
 
 -- where the acting context is unseen and results are seen, they stay
-pub result_kept : (o : Label) (c : Context) (a : Ask) (r : Option Outcome) → IsSafe c → may_ask c a ≡ true → flows c.label o ≡ false → flows public_label o ≡ true → result_after r a ≡ r
+pub result_kept : (o : Label) (c : Context) (a : Ask) (r : Option Outcome) → IsWellLabelled c → may_ask c a ≡ true → flows c.label o ≡ false → flows public_label o ≡ true → result_after r a ≡ r
 result_kept o c (ask.End out) r s may hid seen = not_both (flows public_label o) (ap (λ l. flows l o) (sym (s.bottom (bottom_is c.phase may))) ∙ hid) seen
 result_kept o c a r s may hid seen = refl

@@ -18,7 +18,8 @@ use Rattle.lam_worlds.specs.Valid.{IsListed, ContextLives, StandsOn, AreStacked,
 use Rattle.lam_isolation.proofs.FlowLemmas.{both_true}
 use Rattle.lam_isolation.proofs.AlikeLemmas.{AlikeThreads, Alike, alike_refl, alike_sym, alike_trans, with_threads}
 use Rattle.lam_isolation.proofs.EffectLemmas.{IsHidden, hidden_shown, shown, shown_same, shown_kept, effect_same}
-use Rattle.lam_isolation.proofs.ThreadLemmas.{some_inj, set_same, threads_set, filter-append, IsSafe, heir_inside, front, answered_front, new_contexts, front_hidden, AllSafe, safe_append, front_safe, result_kept}
+use Rattle.lam_isolation.specs.Isolation.{IsWellLabelled, AreWellLabelled}
+use Rattle.lam_isolation.proofs.ThreadLemmas.{some_inj, set_same, threads_set, filter-append, heir_inside, front, answered_front, new_contexts, front_hidden, AllSafe, safe_append, front_safe, result_kept}
 use Rattle.lam_isolation.proofs.RowLemmas.{served_proper}
 use Rattle.lam_isolation.proofs.SameLemmas.{serve_same}
 
@@ -64,8 +65,8 @@ pub record Turned (code : CodeTree) (w : World) (t : ℕ) (th : Thread) (c : Con
   -- what stands on the contexts below
   pub new : List Context
   pub form : to.contexts ≡ new ++ rest
-  pub safe : IsSafe c → AllSafe rest → AllSafe to.contexts
-  pub unseen : IsSafe c → (o : Label) → flows c.label o ≡ false → Unseen o code w th rest to effect m.made
+  pub safe : IsWellLabelled c → AllSafe rest → AllSafe to.contexts
+  pub unseen : IsWellLabelled c → (o : Label) → flows c.label o ≡ false → Unseen o code w th rest to effect m.made
 
 private_to : Thread → Context → List Context → Inside → Thread
 private_to th c rest i = record { contexts = with_inside c i ∷ rest; result = th.result }
@@ -115,13 +116,10 @@ turned code w t th c rest (asks a i) m h =
     subst (Turned code w t th c rest) p.1 (asked code w t th c rest a i (both_true (may_ask c a) (not (waits w t c a)) p.0).0)
 turned code w t th c rest stuck m h = absurd cc
 
--- ---- worlds stay safe
-
-pub record IsSafeWorld (w : World) : Type 0 where
-  pub contexts : (t : ℕ) → AllSafe (contexts_at w t)
+-- ---- worlds stay well labelled
 
 -- the contexts of an acting thread
-pub top_safe : (w : World) (t : ℕ) (th : Thread) (c : Context) (rest : List Context) → IsSafeWorld w → thread_at w t ≡ Some th → th.contexts ≡ c ∷ rest → IsSafe c × AllSafe rest
+pub top_safe : (w : World) (t : ℕ) (th : Thread) (c : Context) (rest : List Context) → AreWellLabelled w → thread_at w t ≡ Some th → th.contexts ≡ c ∷ rest → IsWellLabelled c × AllSafe rest
 top_safe w t th c rest s e f = subst AllSafe f (subst (λ x. AllSafe (contexts_in x)) e (s.contexts t))
 
 set_safe : (t : ℕ) (xs : List Thread) (a : Thread) → ((j : ℕ) → AllSafe (contexts_in (slice_get xs j))) → AllSafe a.contexts → (j : ℕ) → AllSafe (contexts_in (slice_get (slice_set xs t a) j))
@@ -137,7 +135,7 @@ grown_safe [] a all here (suc j) = tt
 grown_safe (x ∷ xs) a all here zero = all zero
 grown_safe (x ∷ xs) a all here (suc j) = grown_safe xs a (λ k. all (suc k)) here j
 
-effect_safe : (code : CodeTree) (t : ℕ) (e : Effect) (w : World) → IsSafeWorld w → IsSafeWorld (effect_of code t e w)
+effect_safe : (code : CodeTree) (t : ℕ) (e : Effect) (w : World) → AreWellLabelled w → AreWellLabelled (effect_of code t e w)
 effect_safe code t (adds_thread unit args caps) w s =
     record { contexts = grown_safe w.threads (started code unit args caps) s.contexts (record { bottom = λ e. refl; held = tt }, tt) }
 effect_safe code t nothing w s = s
@@ -157,14 +155,14 @@ effect_safe code t (adds_pipe home) w s = record { contexts = s.contexts }
 effect_safe code t (sends p m) w s = record { contexts = s.contexts }
 effect_safe code t (receives p k) w s = record { contexts = s.contexts }
 
-pub step_safe : (code : CodeTree) (w : World) (t : ℕ) (m : Moment) → IsSafeWorld w → step code w t ≡ Some m → IsSafeWorld m.world
+pub step_safe : (code : CodeTree) (w : World) (t : ℕ) (m : Moment) → AreWellLabelled w → step code w t ≡ Some m → AreWellLabelled m.world
 step_safe code w t m s h =
     let a = acts code w t m h in
     let b = turned code w t a.thread a.top a.rest _ m a.gives in
     let p = top_safe w t a.thread a.top a.rest s a.at a.list in
-    subst IsSafeWorld (sym b.world) (effect_safe code t b.effect _ (record { contexts = set_safe t w.threads b.to s.contexts (b.safe p.0 p.1) }))
+    subst AreWellLabelled (sym b.world) (effect_safe code t b.effect _ (record { contexts = set_safe t w.threads b.to s.contexts (b.safe p.0 p.1) }))
 
--- valid worlds are safe
+-- valid worlds are well labelled
 bottom_public : (c : Context) (cs : List Context) (Below : Type 0) → StandsOn c cs Below → c.phase ≡ Bottom → c.label ≡ public_label
 bottom_public c [] Below h e = h.label
 bottom_public c (d ∷ ds) Below h e = let same : is_bottom c.phase ≡ true = ap is_bottom e in absurd cc
@@ -182,7 +180,7 @@ stack_safe w t [] h s = tt
 stack_safe w t (c ∷ cs) h s =
     (record { bottom = bottom_public c cs (AreStacked cs) s; held = listed_safe w t c c.held (h.0).held }, stack_safe w t cs h.1 (below c cs s))
 
-pub valid_safe : (w : World) → IsValid w → IsSafeWorld w
+pub valid_safe : (w : World) → IsValid w → AreWellLabelled w
 valid_safe w v = record { contexts = λ t. go t (thread_at w t) refl }
   where
     go : (t : ℕ) (x : Option Thread) → thread_at w t ≡ x → AllSafe (contexts_in x)
@@ -212,7 +210,7 @@ one_thread o w t th to e stacks results =
     (threads_set o t w.threads w.threads th th th to (alike_refl o w).threads e e stacks results))
 
 -- an unseen turn that is no release past the observer keeps what is seen
-pub unseen_turn : (o : Label) (code : CodeTree) (w : World) (t : ℕ) (m : Moment) → IsSafeWorld w → step code w t ≡ Some m → is_noted o m ≡ false → Alike o w m.world
+pub unseen_turn : (o : Label) (code : CodeTree) (w : World) (t : ℕ) (m : Moment) → AreWellLabelled w → step code w t ≡ Some m → is_noted o m ≡ false → Alike o w m.world
 unseen_turn o code w t m s h un =
     let a = acts code w t m h in
     let b = turned code w t a.thread a.top a.rest _ m a.gives in
@@ -228,7 +226,7 @@ unseen_turn o code w t m s h un =
 -- ---- releases
 
 -- two releases of the same content
-pub release_pair : (o : Label) (code : CodeTree) (w w' : World) (t : ℕ) (m m' : Moment) → IsSafeWorld w → IsSafeWorld w' → Alike o w w' → step code w t ≡ Some m → step code w' t ≡ Some m' → flows m.event.label o ≡ false → flows m'.event.label o ≡ false → m.made ≡ m'.made → Alike o m.world m'.world
+pub release_pair : (o : Label) (code : CodeTree) (w w' : World) (t : ℕ) (m m' : Moment) → AreWellLabelled w → AreWellLabelled w' → Alike o w w' → step code w t ≡ Some m → step code w' t ≡ Some m' → flows m.event.label o ≡ false → flows m'.event.label o ≡ false → m.made ≡ m'.made → Alike o m.world m'.world
 release_pair o code w w' t m m' s s' l h h' un un' content =
     let a = acts code w t m h in
     let a' = acts code w' t m' h' in

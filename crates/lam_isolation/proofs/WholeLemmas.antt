@@ -7,9 +7,9 @@ use Rattle.lam_bytecode.specs.Codes.{CodeTree}
 use Rattle.lam_worlds.specs.Worlds.{World}
 use Rattle.lam_worlds.specs.Turns.{Moment, step, and_then, moments, left_by}
 use Rattle.lam_worlds.specs.Views.{View, view, is_noted, Release, release_of, Item, turn, past, event, release, item_of, entry_of, noted}
-use Rattle.lam_isolation.specs.Isolation.{IsIsolated, IsSteady}
+use Rattle.lam_isolation.specs.Isolation.{AreWellLabelled, IsIsolated, IsSteady}
 use Rattle.lam_isolation.proofs.AlikeLemmas.{Alike, alike_by_view, view_by_alike, alike_refl, alike_sym, alike_trans}
-use Rattle.lam_isolation.proofs.TurnLemmas.{IsSafeWorld, step_safe, valid_safe, unseen_turn, release_pair, seen_pair, turn_thread}
+use Rattle.lam_isolation.proofs.TurnLemmas.{step_safe, unseen_turn, release_pair, seen_pair, turn_thread}
 
 -- the first noted step of a run
 record First (code : CodeTree) (o : Label) (ts : List ℕ) (w : World) : Type 0 where
@@ -18,7 +18,7 @@ record First (code : CodeTree) (o : Label) (ts : List ℕ) (w : World) : Type 0 
   it : Moment
   rest : List ℕ
   alike : Alike o w mid
-  valid : IsSafeWorld mid
+  valid : AreWellLabelled mid
   takes : step code mid thread ≡ Some it
   is_one : is_noted o it ≡ true
   list : noted o (moments code ts w) ≡ it ∷ noted o (moments code rest it.world)
@@ -51,11 +51,11 @@ go_past code o t ts w m a e (One f) =
       list = e ∙ f.list;
     })
 
-skim : (code : CodeTree) (o : Label) (ts : List ℕ) (w : World) → IsSafeWorld w → Skim code o ts w
+skim : (code : CodeTree) (o : Label) (ts : List ℕ) (w : World) → AreWellLabelled w → Skim code o ts w
 skim code o [] w v = No_more refl
 skim code o (t ∷ ts) w v = look (λ u k. skim code o ts u k) (step code w t) refl
   where
-    sort : ((u : World) → IsSafeWorld u → Skim code o ts u) → (m : Moment) → step code w t ≡ Some m → (b : Bool) → is_noted o m ≡ b → Skim code o (t ∷ ts) w
+    sort : ((u : World) → AreWellLabelled u → Skim code o ts u) → (m : Moment) → step code w t ≡ Some m → (b : Bool) → is_noted o m ≡ b → Skim code o (t ∷ ts) w
     sort more m h true e =
         One (record {
           mid = w;
@@ -73,7 +73,7 @@ skim code o (t ∷ ts) w v = look (λ u k. skim code o ts u k) (step code w t) r
         (ahead code o t ts w m h ∙ passed_over o m (moments code ts m.world) e)
         (more m.world (step_safe code w t m v h))
 
-    look : ((u : World) → IsSafeWorld u → Skim code o ts u) → (x : Option Moment) → step code w t ≡ x → Skim code o (t ∷ ts) w
+    look : ((u : World) → AreWellLabelled u → Skim code o ts u) → (x : Option Moment) → step code w t ≡ x → Skim code o (t ∷ ts) w
     look more None h = No_more (ap (λ x. noted o (and_then x (moments code ts))) h)
     look more (Some m) h = sort more m h (is_noted o m) refl
 
@@ -109,7 +109,7 @@ one_or_other : (t : ℕ) (r : Release) {X : Type 0} → turn t ≡ past r → X
 one_or_other t r e = absurd cc
 
 -- two noted steps with equal items, from worlds that look alike
-together : (o : Label) (code : CodeTree) (w w' : World) (t t' : ℕ) (m m' : Moment) → IsSafeWorld w → IsSafeWorld w' → Alike o w w' → step code w t ≡ Some m → step code w' t' ≡ Some m' → item_of o m ≡ item_of o m' → Together o m m'
+together : (o : Label) (code : CodeTree) (w w' : World) (t t' : ℕ) (m m' : Moment) → AreWellLabelled w → AreWellLabelled w' → Alike o w w' → step code w t ≡ Some m → step code w' t' ≡ Some m' → item_of o m ≡ item_of o m' → Together o m m'
 together o code w w' t t' m m' v v' alike h h' same = sort (flows m.event.label o) (flows m'.event.label o) refl refl
   where
     same_thread : m.event.thread ≡ m'.event.thread → step code w' t ≡ Some m'
@@ -144,14 +144,14 @@ front n x y xs ys e = (cc, cc)
 both_go : (n : ℕ) (o : Label) (w w' : World) (m m' : Moment) (ms ms' : List Moment) → entry_of o m ≡ entry_of o m' → Agreeing n o m.world ms m'.world ms' → Agreeing (suc n) o w (m ∷ ms) w' (m' ∷ ms')
 both_go n o w w' m m' ms ms' e a = record { entries = λ i. e i ∷ a.entries i; states = a.states }
 
-whole : (code : CodeTree) (o : Label) (n : ℕ) (w w' : World) (ts ts' : List ℕ) → IsSafeWorld w → IsSafeWorld w' → Alike o w w' → n ≤ length (map (item_of o) (noted o (moments code ts w))) → n ≤ length (map (item_of o) (noted o (moments code ts' w'))) → take n (map (item_of o) (noted o (moments code ts w))) ≡ take n (map (item_of o) (noted o (moments code ts' w'))) → Agreeing n o w (noted o (moments code ts w)) w' (noted o (moments code ts' w'))
+whole : (code : CodeTree) (o : Label) (n : ℕ) (w w' : World) (ts ts' : List ℕ) → AreWellLabelled w → AreWellLabelled w' → Alike o w w' → n ≤ length (map (item_of o) (noted o (moments code ts w))) → n ≤ length (map (item_of o) (noted o (moments code ts' w'))) → take n (map (item_of o) (noted o (moments code ts w))) ≡ take n (map (item_of o) (noted o (moments code ts' w'))) → Agreeing n o w (noted o (moments code ts w)) w' (noted o (moments code ts' w'))
 whole code o zero w w' ts ts' v v' alike le le' e = record { entries = refl; states = ap Some (view_by_alike o w w' alike) }
 whole code o (suc n) w w' ts ts' v v' alike le le' e = go (λ u u' us us'. whole code o n u u' us us') (skim code o ts w v) (skim code o ts' w' v')
   where
     short : (ms : List Moment) → ms ≡ [] → suc n ≤ length (map (item_of o) ms) → ⊥
     short ms e l = let z : length (map (item_of o) ms) ≡ 0 = ap (λ l. length (map (item_of o) l)) e in omega arith
 
-    go : ((u u' : World) (us us' : List ℕ) → IsSafeWorld u → IsSafeWorld u' → Alike o u u' → n ≤ length (map (item_of o) (noted o (moments code us u))) → n ≤ length (map (item_of o) (noted o (moments code us' u'))) → take n (map (item_of o) (noted o (moments code us u))) ≡ take n (map (item_of o) (noted o (moments code us' u'))) → Agreeing n o u (noted o (moments code us u)) u' (noted o (moments code us' u'))) → Skim code o ts w → Skim code o ts' w' → Agreeing (suc n) o w (noted o (moments code ts w)) w' (noted o (moments code ts' w'))
+    go : ((u u' : World) (us us' : List ℕ) → AreWellLabelled u → AreWellLabelled u' → Alike o u u' → n ≤ length (map (item_of o) (noted o (moments code us u))) → n ≤ length (map (item_of o) (noted o (moments code us' u'))) → take n (map (item_of o) (noted o (moments code us u))) ≡ take n (map (item_of o) (noted o (moments code us' u'))) → Agreeing n o u (noted o (moments code us u)) u' (noted o (moments code us' u'))) → Skim code o ts w → Skim code o ts' w' → Agreeing (suc n) o w (noted o (moments code ts w)) w' (noted o (moments code ts' w'))
     go more (No_more h) s' = absurd (short _ h le)
     go more (One f) (No_more h) = absurd (short _ h le')
     go more (One f) (One f') =
@@ -170,7 +170,7 @@ whole code o (suc n) w w' ts ts' v v' alike le le' e = go (λ u u' us us'. whole
 
 pub isolated : (code : CodeTree) (o : Label) → IsIsolated code o
 isolated code o s s' turns turns' n v v' same is is' le le' e =
-    let a = whole code o n s s' turns turns' (valid_safe s v) (valid_safe s' v') (alike_by_view o s s' same.views) le le' e in
+    let a = whole code o n s s' turns turns' v v' (alike_by_view o s s' same.views) le le' e in
     record { traces = a.entries; states = a.states }
 
 -- ---- between entries
@@ -179,22 +179,22 @@ isolated code o s s' turns turns' n v v' same is is' le le' e =
 from : Label → View → List Moment → World → Type 0
 from o v ns u = slice_get (v ∷ map (λ (m : Moment). view o m.world) ns) (length (map (item_of o) ns)) ≡ Some (view o u)
 
-steady_on : (code : CodeTree) (o : Label) (ts : List ℕ) (w : World) → IsSafeWorld w → from o (view o w) (noted o (moments code ts w)) (left_by w (moments code ts w))
+steady_on : (code : CodeTree) (o : Label) (ts : List ℕ) (w : World) → AreWellLabelled w → from o (view o w) (noted o (moments code ts w)) (left_by w (moments code ts w))
 unfolding from
 steady_on code o [] w v = refl
 steady_on code o (t ∷ ts) w v = look (λ u k. steady_on code o ts u k) (step code w t) refl
   where
-    sort : ((u : World) → IsSafeWorld u → from o (view o u) (noted o (moments code ts u)) (left_by u (moments code ts u))) → (m : Moment) → step code w t ≡ Some m → (b : Bool) → is_noted o m ≡ b → from o (view o w) (noted o (m ∷ moments code ts m.world)) (left_by m.world (moments code ts m.world))
+    sort : ((u : World) → AreWellLabelled u → from o (view o u) (noted o (moments code ts u)) (left_by u (moments code ts u))) → (m : Moment) → step code w t ≡ Some m → (b : Bool) → is_noted o m ≡ b → from o (view o w) (noted o (m ∷ moments code ts m.world)) (left_by m.world (moments code ts m.world))
     sort more m h true e = subst (λ ns. from o (view o w) ns (left_by m.world (moments code ts m.world))) (sym (taken_up o m (moments code ts m.world) e)) (more m.world (step_safe code w t m v h))
     sort more m h false e =
         subst (λ ns. from o (view o w) ns (left_by m.world (moments code ts m.world))) (sym (passed_over o m (moments code ts m.world) e))
         (subst (λ x. from o x (noted o (moments code ts m.world)) (left_by m.world (moments code ts m.world))) (sym (view_by_alike o w m.world (unseen_turn o code w t m v h e)))
         (more m.world (step_safe code w t m v h)))
 
-    look : ((u : World) → IsSafeWorld u → from o (view o u) (noted o (moments code ts u)) (left_by u (moments code ts u))) → (x : Option Moment) → step code w t ≡ x → from o (view o w) (noted o (and_then (step code w t) (moments code ts))) (left_by w (and_then (step code w t) (moments code ts)))
+    look : ((u : World) → AreWellLabelled u → from o (view o u) (noted o (moments code ts u)) (left_by u (moments code ts u))) → (x : Option Moment) → step code w t ≡ x → from o (view o w) (noted o (and_then (step code w t) (moments code ts))) (left_by w (and_then (step code w t) (moments code ts)))
     look more None h = subst (λ x. from o (view o w) (noted o (and_then x (moments code ts))) (left_by w (and_then x (moments code ts)))) (sym h) refl
     look more (Some m) h = subst (λ x. from o (view o w) (noted o (and_then x (moments code ts))) (left_by w (and_then x (moments code ts)))) (sym h) (sort more m h (is_noted o m) refl)
 
 pub steady : (code : CodeTree) (o : Label) → IsSteady code o
 unfolding from
-steady code o s turns v is = steady_on code o turns s (valid_safe s v)
+steady code o s turns v is = steady_on code o turns s v

@@ -3,7 +3,7 @@
 //! The laws stand over `lam_worlds`' definitions, and look into no operation of a code: a private turn changes the
 //! inside of the acting context and nothing else, and each ask is looked at once, by the store that it is about.
 //!
-//! - `specs/Isolation`: two runs that agree below an observer's label.
+//! - `specs/Isolation`: two runs that agree below an observer's label, and what their starts are asked for.
 //! - `specs/Sound`: what every turn keeps of the stores. Each stays sound, and no counter passes its limit.
 //! - `specs/Laws`, `specs/Tests`: contexts come back as they were, faults are handled where they were raised, releases are
 //!   allowed by capabilities that the acting context holds, and no context gets capabilities but by minting, receiving
@@ -13,15 +13,24 @@
 
 ghost use Rattle.flow_labels.specs.declared.Label.{Label};
 ghost use Rattle.lam_bytecode.specs.Codes.{CodeTree};
-ghost use Rattle.lam_isolation.specs.Isolation.{IsIsolated, IsSteady, TwoAsksRelease};
+ghost use Rattle.lam_isolation.specs.Isolation.{ValidAreWellLabelled, StaysWellLabelled, IsIsolated, IsSteady, TwoAsksRelease};
 ghost use Rattle.lam_isolation.specs.Sound.{StaysSound};
 ghost use Rattle.lam_isolation.specs.Tests.{RefusalsNameTheFirst, RefusalsChangeNothing};
 ghost use Rattle.lam_isolation.specs.Laws.{ContextsComeBack, FaultsAreHandled, ReleasesAreAllowed, CapsDoNotGrow};
 ghost use Rattle.lam_isolation.specs.Own.{TurnsTouchTheirThread, ThreadsFollowTheirTurns};
 
+/// In every valid world each first context is public, and the monitors that a context lists have its label. Every turn of
+/// every code keeps that.
+pub fn worlds_stay_well_labelled()
+    ensures valid { ValidAreWellLabelled }
+    ensures turns { (code : CodeTree) → StaysWellLabelled code }
+{}
+
 /// Two runs of any code, whose starts agree below an observer's label, with the same visible turns in the same order
 /// and the same releases past the label, have the same visible events and the same visible state, as far as both go.
 /// Between two entries of the agenda nothing that the observer sees changes.
+///
+/// Of the starts this takes no more than that they are well labelled.
 pub fn runs_are_isolated()
     ensures isolated { (code : CodeTree) (o : Label) → IsIsolated code o }
     ensures steady { (code : CodeTree) (o : Label) → IsSteady code o }
@@ -47,7 +56,8 @@ pub fn contexts_come_back()
 {}
 
 /// A fault that was raised is what a context turns to next: a region's body has it caught, a catch block has it
-/// suppressed, and a first context ends its thread.
+/// suppressed, and a first context ends its thread. In every run the first thing that the thread does from there is that
+/// ask, and it is done.
 pub fn faults_are_handled()
     ensures { (code : CodeTree) → FaultsAreHandled code }
 {}
@@ -58,7 +68,8 @@ pub fn releases_are_allowed()
 {}
 
 /// After a turn the capabilities of each context are those before it, but for both of a tag just minted, those of a
-/// message just received, and those of a new context or thread, which the acting context holds.
+/// message just received, and those of a new context or thread, which the acting context holds. Where a region is entered,
+/// the new context has those that were asked for, and the one below keeps its own.
 pub fn capabilities_do_not_grow()
     ensures { (code : CodeTree) → CapsDoNotGrow code }
 {}

@@ -8,7 +8,7 @@ use Rattle.capabilities.specs.Changes.{used}
 use Rattle.lam_value.specs.declared.values.Value.{Value}
 use Rattle.lam_value.specs.declared.names.Name.{Name}
 use Rattle.lam_value.specs.Names.{name_cmp}
-use Rattle.lam_value.specs.Homes.{Home, Counts}
+use Rattle.lam_value.specs.Homes.{Home, Counts, count_in}
 use Rattle.monitor_core.specs.Held.{Held}
 use Rattle.labelled_files.specs.Entries.{Entries}
 use Rattle.labelled_pipes.specs.declared.message.Message.{Message}
@@ -28,9 +28,9 @@ pub record View : Type 0 where
   pub dirs : FinMap name_cmp Entries
   pub files : FinMap name_cmp (List ℕ)
   pub pipes : FinMap name_cmp (List Message)
-  pub heap_counts : Counts
-  pub file_counts : Counts
-  pub pipe_counts : Counts
+  pub heap_counts : Home → ℕ
+  pub file_counts : Home → ℕ
+  pub pipe_counts : Home → ℕ
   pub contexts : ℕ → List Context
   pub next_tag : Option ℕ
   pub threads : Option ℕ
@@ -40,9 +40,9 @@ pub record View : Type 0 where
 abbrev pub shown : {X : Type 0} → Label → FinMap name_cmp X → FinMap name_cmp X
 shown o m = retain_keys m (λ (n : Name). seen n.own o)
 
--- of what is counted home by home, what a seen maker made
-abbrev pub shown_counts : Label → Counts → Counts
-shown_counts o m = retain_keys m (λ (h : Home). seen h.maker o)
+-- how many things each home of a seen maker has made: a home that is counted at 0 and one that is not counted look the same
+abbrev pub shown_counts : Label → Counts → Home → ℕ
+shown_counts o m = λ h. cond (seen h.maker o) (count_in m h) 0
 
 abbrev pub is_seen : Label → Context → Bool
 is_seen o c = seen c.label o
