@@ -9,7 +9,7 @@ use Rattle.lam_worlds.specs.Worlds.{World, thread_at, contexts_in, with_thread}
 use Rattle.lam_worlds.specs.Deeds.{Effect, nothing, takes_tag, sets_slot, adds_thing, adds_copy, takes_monitor, gives_back, drops, adds_file, adds_dir, removes, appends, cuts, adds_pipe, sends, receives, adds_thread, effect_of}
 use Rattle.lam_worlds.specs.Turns.{Moment, step, and_then, moments}
 use Rattle.lam_isolation.proofs.TurnLemmas.{acts, turned}
-use Rattle.lam_isolation.specs.Laws.{StandsAbove, ComesBack, ContextsComeBack, handling, FaultsAreHandled}
+use Rattle.lam_isolation.specs.Laws.{StandsAbove, ComesBack, ContextsComeBack, handling}
 
 -- ---- one thread of many
 
@@ -100,6 +100,6 @@ raised_handled Bottom i f = refl
 raised_handled (Body at) i f = refl
 raised_handled Catch i f = refl
 
-pub faults_handled : (code : CodeTree) → FaultsAreHandled code
+pub fault_next : (code : CodeTree) (c : Context) (f : Fault) → c.inside.fault ≡ Some f → next_of code c ≡ asks (handling c.phase f) c.inside
 unfolding next_of
-faults_handled code c f e = ap (next_in code c) e ∙ raised_handled c.phase c.inside f
+fault_next code c f e = ap (next_in code c) e ∙ raised_handled c.phase c.inside f

@@ -1,6 +1,6 @@
 -- What the capabilities of contexts may be after a turn.
-use Rattle.std.proofs.Common.{◌≡◌, ℕ, zero, suc, List, [], ◌∷◌, ◌++◌, Option, Some, None, refl, sym, ap, ◌∙◌, subst, inl, inr}
-use Rattle.std.specs.Prelude.{◌⊎◌, slice_get}
+use Rattle.std.proofs.Common.{◌≡◌, ℕ, zero, suc, List, [], ◌∷◌, ◌++◌, Option, Some, None, refl, sym, ap, ◌∙◌, subst}
+use Rattle.std.specs.Prelude.{map, slice_get}
 use Rattle.std.specs.List.{AllByRecursion}
 use Rattle.flow_labels.specs.Flow.{public_label}
 use Rattle.flow_labels.specs.Failing.{same_test}
@@ -23,7 +23,7 @@ use Rattle.lam_isolation.proofs.FlowLemmas.{each_passes}
 use Rattle.lam_isolation.proofs.ThreadLemmas.{some_inj, there, front, answered_front}
 use Rattle.lam_isolation.proofs.RowLemmas.{under_by, unless_by, on_thing_by}
 use Rattle.lam_isolation.proofs.TurnLemmas.{acts, only}
-use Rattle.lam_isolation.specs.Laws.{granted, IsAfter, MayHold, CapsDoNotGrow}
+use Rattle.lam_isolation.specs.Laws.{granted, left_after, AreEntered, AreAfter, AreHeld, CapsDoNotGrow}
 use Rattle.lam_isolation.proofs.BackLemmas.{at_after, set_there, effect_threads, still_there}
 use Rattle.lam_isolation.proofs.AllowedLemmas.{covers_passes}
 
@@ -34,18 +34,18 @@ gains_caps ask.Mint (Tag t) d = refl
 gains_caps (ask.ReceiveCaps p) (CapV plus minus) d = refl
 gains_caps a v d = refl
 
-abbrev AllHave : Caps → List Context → Type 0
-AllHave k ds = AllByRecursion (λ (d : Context). d.caps ≡ k) ds
+abbrev caps_in : List Context → List Caps
+caps_in ds = map (λ (d : Context). d.caps) ds
 
-done_caps : (code : CodeTree) (c : Context) (i : Inside) (a : Ask) → AllHave c.caps (done code c [] i a)
-done_caps code c i ask.Leave = tt
-done_caps code c i (ask.Barred d) = (refl, tt)
-done_caps code c i (ask.Caught f) = (refl, tt)
-done_caps code c i (ask.Suppressed f) = tt
-done_caps code c i (ask.End r) = tt
-done_caps code c i (ask.MonEnter r) = (refl, tt)
-done_caps code c i (ask.MonLeave r) = (refl, tt)
-done_caps code c i a = (refl, tt)
+done_caps : (code : CodeTree) (c : Context) (i : Inside) (a : Ask) → caps_in (done code c [] i a) ≡ left_after c.caps a
+done_caps code c i ask.Leave = refl
+done_caps code c i (ask.Barred d) = refl
+done_caps code c i (ask.Caught f) = refl
+done_caps code c i (ask.Suppressed f) = refl
+done_caps code c i (ask.End r) = refl
+done_caps code c i (ask.MonEnter r) = refl
+done_caps code c i (ask.MonLeave r) = refl
+done_caps code c i a = refl
 
 -- the capabilities of a region that is entered are held
 abbrev CoversEntry : Caps → Caps → Answer → Type 0
@@ -59,16 +59,16 @@ abbrev EntersBelow : Caps → Ask → Answer → Type 0
 EntersBelow k (ask.Enter l d r vs) x = CoversEntry k d x
 EntersBelow k a x = Unit {0}
 
-entered_caps : (code : CodeTree) (c : Context) (i : Inside) (a : Ask) → EntersBelow c.caps a Entered → AllByRecursion (λ (d : Context). (d.caps ≡ c.caps) ⊎ Covers c.caps d.caps) (entered code c [] i a)
-entered_caps code c i (ask.Enter l k r vs) h = (inr h, (inl refl, tt))
-entered_caps code c i a h = (inl refl, tt)
+entered_caps : (code : CodeTree) (c : Context) (i : Inside) (a : Ask) → EntersBelow c.caps a Entered → AreEntered c.caps a (caps_in (entered code c [] i a))
+entered_caps code c i (ask.Enter l k r vs) h = (refl, h)
+entered_caps code c i a h = refl
 
-front_caps : (code : CodeTree) (c : Context) (i : Inside) (a : Ask) (x : Answer) → EntersBelow c.caps a x → AllByRecursion (λ (d : Context). IsAfter c.caps a x d.caps) (front code c i a x)
+front_caps : (code : CodeTree) (c : Context) (i : Inside) (a : Ask) (x : Answer) → EntersBelow c.caps a x → AreAfter c.caps a x (caps_in (front code c i a x))
 front_caps code c i a Done h = done_caps code c i a
 front_caps code c i a Entered h = entered_caps code c i a h
-front_caps code c i a (Val v) h = (gains_caps a v (given c i v), tt)
-front_caps code c i a (Refused d) h = (refl, tt)
-front_caps code c i a (Failed f) h = (refl, tt)
+front_caps code c i a (Val v) h = ap (λ k. k ∷ []) (gains_caps a v (given c i v))
+front_caps code c i a (Refused d) h = refl
+front_caps code c i a (Failed f) h = refl
 
 -- ---- rows
 
@@ -167,13 +167,13 @@ record Kept (code : CodeTree) (w : World) (t : ℕ) (c : Context) (rest : List C
   world : m.world ≡ effect_of code t effect (with_thread w t to)
   new : List Context
   form : to.contexts ≡ new ++ rest
-  caps : AllByRecursion (λ (d : Context). MayHold c.caps m.event.what d.caps) new
+  caps : AreHeld c.caps m.event.what (caps_in new)
   spawns : Spawns c effect
 
 kept_by : (code : CodeTree) (w : World) (t : ℕ) (th : Thread) (c : Context) (rest : List Context) (nx : Next) (m : Moment) → turn_by code w t th c rest nx ≡ Some m → Kept code w t c rest m
 kept_by code w t th c rest (goes i) m h =
     subst (Kept code w t c rest) (some_inj (goes_on w t th c rest i) m h)
-    (record { to = record { contexts = with_inside c i ∷ rest; result = th.result }; effect = nothing; world = refl; new = with_inside c i ∷ []; form = refl; caps = (refl, tt); spawns = tt })
+    (record { to = record { contexts = with_inside c i ∷ rest; result = th.result }; effect = nothing; world = refl; new = with_inside c i ∷ []; form = refl; caps = refl; spawns = tt })
 kept_by code w t th c rest (asks a i) m h =
     let d = serve w c a in
     subst (Kept code w t c rest) (only (is_ready w t c a) (served code w t th c rest a i d) m h).1

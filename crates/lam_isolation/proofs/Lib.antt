@@ -15,3 +15,4 @@ pub mod AllowedLemmas
 pub mod CapsLemmas
 pub mod RefusalLemmas
 pub mod OwnLemmas
+pub mod FaultLemmas

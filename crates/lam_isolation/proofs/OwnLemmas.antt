@@ -27,7 +27,7 @@ use Rattle.lam_isolation.specs.Own.{OwnTurn, IsSpawned, Touches, TurnsTouchTheir
 
 -- ---- lists of threads
 
-set_here : (t : ℕ) (xs : List Thread) (a b : Thread) → slice_get xs t ≡ Some b → slice_get (slice_set xs t a) t ≡ Some a
+pub set_here : (t : ℕ) (xs : List Thread) (a b : Thread) → slice_get xs t ≡ Some b → slice_get (slice_set xs t a) t ≡ Some a
 set_here t [] a b e = absurd cc
 set_here zero (x ∷ xs) a b e = refl
 set_here (suc t) (x ∷ xs) a b e = set_here t xs a b e
@@ -171,19 +171,19 @@ touch code w t m h =
 
 -- ---- many turns
 
-same_number : (a b : ℕ) → nat_eq a b ≡ true → a ≡ b
+pub same_number : (a b : ℕ) → nat_eq a b ≡ true → a ≡ b
 same_number a b e = grind (arith, nat_tests, e)
 
 own_number : (t : ℕ) → nat_eq t t ≡ true
 own_number t = grind (arith, nat_tests)
 
-other_number : (a b : ℕ) → nat_eq a b ≡ false → b ≡ a → ⊥
+pub other_number : (a b : ℕ) → nat_eq a b ≡ false → b ≡ a → ⊥
 other_number a b e same = let no : nat_eq a b ≡ true = ap (nat_eq a) same ∙ own_number a in cc
 
 abbrev Follows : CodeTree → ℕ → World → Thread → List Moment → Type 0
 Follows code u w th ms = (after : Thread) × (thread_at (left_by w ms) u ≡ Some after) × OwnTurns code th (done_by u ms) after
 
-abbrev whats : List Moment → List What
+abbrev pub whats : List Moment → List What
 whats ms = map (λ (m : Moment). m.event.what) ms
 
 module _ (code : CodeTree) (u : ℕ) where

@@ -251,7 +251,7 @@ release_pair o code w w' t m m' s s' l h h' un un' content =
 
 -- ---- seen turns
 
-first_two : (x y : Context) (xs ys : List Context) → x ∷ xs ≡ y ∷ ys → (x ≡ y) × (xs ≡ ys)
+pub first_two : (x y : Context) (xs ys : List Context) → x ∷ xs ≡ y ∷ ys → (x ≡ y) × (xs ≡ ys)
 first_two x y xs ys e = (cc, cc)
 
 seen_head : (o : Label) (c : Context) (rest : List Context) → flows c.label o ≡ true → filter (is_seen o) (c ∷ rest) ≡ c ∷ filter (is_seen o) rest

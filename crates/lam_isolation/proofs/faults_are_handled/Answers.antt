@@ -1,4 +1,4 @@
-use Rattle.lam_isolation.proofs.BackLemmas.{faults_handled}
+use Rattle.lam_isolation.proofs.FaultLemmas.{faults_handled}
 use Rattle.lam_isolation.proofs.faults_are_handled.Goals as goal
 
 pub returns : goal.returns
