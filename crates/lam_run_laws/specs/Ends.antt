@@ -3,6 +3,7 @@ use Rattle.std.specs.Prelude.{◌≡◌, ◌≤◌, ℕ, true, false, List, leng
 use Rattle.lam_bytecode.specs.Codes.{CodeTree}
 use Rattle.lam_worlds.specs.Worlds.{World}
 use Rattle.lam_worlds.specs.Turns as turns
+use Rattle.lam_worlds.specs.Valid.{IsValid}
 use Rattle.lam_run_laws.specs.declared.How.{How}
 use Rattle.lam_run_laws.specs.declared.How.TheVariants.{Done, AllWait, Budget}
 
@@ -23,3 +24,11 @@ pub record Runs (code : CodeTree) (start : World) (budget : ℕ) (taken : List �
   pub run : turns.IsRun code taken start
   pub within : length taken ≤ budget
   pub ended : HasEnded code (turns.replay code taken start) (length taken) budget how
+
+-- in no other way, whatever was taken and whatever the budget
+abbrev pub EndsOnlySo : CodeTree → World → How → Type 0
+EndsOnlySo code w how = (taken budget : ℕ) (other : How) → HasEnded code w taken budget other → other ≡ how
+
+-- in a valid world a run has ended in one way
+abbrev pub EndsAreOne : CodeTree → Type 0
+EndsAreOne code = (w : World) (taken budget : ℕ) (how : How) → IsValid w → HasEnded code w taken budget how → EndsOnlySo code w how

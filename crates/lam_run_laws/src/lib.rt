@@ -6,6 +6,7 @@
 #![tactic(auto)]
 
 ghost use Rattle.lam_bytecode.specs.Codes.{CodeTree};
+ghost use Rattle.lam_run_laws.specs.Ends.{EndsAreOne};
 ghost use Rattle.lam_run_laws.specs.Runs.{RunsJoin, RunsStop};
 
 /// Two lists of turns in a row are a run exactly where the first is one and the second is one of the world that the
@@ -18,6 +19,12 @@ pub fn runs_join()
 /// one, is of a thread that is not ready.
 pub fn runs_stop()
     ensures { (code : CodeTree) → RunsStop code }
+{}
+
+/// A run ends in one way: where every thread has ended none lives and none is ready, and where none is ready the budget is
+/// not what it ended by.
+pub fn runs_end_in_one_way()
+    ensures { (code : CodeTree) → EndsAreOne code }
 {}
 
 /// How a run ended.
