@@ -8,7 +8,6 @@ pub mod SameLemmas
 pub mod TurnLemmas
 pub mod DownLemmas
 pub mod WholeLemmas
-pub mod HeldSound
 pub mod SoundSteps
 pub mod BackLemmas
 pub mod AllowedLemmas

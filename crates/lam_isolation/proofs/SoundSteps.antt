@@ -13,6 +13,7 @@ use Rattle.labelled_heap.specs.Things.{Things, sorted_as, with_copy}
 use Rattle.labelled_heap.proofs.ThingLemmas.{sound_thing, sound_slot}
 use Rattle.monitor_core.specs.Held as monitors
 use Rattle.monitor_core.specs.Held.{Held, takings, left, dropped}
+use Rattle.monitor_core.proofs.HeldLemmas.{entered_sound, left_sound}
 use Rattle.labelled_files.specs.Trees as files
 use Rattle.labelled_files.specs.Trees.{Tree, first_fault, root_alone}
 use Rattle.labelled_files.specs.declared.files.FileFault.{FileFault}
@@ -35,7 +36,6 @@ use Rattle.lam_worlds.specs.Turns.{is_ready, Moment, goes_on, served, turn_by}
 use Rattle.lam_isolation.proofs.ThreadLemmas.{some_inj, length-set}
 use Rattle.lam_isolation.proofs.RowLemmas.{RefersTo, under_by, on_thing_by}
 use Rattle.lam_isolation.proofs.TurnLemmas.{acts, only}
-use Rattle.lam_isolation.proofs.HeldSound.{entered_sound, left_sound}
 use Rattle.lam_isolation.specs.Sound.{IsSoundWorld, ThingLives, CopiesLiving, FindsLiving, StaysSound}
 
 -- ---- room
@@ -61,19 +61,19 @@ by_test : {X : Type 0} (b : Bool) (f : X) → cond b None (Some f) ≡ None → 
 by_test true f e = refl
 by_test false f e = absurd cc
 
-not_full : (n limit : ℕ) (f : Fault) → full n limit f ≡ None → n < limit
+pub not_full : (n limit : ℕ) (f : Fault) → full n limit f ≡ None → n < limit
 not_full n limit f e = lt_true n limit (by_test (nat_lt n limit) f e)
 
-no_fault : (x : Option FileFault) → file_faults x ≡ None → x ≡ None
+pub no_fault : (x : Option FileFault) → file_faults x ≡ None → x ≡ None
 no_fault None e = refl
 no_fault (Some f) e = absurd cc
 
-unless_room : (P : Deed → Type 0) (x : Option Fault) (d : Deed) → (x ≡ None → P d) → ((f : Fault) → P (answers (Failed f))) → P (unless x d)
+pub unless_room : (P : Deed → Type 0) (x : Option Fault) (d : Deed) → (x ≡ None → P d) → ((f : Fault) → P (answers (Failed f))) → P (unless x d)
 unfolding unless
 unless_room P None d h r = h refl
 unless_room P (Some f) d h r = r f
 
-living : (w : World) (r : Value) (n : Name) → RefersTo r n → ThingLives w r → IsTrue (contains_key w.heap.slots n)
+pub living : (w : World) (r : Value) (n : Name) → RefersTo r n → ThingLives w r → IsTrue (contains_key w.heap.slots n)
 living w (Obj m) n e h = subst (λ k. IsTrue (contains_key w.heap.slots k)) e h
 living w (Arr m len) n e h = subst (λ k. IsTrue (contains_key w.heap.slots k)) e h
 living w v n e h = absurd e

@@ -1,8 +1,6 @@
 -- Each ask once: what its effect needs is what its tests found.
-use Rattle.std.proofs.Common.{◌≡◌, ℕ, ◌<◌, Bool, true, false, not, ◌&&◌, Option, Some, None, refl, sym, subst, arith}
-use Rattle.std.specs.Prelude.{IsTrue, is_none, nat_lt, cond}
-use Rattle.std.proofs.lemmas.Bool.Decides.{nat_tests}
-use Rattle.std.specs.FinMap.{contains_key}
+use Rattle.std.proofs.Common.{◌≡◌, ℕ, Bool, true, false, not, ◌&&◌, Option, Some, None, refl, sym, subst}
+use Rattle.std.specs.Prelude.{is_none}
 use Rattle.flow_labels.specs.declared.Label.{Label}
 use Rattle.flow_labels.specs.declared.Denied.{Denied}
 use Rattle.flow_labels.specs.Failing.{first_failing, same_test}
@@ -10,44 +8,18 @@ use Rattle.lam_value.specs.declared.names.Name.{Name}
 use Rattle.lam_value.specs.declared.values.Value.{Value}
 use Rattle.lam_value.specs.declared.values.Value.TheVariants.{Obj, Arr}
 use Rattle.monitor_core.specs.Held.{Held, is_free}
-use Rattle.labelled_files.specs.declared.files.FileFault.{FileFault}
-use Rattle.lam_asks.specs.declared.fault.Fault.{Fault}
-use Rattle.lam_asks.specs.declared.answer.Answer.TheVariants.{Failed}
 use Rattle.lam_asks.specs.declared.ask.Ask.{Ask}
 use Rattle.lam_asks.specs.declared.ask.Ask.TheVariants as ask
 use Rattle.thread_steps.specs.Threads.{Context}
 use Rattle.lam_worlds.specs.Worlds.{World}
-use Rattle.lam_worlds.specs.Deeds.{Deed, answers, unless, full}
-use Rattle.lam_worlds.specs.Serving.{file_faults, serve}
+use Rattle.lam_worlds.specs.Deeds.{Deed}
+use Rattle.lam_worlds.specs.Serving.{serve}
 use Rattle.lam_worlds.specs.Turns.{is_taken, is_ready}
 use Rattle.lam_isolation.proofs.RowLemmas.{RefersTo, under_by, on_thing_by}
-use Rattle.lam_isolation.specs.Sound.{ThingLives, CopiesLiving}
+use Rattle.lam_isolation.proofs.SoundSteps.{not_full, no_fault, unless_room, living}
+use Rattle.lam_isolation.specs.Sound.{CopiesLiving}
 use Rattle.lam_deeds.specs.Parts.{stores_of}
 use Rattle.lam_deeds.specs.Room.{HasRoom}
-
-lt_true : (a b : ℕ) → nat_lt a b ≡ true → a < b
-lt_true a b e = grind (arith, nat_tests)
-
-by_test : {X : Type 0} (b : Bool) (f : X) → cond b None (Some f) ≡ None → b ≡ true
-by_test true f e = refl
-by_test false f e = absurd cc
-
-not_full : (n limit : ℕ) (f : Fault) → full n limit f ≡ None → n < limit
-not_full n limit f e = lt_true n limit (by_test (nat_lt n limit) f e)
-
-no_fault : (x : Option FileFault) → file_faults x ≡ None → x ≡ None
-no_fault None e = refl
-no_fault (Some f) e = absurd cc
-
-unless_room : (P : Deed → Type 0) (x : Option Fault) (d : Deed) → (x ≡ None → P d) → ((f : Fault) → P (answers (Failed f))) → P (unless x d)
-unfolding unless
-unless_room P None d h r = h refl
-unless_room P (Some f) d h r = r f
-
-living : (w : World) (r : Value) (n : Name) → RefersTo r n → ThingLives w r → IsTrue (contains_key w.heap.slots n)
-living w (Obj m) n e h = subst (λ k. IsTrue (contains_key w.heap.slots k)) e h
-living w (Arr m len) n e h = subst (λ k. IsTrue (contains_key w.heap.slots k)) e h
-living w v n e h = absurd e
 
 -- a monitor at the acting label for which the thread does not wait is free for it
 passes_free : (x : Option Denied) (b : Bool) → x ≡ None → not (is_none x && not b) ≡ true → b ≡ true

@@ -1,1 +1,1 @@
-mod HeldLemmas
+pub mod HeldLemmas
