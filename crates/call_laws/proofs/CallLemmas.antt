@@ -6,7 +6,7 @@ use Rattle.lam_io.specs.Outside.{Files, Took, TookFront}
 use Rattle.lam_bytecode.specs.Codes.{CodeTree}
 use Rattle.lam_worlds.specs.Worlds.{World}
 use Rattle.lam_worlds.specs.Turns.{Moment, moments}
-use Rattle.lam_isolation.specs.Isolation.{IsIsolated}
+use Rattle.lam_isolation.specs.Isolation.{ValidAreWellLabelled, IsIsolated}
 use Rattle.audit_log.specs.Log.{view_lines}
 use Rattle.lam_run_laws.specs.Ends.{Runs}
 use Rattle.lam_run_laws.specs.declared.How.{How}
@@ -100,11 +100,11 @@ module _ (code : CodeTree) (start : World) (out : Text) (budget : ℕ) (shown : 
   keeps_run : (p : IsOfThreads code start out budget shown plan) → AsPlanned status plan old new → KeepsRun code start out budget p.turns p.ended old.files new.files
   keeps_run p does = let d = does_run p does in record { runs = p.runs; recorded = d.files.0; others = d.files.1 }
 
-module _ (isolated : (code : CodeTree) (o : Label) → IsIsolated code o) (starts : (code : CodeTree) → TextsStart code) where
+module _ (isolated : (code : CodeTree) (o : Label) → IsIsolated code o) (labelled : ValidAreWellLabelled) (starts : (code : CodeTree) → TextsStart code) where
   alone : (ws : List Text) (files : Files) (code : CodeTree) (start : World) (o : Label) (out : Text) (budget : ℕ) (turns : List ℕ) (ended : How) → AsksRun ws files code start o out budget → Runs code start budget turns ended → LooksAlone code o start turns
   alone ws files code start o out budget turns ended r h =
-      λ s others n valid ready agree few few' same.
-      isolated code o start s turns others n (starts code r.starts.bytes start r.starts.follows).valid valid agree h.run ready few few' same
+      λ s others n labels ready agree few few' same.
+      isolated code o start s turns others n (labelled start (starts code r.starts.bytes start r.starts.follows).valid) labels agree h.run ready few few' same
 
   pub recorded : (ws : List Text) (status : Status) (old new : Outside) → IsPlanned status (IsPlan ws old.files) old new → Headline ws status old new
   recorded ws status old new planned code start o out budget r end =

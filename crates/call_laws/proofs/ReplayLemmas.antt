@@ -12,7 +12,7 @@ use Rattle.lam_worlds.specs.Worlds.{World}
 use Rattle.lam_worlds.specs.Deeds.{Made, made_label}
 use Rattle.lam_worlds.specs.Turns.{Moment, moments, IsRun}
 use Rattle.lam_worlds.specs.Views.{Entry, shows, is_release, is_past, used_by, trace}
-use Rattle.lam_isolation.specs.Isolation.{IsIsolated, TwoAsksRelease}
+use Rattle.lam_isolation.specs.Isolation.{ValidAreWellLabelled, IsIsolated, TwoAsksRelease}
 use Rattle.lam_run_laws.specs.Runs.{RunsStop}
 use Rattle.audit_log.specs.Log.{entry_line, view_lines, audit_lines, lines_from, moment_line, note_line, turn_text, release_note}
 use Rattle.call_laws.specs.Whole.{AuditsAreWhole}
@@ -70,9 +70,9 @@ begins_of ws files tree start o turns n law r =
 same_lines : (n : ℕ) (o : Label) (names names' : List Text) (ms ms' : List Moment) → names ≡ names' → take n (trace o ms) ≡ take n (trace o ms') → first_lines n o names' ms' ≡ first_lines n o names ms
 same_lines n o names names' ms ms' one two = sym (ap (λ (ns : List Text). flat_map (entry_line ns) (take n (trace o ms))) one ∙ ap (flat_map (entry_line names')) two)
 
-pub isolated : ((tree : CodeTree) (o : Label) → IsIsolated tree o) → ((tree : CodeTree) → RunsStop tree) → ((tree : CodeTree) → TextsStart tree) → (ws : List Text) (files : Files) → ReplaysAreIsolated ws files
-isolated runs stops starts ws files ws' files' tree o s s' turns turns' n r r' agree few few' same =
-    let look = runs tree o s s' turns turns' n (starts tree r.holds.starts.bytes s r.holds.starts.follows).valid (starts tree r'.holds.starts.bytes s' r'.holds.starts.follows).valid agree r.holds.ready r'.holds.ready few few' same in
+pub isolated : ((tree : CodeTree) (o : Label) → IsIsolated tree o) → ValidAreWellLabelled → ((tree : CodeTree) → RunsStop tree) → ((tree : CodeTree) → TextsStart tree) → (ws : List Text) (files : Files) → ReplaysAreIsolated ws files
+isolated runs labelled stops starts ws files ws' files' tree o s s' turns turns' n r r' agree few few' same =
+    let look = runs tree o s s' turns turns' n (labelled s (starts tree r.holds.starts.bytes s r.holds.starts.follows).valid) (labelled s' (starts tree r'.holds.starts.bytes s' r'.holds.starts.follows).valid) agree r.holds.ready r'.holds.ready few few' same in
     record {
       look = look;
       first = begins_of ws files tree s o turns n (stops tree) r;

@@ -11,9 +11,8 @@ use Rattle.lam_io.specs.Outside.{Files, OthersStay, Took, TookFront}
 use Rattle.lam_bytecode.specs.Codes.{CodeTree}
 use Rattle.lam_worlds.specs.Worlds.{World}
 use Rattle.lam_worlds.specs.Turns.{moments, IsRun}
-use Rattle.lam_worlds.specs.Valid.{IsValid}
 use Rattle.lam_worlds.specs.Views.{Agree, agenda}
-use Rattle.lam_isolation.specs.Isolation.{LookSame}
+use Rattle.lam_isolation.specs.Isolation.{AreWellLabelled, LookSame}
 use Rattle.audit_log.specs.Log.{view_lines}
 use Rattle.lam_run_laws.specs.Ends.{Runs}
 use Rattle.lam_run_laws.specs.declared.How.{How}
@@ -59,11 +58,13 @@ pub record KeepsRun (code : CodeTree) (start : World) (out : Text) (budget : ℕ
   pub others : OthersStay old new out
 
 -- Any other run of the code, from a start that the observer cannot tell apart, looks the same to it as far as both have
--- the same agenda: the same threads at the turns that it sees, and the same releases past it.
+-- the same agenda: the same threads at the turns that it sees, and the same releases past it. Of that start no more is
+-- taken than that its first contexts are public and that its contexts list monitors of their own label, as in each valid
+-- one.
 abbrev pub LooksAlone : CodeTree → Label → World → List ℕ → Type 0
 LooksAlone code o start turns =
     (s : World) (others : List ℕ) (n : ℕ) →
-    IsValid s → IsRun code others s → Agree o start s →
+    AreWellLabelled s → IsRun code others s → Agree o start s →
     n ≤ length (agenda o (moments code turns start)) → n ≤ length (agenda o (moments code others s)) →
     take n (agenda o (moments code turns start)) ≡ take n (agenda o (moments code others s)) →
     LookSame n o start (moments code turns start) s (moments code others s)

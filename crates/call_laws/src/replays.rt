@@ -10,7 +10,7 @@ ghost use Rattle.lam_words.specs.Words.{Text};
 ghost use Rattle.call_laws.specs.Calls.{ReplaysAreIsolated, AuditsArePrinted};
 
 use crate::audits::audits_are_whole;
-use lam_isolation::{runs_are_isolated, two_asks_release};
+use lam_isolation::{runs_are_isolated, two_asks_release, worlds_stay_well_labelled};
 use lam_run_laws::runs_stop;
 use world_laws::texts_start;
 
@@ -20,6 +20,7 @@ pub fn replays_are_isolated()
     ensures { (ws : List Text) (files : Files) → ReplaysAreIsolated ws files }
 {
     runs_are_isolated();
+    worlds_stay_well_labelled();
     runs_stop();
     texts_start();
 }

@@ -16,17 +16,19 @@ ghost use Rattle.lam_plan.specs.Plan.{IsPlan};
 ghost use Rattle.lam_plan.specs.Answer.{Outside, IsPlanned};
 ghost use Rattle.call_laws.specs.Headline.{Headline, BreaksOff, EndsInOrder, RunsAreComplete, GeneratedRuns};
 
-use lam_isolation::runs_are_isolated;
+use lam_isolation::{runs_are_isolated, worlds_stay_well_labelled};
 use world_laws::texts_start;
 
 /// A law: where words, files and label are in order, and a call ends as a run ends (`Done`, `Budget` or `AllWait`), the
 /// file of the book holds the turns of a run of the program's code from the start of the world's document, no other file
 /// changed, and what was printed is what the observer sees of that run, and not a byte more. Any other run of the code,
-/// from a valid start that the observer cannot tell apart, looks the same to it as far as both have the same agenda.
+/// from a start that the observer cannot tell apart, looks the same to it as far as both have the same agenda; of that
+/// start no more is taken than that it is well labelled, as each valid one is.
 pub fn runs_are_recorded()
     ensures { (ws : List Text) (status : Status) (old new : Outside) → IsPlanned status (IsPlan ws old.files) old new → Headline ws status old new }
 {
     runs_are_isolated();
+    worlds_stay_well_labelled();
     texts_start();
 }
 
@@ -36,6 +38,7 @@ pub fn broken_runs_are_recorded()
     ensures { (ws : List Text) (status : Status) (old new : Outside) → IsPlanned status (IsPlan ws old.files) old new → BreaksOff ws status old new }
 {
     runs_are_isolated();
+    worlds_stay_well_labelled();
     texts_start();
 }
 
