@@ -6,3 +6,4 @@ mod ReadyLemmas
 pub mod ListedReady
 mod Others
 mod Kept
+mod BookLemmas

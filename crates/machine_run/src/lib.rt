@@ -5,15 +5,18 @@
 //! whoever does not ask what it was.
 //!
 //! `readiness` tells whether a thread is ready, without memory. `run` has the type, `taking` one turn of it, and `seeking`
-//! looks for a thread that is ready or lives. `listing` keeps the list of the ready threads from turn to turn.
+//! looks for a thread that is ready or lives. `listing` keeps the list of the ready threads from turn to turn. `books` makes
+//! the run of a book of turns, or tells where they stop to be one.
 #![tactic(auto)]
 
+mod books;
 mod listing;
 mod readiness;
 mod run;
 mod seeking;
 mod taking;
 
+pub use books::{RunOf, run_of};
 pub use listing::{relist, roomy_list, turn_listed};
 pub use readiness::ready;
-pub use run::{Run, RunParts, TURN_LIMIT};
+pub use run::{Run, RunParts, TURN_LIMIT, let_go_run};

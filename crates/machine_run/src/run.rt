@@ -46,6 +46,13 @@ impl Model for Run {
     ghost invariant = { λ r. IsWhole (record { code = r.code; start = r.start; turns = r.turns.items; world = r.world }) };
 }
 
+/// Lets a run go.
+pub fn let_go_run(run: Run) {
+    let RunParts { code, start, .. } = run.into_parts();
+    let_go_world(start);
+    let_go_code(code);
+}
+
 /// What a run is made of, but for the world that its turns leave.
 #[derive(Drop)]
 pub struct RunParts {
@@ -95,9 +102,10 @@ impl Run {
         &self.start
     }
 
-    /// The world that the turns leave.
+    /// The world that the turns leave, which is valid.
     pub fn now(&self) -> &World
-        ensures { result.now ≡ self.now.world }
+        ensures is { result.now ≡ self.now.world }
+        ensures valid { IsValid self.now.world }
     {
         &self.world
     }
