@@ -59,12 +59,12 @@ runs_planned ws files code start o out budget plan r is = run_planned ws files c
 -- ---- what the call did
 
 -- it did what some plan says
-record Did (status : Status) (IsPlan : Plan → Type 0) (old new : Outside) : Type 0 where
-  plan : Plan
-  is : IsPlan plan
-  does : AsPlanned status plan old new
+pub record Did (status : Status) (IsPlan : Plan → Type 0) (old new : Outside) : Type 0 where
+  pub plan : Plan
+  pub is : IsPlan plan
+  pub does : AsPlanned status plan old new
 
-did : (status : Status) (IsPlan : Plan → Type 0) (old new : Outside) → (status ≡ NoMemory → ⊥) → (status ≡ ShelfFault → ⊥) → IsPlanned status IsPlan old new → Did status IsPlan old new
+pub did : (status : Status) (IsPlan : Plan → Type 0) (old new : Outside) → (status ≡ NoMemory → ⊥) → (status ≡ ShelfFault → ⊥) → IsPlanned status IsPlan old new → Did status IsPlan old new
 did status IsPlan old new memory shelf (by_plan plan is does) = record { plan = plan; is = is; does = does }
 did status IsPlan old new memory shelf (without_memory e) = absurd (memory e)
 did status IsPlan old new memory shelf (without_shelf e) = absurd (shelf e)
@@ -78,7 +78,7 @@ sink_or_memory e f = cc
 sink_or_shelf : {status : Status} → status ≡ SinkFault → status ≡ ShelfFault → ⊥
 sink_or_shelf e f = cc
 
-broken_did : (status : Status) (IsPlan : Plan → Type 0) (old new : Outside) → status ≡ SinkFault → IsPlanned status IsPlan old new → Did status IsPlan old new
+pub broken_did : (status : Status) (IsPlan : Plan → Type 0) (old new : Outside) → status ≡ SinkFault → IsPlanned status IsPlan old new → Did status IsPlan old new
 broken_did status IsPlan old new sink planned = did status IsPlan old new (sink_or_memory sink) (sink_or_shelf sink) planned
 
 -- it printed all, and ended as planned
@@ -87,17 +87,17 @@ ended_whole status planned text old new end (whole e t) = (e, t)
 ended_whole status planned text old new end (front e t) = absurd (subst IsRunEnd e end)
 
 -- it printed a front, where a run's end was planned
-broken_front : (status : Status) (ended : How) (text : Text) (old new : Option Text) → status ≡ SinkFault → IsPrinted status (status_of ended) text old new → TookFront old new text
+pub broken_front : (status : Status) (ended : How) (text : Text) (old new : Option Text) → status ≡ SinkFault → IsPrinted status (status_of ended) text old new → TookFront old new text
 broken_front status ended text old new sink (whole e t) = absurd (subst IsRunEnd (sym e ∙ sink) (is_run_end ended))
 broken_front status ended text old new sink (front e t) = t
 
 -- ---- what it tells of the run
 
 module _ (code : CodeTree) (start : World) (out : Text) (budget : ℕ) (shown : List Moment → Text) (status : Status) (plan : Plan) (old new : Outside) where
-  does_run : (p : IsOfThreads code start out budget shown plan) → AsPlanned status plan old new → AsPlanned status (shows_run code start out shown p.turns p.ended) old new
+  pub does_run : (p : IsOfThreads code start out budget shown plan) → AsPlanned status plan old new → AsPlanned status (shows_run code start out shown p.turns p.ended) old new
   does_run p does = subst (λ (it : Plan). AsPlanned status it old new) p.is does
 
-  keeps_run : (p : IsOfThreads code start out budget shown plan) → AsPlanned status plan old new → KeepsRun code start out budget p.turns p.ended old.files new.files
+  pub keeps_run : (p : IsOfThreads code start out budget shown plan) → AsPlanned status plan old new → KeepsRun code start out budget p.turns p.ended old.files new.files
   keeps_run p does = let d = does_run p does in record { runs = p.runs; recorded = d.files.0; others = d.files.1 }
 
 module _ (isolated : (code : CodeTree) (o : Label) → IsIsolated code o) (labelled : ValidAreWellLabelled) (starts : (code : CodeTree) → TextsStart code) where

@@ -17,3 +17,4 @@ pub mod Counts
 pub mod Constants
 pub mod Codes
 pub mod Meaning
+pub mod Orderly

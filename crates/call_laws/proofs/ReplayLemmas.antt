@@ -52,7 +52,7 @@ module _ (files : Files) (run : RunFiles) (reader : Reader) (tree : CodeTree) (s
 
 -- ---- what an observer is shown
 
-view_printed : (ws : List Text) (files : Files) (tree : CodeTree) (start : World) (o : Label) (turns : List ℕ) → RunsStop tree → ReplaysRun ws files tree start o turns → IsPlan ws files (prints (view_lines start.names o (moments tree turns start)))
+pub view_printed : (ws : List Text) (files : Files) (tree : CodeTree) (start : World) (o : Label) (turns : List ℕ) → RunsStop tree → ReplaysRun ws files tree start o turns → IsPlan ws files (prints (view_lines start.names o (moments tree turns start)))
 view_printed ws files tree start o turns law r =
     subst (λ (request : Result Request ℕ). IsPlanOf request files (prints (view_lines start.names o (moments tree turns start)))) (sym r.asks)
     (run_printed files (record { world = r.world; book = r.book }) (an_observer 4 r.label) tree start turns (view_lines start.names o) r.program law (ap (view_by 4 start.names) r.observes) r.holds)
@@ -81,7 +81,7 @@ isolated runs labelled stops starts ws files ws' files' tree o s s' turns turns'
 
 -- ---- what an auditor is shown
 
-audit_printed : (ws : List Text) (files : Files) (tree : CodeTree) (start : World) (turns : List ℕ) → RunsStop tree → AuditsRun ws files tree start turns → IsPlan ws files (prints (audit_lines start.names (moments tree turns start)))
+pub audit_printed : (ws : List Text) (files : Files) (tree : CodeTree) (start : World) (turns : List ℕ) → RunsStop tree → AuditsRun ws files tree start turns → IsPlan ws files (prints (audit_lines start.names (moments tree turns start)))
 audit_printed ws files tree start turns law r =
     subst (λ (request : Result Request ℕ). IsPlanOf request files (prints (audit_lines start.names (moments tree turns start)))) (sym r.asks)
     (run_printed files (record { world = r.world; book = r.book }) an_auditor tree start turns (audit_lines start.names) r.program law refl r.holds)

@@ -138,3 +138,21 @@ abbrev pub GeneratedRuns : List Text → Status → Outside → Outside → Type
 GeneratedRuns ws status old new =
     (seed threads : ℕ) (out : Text) →
     request_of ws ≡ Ok (make seed threads out) → IsRunEnd status → Generated seed threads out status old new
+
+-- the file of the book records a run of the code of the made program from the made world, and a front of its summary was
+-- printed, and not all of it
+pub record GeneratedInPart (seed threads : ℕ) (out : Text) (old new : Outside) : Type 0 where
+  pub code : CodeTree
+  pub compiled : IsCompiled program_text (Ok code)
+  pub start : World
+  pub starts : start_of (world_text seed threads) code ≡ Ok start
+  pub turns : List ℕ
+  pub ended : How
+  pub keeps : KeepsRun code start out made_budget turns ended old.files new.files
+  pub front : TookFront old.taken new.taken (summary_lines seed threads (moments code turns start))
+
+-- a call of `make` whose sink failed is broken off
+abbrev pub MakesBreakOff : List Text → Status → Outside → Outside → Type 0
+MakesBreakOff ws status old new =
+    (seed threads : ℕ) (out : Text) →
+    request_of ws ≡ Ok (make seed threads out) → status ≡ SinkFault → GeneratedInPart seed threads out old new

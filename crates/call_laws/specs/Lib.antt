@@ -3,3 +3,4 @@ pub mod Headline
 pub mod Complete
 pub mod Calls
 pub mod Meant
+pub mod Orderly

@@ -12,11 +12,31 @@
 ghost use Rattle.std.specs.Prelude.{List};
 ghost use Rattle.lam_io.specs.Outside.{Files};
 ghost use Rattle.lam_words.specs.Words.{Text};
+ghost use Rattle.lam_plan.specs.declared.Status.{Status};
+ghost use Rattle.lam_plan.specs.Plan.{IsPlan};
+ghost use Rattle.lam_plan.specs.Answer.{Outside, IsPlanned};
+ghost use Rattle.call_laws.specs.Headline.{MakesBreakOff};
 ghost use Rattle.call_laws.specs.Complete.{MakesAreComplete};
+ghost use Rattle.call_laws.specs.Orderly.{MakesEnd};
 
 /// A law: where words are those of `make`, the made program has a code, the made document has a start of it, and nothing
-/// but a run of them is planned. So a call ends as a run ends (`Done`, `Budget` or `AllWait`), unless memory runs out, or
-/// the file store or the output fails.
+/// but a run of them is planned.
 pub fn makes_are_complete()
     ensures { (ws : List Text) (files : Files) → MakesAreComplete ws files }
 {}
+
+/// A law: a call of `make` ends as a run ends (`Done`, `Budget` or `AllWait`), unless memory runs out, or the file store or
+/// the output fails.
+pub fn makes_end()
+    ensures { (ws : List Text) (status : Status) (old new : Outside) → IsPlanned status (IsPlan ws old.files) old new → MakesEnd ws status }
+{
+    makes_are_complete();
+}
+
+/// A law: where the output failed in such a call, the book stands all the same: it holds the turns of a run of the code of
+/// the made program from the made world, and a front of the summary of that run was printed, and not all of it.
+pub fn broken_makes_are_recorded()
+    ensures { (ws : List Text) (status : Status) (old new : Outside) → IsPlanned status (IsPlan ws old.files) old new → MakesBreakOff ws status old new }
+{
+    makes_are_complete();
+}

@@ -15,6 +15,7 @@ ghost use Rattle.lam_plan.specs.declared.Status.{Status};
 ghost use Rattle.lam_plan.specs.Plan.{IsPlan};
 ghost use Rattle.lam_plan.specs.Answer.{Outside, IsPlanned};
 ghost use Rattle.call_laws.specs.Headline.{Headline, BreaksOff, EndsInOrder, RunsAreComplete, GeneratedRuns};
+ghost use Rattle.call_laws.specs.Orderly.{OrderlyRunsEnd};
 
 use lam_isolation::{runs_are_isolated, worlds_stay_well_labelled};
 use world_laws::texts_start;
@@ -48,11 +49,18 @@ pub fn runs_end_in_order()
     ensures { (ws : List Text) (status : Status) (old new : Outside) → IsPlanned status (IsPlan ws old.files) old new → EndsInOrder ws status old }
 {}
 
-/// A law: where all these are in order, nothing but a run is planned. So a call ends as a run ends, unless memory runs
-/// out, or the file store or the output fails.
+/// A law: where all these are in order, nothing but a run is planned.
 pub fn runs_are_complete()
     ensures { (ws : List Text) (files : Files) → RunsAreComplete ws files }
 {}
+
+/// A law: where all these are in order, a call ends as a run ends, unless memory runs out, or the file store or the output
+/// fails.
+pub fn orderly_runs_end()
+    ensures { (ws : List Text) (status : Status) (old new : Outside) → IsPlanned status (IsPlan ws old.files) old new → OrderlyRunsEnd ws status old }
+{
+    runs_are_complete();
+}
 
 /// A law: where a call of `make` ends as a run ends, the file of the book holds the turns of a run of the code of the made
 /// program from the made world, no other file changed, and the summary of that run was printed.

@@ -24,6 +24,7 @@ pub fn read_file<H: Shelf>(
     ensures stay { IsTrue (H.tells shelf.old) → AllStay (H.files shelf.old) (H.files shelf.new) }
     ensures tells_on { IsTrue (H.tells shelf.old) → IsTrue (H.tells shelf.new) }
     ensures later { H.faults shelf.old ≤ H.faults shelf.new }
+    ensures refused { H.refusals shelf.new ≡ H.refusals shelf.old }
     ensures failed { IfErr result (λ halt. halt ≡ Halt.ShelfFailed → Rose (H.faults shelf.old) (H.faults shelf.new)) }
 {
     match shelf.read(alloc, name.as_str(), limit) {

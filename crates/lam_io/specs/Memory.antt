@@ -26,20 +26,28 @@ abbrev pub NamesDiffer : List (List ℕ × List ℕ) → Type 0
 NamesDiffer [] = Unit {0}
 NamesDiffer (file ∷ files) = (list_any (λ other. bytes_eq other.0 file.0) files ≡ false) × NamesDiffer files
 
--- a shelf: its files, how many calls were made, the numbers of the calls that are to fail, and how many failed
+-- a shelf: its files, how many calls were made, the numbers of the calls that are to fail, how many failed, and how many
+-- writes were refused for want of memory
 pub record ShelfState : Type 0 where
   pub files : List (List ℕ × List ℕ)
   pub calls : ℕ
   pub failing : List ℕ
   pub faults : ℕ
+  pub refusals : ℕ
 
 -- the next call fails
 abbrev pub shelf_fails : ShelfState → Bool
 shelf_fails shelf = is_listed shelf.calls shelf.failing
 
--- the state after a call that left these files
-abbrev pub shelf_after : ShelfState → List (List ℕ × List ℕ) → ShelfState
-shelf_after shelf files = record { files = files; calls = one_more shelf.calls; failing = shelf.failing; faults = if shelf_fails shelf then one_more shelf.faults else shelf.faults }
+-- the state after a call that left these files and this count of refusals
+abbrev pub shelf_after : ShelfState → List (List ℕ × List ℕ) → ℕ → ShelfState
+shelf_after shelf files refusals = record {
+  files = files;
+  calls = one_more shelf.calls;
+  failing = shelf.failing;
+  faults = if shelf_fails shelf then one_more shelf.faults else shelf.faults;
+  refusals = refusals;
+}
 
 -- a sink: the bytes that it took, how many it can hold, and its calls and faults as those of a shelf
 pub record SinkState : Type 0 where

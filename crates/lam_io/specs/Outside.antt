@@ -2,6 +2,8 @@
 use Rattle.std.specs.Prelude.{◌≡◌, ◌≢◌, ℕ, ◌+◌, ◌-◌, ◌^◌, ◌<◌, ◌≤◌, List, [], ◌++◌, length, take, drop, Option, Some, None, Result, Ok, Err, min}
 use Rattle.lam_io.specs.declared.Got.{Got}
 use Rattle.lam_io.specs.declared.Got.TheVariants.{Found, Absent, TooLong}
+use Rattle.lam_io.specs.declared.ShelfFault.{ShelfFault}
+use Rattle.lam_io.specs.declared.ShelfFault.TheVariants.{Failed, NoMemory}
 use Rattle.lam_io.specs.declared.SinkFault.{SinkFault}
 
 -- the bytes of each file, by its name
@@ -23,6 +25,12 @@ AllStay old new = (name : List ℕ) → new name ≡ old name
 -- no file but one changed
 abbrev pub OthersStay : Files → Files → List ℕ → Type 0
 OthersStay old new name = (other : List ℕ) → other ≢ name → new other ≡ old other
+
+-- how many writes a shelf has refused for want of memory, after one that it answered so
+abbrev pub refusals_after : Result (Unit {0}) ShelfFault → ℕ → ℕ
+refusals_after (Ok done) count = count
+refusals_after (Err Failed) count = count
+refusals_after (Err NoMemory) count = one_more count
 
 -- what reading a file of at most so many bytes answers
 abbrev pub IsRead : Option (List ℕ) → ℕ → Got → Type 0

@@ -1,7 +1,8 @@
 //! The files of the current folder, and standard output. What a device holds is not told.
 
-ghost use Rattle.std.specs.Prelude.{◌≡◌, ◌≤◌, false, None, take};
-ghost use Rattle.lam_io.specs.Outside.{Rose};
+ghost use Rattle.std.specs.Prelude.{◌≡◌, ◌≤◌, false, None, Err, take};
+ghost use Rattle.lam_io.specs.Outside.{Rose, refusals_after};
+ghost use Rattle.lam_io.specs.Device.{no_counts};
 
 use crate::{Got, Shelf, ShelfFault, Sink, SinkFault};
 use std::alloc::Global;
@@ -10,26 +11,32 @@ use std::marker::Model;
 use std::rt::Files;
 use std::{fs, io};
 
-/// The files of the current folder. A caller sees the number of faults.
+/// The files of the current folder. A caller sees the number of faults, and of writes that were refused for want of
+/// memory.
 #[derive(Drop)]
 pub struct DirShelf<R: Files + AllocGlobal + Drop> {
     rt: R,
     faults: u64,
+    refusals: u64,
 }
 
 impl<R: Files + AllocGlobal + Drop> Model for DirShelf<R> {
-    ghost use Rattle.std.specs.Prelude.{ℕ};
+    ghost use Rattle.lam_io.specs.Device.{Counts};
 
-    ghost Value = { ℕ };
+    ghost Value = { Counts };
 
-    ghost view = { λ s. s.faults };
+    ghost view = { λ s. record { faults = s.faults; refusals = s.refusals } };
 }
 
 impl<R: Files + AllocGlobal + Drop> DirShelf<R> {
     pub fn new(rt: R) -> DirShelf<R>
-        ensures { result ≡ 0 }
+        ensures { result ≡ no_counts }
     {
-        DirShelf { rt, faults: 0 }
+        DirShelf {
+            rt,
+            faults: 0,
+            refusals: 0,
+        }
     }
 }
 
@@ -38,7 +45,9 @@ impl<R: Files + AllocGlobal + Drop> Shelf for DirShelf<R> {
 
     ghost files = { λ s name. None };
 
-    ghost faults = { λ s. s };
+    ghost faults = { λ s. s.faults };
+
+    ghost refusals = { λ s. s.refusals };
 
     fn read(&mut self, alloc: Global, name: &str, limit: u64) -> Result<Got, ShelfFault> {
         match read_file(&self.rt, alloc, name, limit) {
@@ -50,7 +59,7 @@ impl<R: Files + AllocGlobal + Drop> Shelf for DirShelf<R> {
     fn write(&mut self, name: &str, bytes: &[u8]) -> Result<(), ShelfFault> {
         match fs::write(&self.rt, name, bytes) {
             Ok(()) => Ok(()),
-            Err(e) => Err(count_fault(&mut self.faults, e)),
+            Err(e) => Err(count_write(&mut self.faults, &mut self.refusals, e)),
         }
     }
 }
@@ -65,6 +74,21 @@ fn count_fault(faults: &mut u64, error: io::Error) -> ShelfFault
     }
     *faults = faults.saturating_add(1);
     ShelfFault::Failed
+}
+
+/// A write that is refused for want of memory is counted apart.
+fn count_write(faults: &mut u64, refusals: &mut u64, error: io::Error) -> ShelfFault
+    ensures later { faults.old ≤ faults.new }
+    ensures failed { result ≡ ShelfFault.Failed → Rose faults.old faults.new }
+    ensures refused { refusals.new ≡ refusals_after (Err result) refusals.old }
+{
+    match count_fault(faults, error) {
+        ShelfFault::Failed => ShelfFault::Failed,
+        ShelfFault::NoMemory => {
+            *refusals = refusals.saturating_add(1);
+            ShelfFault::NoMemory
+        }
+    }
 }
 
 /// Reads at most one byte more than the limit.

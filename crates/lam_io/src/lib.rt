@@ -14,7 +14,7 @@ mod memory;
 ghost use Rattle.std.specs.Prelude.{◌≡◌, ◌≤◌, List, ℕ, Option, Result, Bool, [], length, take, IfOk, OnOk, OnErr, IsErrOf, IsTrue, ⊤};
 ghost use Rattle.lam_io.specs.declared.ShelfFault.TheVariants.{NoMemory as no_memory};
 ghost use Rattle.lam_io.specs.declared.SinkFault.{SinkFault};
-ghost use Rattle.lam_io.specs.Outside.{Rose, AllStay, OthersStay, IsRead, Took, TookFront, IsCount, Writes};
+ghost use Rattle.lam_io.specs.Outside.{Rose, AllStay, OthersStay, IsRead, refusals_after, Took, TookFront, IsCount, Writes};
 
 pub use device::{DirShelf, StdSink};
 pub use memory::{MemShelf, MemSink, OpenGate};
@@ -68,7 +68,8 @@ pub enum SinkFault {
 
 /// A file store: files by their names.
 ///
-/// Whether it tells its files, the files, and how many of its calls failed are its meanings in proofs.
+/// Whether it tells its files, the files, how many of its calls failed, and how many of its writes it refused for want
+/// of memory are its meanings in proofs.
 pub trait Shelf {
     ghost tells: { Self → Bool };
 
@@ -76,13 +77,16 @@ pub trait Shelf {
 
     ghost faults: { Self → ℕ };
 
+    ghost refusals: { Self → ℕ };
+
     /// Reads a file of at most `limit` bytes. It changes no file, whatever it answers.
     fn read(&mut self, alloc: Global, name: &str, limit: u64) -> Result<Got, ShelfFault>
         ensures later { faults self.old ≤ faults self.new }
         ensures failed { IsErrOf result ShelfFault.Failed → Rose (faults self.old) (faults self.new) }
         ensures tells_on { IsTrue (tells self.old) → IsTrue (tells self.new) }
         ensures got { IsTrue (tells self.old) → IfOk result (IsRead (files self.old name.now) limit) }
-        ensures stay { IsTrue (tells self.old) → AllStay (files self.old) (files self.new) };
+        ensures stay { IsTrue (tells self.old) → AllStay (files self.old) (files self.new) }
+        ensures refused { refusals self.new ≡ refusals self.old };
 
     /// Sets a file to these bytes, and no other. After an error that file may hold anything.
     fn write(&mut self, name: &str, bytes: &[u8]) -> Result<(), ShelfFault>
@@ -90,7 +94,8 @@ pub trait Shelf {
         ensures failed { IsErrOf result ShelfFault.Failed → Rose (faults self.old) (faults self.new) }
         ensures tells_on { IsTrue (tells self.old) → IsTrue (tells self.new) }
         ensures set { IsTrue (tells self.old) → OnOk result (files self.new name.now ≡ Some bytes.now) }
-        ensures others { IsTrue (tells self.old) → OthersStay (files self.old) (files self.new) name.now };
+        ensures others { IsTrue (tells self.old) → OthersStay (files self.old) (files self.new) name.now }
+        ensures refused { refusals self.new ≡ refusals_after result (refusals self.old) };
 }
 
 /// An output stream: where bytes go.

@@ -4,7 +4,7 @@ ghost use Rattle.std.specs.Prelude.{if◌then◌else◌, ◌≡◌, ◌≤◌, S
 ghost use Rattle.std.specs.Option.{option_copied};
 ghost use Rattle.std.specs.Str.{bytes_eq};
 ghost use Rattle.std.specs.List.{prefix_len};
-ghost use Rattle.lam_io.specs.Outside.{Rose, AllStay, OthersStay, IsRead, IsCount, Took, one_more};
+ghost use Rattle.lam_io.specs.Outside.{Rose, AllStay, OthersStay, IsRead, refusals_after, IsCount, Took, one_more};
 ghost use Rattle.lam_io.specs.Memory.{NamesDiffer, file_in, is_listed, shelf_fails, shelf_after, sink_answer, sink_after, seen};
 
 use crate::{Gate, Got, Shelf, ShelfFault, Sink, SinkFault};
@@ -109,13 +109,15 @@ impl Sink for MemSink {
 
 /// A shelf that holds its files.
 ///
-/// A caller sees its files, the number of its calls, the numbers of those that fail, and its faults.
+/// A caller sees its files, the number of its calls, the numbers of those that fail, its faults, and the number of its
+/// writes that it refused for want of memory.
 #[derive(Debug, Drop)]
 pub struct MemShelf {
     files: Vec<(String, Vec<u8>)>,
     calls: u64,
     failing: Vec<u64>,
     faults: u64,
+    refusals: u64,
 }
 
 impl Model for MemShelf {
@@ -124,20 +126,21 @@ impl Model for MemShelf {
 
     ghost Value = { ShelfState };
 
-    ghost view = { λ s. record { files = map seen s.files.items; calls = s.calls; failing = s.failing.items; faults = s.faults } };
+    ghost view = { λ s. record { files = map seen s.files.items; calls = s.calls; failing = s.failing.items; faults = s.faults; refusals = s.refusals } };
 }
 
 impl MemShelf {
     /// A shelf of the given files, whose names differ. Its calls with the given numbers, counted from 1, fail.
     pub fn new(files: Vec<(String, Vec<u8>)>, failing: Vec<u64>) -> MemShelf
         requires { NamesDiffer (map seen files.items) }
-        ensures { result ≡ record { files = map seen files.items; calls = 0; failing = failing.items; faults = 0 } }
+        ensures { result ≡ record { files = map seen files.items; calls = 0; failing = failing.items; faults = 0; refusals = 0 } }
     {
         MemShelf {
             files,
             calls: 0,
             failing,
             faults: 0,
+            refusals: 0,
         }
     }
 }
@@ -149,15 +152,18 @@ impl Shelf for MemShelf {
 
     ghost faults = { λ s. s.faults };
 
+    ghost refusals = { λ s. s.refusals };
+
     /// Fails exactly where the call's number is listed.
     fn read(&mut self, alloc: Global, name: &str, limit: u64) -> Result<Got, ShelfFault>
         ensures exactly { IsErrOf result ShelfFault.Failed ↔ IsTrue (shelf_fails self.old) }
-        ensures state { self.new ≡ shelf_after self.old self.old.files }
+        ensures state { self.new ≡ shelf_after self.old self.old.files self.old.refusals }
         ensures later { self.old.faults ≤ self.new.faults }
         ensures failed { IsErrOf result ShelfFault.Failed → Rose self.old.faults self.new.faults }
         ensures tells_on { IsTrue true → IsTrue true }
         ensures got { IsTrue true → IfOk result (IsRead (file_in self.old.files name.now) limit) }
         ensures stay { IsTrue true → AllStay (file_in self.old.files) (file_in self.new.files) }
+        ensures refused { self.new.refusals ≡ self.old.refusals }
     {
         if next_fails(&mut self.calls, self.failing.as_slice(), &mut self.faults) {
             return Err(ShelfFault::Failed);
@@ -165,22 +171,27 @@ impl Shelf for MemShelf {
         read_of(alloc, self.files.as_slice(), name, limit)
     }
 
-    /// Fails exactly where the call's number is listed.
+    /// Fails exactly where the call's number is listed. After an error no file changed.
     fn write(&mut self, name: &str, bytes: &[u8]) -> Result<(), ShelfFault>
         ensures exactly { IsErrOf result ShelfFault.Failed ↔ IsTrue (shelf_fails self.old) }
-        ensures state { self.new ≡ shelf_after self.old self.new.files }
+        ensures state { self.new ≡ shelf_after self.old self.new.files (refusals_after result self.old.refusals) }
+        ensures unchanged { OnErr result (self.new.files ≡ self.old.files) }
         ensures later { self.old.faults ≤ self.new.faults }
         ensures failed { IsErrOf result ShelfFault.Failed → Rose self.old.faults self.new.faults }
         ensures tells_on { IsTrue true → IsTrue true }
         ensures set { IsTrue true → OnOk result (file_in self.new.files name.now ≡ Some bytes.now) }
         ensures others { IsTrue true → OthersStay (file_in self.old.files) (file_in self.new.files) name.now }
+        ensures refused { self.new.refusals ≡ refusals_after result self.old.refusals }
     {
         if next_fails(&mut self.calls, self.failing.as_slice(), &mut self.faults) {
             return Err(ShelfFault::Failed);
         }
         match put_file(&mut self.files, name, bytes) {
             Ok(()) => Ok(()),
-            Err(NoMemory) => Err(ShelfFault::NoMemory),
+            Err(NoMemory) => {
+                self.refusals = self.refusals.saturating_add(1);
+                Err(ShelfFault::NoMemory)
+            }
         }
     }
 }
@@ -219,6 +230,7 @@ fn file_of<'a>(files: &'a [(String, Vec<u8>)], name: &[u8]) -> Option<&'a [u8]>
 fn put_file(files: &mut Vec<(String, Vec<u8>)>, name: &str, bytes: &[u8]) -> Result<(), NoMemory>
     ensures set { OnOk result (file_in (map seen files.new.items) name.now ≡ Some bytes.now) }
     ensures others { OthersStay (file_in (map seen files.old.items)) (file_in (map seen files.new.items)) name.now }
+    ensures unchanged { OnErr result (map seen files.new.items ≡ map seen files.old.items) }
 {
     let alloc = *files.allocator();
     let copy = Vec::from_slice(alloc, bytes)?;

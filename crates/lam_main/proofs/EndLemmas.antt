@@ -99,6 +99,13 @@ module _ (status : Status) (old new : Option Text) where
   shelf_failed_as (Err no_memory) h f is = let clash : NoMemory ≡ ShelfFault = sym h.0 ∙ is in absurd (let no : ⊥ = cc in no)
   shelf_failed_as (Err ShelfFailed) h f is = f refl
 
+  -- and memory ran out only where reading or writing said so
+  pub memory_ended_as : {P : Type 0} (answer : Result Report Halt) → Ends status answer old new → IfErr answer (λ halt. halt ≡ no_memory → P) → status ≡ NoMemory → P
+  memory_ended_as (Ok report) h f is = absurd (no_memory_printed status (status_of report.how) (string_bytes report.text) old new (plain_end report.how) h is)
+  memory_ended_as (Err (Refused refusal)) h f is = absurd (no_memory_printed status (refuses refusal).status (refuses refusal).text old new (refusals refusal).plain h is)
+  memory_ended_as (Err no_memory) h f is = f refl
+  memory_ended_as (Err ShelfFailed) h f is = let clash : ShelfFault ≡ NoMemory = sym h.0 ∙ is in absurd (let no : ⊥ = cc in no)
+
   module _ (IsPlan : Plan → Type 0) (before after : Files) where
     pub planned_of : (answer : Result Report Halt) → Reports answer IsPlan before after → Ends status answer old new → IsPlanned status IsPlan (outside before old) (outside after new)
     planned_of (Ok report) g h = by_plan (record { status = status_of report.how; text = string_bytes report.text; writes = g.0 }) g.1 (record { printed = h; files = g.2 })

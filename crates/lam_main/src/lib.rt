@@ -16,15 +16,16 @@
 mod print;
 
 ghost use Rattle.std.specs.Prelude.{◌≡◌, ◌≢◌, false, [], Ok, Err, IsErr, IfErr, map, string_bytes, IsTrue};
-ghost use Rattle.lam_io.specs.Outside.{Rose, Took};
+ghost use Rattle.lam_io.specs.Outside.{Rose, AllStay, Took};
 ghost use Rattle.lam_words.specs.Words.{request_of, asked, InRange, help_lines, commands};
 ghost use Rattle.lam_plan.specs.Refusals.{Plan, prints, no_word};
 ghost use Rattle.lam_plan.specs.Replays.{an_observer};
 ghost use Rattle.lam_plan.specs.Plan.{IsPlanOf, IsPlan, starts_threads, written_by, PlaysIsolated, FormatIsSteady};
 ghost use Rattle.lam_plan.specs.Answer.{outside, AsPlanned, IsAnswer, IsPlanned, OthersKept};
 ghost use Rattle.call_laws.specs.Calls.{ReplaysAreIsolated, AuditsArePrinted};
-ghost use Rattle.call_laws.specs.Headline.{Headline, BreaksOff, EndsInOrder, RunsAreComplete, GeneratedRuns};
+ghost use Rattle.call_laws.specs.Headline.{Headline, BreaksOff, EndsInOrder, RunsAreComplete, GeneratedRuns, MakesBreakOff};
 ghost use Rattle.call_laws.specs.Complete.{MakesAreComplete};
+ghost use Rattle.call_laws.specs.Orderly.{OrderlyCallsAreDone, OrderlyRunsEnd, MakesEnd, RefusalsAreExact};
 ghost use Rattle.call_laws.specs.Meant.{CallsRunAsMeant};
 ghost use Rattle.lam_commands.specs.Halts.{Says, Reports};
 ghost use Rattle.thread_commands.specs.Asked.{reader_of};
@@ -33,9 +34,10 @@ ghost use Rattle.lam_main.specs.Lines.{ended};
 
 use crate::print::{print_refusal, print_text};
 use call_laws::{
-    audits_are_printed, broken_runs_are_recorded, calls_run_as_meant, generated_runs_are_recorded,
-    makes_are_complete, replays_are_isolated, runs_are_complete, runs_are_recorded,
-    runs_end_in_order,
+    audits_are_printed, broken_makes_are_recorded, broken_runs_are_recorded, calls_run_as_meant,
+    generated_runs_are_recorded, makes_are_complete, makes_end, orderly_calls_are_done,
+    orderly_runs_end, refusals_are_exact, replays_are_isolated, runs_are_complete,
+    runs_are_recorded, runs_end_in_order,
 };
 use lam_commands::{Halt, Refusal, Report, check, code, done, format, play};
 use lam_io::{Gate, Shelf, Sink, SinkFault};
@@ -69,8 +71,18 @@ pub fn lam<R: Threads + Wait + Sync, H: Shelf, O: Sink, G: Gate + Sync>(
     ensures planned { IsTrue (H.tells shelf.old) → IsPlanned result (IsPlan (map string_bytes words.now) (H.files shelf.old)) (outside (H.files shelf.old) (O.taken out.old)) (outside (H.files shelf.new) (O.taken out.new)) }
     ensures others_kept { IsTrue (H.tells shelf.old) → OthersKept (written_by (request_of (map string_bytes words.now))) (H.files shelf.old) (H.files shelf.new) }
 
+    // Where memory ran out, a file has changed only where the shelf refused its own write for want of memory.
+    ensures spared { IsTrue (H.tells shelf.old) → result ≡ Status.NoMemory → ¬ Rose (H.refusals shelf.old) (H.refusals shelf.new) → AllStay (H.files shelf.old) (H.files shelf.new) }
+
     // Where no count rose it ended as planned, or memory ran out.
     ensures no_fault { IsTrue (H.tells shelf.old) → starts_threads (request_of (map string_bytes words.now)) ≡ false → ¬ Rose (H.faults shelf.old) (H.faults shelf.new) → ¬ Rose (O.faults out.old) (O.faults out.new) → result ≢ Status.NoMemory → (plan : Plan) → IsPlan (map string_bytes words.now) (H.files shelf.old) plan → result ≡ plan.status }
+
+    // A refusal comes exactly where it is planned, whatever the command; and what is in order ends in order. Memory may run
+    // out, and the file store or the output may fail.
+    ensures refused { IsTrue (H.tells shelf.old) → RefusalsAreExact (map string_bytes words.now) result (outside (H.files shelf.old) (O.taken out.old)) (outside (H.files shelf.new) (O.taken out.new)) }
+    ensures orderly { IsTrue (H.tells shelf.old) → OrderlyCallsAreDone (map string_bytes words.now) result (outside (H.files shelf.old) (O.taken out.old)) }
+    ensures orderly_run { IsTrue (H.tells shelf.old) → OrderlyRunsEnd (map string_bytes words.now) result (outside (H.files shelf.old) (O.taken out.old)) }
+    ensures orderly_make { IsTrue (H.tells shelf.old) → MakesEnd (map string_bytes words.now) result }
 
     // Over every shelf: the form of the words comes first, and nothing is made up.
     ensures words_first { IfErr (request_of (map string_bytes words.now)) (λ at. AsPlanned result (no_word at) (outside (H.files shelf.old) (O.taken out.old)) (outside (H.files shelf.new) (O.taken out.new))) }
@@ -96,9 +108,10 @@ pub fn lam<R: Threads + Wait + Sync, H: Shelf, O: Sink, G: Gate + Sync>(
     ensures in_order { IsTrue (H.tells shelf.old) → EndsInOrder (map string_bytes words.now) result (outside (H.files shelf.old) (O.taken out.old)) }
     ensures complete { RunsAreComplete (map string_bytes words.now) (H.files shelf.old) }
 
-    // The same of the run of what `make` makes: its book is written, and its summary printed. What it makes is always in
-    // order.
+    // The same of the run of what `make` makes: its book is written, and its summary printed, or a front of it where the
+    // output broke off. What it makes is always in order.
     ensures generated { IsTrue (H.tells shelf.old) → GeneratedRuns (map string_bytes words.now) result (outside (H.files shelf.old) (O.taken out.old)) (outside (H.files shelf.new) (O.taken out.new)) }
+    ensures make_broken_off { IsTrue (H.tells shelf.old) → MakesBreakOff (map string_bytes words.now) result (outside (H.files shelf.old) (O.taken out.old)) (outside (H.files shelf.new) (O.taken out.new)) }
     ensures makes_complete { MakesAreComplete (map string_bytes words.now) (H.files shelf.old) }
 
     // Runs mean what the source means: in every run of `replay`, `audit` and `run` no thread is ever stuck, and each asks
@@ -120,6 +133,11 @@ pub fn lam<R: Threads + Wait + Sync, H: Shelf, O: Sink, G: Gate + Sync>(
     runs_are_complete();
     generated_runs_are_recorded();
     makes_are_complete();
+    broken_makes_are_recorded();
+    makes_end();
+    orderly_runs_end();
+    orderly_calls_are_done();
+    refusals_are_exact();
     calls_run_as_meant();
     canonical_text_is_lexed();
     canonical_text_is_read_as_the_tree();
@@ -138,6 +156,7 @@ fn answer_of<R: Threads + Wait + Sync, H: Shelf, G: Gate + Sync>(
 ) -> Result<Report, Halt>
     ensures gives { IsTrue (H.tells shelf.old) → Reports result (IsPlan (map string_bytes words.now) (H.files shelf.old)) (H.files shelf.old) (H.files shelf.new) }
     ensures kept { IsTrue (H.tells shelf.old) → OthersKept (written_by (request_of (map string_bytes words.now))) (H.files shelf.old) (H.files shelf.new) }
+    ensures spared { IsTrue (H.tells shelf.old) → IfErr result (λ halt. halt ≡ Halt.NoMemory → ¬ Rose (H.refusals shelf.old) (H.refusals shelf.new) → AllStay (H.files shelf.old) (H.files shelf.new)) }
     ensures failed { IfErr result (λ halt. halt ≡ Halt.ShelfFailed → Rose (H.faults shelf.old) (H.faults shelf.new)) }
     ensures words_first { IfErr (request_of (map string_bytes words.now)) (λ at. result ≡ Err (Halt.Refused (Refusal.Word at))) }
     ensures untouched { IsErr (request_of (map string_bytes words.now)) → shelf.new ≡ shelf.old }
@@ -160,6 +179,7 @@ fn command_answer<R: Threads + Wait + Sync, H: Shelf, G: Gate + Sync>(
     requires ranges { InRange (asked command) }
     ensures gives { IsTrue (H.tells shelf.old) → Reports result (IsPlanOf (Ok (asked command)) (H.files shelf.old)) (H.files shelf.old) (H.files shelf.new) }
     ensures kept { IsTrue (H.tells shelf.old) → OthersKept (written_by (Ok (asked command))) (H.files shelf.old) (H.files shelf.new) }
+    ensures spared { IsTrue (H.tells shelf.old) → IfErr result (λ halt. halt ≡ Halt.NoMemory → ¬ Rose (H.refusals shelf.old) (H.refusals shelf.new) → AllStay (H.files shelf.old) (H.files shelf.new)) }
     ensures failed { IfErr result (λ halt. halt ≡ Halt.ShelfFailed → Rose (H.faults shelf.old) (H.faults shelf.new)) }
 {
     match command {

@@ -10,7 +10,7 @@ use Rattle.lam_plan.specs.Refusals.{prints}
 use Rattle.lam_plan.specs.Reading.{of_file}
 use Rattle.lam_plan.specs.Plan.{IsPlan, IsPlanOf, canonical, IsFormatted, IsReadAgain, FormatIsSteady}
 
-planned : (ws : List Text) (files : Files) (p : ProgramTree) → IsFormatted ws files p → IsPlan ws files (prints (canon p))
+pub planned : (ws : List Text) (files : Files) (p : ProgramTree) → IsFormatted ws files p → IsPlan ws files (prints (canon p))
 planned ws files p f =
     subst (λ (r : Result Request ℕ). IsPlanOf r files (prints (canon p))) (sym f.asks)
     (of_file (record { bytes = f.bytes; there = f.found; short = f.short; follows = canonical p f.spelt refl }))

@@ -10,7 +10,7 @@ use Rattle.lam_plan.specs.Refusals.{prints}
 use Rattle.lam_plan.specs.Reading.{of_file}
 use Rattle.lam_plan.specs.Plan.{PlaysScript, PlaysIsolated, IsPlan, IsPlanOf, played, seen_by}
 
-printed_of : (ws : List Text) (files : Files) (script : Play) (observer : Label) → PlaysScript ws files script observer → IsPlan ws files (prints (play_lines script observer))
+pub printed_of : (ws : List Text) (files : Files) (script : Play) (observer : Label) → PlaysScript ws files script observer → IsPlan ws files (prints (play_lines script observer))
 printed_of ws files script observer p =
     subst (λ (r : Result Request ℕ). IsPlanOf r files (prints (play_lines script observer))) (sym p.asks)
     (of_file (record { bytes = p.bytes; there = p.found; short = p.short; follows = sym (ap (λ r. played r p.label) p.reads ∙ ap (seen_by script) p.observes) }))

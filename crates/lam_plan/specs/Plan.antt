@@ -18,6 +18,8 @@ use Rattle.lam_front.specs.declared.fault.ProgramFault.{ProgramFault}
 use Rattle.lam_front.specs.Programs.{IsSpelt, IsMisspelt}
 use Rattle.lam_bytecode.specs.Listing.{listing_text}
 use Rattle.lam_words.specs.Words.{Text, Request, play, check, format, code, replay, run, audit, make, help, request_of, commands, help_lines}
+use Rattle.lam_plan.specs.declared.Status.{Status}
+use Rattle.lam_plan.specs.declared.Status.TheVariants.{Words, Program, World, Book, Missing}
 use Rattle.lam_plan.specs.Refusals.{Plan, prints, no_word, no_script, no_program, absent}
 use Rattle.lam_plan.specs.Reading.{WithFile, unread, script_limit, program_limit, Compiles}
 use Rattle.lam_plan.specs.Replays.{an_observer, an_auditor, Runs}
@@ -87,6 +89,19 @@ written_by request = None
 -- there is at most one plan where no thread is started
 abbrev pub PlansAreOne : Type 0
 PlansAreOne = (ws : List Text) (files : Files) (p q : Plan) → starts_threads (request_of ws) ≡ false → IsPlan ws files p → IsPlan ws files q → p ≡ q
+
+-- the statuses of refusals
+abbrev pub IsRefused : Status → Type 0
+IsRefused Words = Unit {0}
+IsRefused Program = Unit {0}
+IsRefused World = Unit {0}
+IsRefused Book = Unit {0}
+IsRefused Missing = Unit {0}
+IsRefused status = ⊥
+
+-- where a refusal is planned nothing else is, also where threads would be started
+abbrev pub RefusalsAreOne : Type 0
+RefusalsAreOne = (ws : List Text) (files : Files) (p q : Plan) → IsRefused p.status → IsPlan ws files p → IsPlan ws files q → p ≡ q
 
 -- the words and the files name this script and this observer
 pub record PlaysScript (ws : List Text) (files : Files) (script : Play) (observer : Label) : Type 0 where

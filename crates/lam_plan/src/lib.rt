@@ -8,7 +8,7 @@
 
 ghost use Rattle.std.specs.Prelude.{◌≡◌, ◌≤◌};
 ghost use Rattle.lam_plan.specs.Codes.{code_of};
-ghost use Rattle.lam_plan.specs.Plan.{PlansAreOne};
+ghost use Rattle.lam_plan.specs.Plan.{PlansAreOne, RefusalsAreOne};
 
 pub use barrier_compiler::{CompileFault, compile};
 
@@ -64,4 +64,9 @@ impl Status {
 /// Words that start no thread, and files, have at most one plan.
 pub fn plans_are_one()
     ensures { PlansAreOne }
+{}
+
+/// Where a refusal is planned of words and files, it is their one plan, also where threads would be started.
+pub fn refusals_are_one()
+    ensures { RefusalsAreOne }
 {}

@@ -19,6 +19,26 @@ use Rattle.lam_words.specs.declared.WordFault.TheVariants.{Word, NoMemory}
 abbrev pub Text : Type 0
 Text = List ℕ
 
+-- the most workers and turns of `run`, and as many where the words do not say
+abbrev pub most_workers : ℕ
+most_workers = 16
+
+abbrev pub most_turns : ℕ
+most_turns = 1000000
+
+abbrev pub usual_workers : ℕ
+usual_workers = 4
+
+abbrev pub usual_turns : ℕ
+usual_turns = 100000
+
+-- the greatest seed and the most threads of `make`
+abbrev pub most_seed : ℕ
+most_seed = 18446744073709551615
+
+abbrev pub most_threads : ℕ
+most_threads = 64
+
 -- the name of a form's command
 abbrev pub name : Form → Text
 name play_form = codes "play"
@@ -62,9 +82,9 @@ fits (Number least most) w = is_some (number_in least most w)
 -- the words of `run`, by its options
 abbrev pub run_kinds : Options → List Kind
 run_kinds Neither = Name (run_form Neither) ∷ File ∷ File ∷ Observer ∷ File ∷ []
-run_kinds Workers = Name (run_form Neither) ∷ File ∷ File ∷ Observer ∷ File ∷ WorkersOption ∷ Number 1 16 ∷ []
-run_kinds Turns = Name (run_form Neither) ∷ File ∷ File ∷ Observer ∷ File ∷ TurnsOption ∷ Number 1 1000000 ∷ []
-run_kinds Both = Name (run_form Neither) ∷ File ∷ File ∷ Observer ∷ File ∷ WorkersOption ∷ Number 1 16 ∷ TurnsOption ∷ Number 1 1000000 ∷ []
+run_kinds Workers = Name (run_form Neither) ∷ File ∷ File ∷ Observer ∷ File ∷ WorkersOption ∷ Number 1 most_workers ∷ []
+run_kinds Turns = Name (run_form Neither) ∷ File ∷ File ∷ Observer ∷ File ∷ TurnsOption ∷ Number 1 most_turns ∷ []
+run_kinds Both = Name (run_form Neither) ∷ File ∷ File ∷ Observer ∷ File ∷ WorkersOption ∷ Number 1 most_workers ∷ TurnsOption ∷ Number 1 most_turns ∷ []
 
 -- the table: the words of each form
 abbrev pub kinds : Form → List Kind
@@ -75,7 +95,7 @@ kinds code_form = Name code_form ∷ File ∷ []
 kinds replay_form = Name replay_form ∷ File ∷ File ∷ File ∷ Observer ∷ []
 kinds (run_form options) = run_kinds options
 kinds audit_form = Name audit_form ∷ File ∷ File ∷ File ∷ []
-kinds make_form = Name make_form ∷ Number 0 18446744073709551615 ∷ Number 1 64 ∷ File ∷ []
+kinds make_form = Name make_form ∷ Number 0 most_seed ∷ Number 1 most_threads ∷ File ∷ []
 kinds help_form = Name help_form ∷ []
 
 abbrev pub forms : List Form
@@ -114,18 +134,18 @@ word ws index = unwrap_or (slice_get ws index) []
 abbrev pub number : List Text → ℕ → (least most : ℕ) → ℕ
 number ws index least most = unwrap_or (number_in least most (word ws index)) least
 
--- the workers and the turns that words of `run` ask: 4 and 100,000 where the option is absent
+-- the workers and the turns that words of `run` ask, of which each may be left out
 abbrev pub workers_in : List Text → Options → ℕ
-workers_in ws Neither = 4
-workers_in ws Workers = number ws 6 1 16
-workers_in ws Turns = 4
-workers_in ws Both = number ws 6 1 16
+workers_in ws Neither = usual_workers
+workers_in ws Workers = number ws 6 1 most_workers
+workers_in ws Turns = usual_workers
+workers_in ws Both = number ws 6 1 most_workers
 
 abbrev pub turns_in : List Text → Options → ℕ
-turns_in ws Neither = 100000
-turns_in ws Workers = 100000
-turns_in ws Turns = number ws 6 1 1000000
-turns_in ws Both = number ws 8 1 1000000
+turns_in ws Neither = usual_turns
+turns_in ws Workers = usual_turns
+turns_in ws Turns = number ws 6 1 most_turns
+turns_in ws Both = number ws 8 1 most_turns
 
 abbrev pub requested : List Text → Form → Request
 requested ws play_form = play (word ws 1) (word ws 2)
@@ -135,7 +155,7 @@ requested ws code_form = code (word ws 1)
 requested ws replay_form = replay (word ws 1) (word ws 2) (word ws 3) (word ws 4)
 requested ws (run_form options) = run (word ws 1) (word ws 2) (word ws 3) (word ws 4) (workers_in ws options) (turns_in ws options)
 requested ws audit_form = audit (word ws 1) (word ws 2) (word ws 3)
-requested ws make_form = make (number ws 1 0 18446744073709551615) (number ws 2 1 64) (word ws 3)
+requested ws make_form = make (number ws 1 0 most_seed) (number ws 2 1 most_threads) (word ws 3)
 requested ws help_form = help
 
 abbrev pub request_in : List Text → Option Form → Result Request ℕ
@@ -161,15 +181,15 @@ asked Help = help
 -- the workers and turns of `run`
 pub record RunsInRange (workers turns : ℕ) : Type 0 where
   pub some_worker : 1 ≤ workers
-  pub workers_most : workers ≤ 16
+  pub workers_most : workers ≤ most_workers
   pub some_turn : 1 ≤ turns
-  pub turns_most : turns ≤ 1000000
+  pub turns_most : turns ≤ most_turns
 
 -- the seed and the threads of `make`
 pub record MakesInRange (seed threads : ℕ) : Type 0 where
   pub seed_most : seed < 2 ^ 64
   pub some_thread : 1 ≤ threads
-  pub threads_most : threads ≤ 64
+  pub threads_most : threads ≤ most_threads
 
 -- the numbers of a request are in their ranges
 abbrev pub InRange : Request → Type 0

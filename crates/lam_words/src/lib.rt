@@ -5,7 +5,7 @@
 #![tactic(auto)]
 
 ghost use Rattle.std.specs.Prelude.{◌≡◌, ◌≤◌, IfOk, IfSome, length, map, find, string_bytes};
-ghost use Rattle.lam_words.specs.Words.{name, commands, help_lines, in_range, number_in, fits, kinds, run_kinds, forms, agreed, is_in, longest, word, number, workers_in, turns_in, requested, request_of, asked, ReadsCommand, InRange};
+ghost use Rattle.lam_words.specs.Words.{name, commands, help_lines, in_range, number_in, fits, kinds, run_kinds, forms, agreed, is_in, longest, word, number, most_workers, most_turns, workers_in, turns_in, requested, request_of, asked, ReadsCommand, InRange};
 ghost use Rattle.lam_words.specs.declared.WordFault.TheVariants.{NoMemory as no_memory};
 
 use decimal_text::{NumberFault, read_number};
@@ -14,16 +14,18 @@ use std::alloc::{AllocError, AllocFailed, Global};
 use want_of_memory::NoMemory;
 
 /// How many workers `run` has where the words do not say, and the most that it may have.
-const WORKERS: u64 = 4;
+const USUAL_WORKERS: u64 = 4;
 
 const MOST_WORKERS: u64 = 16;
 
 /// How many turns `run` takes at most where the words do not say, and the most that it may take.
-const TURNS: u64 = 100_000;
+const USUAL_TURNS: u64 = 100_000;
 
 const MOST_TURNS: u64 = 1_000_000;
 
-/// The most threads that `make` may name.
+/// The greatest seed that `make` may name, and the most threads.
+const MOST_SEED: u64 = u64::MAX;
+
 const MOST_THREADS: u64 = 64;
 
 /// The name of `run`.
@@ -102,7 +104,7 @@ impl Form {
             Form::Audit => &[Kind::Name(Form::Audit), Kind::File, Kind::File, Kind::File],
             Form::Make => &[
                 Kind::Name(Form::Make),
-                Kind::Number(0, u64::MAX),
+                Kind::Number(0, MOST_SEED),
                 Kind::Number(1, MOST_THREADS),
                 Kind::File,
             ],
@@ -376,7 +378,7 @@ fn make_command(alloc: Global, words: &[String]) -> Result<Command, WordFault>
     ensures ranges { IfOk result (λ c. InRange (asked c)) }
 {
     Ok(Command::Make {
-        seed: number_at(words, 1, 0, u64::MAX),
+        seed: number_at(words, 1, 0, MOST_SEED),
         threads: number_at(words, 2, 1, MOST_THREADS),
         book_out: String::from_str(alloc, word_at(words, 3))?,
     })
@@ -386,11 +388,11 @@ fn make_command(alloc: Global, words: &[String]) -> Result<Command, WordFault>
 fn workers_in(words: &[String], options: Options) -> u64
     ensures value { result ≡ workers_in (map string_bytes words.now) options }
     ensures some { 1 ≤ result }
-    ensures most { result ≤ 16 }
+    ensures most { result ≤ most_workers }
 {
     match options {
         Options::Workers | Options::Both => number_at(words, 6, 1, MOST_WORKERS),
-        Options::Neither | Options::Turns => WORKERS,
+        Options::Neither | Options::Turns => USUAL_WORKERS,
     }
 }
 
@@ -398,12 +400,12 @@ fn workers_in(words: &[String], options: Options) -> u64
 fn turns_in(words: &[String], options: Options) -> u64
     ensures value { result ≡ turns_in (map string_bytes words.now) options }
     ensures some { 1 ≤ result }
-    ensures most { result ≤ 1000000 }
+    ensures most { result ≤ most_turns }
 {
     match options {
         Options::Turns => number_at(words, 6, 1, MOST_TURNS),
         Options::Both => number_at(words, 8, 1, MOST_TURNS),
-        Options::Neither | Options::Workers => TURNS,
+        Options::Neither | Options::Workers => USUAL_TURNS,
     }
 }
 

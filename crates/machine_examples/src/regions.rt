@@ -1,7 +1,7 @@
 //! Regions that are entered, left and refused, and copies to higher labels.
 
 use crate::codes::{Constant, Head, Unit, Written};
-use crate::run::{Given, shows};
+use crate::run::{Given, notes, shows};
 use crate::worlds::{BARE, HOLDS_BOTH, HOLDS_NOTHING, HOLDS_PLUS};
 use lam_builtins::Builtin;
 use lam_bytecode::{ArgKind, Op};
@@ -316,4 +316,21 @@ fn copy_up_and_bad_index(rt: HostRuntime) -> Result<(), Fail> {
         "{}/{}",
         "t0 {}/{} new array int 2 = arr<{}/{}|{}/{}|0>[2]\nt0 {}/{} copy arr<{}/{}|{}/{}|0>[2] to {a}/{} = arr<{}/{}|{a}/{}|0>[2]\nt0 {}/{} end Index = done\ndone\n",
     )
+}
+
+/// An audit names the turn of the release with the capability that it took, and that of the refusal.
+#[test]
+fn releases_and_refusals_are_noted(rt: HostRuntime) -> Result<(), Fail> {
+    let given = Given {
+        code: RELEASES,
+        world: HOLDS_BOTH,
+        turns: &[(0, 21)],
+    };
+    notes(&rt, given, "12 t0 {a}/{} enter {}/{} by +{}-{a}\n")?;
+    let given = Given {
+        code: LACKS_MINUS,
+        world: HOLDS_BOTH,
+        turns: &[(0, 16)],
+    };
+    notes(&rt, given, "10 t0 {a}/{} refused DropS a\n")
 }

@@ -4,17 +4,19 @@ ghost use Rattle.std.specs.Prelude.{IfOk};
 ghost use Rattle.lam_worlds.specs.Valid.{IsValid};
 
 use crate::codes::{Written, code_of};
-use audit_log::view_text;
+use audit_log::{audit_text, view_text};
 use decimal_text::push_number;
-use flow_labels::{Label, parse_label};
+use flow_labels::{Label, TagNames, parse_label};
 use lam_asks::let_go_event;
 use lam_bytecode::Code;
 use lam_world::World;
 use machine_run::{Run, TURN_LIMIT};
+use run_notes::{Noted, Seen};
 use std::alloc::Global;
 use std::mem::forget;
 use std::process::Abort;
 use std::test::Fail;
+use turns_noted::noted_in;
 use turns_seen::seen_by;
 use world_doc::start;
 use world_laws::texts_start;
@@ -113,9 +115,67 @@ fn lines_of(alloc: Global, run: &Run, observer: &str) -> Result<String, Fail> {
 fn lines_for(alloc: Global, run: &Run, label: &Label) -> Result<String, Fail> {
     let start = run.start().copy()?;
     let seen = seen_by(alloc, run.code(), start, run.turns(), label)?;
-    let text = view_text(alloc, seen.as_slice(), &run.start().stores().names);
+    let names = &run.start().stores().names;
+    let well = copies_are_same(alloc, seen.as_slice(), names);
+    let text = view_text(alloc, seen.as_slice(), names);
     forget(seen);
+    well?;
     Ok(text?)
+}
+
+/// Fails where a copy of something that was seen has another text.
+fn copies_are_same(alloc: Global, seen: &[Seen], names: &TagNames) -> Result<(), Fail> {
+    for at in 0..seen.len() {
+        let text = view_text(alloc, &seen[at..at + 1], names)?;
+        let copy = [seen[at].copy()?];
+        let again = view_text(alloc, &copy, names);
+        forget(copy);
+        if again? != text {
+            return Err(Fail::new("a copy of something seen has another text"));
+        }
+    }
+    Ok(())
+}
+
+/// Compares the lines of an audit of a run, and fails where a copy of a note has another text.
+pub fn notes<R: Abort + AllocGlobal>(rt: &R, given: Given<'_>, lines: &str) -> Result<(), Fail> {
+    let text = audit_of(rt.alloc(), given)?;
+    assert_eq!(rt; text.as_str(), lines);
+    Ok(())
+}
+
+/// Takes the turns of a run, one by one, and gives the text of its audit.
+fn audit_of(alloc: Global, given: Given<'_>) -> Result<String, Fail> {
+    let mut run = opened(alloc, given.code, given.world)?;
+    let text = audit_after(alloc, &mut run, given.turns);
+    forget(run);
+    text
+}
+
+fn audit_after(alloc: Global, run: &mut Run, turns: &[(u32, u32)]) -> Result<String, Fail> {
+    take_turns(run, turns)?;
+    let start = run.start().copy()?;
+    let noted = noted_in(alloc, run.code(), start, run.turns())?;
+    let names = &run.start().stores().names;
+    let well = notes_are_same(alloc, noted.as_slice(), names);
+    let text = audit_text(alloc, noted.as_slice(), names);
+    forget(noted);
+    well?;
+    Ok(text?)
+}
+
+/// Fails where a copy of a note has another text.
+fn notes_are_same(alloc: Global, noted: &[Noted], names: &TagNames) -> Result<(), Fail> {
+    for at in 0..noted.len() {
+        let text = audit_text(alloc, &noted[at..at + 1], names)?;
+        let copy = [noted[at].copy()?];
+        let again = audit_text(alloc, &copy, names);
+        forget(copy);
+        if again? != text {
+            return Err(Fail::new("a copy of a note has another text"));
+        }
+    }
+    Ok(())
 }
 
 /// Writes how a run stands.

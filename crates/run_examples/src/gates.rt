@@ -43,23 +43,28 @@ fn mixed(worker: u64, turn: u64) -> u64 {
 /// How often a worker looks for the other one.
 const LOADS: u64 = 1_000_000_000;
 
-/// In its first call between turns each of two workers waits until the other has called too. `late` is 1 where one looked
-/// in vain.
+/// In its first call between turns each of two workers waits until the other has called too. `first` and `second` are 1 where
+/// that worker has called, `late` where one looked in vain, and `calls` counts the calls.
 #[derive(Drop)]
 pub struct Meets {
     pub first: AtomicU64,
     pub second: AtomicU64,
     pub late: AtomicU64,
+    pub calls: AtomicU64,
 }
 
 impl Meets {
     fn wait(&self, worker: u64) {
+        self.calls.fetch_add(1, Ordering::SeqCst);
         let (own, other) = if worker == 0 {
             (&self.first, &self.second)
         } else {
             (&self.second, &self.first)
         };
         own.store(1, Ordering::SeqCst);
+        if self.late.load(Ordering::SeqCst) == 1 {
+            return;
+        }
         for _ in 0..LOADS {
             if other.load(Ordering::SeqCst) == 1 {
                 return;

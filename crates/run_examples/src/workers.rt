@@ -6,7 +6,7 @@ use lam_io::MemShelf;
 use lam_main::Status;
 use std::sync::atomic::{AtomicU64, Ordering};
 use std::test::Fail;
-use turn_book::read_book;
+use turn_book::{Turns, read_book};
 
 /// Each round of a made thread's loop takes 13 turns and the rest of it 25, and the numbers of the four threads that seed 1
 /// makes are 774, 153, 196 and 870.
@@ -40,14 +40,40 @@ fn two_workers_meet(rt: HostRuntime) -> Result<(), Fail> {
         first: AtomicU64::new(0),
         second: AtomicU64::new(0),
         late: AtomicU64::new(0),
+        calls: AtomicU64::new(0),
     };
-    let mut shelf = four(&rt)?;
-    let status = ends(&rt, &mut shelf, &TWO_WORKERS, Hook::Meets(&gate));
-    drop(shelf);
-    let status = status?;
-    assert_eq!(rt; status, Status::Done);
+    each_turn_has_a_call(&rt, &gate)?;
+    assert_eq!(rt; gate.first.load(Ordering::SeqCst), 1);
+    assert_eq!(rt; gate.second.load(Ordering::SeqCst), 1);
     assert_eq!(rt; gate.late.load(Ordering::SeqCst), 0);
     Ok(())
+}
+
+/// A run ends with every thread, and its gate was called between turns once for each turn of its book.
+fn each_turn_has_a_call<R: Calls>(rt: &R, gate: &Meets) -> Result<(), Fail> {
+    let mut shelf = four(rt)?;
+    let turns = turns_written(rt, &mut shelf, Hook::Meets(gate));
+    drop(shelf);
+    let turns = turns?;
+    let count = turns.as_slice().len() as u64;
+    drop(turns);
+    let calls = gate.calls.load(Ordering::SeqCst);
+    if calls == count {
+        return Ok(());
+    }
+    Err(Fail::new(format_args!("{calls} calls between {count} turns")))
+}
+
+/// The turns of the book of a run by two workers, which ends with every thread.
+fn turns_written<R: Calls>(rt: &R, shelf: &mut MemShelf, gate: Hook<'_>) -> Result<Turns, Fail> {
+    let status = ends(rt, shelf, &TWO_WORKERS, gate)?;
+    if status != Status::Done {
+        return Err(Fail::new(format_args!("the run ended with {status:?}")));
+    }
+    let book = book_in(rt, shelf)?;
+    let turns = read_book(rt.alloc(), book.as_slice());
+    drop(book);
+    Ok(turns?)
 }
 
 /// How a run ends.
@@ -97,14 +123,7 @@ fn picks_are_turns<R: Calls>(rt: &R, gate: &Notes) -> Result<(), Fail> {
 
 /// The same over a store with the files of the run.
 fn picks_are_written<R: Calls>(rt: &R, shelf: &mut MemShelf, gate: &Notes) -> Result<(), Fail> {
-    let status = ends(rt, shelf, &TWO_WORKERS, Hook::Notes(gate))?;
-    if status != Status::Done {
-        return Err(Fail::new(format_args!("the run ended with {status:?}")));
-    }
-    let book = book_in(rt, shelf)?;
-    let turns = read_book(rt.alloc(), book.as_slice());
-    drop(book);
-    let turns = turns?;
+    let turns = turns_written(rt, shelf, Hook::Notes(gate))?;
     let well = are_picks(gate.noted.as_slice(), turns.as_slice());
     drop(turns);
     if well {

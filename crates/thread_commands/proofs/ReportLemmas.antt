@@ -1,7 +1,7 @@
 -- What is reported after the parts that were read, and what became of the files.
 use Rattle.std.proofs.Common.{◌≡◌, ◌≤◌, ℕ, ◌+◌, ◌-◌, ◌^◌, min, Some, Result, Ok, Err, String, string_bytes, IfErr, refl, sym, ap, subst, ◌∙◌, arith}
 use Rattle.std.specs.declared.alloc.Global.{Global}
-use Rattle.lam_io.specs.Outside.{Files, AllStay, OthersStay, Rose}
+use Rattle.lam_io.specs.Outside.{Files, AllStay, OthersStay, Rose, one_more}
 use Rattle.lam_bytecode.specs.Codes.{CodeTree}
 use Rattle.lam_worlds.specs.Worlds.{World}
 use Rattle.world_terms.specs.Start.{start_of}
@@ -97,6 +97,23 @@ kept_later old between new name stay kept = subst (λ (fs : Files). OthersKept (
 
 pub all_stay : (files : Files) → AllStay files files
 all_stay files = λ name. refl
+
+-- ---- want of memory
+
+-- so many files stay as they were, unless a write was refused for want of memory
+abbrev pub Spares : Result Report Halt → (old new : Files) → (before now : ℕ) → Type 0
+Spares answer old new before now = IfErr answer (λ halt. halt ≡ NoMemory → ¬ Rose before now → AllStay old new)
+
+-- the files were read before, and no write was refused by then
+pub spared_later : (answer : Result Report Halt) (old between new : Files) (a b c : ℕ) → AllStay old between → b ≡ a → Spares answer between new b c → Spares answer old new a c
+spared_later (Ok report) old between new a b c stay same h = tt
+spared_later (Err halt) old between new a b c stay same h = λ e calm. subst (λ (fs : Files). AllStay fs new) (same_files old between stay) (h e (λ rose. calm (subst (λ (n : ℕ). Rose n c) same rose)))
+
+rose_by_one : (a b most : ℕ) → b ≡ min (a + 1) most → min (a + 1) most ≤ b
+rose_by_one a b most one = omega arith
+
+pub write_refused : {P : Type 0} (a b : ℕ) → b ≡ one_more a → ¬ Rose a b → P
+write_refused a b one calm = absurd (calm (rose_by_one a b (2 ^ 64 - 1) one))
 
 -- ---- faults of the shelf
 

@@ -13,7 +13,7 @@ mod taking;
 mod writing;
 
 ghost use Rattle.std.specs.Prelude.{◌≡◌, ◌<◌, ◌≤◌, Some, IsTrue, IfErr, string_bytes};
-ghost use Rattle.lam_io.specs.Outside.{Rose};
+ghost use Rattle.lam_io.specs.Outside.{Rose, AllStay};
 ghost use Rattle.lam_bytecode.specs.Codes.{IsCode};
 ghost use Rattle.lam_worlds.specs.Valid.{IsValid};
 ghost use Rattle.lam_plan.specs.Answer.{OthersKept};
@@ -60,8 +60,9 @@ pub struct Bounds {
 /// # Errors
 ///
 /// A refusal, in the order of reading: of the program, of the document, and of the observer's label where it names an
-/// unknown tag; then no file changed. `NoMemory`, and `ShelfFailed` only where the shelf counted a fault: then the book's
-/// file may hold anything.
+/// unknown tag; then no file changed. `NoMemory`: then a file has changed only where the shelf refused the write of the
+/// book for want of memory, and it is that of the book, which may hold anything. `ShelfFailed` only where the shelf counted
+/// a fault: then the book's file may hold anything.
 pub fn run<R: Threads + Wait + Sync, H: Shelf, G: Gate + Sync>(
     rt: &R,
     alloc: Global,
@@ -76,6 +77,7 @@ pub fn run<R: Threads + Wait + Sync, H: Shelf, G: Gate + Sync>(
     requires turns { (0 < bounds.turns) × (bounds.turns ≤ 1000000) }
     ensures gives { IsTrue (H.tells shelf.old) → Reports result (WithFile (H.files shelf.old (string_bytes program)) (string_bytes program) program_limit (RunsThreads (H.files shelf.old) (files_of files) bounds.turns (reader_of reader.now))) (H.files shelf.old) (H.files shelf.new) }
     ensures kept { IsTrue (H.tells shelf.old) → OthersKept (Some (string_bytes files.book_out)) (H.files shelf.old) (H.files shelf.new) }
+    ensures spared { IsTrue (H.tells shelf.old) → IfErr result (λ halt. halt ≡ Halt.NoMemory → ¬ Rose (H.refusals shelf.old) (H.refusals shelf.new) → AllStay (H.files shelf.old) (H.files shelf.new)) }
     ensures failed { IfErr result (λ halt. halt ≡ Halt.ShelfFailed → Rose (H.faults shelf.old) (H.faults shelf.new)) }
 {
     match read_code(alloc, shelf, program) {
@@ -100,6 +102,7 @@ fn run_code<R: Threads + Wait + Sync, H: Shelf, G: Gate + Sync>(
     requires turns { (0 < bounds.turns) × (bounds.turns ≤ 1000000) }
     ensures gives { IsTrue (H.tells shelf.old) → Reports result (StartsThreads (H.files shelf.old) (files_of files) bounds.turns (reader_of reader.now) code) (H.files shelf.old) (H.files shelf.new) }
     ensures kept { IsTrue (H.tells shelf.old) → OthersKept (Some (string_bytes files.book_out)) (H.files shelf.old) (H.files shelf.new) }
+    ensures spared { IsTrue (H.tells shelf.old) → IfErr result (λ halt. halt ≡ Halt.NoMemory → ¬ Rose (H.refusals shelf.old) (H.refusals shelf.new) → AllStay (H.files shelf.old) (H.files shelf.new)) }
     ensures failed { IfErr result (λ halt. halt ≡ Halt.ShelfFailed → Rose (H.faults shelf.old) (H.faults shelf.new)) }
 {
     match read_start(alloc, shelf, &code, files.world) {
@@ -136,6 +139,7 @@ fn run_from<R: Threads + Wait + Sync, H: Shelf, G: Gate + Sync>(
     requires turns { (0 < bounds.turns) × (bounds.turns ≤ 1000000) }
     ensures gives { IsTrue (H.tells shelf.old) → Reports result (TakesTurns (string_bytes book_out) bounds.turns (reader_of reader.now) code start) (H.files shelf.old) (H.files shelf.new) }
     ensures kept { IsTrue (H.tells shelf.old) → OthersKept (Some (string_bytes book_out)) (H.files shelf.old) (H.files shelf.new) }
+    ensures spared { IsTrue (H.tells shelf.old) → IfErr result (λ halt. halt ≡ Halt.NoMemory → ¬ Rose (H.refusals shelf.old) (H.refusals shelf.new) → AllStay (H.files shelf.old) (H.files shelf.new)) }
     ensures failed { IfErr result (λ halt. halt ≡ Halt.ShelfFailed → Rose (H.faults shelf.old) (H.faults shelf.new)) }
 {
     match shown(rt, alloc, code, start, reader, bounds, gate) {

@@ -1,7 +1,7 @@
 //! The command `make`: a program and a world of a number, and the summary of their run.
 
 ghost use Rattle.std.specs.Prelude.{◌≡◌, ◌≢◌, ◌≤◌, Some, None, IsTrue, IfOk, IfErr, string_bytes};
-ghost use Rattle.lam_io.specs.Outside.{Rose};
+ghost use Rattle.lam_io.specs.Outside.{Rose, AllStay};
 ghost use Rattle.lam_bytecode.specs.Codes.{IsCode};
 ghost use Rattle.lam_worlds.specs.Turns.{moments};
 ghost use Rattle.lam_worlds.specs.Valid.{IsValid};
@@ -44,8 +44,8 @@ const MADE_TURNS: u64 = 1_000_000;
 ///
 /// # Errors
 ///
-/// A refusal where what is made does not compile or is no world; then no file changed. `NoMemory`, and `ShelfFailed` only
-/// where the shelf counted a fault: then the book's file may hold anything.
+/// A refusal where what is made does not compile or is no world; then no file changed. `NoMemory` and `ShelfFailed` as of
+/// [`run`](crate::run).
 pub fn make<R: Threads + Wait + Sync, H: Shelf, G: Gate + Sync>(
     rt: &R,
     alloc: Global,
@@ -58,6 +58,7 @@ pub fn make<R: Threads + Wait + Sync, H: Shelf, G: Gate + Sync>(
     requires { (1 ≤ threads) × (threads ≤ 64) }
     ensures gives { IsTrue (H.tells shelf.old) → Reports result (Makes seed threads (string_bytes book_out)) (H.files shelf.old) (H.files shelf.new) }
     ensures kept { IsTrue (H.tells shelf.old) → OthersKept (Some (string_bytes book_out)) (H.files shelf.old) (H.files shelf.new) }
+    ensures spared { IsTrue (H.tells shelf.old) → IfErr result (λ halt. halt ≡ Halt.NoMemory → ¬ Rose (H.refusals shelf.old) (H.refusals shelf.new) → AllStay (H.files shelf.old) (H.files shelf.new)) }
     ensures failed { IfErr result (λ halt. halt ≡ Halt.ShelfFailed → Rose (H.faults shelf.old) (H.faults shelf.new)) }
 {
     match made(rt, alloc, seed, threads, gate) {

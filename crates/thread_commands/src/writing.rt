@@ -1,7 +1,7 @@
 //! The book goes to its file, and the rest is reported.
 
 ghost use Rattle.std.specs.Prelude.{◌≡◌, Some, IsTrue, IfErr, string_bytes};
-ghost use Rattle.lam_io.specs.Outside.{Rose};
+ghost use Rattle.lam_io.specs.Outside.{Rose, AllStay};
 ghost use Rattle.lam_plan.specs.Answer.{OthersKept};
 ghost use Rattle.lam_commands.specs.Halts.{Reports};
 ghost use Rattle.thread_commands.specs.Taken.{planned};
@@ -18,6 +18,7 @@ pub(crate) fn written<H: Shelf>(
 ) -> Result<Report, Halt>
     ensures gives { IsTrue (H.tells shelf.old) → Reports result (λ plan. plan ≡ planned (string_bytes book_out) taken) (H.files shelf.old) (H.files shelf.new) }
     ensures kept { IsTrue (H.tells shelf.old) → OthersKept (Some (string_bytes book_out)) (H.files shelf.old) (H.files shelf.new) }
+    ensures spared { IsTrue (H.tells shelf.old) → IfErr result (λ halt. halt ≡ Halt.NoMemory → ¬ Rose (H.refusals shelf.old) (H.refusals shelf.new) → AllStay (H.files shelf.old) (H.files shelf.new)) }
     ensures failed { IfErr result (λ halt. halt ≡ Halt.ShelfFailed → Rose (H.faults shelf.old) (H.faults shelf.new)) }
 {
     let Taken { how, text, book } = taken;

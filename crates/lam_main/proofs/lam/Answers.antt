@@ -5,7 +5,7 @@ use Rattle.lam_plan.specs.Plan.{IsPlan}
 use Rattle.lam_plan.proofs.AnswerLemmas.{answers_to, all_stay, status_of}
 use Rattle.lam_plan.proofs.PlanLemmas.{plans_are_one}
 use Rattle.lam_plan.proofs.FormatLemmas.{steady_of}
-use Rattle.lam_main.proofs.EndLemmas.{planned_of, silent_memory, silent_shelf, shelf_failed_as, words_first}
+use Rattle.lam_main.proofs.EndLemmas.{planned_of, silent_memory, silent_shelf, shelf_failed_as, memory_ended_as, words_first}
 use Rattle.lam_main.proofs.lam.Goals as goal
 
 pub returns-clause-planned : goal.returns-clause-planned
@@ -24,6 +24,10 @@ returns-clause-answer g c = λ told none plan is.
     (silent_shelf c.end_with.result old.taken new.taken c.answer_of-answer.result c.end_with.ensures.ends)
     (all_stay (request_of ws) files new.files none (c.answer_of-answer.ensures.kept told))
     (returns-clause-planned g c told)
+
+pub returns-clause-spared : goal.returns-clause-spared
+returns-clause-spared g c = λ told.
+    memory_ended_as c.end_with.result (g.O.Sink.taken c.args.out.now) (g.O.Sink.taken c.end_with.new.out) c.answer_of-answer.result c.end_with.ensures.ends (c.answer_of-answer.ensures.spared told)
 
 pub returns-clause-no_fault : goal.returns-clause-no_fault
 returns-clause-no_fault g c = λ told none quiet_shelf quiet_sink some plan is.
@@ -68,3 +72,23 @@ returns-clause-generated g c = λ told.
 
 pub returns-clause-meant : goal.returns-clause-meant
 returns-clause-meant g c = c.calls_run_as_meant.ensures (map string_bytes c.args.words.now) (g.H.Shelf.files c.args.shelf.now)
+
+pub returns-clause-refused : goal.returns-clause-refused
+returns-clause-refused g c = λ told.
+    c.refusals_are_exact.ensures (map string_bytes c.args.words.now) c.end_with.result (outside (g.H.Shelf.files c.args.shelf.now) (g.O.Sink.taken c.args.out.now)) (outside (g.H.Shelf.files c.answer_of-answer.new.shelf) (g.O.Sink.taken c.end_with.new.out)) (returns-clause-planned g c told)
+
+pub returns-clause-orderly : goal.returns-clause-orderly
+returns-clause-orderly g c = λ told.
+    c.orderly_calls_are_done.ensures (map string_bytes c.args.words.now) c.end_with.result (outside (g.H.Shelf.files c.args.shelf.now) (g.O.Sink.taken c.args.out.now)) (outside (g.H.Shelf.files c.answer_of-answer.new.shelf) (g.O.Sink.taken c.end_with.new.out)) (returns-clause-planned g c told)
+
+pub returns-clause-orderly_run : goal.returns-clause-orderly_run
+returns-clause-orderly_run g c = λ told.
+    c.orderly_runs_end.ensures (map string_bytes c.args.words.now) c.end_with.result (outside (g.H.Shelf.files c.args.shelf.now) (g.O.Sink.taken c.args.out.now)) (outside (g.H.Shelf.files c.answer_of-answer.new.shelf) (g.O.Sink.taken c.end_with.new.out)) (returns-clause-planned g c told)
+
+pub returns-clause-orderly_make : goal.returns-clause-orderly_make
+returns-clause-orderly_make g c = λ told.
+    c.makes_end.ensures (map string_bytes c.args.words.now) c.end_with.result (outside (g.H.Shelf.files c.args.shelf.now) (g.O.Sink.taken c.args.out.now)) (outside (g.H.Shelf.files c.answer_of-answer.new.shelf) (g.O.Sink.taken c.end_with.new.out)) (returns-clause-planned g c told)
+
+pub returns-clause-make_broken_off : goal.returns-clause-make_broken_off
+returns-clause-make_broken_off g c = λ told.
+    c.broken_makes_are_recorded.ensures (map string_bytes c.args.words.now) c.end_with.result (outside (g.H.Shelf.files c.args.shelf.now) (g.O.Sink.taken c.args.out.now)) (outside (g.H.Shelf.files c.answer_of-answer.new.shelf) (g.O.Sink.taken c.end_with.new.out)) (returns-clause-planned g c told)

@@ -2,7 +2,7 @@ use Rattle.std.proofs.Common.{Ok, string_bytes}
 use Rattle.lam_plan.specs.Reading.{HasFile, IsCompiled, program_limit}
 use Rattle.lam_replay.specs.Asked.{reader_of}
 use Rattle.thread_commands.specs.Asked.{files_of}
-use Rattle.thread_commands.proofs.ReportLemmas.{program_reported, no_program_reported, kept_of_all, kept_later, failed_later}
+use Rattle.thread_commands.proofs.ReportLemmas.{program_reported, no_program_reported, kept_of_all, kept_later, spared_later, failed_later}
 use Rattle.thread_commands.proofs.run.Goals as goal
 
 pub returns-in-Ok-clause-gives : goal.returns-in-Ok-clause-gives
@@ -23,3 +23,7 @@ returns-in-Err-clause-gives g c = λ told.
 pub returns-in-Err-clause-kept : goal.returns-in-Err-clause-kept
 returns-in-Err-clause-kept g c = λ told.
     kept_of_all (g.H.Shelf.files c.args.shelf.now) (g.H.Shelf.files c.read_code.new.shelf) (string_bytes c.args.files.book_out) (c.in-Err.ensures.stay told)
+
+pub returns-in-Ok-clause-spared : goal.returns-in-Ok-clause-spared
+returns-in-Ok-clause-spared g c = λ told.
+    spared_later c.run_code.result (g.H.Shelf.files c.args.shelf.now) (g.H.Shelf.files c.read_code.new.shelf) (g.H.Shelf.files c.run_code.new.shelf) (g.H.Shelf.refusals c.args.shelf.now) (g.H.Shelf.refusals c.read_code.new.shelf) (g.H.Shelf.refusals c.run_code.new.shelf) (c.in-Ok.ensures.stay told) c.in-Ok.ensures.refused (c.run_code.ensures.spared (c.in-Ok.ensures.tells_on told))
