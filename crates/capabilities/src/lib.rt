@@ -86,9 +86,13 @@ impl Caps {
         ensures value { result ≡ first_failing (change_test (joined self.now public.now) from.now to.now) }
         ensures none { IsNone result ↔ MayChange (joined self.now public.now) from.now to.now }
     {
-        let drop_i = from.i.first_missing_three(&to.i, &self.minus, &public.minus);
+        let drop_i = from
+            .i
+            .first_missing_three(&to.i, &self.minus, &public.minus);
         let add_i = to.i.first_missing_three(&from.i, &self.plus, &public.plus);
-        let drop_s = from.s.first_missing_three(&to.s, &self.minus, &public.minus);
+        let drop_s = from
+            .s
+            .first_missing_three(&to.s, &self.minus, &public.minus);
         let add_s = to.s.first_missing_three(&from.s, &self.plus, &public.plus);
         let fourth = denied_or(Rule::DropI, drop_i, None);
         let third = denied_or(Rule::AddI, add_i, fourth);
