@@ -16,6 +16,7 @@ no_caps = record { plus = empty; minus = empty }
 abbrev pub with_both : Caps → ℕ → Caps
 with_both c t = record { plus = insert c.plus t; minus = insert c.minus t }
 
+-- what is held by one of two: what counts in a test are the capabilities of who acts, joined with the public ones
 abbrev pub joined : Caps → Caps → Caps
 joined c d = record { plus = union c.plus d.plus; minus = union c.minus d.minus }
 
@@ -24,7 +25,7 @@ joined c d = record { plus = union c.plus d.plus; minus = union c.minus d.minus 
 abbrev pub used : Label → Label → Caps
 used x y = record { plus = difference y.i x.i; minus = difference x.s y.s }
 
--- with c a label may change from x to y: what is added has a plus, what is dropped has a minus
+-- where c counts as held, a label may change from x to y: what is added has a plus, what is dropped has a minus
 pub record MayChange (c : Caps) (x y : Label) : Type 0 where
   pub add_s : IsTrue (is_subset (difference y.s x.s) c.plus)
   pub drop_s : IsTrue (is_subset (difference x.s y.s) c.minus)

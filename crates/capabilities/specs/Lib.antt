@@ -1,2 +1,3 @@
 pub mod CapsText
 pub mod Changes
+pub mod Kinds

@@ -5,13 +5,16 @@
 //! remove t. So `t-` declassifies where t is a secret, and `t+` endorses where t vouches for a thing.
 //!
 //! `change_rule` is the safe label change: a tag that is added has a plus, a tag that is dropped has a
-//! minus. Like the rules of flow in `flow_labels` it answers the first rule that forbids the change,
-//! with that rule's least tag. The module `texts` has the text of capabilities, `+{a}-{a,b}`, both ways.
+//! minus, which the changer holds or which is *public*, that is everybody's. Like the rules of flow in
+//! `flow_labels` it answers the first rule that forbids the change, with that rule's least tag. The module
+//! `kinds` says which capabilities are public, and the module `texts` has the text of capabilities,
+//! `+{a}-{a,b}`, both ways.
 //!
 //! The calls that give no `Result` take no memory.
 
 #![tactic(auto)]
 
+mod kinds;
 mod texts;
 
 ghost use Rattle.std.specs.Prelude.{◌≡◌, IsTrue, IsNone, ◌↔◌, IfOk};
@@ -19,6 +22,7 @@ ghost use Rattle.flow_labels.specs.Failing.{first_failing};
 ghost use Rattle.capabilities.specs.Changes.{no_caps, with_both, joined, used, MayChange, Covers, change_test, covers_test};
 
 use flow_labels::{Denied, Label, NoMemory, Rule, TagId, TagSet, denied_or};
+pub use kinds::{TagKind, kind_of, public_of};
 use std::alloc::Global;
 pub use texts::{
     CapsFault, caps_are_read, caps_form, caps_text, parse_caps, push_caps, texts_are_read,
@@ -76,30 +80,35 @@ impl Caps {
     }
 
     /// The first rule that forbids a change from one label to another: `None` exactly where each tag that
-    /// is added has its plus, and each that is dropped its minus. Secrecy comes before integrity, adding
-    /// before dropping.
-    pub fn change_rule(&self, from: &Label, to: &Label) -> Option<Denied>
-        ensures value { result ≡ first_failing (change_test self.now from.now to.now) }
-        ensures none { IsNone result ↔ MayChange self.now from.now to.now }
+    /// is added has its plus, and each that is dropped its minus, held here or public. Secrecy comes before
+    /// integrity, adding before dropping.
+    pub fn change_rule(&self, public: &Caps, from: &Label, to: &Label) -> Option<Denied>
+        ensures value { result ≡ first_failing (change_test (joined self.now public.now) from.now to.now) }
+        ensures none { IsNone result ↔ MayChange (joined self.now public.now) from.now to.now }
     {
-        let drop_i = from.i.first_missing_both(&to.i, &self.minus);
-        let add_i = to.i.first_missing_both(&from.i, &self.plus);
-        let drop_s = from.s.first_missing_both(&to.s, &self.minus);
-        let add_s = to.s.first_missing_both(&from.s, &self.plus);
+        let drop_i = from
+            .i
+            .first_missing_three(&to.i, &self.minus, &public.minus);
+        let add_i = to.i.first_missing_three(&from.i, &self.plus, &public.plus);
+        let drop_s = from
+            .s
+            .first_missing_three(&to.s, &self.minus, &public.minus);
+        let add_s = to.s.first_missing_three(&from.s, &self.plus, &public.plus);
         let fourth = denied_or(Rule::DropI, drop_i, None);
         let third = denied_or(Rule::AddI, add_i, fourth);
         let second = denied_or(Rule::DropS, drop_s, third);
         denied_or(Rule::AddS, add_s, second)
     }
 
-    /// The first capability of `other` that is not held here, as a denial by the rule Caps: the least plus,
-    /// else the least minus. `None` exactly where all are held.
-    pub fn covers(&self, other: &Caps) -> Option<Denied>
-        ensures value { result ≡ first_failing (covers_test self.now other.now) }
-        ensures none { IsNone result ↔ Covers self.now other.now }
+    /// The first capability of `other` that is neither held here nor public, as a denial by the rule Caps:
+    /// the least plus, else the least minus. `None` exactly where there is none.
+    pub fn covers(&self, public: &Caps, other: &Caps) -> Option<Denied>
+        ensures value { result ≡ first_failing (covers_test (joined self.now public.now) other.now) }
+        ensures none { IsNone result ↔ Covers (joined self.now public.now) other.now }
     {
-        let minus = denied_or(Rule::Caps, other.minus.first_missing(&self.minus), None);
-        denied_or(Rule::Caps, other.plus.first_missing(&self.plus), minus)
+        let plus = other.plus.first_missing_both(&self.plus, &public.plus);
+        let minus = other.minus.first_missing_both(&self.minus, &public.minus);
+        denied_or(Rule::Caps, plus, denied_or(Rule::Caps, minus, None))
     }
 
     /// These capabilities with the plus and the minus of a tag, as the maker of the tag holds them.

@@ -2,7 +2,7 @@
 
 use crate::labels::known_names;
 use crate::sets::has;
-use capabilities::{Caps, CapsFault, caps_text, parse_caps};
+use capabilities::{Caps, CapsFault, TagKind, caps_text, kind_of, parse_caps, public_of};
 use flow_labels::{Denied, Label, Rule, TagNames};
 use std::alloc::Global;
 use tag_sets::{NoMemory, TagId, TagSet};
@@ -24,8 +24,9 @@ fn forbids(denied: Option<Denied>, rule: Rule) -> bool {
 
 /// Whether capabilities over one tag of two allow no change, down or up.
 fn are_too_few(caps: &Caps, secret: &Label, public: &Label) -> bool {
-    let down = forbids(caps.change_rule(secret, public), Rule::DropS);
-    down & forbids(caps.change_rule(public, secret), Rule::AddS)
+    let none = Caps::none(caps.allocator());
+    let down = forbids(caps.change_rule(&none, secret, public), Rule::DropS);
+    down & forbids(caps.change_rule(&none, public, secret), Rule::AddS)
 }
 
 /// Whether a release uses the minus of both tags and no plus.
@@ -41,7 +42,9 @@ fn is_allowed(
     public: &Label,
 ) -> Result<bool, NoMemory> {
     let held = caps.join(release)?;
-    let allowed = held.covers(caps).is_none() & held.change_rule(secret, public).is_none();
+    let none = Caps::none(caps.allocator());
+    let covers = held.covers(&none, caps).is_none();
+    let allowed = covers & held.change_rule(&none, secret, public).is_none();
     Ok(allowed & drops_both(release))
 }
 
@@ -84,6 +87,86 @@ fn has_both_signs(alloc: Global) -> Result<bool, NoMemory> {
 #[test]
 fn both_signs_of_a_tag(rt: HostRuntime) {
     assert!(rt; has_both_signs(rt.alloc()) == Ok(true));
+}
+
+/// Whether these are the public capabilities of three tags, one of each kind.
+fn are_public(public: &Caps) -> bool {
+    has(&public.plus, &[TagId(1)]) & has(&public.minus, &[TagId(2)])
+}
+
+/// The label of one secret.
+fn secret_of(alloc: Global, tag: TagId) -> Label {
+    Label {
+        s: TagSet::one(alloc, tag),
+        i: TagSet::empty(alloc),
+    }
+}
+
+/// Whether anybody adds the secret 1, and nobody drops it who does not hold its minus.
+fn adds_freely(public: &Caps) -> bool {
+    let none = Caps::none(public.allocator());
+    let bare = Label::public(public.allocator());
+    let secret = secret_of(public.allocator(), TagId(1));
+    let denied = Denied {
+        rule: Rule::DropS,
+        tag: TagId(1),
+    };
+    let up = none.change_rule(public, &bare, &secret).is_none();
+    up & (none.change_rule(public, &secret, &bare) == Some(denied))
+}
+
+/// Whether anybody drops the vouching tag 2, and nobody adds it who does not hold its plus.
+fn drops_freely(public: &Caps) -> bool {
+    let none = Caps::none(public.allocator());
+    let bare = Label::public(public.allocator());
+    let vouched = Label {
+        s: TagSet::empty(public.allocator()),
+        i: TagSet::one(public.allocator(), TagId(2)),
+    };
+    let denied = Denied {
+        rule: Rule::AddI,
+        tag: TagId(2),
+    };
+    let down = none.change_rule(public, &vouched, &bare).is_none();
+    down & (none.change_rule(public, &bare, &vouched) == Some(denied))
+}
+
+/// Whether no capabilities cover the public ones, and no more than those.
+fn covers_public(public: &Caps) -> Result<bool, NoMemory> {
+    let none = Caps::none(public.allocator());
+    let more = public.with_both(TagId(1))?;
+    let denied = Denied {
+        rule: Rule::Caps,
+        tag: TagId(1),
+    };
+    let same = none.covers(public, public).is_none();
+    Ok(same & (none.covers(public, &more) == Some(denied)))
+}
+
+/// Whether public capabilities are held by all.
+fn held_by_all(alloc: Global) -> Result<bool, NoMemory> {
+    let kinds = [TagKind::Read, TagKind::Export, TagKind::Integrity];
+    let public = public_of(alloc, kinds.as_slice())?;
+    let free = adds_freely(&public) & drops_freely(&public);
+    Ok(are_public(&public) & free & covers_public(&public)?)
+}
+
+#[test]
+fn public_plus(rt: HostRuntime) {
+    assert!(rt; held_by_all(rt.alloc()) == Ok(true));
+}
+
+/// Whether three words name the three kinds, and another none.
+fn names_kinds() -> bool {
+    let read = kind_of("read") == Some(TagKind::Read);
+    let export = kind_of("export") == Some(TagKind::Export);
+    let integrity = kind_of("integrity") == Some(TagKind::Integrity);
+    read & export & integrity & kind_of("write").is_none()
+}
+
+#[test]
+fn words_name_kinds(rt: HostRuntime) {
+    assert!(rt; names_kinds());
 }
 
 /// Whether capabilities have this text.

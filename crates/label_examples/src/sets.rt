@@ -84,7 +84,9 @@ fn a_copy_keeps_its_tags_when_its_source_grows(rt: HostRuntime) {
 fn names_missing(few: &TagSet, more: &TagSet) -> bool {
     let one = few.first_missing(more) == Some(TagId(7));
     let apart = few.first_apart(more) == Some(TagId(6));
-    one & apart & few.first_missing_both(more, few).is_none()
+    let both = few.first_missing_both(more, few).is_none();
+    let three = more.first_missing_three(few, few, few) == Some(TagId(6));
+    one & apart & both & three
 }
 
 /// Whether a set is the same as its copy, and not as another.

@@ -31,20 +31,36 @@ pub fn full(count: u64, limit: u64, fault: Fault) -> Option<Fault>
     if count < limit { None } else { Some(fault) }
 }
 
+/// The first rule that forbids a change of label, where no capability is public.
+fn change_rule(caps: &Caps, from: &Label, to: &Label) -> Option<Denied>
+    ensures { result ≡ first_failing (change_test caps.now from.now to.now) }
+{
+    let public = Caps::none(caps.allocator());
+    caps.change_rule(&public, from, to)
+}
+
+/// The first of some capabilities that is not held, where no capability is public.
+fn covers(caps: &Caps, some: &Caps) -> Option<Denied>
+    ensures { result ≡ first_failing (covers_test caps.now some.now) }
+{
+    let public = Caps::none(caps.allocator());
+    caps.covers(&public, some)
+}
+
 /// A thing at the label x is copied, and the copy has the label `own`.
 pub fn copy_rule(p: &Label, caps: &Caps, x: &Label, own: &Label) -> Option<Denied>
     ensures { result ≡ first_failing (read_test p.now x.now ++ (change_test caps.now x.now own.now ++ change_test caps.now p.now own.now)) }
 {
     read_rule(p, x)
-        .or_else(|| caps.change_rule(x, own))
-        .or_else(|| caps.change_rule(p, own))
+        .or_else(|| change_rule(caps, x, own))
+        .or_else(|| change_rule(caps, p, own))
 }
 
 /// A region at the label l is entered with some of the capabilities.
 pub fn enter_rule(p: &Label, caps: &Caps, l: &Label, some: &Caps) -> Option<Denied>
     ensures { result ≡ first_failing (change_test caps.now p.now l.now ++ covers_test caps.now some.now) }
 {
-    caps.change_rule(p, l).or_else(|| caps.covers(some))
+    change_rule(caps, p, l).or_else(|| covers(caps, some))
 }
 
 /// An entry is made in a directory at the label `dir`, for a new file or directory at the label `own`.
@@ -60,7 +76,7 @@ pub fn entry_rule(p: &Label, caps: &Caps, dir: &Label, own: &Label) -> Option<De
 pub fn make_rule(p: &Label, caps: &Caps, l: &Label) -> Option<Denied>
     ensures { result ≡ first_failing (write_test p.now l.now ++ change_test caps.now p.now l.now) }
 {
-    write_rule(p, l).or_else(|| caps.change_rule(p, l))
+    write_rule(p, l).or_else(|| change_rule(caps, p, l))
 }
 
 /// An entry is removed from a directory at the label d.
@@ -74,7 +90,7 @@ pub fn remove_rule(p: &Label, d: &Label) -> Option<Denied>
 pub fn send_rule(p: &Label, caps: &Caps, x: &Label, some: &Caps) -> Option<Denied>
     ensures { result ≡ first_failing (write_test p.now x.now ++ covers_test caps.now some.now) }
 {
-    write_rule(p, x).or_else(|| caps.covers(some))
+    write_rule(p, x).or_else(|| covers(caps, some))
 }
 
 /// A thread is started with some of the capabilities.
@@ -82,5 +98,5 @@ pub fn spawn_rule(p: &Label, caps: &Caps, some: &Caps) -> Option<Denied>
     ensures { result ≡ first_failing (same_test p.now public_label ++ covers_test caps.now some.now) }
 {
     let public = Label::public(p.allocator());
-    same_rule(p, &public).or_else(|| caps.covers(some))
+    same_rule(p, &public).or_else(|| covers(caps, some))
 }

@@ -10,6 +10,7 @@ use Rattle.flow_labels.specs.declared.Rule.TheVariants.{ReadS, ReadI, WriteS, Wr
 use Rattle.flow_labels.specs.declared.Denied.{Denied}
 use Rattle.flow_labels.specs.Flow.{flows}
 use Rattle.flow_labels.specs.Failing.{denied_or, first_failing, read_test, write_test}
+use Rattle.capabilities.specs.declared.Caps.{Caps}
 use Rattle.play_script.specs.declared.Actor.{Actor}
 use Rattle.play_run.specs.Steps.{copy_test}
 
@@ -46,7 +47,7 @@ write-flows p x e =
     let none = two_hold (least (difference p.s x.s)) (least (difference x.i p.i)) WriteS WriteI None e in
     both _ _ (none-is_subset p.s x.s none.0) (none-is_subset x.i p.i none.1)
 
-pub copy-flows : (p : Actor) (c d : Label) → first_failing (copy_test p c d) ≡ None → flows c p.label ≡ true
-copy-flows p c d e =
+pub copy-flows : (public : Caps) (p : Actor) (c d : Label) → first_failing (copy_test public p c d) ≡ None → flows c p.label ≡ true
+copy-flows public p c d e =
     let none = two_hold (least (difference c.s p.label.s)) (least (difference p.label.i c.i)) ReadS ReadI _ e in
     both _ _ (none-is_subset c.s p.label.s none.0) (none-is_subset p.label.i c.i none.1)

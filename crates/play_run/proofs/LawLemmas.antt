@@ -15,6 +15,7 @@ use Rattle.flow_labels.specs.Flow.{flows}
 use Rattle.flow_labels.specs.Failing.{Test, denied_or, first_failing, read_test}
 use Rattle.capabilities.specs.declared.Caps.{Caps}
 use Rattle.capabilities.specs.Changes.{used, MayChange, Covers, change_test}
+use Rattle.capabilities.specs.Kinds.{public_of}
 use Rattle.labelled_heap.specs.declared.cells.Cell.{Cell}
 use Rattle.labelled_heap.specs.CellAt.{with_value}
 use Rattle.play_script.specs.declared.Actor.{Actor}
@@ -23,9 +24,9 @@ use Rattle.play_script.specs.declared.Step.TheVariants.{Read, Write, Copy}
 use Rattle.play_script.specs.Script.{Play}
 use Rattle.play_run.specs.declared.steps.Outcome.{Outcome}
 use Rattle.play_run.specs.declared.steps.Outcome.TheVariants.{Done, Refused}
-use Rattle.play_run.specs.Steps.{Release, Copied, Moment, copy_test, went, put, copied_into, moment_of, moments, goes_on, start}
+use Rattle.play_run.specs.Steps.{Cast, Release, Copied, Moment, cast_of, copy_test, went, put, copied_into, moment_of, moments, goes_on, start}
 use Rattle.play_run.specs.Seen.{Entry, Seen, Released, past, noted, notes, trace}
-use Rattle.play_run.specs.Laws.{Shows, step, release, NotesAreExact, cell_labels, IsAllowed, ReleasesAreAllowed}
+use Rattle.play_run.specs.Laws.{Shows, step, release, NotesAreExact, cell_labels, usable, IsAllowed, ReleasesAreAllowed}
 use Rattle.play_run.proofs.FlowLemmas.{flows-trans, read-flows}
 use Rattle.play_run.proofs.MomentLemmas.{Noting, Watched, Hidden, noting, entry_of, PastCopied, past_copied, TookCopy, took_read, took_write, took_copy}
 
@@ -92,10 +93,10 @@ labels-put : (cells : List Cell) (n : ℕ) (w : Outcome) → labels_of (put cell
 labels-put cells n (Done v) = labels-with_value cells n v
 labels-put cells n (Refused denied) = refl
 
-labels-moment : (actors : List Actor) (cells : List Cell) (s : Step) (m : Moment) → moment_of actors cells s ≡ Some m → labels_of m.cells ≡ labels_of cells
-labels-moment actors cells (Read a n) m e = ap (λ x. labels_of x.cells) (took_read actors cells a n m e).is
-labels-moment actors cells (Write a n v) m e = ap (λ x. labels_of x.cells) (took_write actors cells a n v m e).is ∙ labels-put cells n _
-labels-moment actors cells (Copy a n k) m e = ap (λ x. labels_of x.cells) (took_copy actors cells a n k m e).is ∙ labels-put cells k _
+labels-moment : (cast : Cast) (cells : List Cell) (s : Step) (m : Moment) → moment_of cast cells s ≡ Some m → labels_of m.cells ≡ labels_of cells
+labels-moment cast cells (Read a n) m e = ap (λ x. labels_of x.cells) (took_read cast cells a n m e).is
+labels-moment cast cells (Write a n v) m e = ap (λ x. labels_of x.cells) (took_write cast cells a n v m e).is ∙ labels-put cells n _
+labels-moment cast cells (Copy a n k) m e = ap (λ x. labels_of x.cells) (took_copy cast cells a n k m e).is ∙ labels-put cells k _
 
 label_at : (cells : List Cell) (n : ℕ) (c : Cell) (ls : List Label) → slice_get cells n ≡ Some c → labels_of cells ≡ ls → slice_get ls n ≡ Some c.label
 unfolding labels_of
@@ -114,13 +115,13 @@ not_down o p d unseen seen = sort (flows p d) refl
     sort true h = let clash = flows-trans p d o h seen in absurd cc
     sort false h = h
 
-allowed_copy : (play : Play) (o : Label) (cells : List Cell) (a n k : ℕ) (m : Moment) (r : Release) → labels_of cells ≡ cell_labels play → flows m.event.label o ≡ false → PastCopied o m.copied (Released r) → TookCopy play.actors cells a n k m → IsAllowed play o r
+allowed_copy : (play : Play) (o : Label) (cells : List Cell) (a n k : ℕ) (m : Moment) (r : Release) → labels_of cells ≡ cell_labels play → flows m.event.label o ≡ false → PastCopied o m.copied (Released r) → TookCopy (cast_of play) cells a n k m → IsAllowed play o r
 allowed_copy play o cells a n k m r labels unseen p t =
     let label = t.actor.label in
-    let caps = t.actor.caps in
+    let caps = usable play t.actor in
     let from = t.from.label in
     let to = t.to.label in
-    let done = copied_done label to (Copy a n k) (first_failing (copy_test t.actor from to)) t.from.value p.copied (ap (λ x. x.copied) (sym t.is) ∙ p.is) in
+    let done = copied_done label to (Copy a n k) (first_failing (copy_test (public_of play.kinds) t.actor from to)) t.from.value p.copied (ap (λ x. x.copied) (sym t.is) ∙ p.is) in
     let told : r ≡ record { copy = Copy a n k; value = t.from.value; by = used label to } = let same : r ≡ p.copied.release = cc in same ∙ ap (λ c. c.release) done.1 in
     let lower = parts (read_test label from ++ change_test caps from to) (change_test caps label to) done.0 in
     let first = parts (read_test label from) (change_test caps from to) lower.0 in
@@ -149,22 +150,22 @@ allowed_copy play o cells a n k m r labels unseen p t =
       held = subst (λ x. Covers caps x) (sym by) (record { plus = change.add_i; minus = change.drop_s });
     }
 
-allowed_moment : (play : Play) (o : Label) (cells : List Cell) (s : Step) (m : Moment) (r : Release) → labels_of cells ≡ cell_labels play → moment_of play.actors cells s ≡ Some m → flows m.event.label o ≡ false → PastCopied o m.copied (Released r) → IsAllowed play o r
+allowed_moment : (play : Play) (o : Label) (cells : List Cell) (s : Step) (m : Moment) (r : Release) → labels_of cells ≡ cell_labels play → moment_of (cast_of play) cells s ≡ Some m → flows m.event.label o ≡ false → PastCopied o m.copied (Released r) → IsAllowed play o r
 allowed_moment play o cells (Read a n) m r labels e unseen p =
-    let none : m.copied ≡ None = ap (λ x. x.copied) (took_read play.actors cells a n m e).is in
+    let none : m.copied ≡ None = ap (λ x. x.copied) (took_read (cast_of play) cells a n m e).is in
     let some : m.copied ≡ Some p.copied = p.is in
     absurd cc
 allowed_moment play o cells (Write a n v) m r labels e unseen p =
-    let none : m.copied ≡ None = ap (λ x. x.copied) (took_write play.actors cells a n v m e).is in
+    let none : m.copied ≡ None = ap (λ x. x.copied) (took_write (cast_of play) cells a n v m e).is in
     let some : m.copied ≡ Some p.copied = p.is in
     absurd cc
-allowed_moment play o cells (Copy a n k) m r labels e unseen p = allowed_copy play o cells a n k m r labels unseen p (took_copy play.actors cells a n k m e)
+allowed_moment play o cells (Copy a n k) m r labels e unseen p = allowed_copy play o cells a n k m r labels unseen p (took_copy (cast_of play) cells a n k m e)
 
 Fine : Play → Label → Entry → Type 0
 Fine play o (Seen event) = Unit {0}
 Fine play o (Released r) = IsAllowed play o r
 
-fine_moment : (play : Play) (o : Label) (cells : List Cell) (s : Step) (m : Moment) (e : Entry) → labels_of cells ≡ cell_labels play → moment_of play.actors cells s ≡ Some m → noted o m ≡ Some e → Fine play o e
+fine_moment : (play : Play) (o : Label) (cells : List Cell) (s : Step) (m : Moment) (e : Entry) → labels_of cells ≡ cell_labels play → moment_of (cast_of play) cells s ≡ Some m → noted o m ≡ Some e → Fine play o e
 unfolding Fine
 fine_moment play o cells s m (Seen event) labels h is = tt
 fine_moment play o cells s m (Released r) labels h is = sort (noting o m)
@@ -175,20 +176,20 @@ fine_moment play o cells s m (Released r) labels h is = sort (noting o m)
         absurd cc
     sort (Hidden unseen f) = allowed_moment play o cells s m r labels h unseen (past_copied o m.copied (Released r) (sym f ∙ is))
 
-fine_notes : (play : Play) (o : Label) (cells : List Cell) (steps : List Step) → labels_of cells ≡ cell_labels play → AllByRecursion (Fine play o) (notes o (moments play.actors cells steps))
+fine_notes : (play : Play) (o : Label) (cells : List Cell) (steps : List Step) → labels_of cells ≡ cell_labels play → AllByRecursion (Fine play o) (notes o (moments (cast_of play) cells steps))
 fine_notes play o cells [] labels = tt
-fine_notes play o cells (s ∷ ss) labels = look (λ after are. fine_notes play o after ss are) (moment_of play.actors cells s) refl
+fine_notes play o cells (s ∷ ss) labels = look (λ after are. fine_notes play o after ss are) (moment_of (cast_of play) cells s) refl
   where
     join : (e : Option Entry) (es : List Entry) → ((x : Entry) → e ≡ Some x → Fine play o x) → AllByRecursion (Fine play o) es → AllByRecursion (Fine play o) (cons_option e es)
     join None es one more = more
     join (Some x) es one more = (one x refl, more)
 
-    look : ((after : List Cell) → labels_of after ≡ cell_labels play → AllByRecursion (Fine play o) (notes o (moments play.actors after ss))) → (x : Option Moment) → moment_of play.actors cells s ≡ x → AllByRecursion (Fine play o) (notes o (goes_on cells (moment_of play.actors cells s) (λ after. moments play.actors after ss)))
-    look more None h = subst (λ x. AllByRecursion (Fine play o) (notes o (goes_on cells x (λ after. moments play.actors after ss)))) (sym h) (more cells labels)
+    look : ((after : List Cell) → labels_of after ≡ cell_labels play → AllByRecursion (Fine play o) (notes o (moments (cast_of play) after ss))) → (x : Option Moment) → moment_of (cast_of play) cells s ≡ x → AllByRecursion (Fine play o) (notes o (goes_on cells (moment_of (cast_of play) cells s) (λ after. moments (cast_of play) after ss)))
+    look more None h = subst (λ x. AllByRecursion (Fine play o) (notes o (goes_on cells x (λ after. moments (cast_of play) after ss)))) (sym h) (more cells labels)
     look more (Some m) h =
-        subst (λ x. AllByRecursion (Fine play o) (notes o (goes_on cells x (λ after. moments play.actors after ss)))) (sym h)
-        (join (noted o m) (notes o (moments play.actors m.cells ss)) (λ e is. fine_moment play o cells s m e labels h is)
-        (more m.cells (labels-moment play.actors cells s m h ∙ labels)))
+        subst (λ x. AllByRecursion (Fine play o) (notes o (goes_on cells x (λ after. moments (cast_of play) after ss)))) (sym h)
+        (join (noted o m) (notes o (moments (cast_of play) m.cells ss)) (λ e is. fine_moment play o cells s m e labels h is)
+        (more m.cells (labels-moment (cast_of play) cells s m h ∙ labels)))
 
 one_of : {X : Type 0} (P : X → Type 0) (xs : List X) (k : ℕ) (x : X) → AllByRecursion P xs → slice_get xs k ≡ Some x → P x
 one_of P [] k x all e = absurd cc

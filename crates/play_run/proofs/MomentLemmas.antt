@@ -12,35 +12,35 @@ use Rattle.play_script.specs.declared.Step.{Step}
 use Rattle.play_script.specs.declared.Step.TheVariants.{Read, Write, Copy}
 use Rattle.play_run.specs.declared.steps.Outcome.{Outcome}
 use Rattle.play_run.specs.declared.steps.Outcome.TheVariants.{Done, Refused}
-use Rattle.play_run.specs.Steps.{Release, Copied, Moment, found, copy_test, went, outcome_of, put, cells_after, copied_into, taken, moment_of}
+use Rattle.play_run.specs.Steps.{Cast, Release, Copied, Moment, found, copy_test, went, outcome_of, put, cells_after, copied_into, taken, moment_of}
 use Rattle.play_run.specs.Seen.{Entry, Seen, Released, Acts, Releases, item_of, past, noted, view}
 use Rattle.play_run.proofs.FlowLemmas.{flows-trans, read-flows, write-flows, copy-flows}
 use Rattle.play_run.proofs.ViewLemmas.{view-unseen, view-after, look_alike}
 
 -- ---- the rows of moment_of: what was looked up, and the moment
 
-pub record TookRead (actors : List Actor) (cells : List Cell) (a n : ℕ) (m : Moment) : Type 0 where
+pub record TookRead (cast : Cast) (cells : List Cell) (a n : ℕ) (m : Moment) : Type 0 where
   pub actor : Actor
   pub cell : Cell
-  pub named : slice_get actors a ≡ Some actor
+  pub named : slice_get cast.actors a ≡ Some actor
   pub there : slice_get cells n ≡ Some cell
   pub is : m ≡ taken cells actor (Read a n) (outcome_of (read_test actor.label cell.label) cell.value) None
 
-pub record TookWrite (actors : List Actor) (cells : List Cell) (a n : ℕ) (v : ℤ) (m : Moment) : Type 0 where
+pub record TookWrite (cast : Cast) (cells : List Cell) (a n : ℕ) (v : ℤ) (m : Moment) : Type 0 where
   pub actor : Actor
   pub cell : Cell
-  pub named : slice_get actors a ≡ Some actor
+  pub named : slice_get cast.actors a ≡ Some actor
   pub there : slice_get cells n ≡ Some cell
   pub is : m ≡ taken cells actor (Write a n v) (outcome_of (write_test actor.label cell.label) v) None
 
-pub record TookCopy (actors : List Actor) (cells : List Cell) (a n k : ℕ) (m : Moment) : Type 0 where
+pub record TookCopy (cast : Cast) (cells : List Cell) (a n k : ℕ) (m : Moment) : Type 0 where
   pub actor : Actor
   pub from : Cell
   pub to : Cell
-  pub named : slice_get actors a ≡ Some actor
+  pub named : slice_get cast.actors a ≡ Some actor
   pub there : slice_get cells n ≡ Some from
   pub other : slice_get cells k ≡ Some to
-  pub is : m ≡ taken cells actor (Copy a n k) (outcome_of (copy_test actor from.label to.label) from.value) (Some to.label)
+  pub is : m ≡ taken cells actor (Copy a n k) (outcome_of (copy_test cast.public actor from.label to.label) from.value) (Some to.label)
 
 -- what two look-ups in a row found
 record Two {A B : Type 0} (x : Option A) (y : Option B) (f : A → B → Moment) (m : Moment) : Type 0 where
@@ -71,19 +71,19 @@ three (Some p) None z f m e = absurd cc
 three (Some p) (Some c) None f m e = absurd cc
 three (Some p) (Some c) (Some d) f m e = record { first = p; second = c; third = d; first_is = refl; second_is = refl; third_is = refl; is = let same : f p c d ≡ m = cc in sym same }
 
-pub took_read : (actors : List Actor) (cells : List Cell) (a n : ℕ) (m : Moment) → moment_of actors cells (Read a n) ≡ Some m → TookRead actors cells a n m
-took_read actors cells a n m e =
-    let t = two (slice_get actors a) (slice_get cells n) (λ p c. taken cells p (Read a n) (outcome_of (read_test p.label c.label) c.value) None) m e in
+pub took_read : (cast : Cast) (cells : List Cell) (a n : ℕ) (m : Moment) → moment_of cast cells (Read a n) ≡ Some m → TookRead cast cells a n m
+took_read cast cells a n m e =
+    let t = two (slice_get cast.actors a) (slice_get cells n) (λ p c. taken cells p (Read a n) (outcome_of (read_test p.label c.label) c.value) None) m e in
     record { actor = t.first; cell = t.second; named = t.first_is; there = t.second_is; is = t.is }
 
-pub took_write : (actors : List Actor) (cells : List Cell) (a n : ℕ) (v : ℤ) (m : Moment) → moment_of actors cells (Write a n v) ≡ Some m → TookWrite actors cells a n v m
-took_write actors cells a n v m e =
-    let t = two (slice_get actors a) (slice_get cells n) (λ p c. taken cells p (Write a n v) (outcome_of (write_test p.label c.label) v) None) m e in
+pub took_write : (cast : Cast) (cells : List Cell) (a n : ℕ) (v : ℤ) (m : Moment) → moment_of cast cells (Write a n v) ≡ Some m → TookWrite cast cells a n v m
+took_write cast cells a n v m e =
+    let t = two (slice_get cast.actors a) (slice_get cells n) (λ p c. taken cells p (Write a n v) (outcome_of (write_test p.label c.label) v) None) m e in
     record { actor = t.first; cell = t.second; named = t.first_is; there = t.second_is; is = t.is }
 
-pub took_copy : (actors : List Actor) (cells : List Cell) (a n k : ℕ) (m : Moment) → moment_of actors cells (Copy a n k) ≡ Some m → TookCopy actors cells a n k m
-took_copy actors cells a n k m e =
-    let t = three (slice_get actors a) (slice_get cells n) (slice_get cells k) (λ p c d. taken cells p (Copy a n k) (outcome_of (copy_test p c.label d.label) c.value) (Some d.label)) m e in
+pub took_copy : (cast : Cast) (cells : List Cell) (a n k : ℕ) (m : Moment) → moment_of cast cells (Copy a n k) ≡ Some m → TookCopy cast cells a n k m
+took_copy cast cells a n k m e =
+    let t = three (slice_get cast.actors a) (slice_get cells n) (slice_get cells k) (λ p c d. taken cells p (Copy a n k) (outcome_of (copy_test cast.public p c.label d.label) c.value) (Some d.label)) m e in
     record { actor = t.first; from = t.second; to = t.third; named = t.first_is; there = t.second_is; other = t.third_is; is = t.is }
 
 -- ---- what is noted
@@ -133,23 +133,23 @@ past_unseen o p d s v e = sort (flows d o) refl
         absurd cc
     sort false h = h
 
-pub unseen_step : (o : Label) (actors : List Actor) (cells : List Cell) (s : Step) (m : Moment) → moment_of actors cells s ≡ Some m → noted o m ≡ None → view o m.cells ≡ view o cells
-unseen_step o actors cells (Read a n) m e none =
-    let t = took_read actors cells a n m e in
+pub unseen_step : (o : Label) (cast : Cast) (cells : List Cell) (s : Step) (m : Moment) → moment_of cast cells s ≡ Some m → noted o m ≡ None → view o m.cells ≡ view o cells
+unseen_step o cast cells (Read a n) m e none =
+    let t = took_read cast cells a n m e in
     ap (λ x. view o x.cells) t.is
-unseen_step o actors cells (Write a n v) m e none =
-    let t = took_write actors cells a n v m e in
+unseen_step o cast cells (Write a n v) m e none =
+    let t = took_write cast cells a n v m e in
     let h = unnoted o m none in
     let hidden : flows t.actor.label o ≡ false = ap (λ x. flows x.event.label o) (sym t.is) ∙ h.hidden in
     ap (λ x. view o x.cells) t.is
     ∙ unseen_put o cells n t.cell (first_failing (write_test t.actor.label t.cell.label)) v t.there
     (λ passes. up o t.actor.label t.cell.label hidden (write-flows t.actor.label t.cell.label passes))
-unseen_step o actors cells (Copy a n k) m e none =
-    let t = took_copy actors cells a n k m e in
+unseen_step o cast cells (Copy a n k) m e none =
+    let t = took_copy cast cells a n k m e in
     let h = unnoted o m none in
-    let nothing : past o (copied_into t.actor.label (Copy a n k) t.to.label (outcome_of (copy_test t.actor t.from.label t.to.label) t.from.value)) ≡ None = ap (λ x. past o x.copied) (sym t.is) ∙ h.nothing in
+    let nothing : past o (copied_into t.actor.label (Copy a n k) t.to.label (outcome_of (copy_test cast.public t.actor t.from.label t.to.label) t.from.value)) ≡ None = ap (λ x. past o x.copied) (sym t.is) ∙ h.nothing in
     ap (λ x. view o x.cells) t.is
-    ∙ unseen_put o cells k t.to (first_failing (copy_test t.actor t.from.label t.to.label)) t.from.value t.other
+    ∙ unseen_put o cells k t.to (first_failing (copy_test cast.public t.actor t.from.label t.to.label)) t.from.value t.other
     (λ passes. past_unseen o t.actor.label t.to.label (Copy a n k) t.from.value
     (ap (λ x. past o (copied_into t.actor.label (Copy a n k) t.to.label (went x t.from.value))) (sym passes) ∙ nothing))
 
@@ -175,10 +175,10 @@ taken_alike o cells cells' p p' s w w' into into' m m' is is' actors outcomes vi
           ∙ ap (λ w. view o (cells_after cells' s w)) outcomes ∙ ap (λ x. view o x.cells) (sym is');
     }
 
-pub seen_pair : (o : Label) (actors : List Actor) (cells cells' : List Cell) (s : Step) (m m' : Moment) → view o cells ≡ view o cells' → moment_of actors cells s ≡ Some m → moment_of actors cells' s ≡ Some m' → flows m.event.label o ≡ true → Alike o m m'
-seen_pair o actors cells cells' (Read a n) m m' views e e' seen =
-    let t = took_read actors cells a n m e in
-    let t' = took_read actors cells' a n m' e' in
+pub seen_pair : (o : Label) (cast : Cast) (cells cells' : List Cell) (s : Step) (m m' : Moment) → view o cells ≡ view o cells' → moment_of cast cells s ≡ Some m → moment_of cast cells' s ≡ Some m' → flows m.event.label o ≡ true → Alike o m m'
+seen_pair o cast cells cells' (Read a n) m m' views e e' seen =
+    let t = took_read cast cells a n m e in
+    let t' = took_read cast cells' a n m' e' in
     let actor = some_inj t.actor t'.actor (sym t.named ∙ t'.named) in
     let alike = look_alike o cells cells' n t.cell t'.cell views t.there t'.there in
     let seen_actor : flows t.actor.label o ≡ true = ap (λ x. flows x.event.label o) (sym t.is) ∙ seen in
@@ -188,25 +188,25 @@ seen_pair o actors cells cells' (Read a n) m m' views e e' seen =
     went_same (test t.actor t.cell.label) t.cell.value t'.cell.value (λ passes. alike.values (flows-trans t.cell.label t.actor.label o (read-flows t.actor.label t.cell.label passes) seen_actor))
     ∙ ap (λ x. went x t'.cell.value) tests in
     taken_alike o cells cells' t.actor t'.actor (Read a n) _ _ None None m m' t.is t'.is actor outcomes views
-seen_pair o actors cells cells' (Write a n v) m m' views e e' seen =
-    let t = took_write actors cells a n v m e in
-    let t' = took_write actors cells' a n v m' e' in
+seen_pair o cast cells cells' (Write a n v) m m' views e e' seen =
+    let t = took_write cast cells a n v m e in
+    let t' = took_write cast cells' a n v m' e' in
     let actor = some_inj t.actor t'.actor (sym t.named ∙ t'.named) in
     let alike = look_alike o cells cells' n t.cell t'.cell views t.there t'.there in
     let outcomes : outcome_of (write_test t.actor.label t.cell.label) v ≡ outcome_of (write_test t'.actor.label t'.cell.label) v =
     (λ j. outcome_of (write_test (actor j).label (alike.labels j)) v) in
     taken_alike o cells cells' t.actor t'.actor (Write a n v) _ _ None None m m' t.is t'.is actor outcomes views
-seen_pair o actors cells cells' (Copy a n k) m m' views e e' seen =
-    let t = took_copy actors cells a n k m e in
-    let t' = took_copy actors cells' a n k m' e' in
+seen_pair o cast cells cells' (Copy a n k) m m' views e e' seen =
+    let t = took_copy cast cells a n k m e in
+    let t' = took_copy cast cells' a n k m' e' in
     let actor = some_inj t.actor t'.actor (sym t.named ∙ t'.named) in
     let from = look_alike o cells cells' n t.from t'.from views t.there t'.there in
     let to = look_alike o cells cells' k t.to t'.to views t.other t'.other in
     let seen_actor : flows t.actor.label o ≡ true = ap (λ x. flows x.event.label o) (sym t.is) ∙ seen in
-    let test = λ (p : Actor) (c d : Label). first_failing (copy_test p c d) in
+    let test = λ (p : Actor) (c d : Label). first_failing (copy_test cast.public p c d) in
     let tests : test t.actor t.from.label t.to.label ≡ test t'.actor t'.from.label t'.to.label = (λ j. test (actor j) (from.labels j) (to.labels j)) in
-    let outcomes : outcome_of (copy_test t.actor t.from.label t.to.label) t.from.value ≡ outcome_of (copy_test t'.actor t'.from.label t'.to.label) t'.from.value =
-    went_same (test t.actor t.from.label t.to.label) t.from.value t'.from.value (λ passes. from.values (flows-trans t.from.label t.actor.label o (copy-flows t.actor t.from.label t.to.label passes) seen_actor))
+    let outcomes : outcome_of (copy_test cast.public t.actor t.from.label t.to.label) t.from.value ≡ outcome_of (copy_test cast.public t'.actor t'.from.label t'.to.label) t'.from.value =
+    went_same (test t.actor t.from.label t.to.label) t.from.value t'.from.value (λ passes. from.values (flows-trans t.from.label t.actor.label o (copy-flows cast.public t.actor t.from.label t.to.label passes) seen_actor))
     ∙ ap (λ x. went x t'.from.value) tests in
     taken_alike o cells cells' t.actor t'.actor (Copy a n k) _ _ (Some t.to.label) (Some t'.to.label) m m' t.is t'.is actor outcomes views
 
@@ -229,18 +229,18 @@ past_told o p d s (Done v) r e = sort (flows d o) refl
         let none : past o (copied_into p s d (Done v)) ≡ None = ap (λ b. if b then Some (Released (record { copy = s; value = v; by = used p d })) else None) h in
         absurd cc
 
-told : (o : Label) (actors : List Actor) (cells : List Cell) (s : Step) (m : Moment) (r : Release) → moment_of actors cells s ≡ Some m → past o m.copied ≡ Some (Released r) → Told cells m r
-told o actors cells (Read a n) m r e is =
-    let t = took_read actors cells a n m e in
+told : (o : Label) (cast : Cast) (cells : List Cell) (s : Step) (m : Moment) (r : Release) → moment_of cast cells s ≡ Some m → past o m.copied ≡ Some (Released r) → Told cells m r
+told o cast cells (Read a n) m r e is =
+    let t = took_read cast cells a n m e in
     let none : past o m.copied ≡ None = ap (λ x. past o x.copied) t.is in
     absurd cc
-told o actors cells (Write a n v) m r e is =
-    let t = took_write actors cells a n v m e in
+told o cast cells (Write a n v) m r e is =
+    let t = took_write cast cells a n v m e in
     let none : past o m.copied ≡ None = ap (λ x. past o x.copied) t.is in
     absurd cc
-told o actors cells (Copy a n k) m r e is =
-    let t = took_copy actors cells a n k m e in
-    let both = past_told o t.actor.label t.to.label (Copy a n k) (outcome_of (copy_test t.actor t.from.label t.to.label) t.from.value) r (ap (λ x. past o x.copied) (sym t.is) ∙ is) in
+told o cast cells (Copy a n k) m r e is =
+    let t = took_copy cast cells a n k m e in
+    let both = past_told o t.actor.label t.to.label (Copy a n k) (outcome_of (copy_test cast.public t.actor t.from.label t.to.label) t.from.value) r (ap (λ x. past o x.copied) (sym t.is) ∙ is) in
     record { cells_are = ap (λ x. x.cells) t.is ∙ (λ j. cells_after cells (sym both.0 j) (both.1 j)) }
 
 -- ---- two notes with equal items
@@ -252,10 +252,10 @@ pub record Together (o : Label) (e e' : Entry) (m m' : Moment) : Type 0 where
 pub entry_of : (e e' : Entry) → Some e ≡ Some e' → e ≡ e'
 entry_of e e' h = cc
 
-took_step : (actors : List Actor) (cells : List Cell) (s : Step) (m : Moment) → moment_of actors cells s ≡ Some m → m.event.step ≡ s
-took_step actors cells (Read a n) m e = ap (λ x. x.event.step) (took_read actors cells a n m e).is
-took_step actors cells (Write a n v) m e = ap (λ x. x.event.step) (took_write actors cells a n v m e).is
-took_step actors cells (Copy a n k) m e = ap (λ x. x.event.step) (took_copy actors cells a n k m e).is
+took_step : (cast : Cast) (cells : List Cell) (s : Step) (m : Moment) → moment_of cast cells s ≡ Some m → m.event.step ≡ s
+took_step cast cells (Read a n) m e = ap (λ x. x.event.step) (took_read cast cells a n m e).is
+took_step cast cells (Write a n v) m e = ap (λ x. x.event.step) (took_write cast cells a n v m e).is
+took_step cast cells (Copy a n k) m e = ap (λ x. x.event.step) (took_copy cast cells a n k m e).is
 
 acts_inj : (s t : Step) → Acts s ≡ Acts t → s ≡ t
 acts_inj s t e = cc
@@ -280,24 +280,24 @@ past_copied o (Some c) e h = sort (flows c.label o) refl
         let none : past o (Some c) ≡ None = ap (λ b. if b then Some (Released c.release) else None) f in
         absurd cc
 
-pub together : (o : Label) (actors : List Actor) (cells cells' : List Cell) (s s' : Step) (m m' : Moment) (e e' : Entry) → view o cells ≡ view o cells' → moment_of actors cells s ≡ Some m → moment_of actors cells' s' ≡ Some m' → noted o m ≡ Some e → noted o m' ≡ Some e' → item_of e ≡ item_of e' → Together o e e' m m'
-together o actors cells cells' s s' m m' e e' views h h' is is' same = sort (noting o m) (noting o m')
+pub together : (o : Label) (cast : Cast) (cells cells' : List Cell) (s s' : Step) (m m' : Moment) (e e' : Entry) → view o cells ≡ view o cells' → moment_of cast cells s ≡ Some m → moment_of cast cells' s' ≡ Some m' → noted o m ≡ Some e → noted o m' ≡ Some e' → item_of e ≡ item_of e' → Together o e e' m m'
+together o cast cells cells' s s' m m' e e' views h h' is is' same = sort (noting o m) (noting o m')
   where
     sort : Noting o m (noted o m) → Noting o m' (noted o m') → Together o e e' m m'
     sort (Watched seen f) (Watched seen' f') =
         let entry : e ≡ Seen m.event = entry_of e (Seen m.event) (sym is ∙ f) in
         let entry' : e' ≡ Seen m'.event = entry_of e' (Seen m'.event) (sym is' ∙ f') in
         let steps : m.event.step ≡ m'.event.step = acts_inj m.event.step m'.event.step (ap item_of (sym entry) ∙ same ∙ ap item_of entry') in
-        let step : s' ≡ s = sym (took_step actors cells' s' m' h') ∙ sym steps ∙ took_step actors cells s m h in
-        let pair = seen_pair o actors cells cells' s m m' views h (ap (λ t. moment_of actors cells' t) (sym step) ∙ h') seen in
+        let step : s' ≡ s = sym (took_step cast cells' s' m' h') ∙ sym steps ∙ took_step cast cells s m h in
+        let pair = seen_pair o cast cells cells' s m m' views h (ap (λ t. moment_of cast cells' t) (sym step) ∙ h') seen in
         record { entries = entry ∙ ap Seen pair.events ∙ sym entry'; views = pair.views }
     sort (Hidden unseen f) (Hidden unseen' f') =
         let r = past_copied o m.copied e (sym f ∙ is) in
         let r' = past_copied o m'.copied e' (sym f' ∙ is') in
         let items : Releases r.copied.release ≡ Releases r'.copied.release = ap item_of (sym r.entry) ∙ same ∙ ap item_of r'.entry in
         let releases : r.copied.release ≡ r'.copied.release = cc in
-        let after = told o actors cells s m r.copied.release h (sym f ∙ is ∙ ap Some r.entry) in
-        let after' = told o actors cells' s' m' r'.copied.release h' (sym f' ∙ is' ∙ ap Some r'.entry) in
+        let after = told o cast cells s m r.copied.release h (sym f ∙ is ∙ ap Some r.entry) in
+        let after' = told o cast cells' s' m' r'.copied.release h' (sym f' ∙ is' ∙ ap Some r'.entry) in
         record {
           entries = r.entry ∙ ap Released releases ∙ sym r'.entry;
           views =

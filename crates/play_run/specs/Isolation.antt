@@ -9,6 +9,7 @@ use Rattle.play_run.specs.Lines.{line_of}
 -- two plays declare the same, but for the numbers of cells that o does not see
 pub record AgreeBelow (o : Label) (p q : Play) : Type 0 where
   pub tags : p.tags ≡ q.tags
+  pub kinds : p.kinds ≡ q.kinds
   pub actor_names : p.actor_names ≡ q.actor_names
   pub actors : p.actors ≡ q.actors
   pub cell_names : p.cell_names ≡ q.cell_names

@@ -2,7 +2,9 @@
 use Rattle.std.specs.Prelude.{◌≡◌, ◌↔◌, ℕ, false, IsTrue, List, map, Some, slice_get}
 use Rattle.flow_labels.specs.declared.Label.{Label}
 use Rattle.flow_labels.specs.Flow.{flows}
-use Rattle.capabilities.specs.Changes.{used, MayChange, Covers}
+use Rattle.capabilities.specs.Changes.{joined, used, MayChange, Covers}
+use Rattle.capabilities.specs.Kinds.{public_of}
+use Rattle.capabilities.specs.declared.Caps.{Caps}
 use Rattle.play_script.specs.declared.Actor.{Actor}
 use Rattle.play_script.specs.declared.Step.TheVariants.{Copy}
 use Rattle.play_script.specs.Script.{Play}
@@ -23,9 +25,13 @@ NotesAreExact = (o : Label) (m : Moment) (e : Entry) → Shows o m e ↔ (noted 
 abbrev pub cell_labels : Play → List Label
 cell_labels play = map (λ c. c.label) (start play)
 
--- a release past o that was allowed: a copy of an actor that may read the first cell, and whose capabilities
--- allow both changes of label, that from the first cell and its own, to that of the second cell; what it
--- used is what the change from its own label uses, and it held that
+-- what an actor may use: the capabilities that it holds, and those that are public
+abbrev pub usable : Play → Actor → Caps
+usable play actor = joined actor.caps (public_of play.kinds)
+
+-- a release past o that was allowed: a copy of an actor that may read the first cell, and to which its
+-- capabilities and the public ones allow both changes of label, that from the first cell and its own, to that
+-- of the second cell; what it used is what the change from its own label uses, and it held that or it is public
 pub record IsAllowed (play : Play) (o : Label) (r : Release) : Type 0 where
   pub a : ℕ
   pub n : ℕ
@@ -41,10 +47,10 @@ pub record IsAllowed (play : Play) (o : Label) (r : Release) : Type 0 where
   pub seen : IsTrue (flows to o)
   pub is_down : flows actor.label to ≡ false
   pub may_read : IsTrue (flows from actor.label)
-  pub may_relabel : MayChange actor.caps from to
-  pub may_change : MayChange actor.caps actor.label to
+  pub may_relabel : MayChange (usable play actor) from to
+  pub may_change : MayChange (usable play actor) actor.label to
   pub by : r.by ≡ used actor.label to
-  pub held : Covers actor.caps r.by
+  pub held : Covers (usable play actor) r.by
 
 -- each release past any observer was allowed
 abbrev pub ReleasesAreAllowed : Type 0

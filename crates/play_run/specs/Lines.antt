@@ -12,6 +12,7 @@ use Rattle.flow_labels.specs.declared.Rule.TheVariants.{ReadS, DropS}
 use Rattle.flow_labels.specs.RuleText.{rule_text}
 use Rattle.flow_labels.specs.TwoLists.{tag_text}
 use Rattle.capabilities.specs.CapsText.{caps_text}
+use Rattle.capabilities.specs.declared.kinds.TagKind.TheVariants.{Read as read_kind}
 use Rattle.play_script.specs.declared.Step.{Step}
 use Rattle.play_script.specs.declared.Step.TheVariants.{Read, Write, Copy}
 use Rattle.play_script.specs.Pieces.{Word}
@@ -53,7 +54,7 @@ play_lines play o = flat_map (line_of play) (trace o play)
 -- ---- worked examples
 
 some_names : Play
-some_names = record { tags = codes "a" ∷ []; actor_names = codes "p" ∷ []; actors = []; cell_names = codes "c" ∷ codes "d" ∷ []; cells = []; steps = [] }
+some_names = record { tags = codes "a" ∷ []; kinds = read_kind ∷ []; actor_names = codes "p" ∷ []; actors = []; cell_names = codes "c" ∷ codes "d" ∷ []; cells = []; steps = [] }
 
 refused_read : line_of some_names (Seen (record { label = public_label; step = Read 0 0; outcome = Refused (record { rule = ReadS; tag = 0 }) })) ≡ codes "p read c refused ReadS a" ++ 10 ∷ []
 unfolding some_names

@@ -8,7 +8,8 @@ use Rattle.flow_labels.specs.declared.Label.{Label}
 use Rattle.flow_labels.specs.declared.Denied.{Denied}
 use Rattle.flow_labels.specs.Failing.{Test, first_failing, read_test, write_test}
 use Rattle.capabilities.specs.declared.Caps.{Caps}
-use Rattle.capabilities.specs.Changes.{change_test, used}
+use Rattle.capabilities.specs.Changes.{joined, change_test, used}
+use Rattle.capabilities.specs.Kinds.{public_of}
 use Rattle.labelled_heap.specs.declared.cells.Cell.{Cell}
 use Rattle.labelled_heap.specs.CellAt.{with_value}
 use Rattle.play_script.specs.declared.Actor.{Actor}
@@ -18,6 +19,17 @@ use Rattle.play_script.specs.declared.Step.TheVariants.{Read, Write, Copy}
 use Rattle.play_script.specs.Script.{Play}
 use Rattle.play_run.specs.declared.steps.Outcome.{Outcome}
 use Rattle.play_run.specs.declared.steps.Outcome.TheVariants.{Done, Refused}
+
+-- who acts: the actors, and the capabilities that each of them may use since they are public
+pub record Cast : Type 0 where
+  pub actors : List Actor
+  pub public : Caps
+
+abbrev pub with_public : Caps → List Actor → Cast
+with_public public actors = record { actors = actors; public = public }
+
+abbrev pub cast_of : Play → Cast
+cast_of play = with_public (public_of play.kinds) play.actors
 
 -- a step that was taken: the acting actor's label, the step, and how it went
 pub record Event : Type 0 where
@@ -44,9 +56,9 @@ pub record Moment : Type 0 where
   pub cells : List Cell
 
 -- p copies from a cell into another: it reads the first, and may change the label of what it reads, and
--- its own, to that of the second
-abbrev pub copy_test : Actor → Label → Label → Test
-copy_test p c d = read_test p.label c ++ change_test p.caps c d ++ change_test p.caps p.label d
+-- its own, to that of the second, with its capabilities and those that are public
+abbrev pub copy_test : Caps → Actor → Label → Label → Test
+copy_test public p c d = read_test p.label c ++ change_test (joined p.caps public) c d ++ change_test (joined p.caps public) p.label d
 
 abbrev pub went : Option Denied → ℤ → Outcome
 went None v = Done v
@@ -86,25 +98,25 @@ taken cells p step outcome into =
     }
 
 -- the moment of a step; of one that names an actor or a cell that is not there is none
-abbrev pub moment_of : List Actor → List Cell → Step → Option Moment
-moment_of actors cells (Read a n) =
-    found (slice_get actors a) (λ p. found (slice_get cells n) (λ c.
+abbrev pub moment_of : Cast → List Cell → Step → Option Moment
+moment_of cast cells (Read a n) =
+    found (slice_get cast.actors a) (λ p. found (slice_get cells n) (λ c.
     Some (taken cells p (Read a n) (outcome_of (read_test p.label c.label) c.value) None)))
-moment_of actors cells (Write a n v) =
-    found (slice_get actors a) (λ p. found (slice_get cells n) (λ c.
+moment_of cast cells (Write a n v) =
+    found (slice_get cast.actors a) (λ p. found (slice_get cells n) (λ c.
     Some (taken cells p (Write a n v) (outcome_of (write_test p.label c.label) v) None)))
-moment_of actors cells (Copy a n m) =
-    found (slice_get actors a) (λ p. found (slice_get cells n) (λ c. found (slice_get cells m) (λ d.
-    Some (taken cells p (Copy a n m) (outcome_of (copy_test p c.label d.label) c.value) (Some d.label)))))
+moment_of cast cells (Copy a n m) =
+    found (slice_get cast.actors a) (λ p. found (slice_get cells n) (λ c. found (slice_get cells m) (λ d.
+    Some (taken cells p (Copy a n m) (outcome_of (copy_test cast.public p c.label d.label) c.value) (Some d.label)))))
 
 abbrev pub goes_on : List Cell → Option Moment → (List Cell → List Moment) → List Moment
 goes_on cells None next = next cells
 goes_on cells (Some m) next = m ∷ next m.cells
 
 -- the moments of the steps, one after the other, from the cells as they stand
-abbrev pub moments : List Actor → List Cell → List Step → List Moment
-moments actors cells [] = []
-moments actors cells (step ∷ steps) = goes_on cells (moment_of actors cells step) (λ after. moments actors after steps)
+abbrev pub moments : Cast → List Cell → List Step → List Moment
+moments cast cells [] = []
+moments cast cells (step ∷ steps) = goes_on cells (moment_of cast cells step) (λ after. moments cast after steps)
 
 -- cells as they are declared
 abbrev pub held : List Declared → List Cell
@@ -115,4 +127,4 @@ start play = held play.cells
 
 -- the run of a play
 abbrev pub play_events : Play → List Moment
-play_events play = moments play.actors (start play) play.steps
+play_events play = moments (cast_of play) (start play) play.steps

@@ -2,7 +2,7 @@
 //! lines that it prints.
 //!
 //! The steps of a script are taken in order. Each is tested by the rules of `flow_labels` and
-//! `capabilities`; where a rule fails the step is refused, with the first rule that failed and its least
+//! `capabilities`, with the capabilities that are public by the kinds of the script's tags; where a rule fails the step is refused, with the first rule that failed and its least
 //! tag, and changes nothing. An observer sees the steps of the actors whose labels flow to its own. A copy
 //! by an actor that it does not see into a cell that it does see is a *release past* the observer (a
 //! declassification or an endorsement), and prints a line of its own, with the capabilities that it used.
@@ -23,6 +23,7 @@ ghost use Rattle.play_run.specs.Lines.{play_lines};
 ghost use Rattle.play_run.specs.Isolation.{IsolatedScripts};
 ghost use Rattle.play_run.specs.Laws.{NotesAreExact, ReleasesAreAllowed};
 
+use capabilities::public_of;
 use flow_labels::{Label, NoMemory};
 use play_script::Script;
 use std::alloc::Global;
@@ -42,10 +43,11 @@ pub fn play_text(alloc: Global, script: &Script, observer: &Label) -> Result<Str
     requires { length script.now.cells.items ≤ 65536 }
     ensures { IfOk result (λ text. string_bytes text ≡ play_lines (play_of script.now) observer.now) }
 {
+    let public = public_of(alloc, script.kinds.as_slice())?;
     let mut cells = cells_of(alloc, script.cells.as_slice())?;
     let mut text = String::new(alloc);
     for step in &script.steps {
-        take_step(&mut text, &mut cells, script, observer, *step)?;
+        take_step(&mut text, &mut cells, script, &public, observer, *step)?;
     }
     Ok(text)
 }
@@ -62,8 +64,8 @@ pub fn notes_are_exact()
     ensures { NotesAreExact }
 {}
 
-/// Each release past any observer is a copy that the actor's capabilities allowed, and the capabilities
-/// that its line names are those that it used.
+/// Each release past any observer is a copy that the actor's capabilities and the public ones allowed, and
+/// the capabilities that its line names are those that it used.
 pub fn releases_are_allowed()
     ensures { ReleasesAreAllowed }
 {}

@@ -3,10 +3,11 @@
 ghost use Rattle.std.specs.Prelude.{◌≡◌, ◌≤◌, ◌++◌, [], length, Some, None, IfOk, OnOk, string_bytes, slice_get};
 ghost use Rattle.std.specs.Option.{option_copied};
 ghost use Rattle.flow_labels.specs.Failing.{first_failing};
+ghost use Rattle.capabilities.specs.Changes.{no_caps};
 ghost use Rattle.labelled_heap.specs.CellAt.{with_value};
 ghost use Rattle.play_script.specs.declared.Step.TheVariants.{Read, Write, Copy};
 ghost use Rattle.play_script.specs.Script.{play_of};
-ghost use Rattle.play_run.specs.Steps.{held, copy_test, went, put, cells_after, taken, moment_of};
+ghost use Rattle.play_run.specs.Steps.{with_public, held, copy_test, went, put, cells_after, taken, moment_of};
 ghost use Rattle.play_run.specs.Seen.{noted};
 ghost use Rattle.play_run.specs.Shown.{cells_from, entry_text, text_of};
 
@@ -88,12 +89,12 @@ fn outcome_of(denied: Option<Denied>, value: i64) -> Outcome
 }
 
 /// The first rule that forbids an actor to copy from a cell of one label into a cell of another.
-fn copy_rule(actor: &Actor, from: &Label, to: &Label) -> Option<Denied>
-    ensures { result ≡ first_failing (copy_test actor.now from.now to.now) }
+fn copy_rule(public: &Caps, actor: &Actor, from: &Label, to: &Label) -> Option<Denied>
+    ensures { result ≡ first_failing (copy_test public.now actor.now from.now to.now) }
 {
     read_rule(&actor.label, from)
-        .or_else(|| actor.caps.change_rule(from, to))
-        .or_else(|| actor.caps.change_rule(&actor.label, to))
+        .or_else(|| actor.caps.change_rule(public, from, to))
+        .or_else(|| actor.caps.change_rule(public, &actor.label, to))
 }
 
 /// Takes a step, and writes what the observer sees of it.
@@ -101,11 +102,12 @@ pub fn take_step(
     text: &mut String,
     cells: &mut Cells,
     script: &Script,
+    public: &Caps,
     observer: &Label,
     step: Step,
 ) -> Result<(), NoMemory>
-    ensures cells { OnOk result (cells.new ≡ cells_from cells.old (moment_of script.now.actors.items cells.old step)) }
-    ensures text { OnOk result (string_bytes text.new ≡ string_bytes text.old ++ text_of (play_of script.now) observer.now (moment_of script.now.actors.items cells.old step)) }
+    ensures cells { OnOk result (cells.new ≡ cells_from cells.old (moment_of (with_public public.now script.now.actors.items) cells.old step)) }
+    ensures text { OnOk result (string_bytes text.new ≡ string_bytes text.old ++ text_of (play_of script.now) observer.now (moment_of (with_public public.now script.now.actors.items) cells.old step)) }
 {
     match step {
         Step::Read { actor, cell } => take_read(text, cells, script, observer, actor, cell),
@@ -113,7 +115,7 @@ pub fn take_step(
             take_write(text, cells, script, observer, actor, cell, value)
         }
         Step::Copy { actor, from, to } => {
-            take_copy(text, cells, script, observer, actor, from, to)
+            take_copy(text, cells, script, public, observer, actor, from, to)
         }
     }
 }
@@ -126,7 +128,7 @@ fn take_read(
     number: u64,
     n: u64,
 ) -> Result<(), NoMemory>
-    ensures { OnOk result (string_bytes text.new ≡ string_bytes text.old ++ text_of (play_of script.now) observer.now (moment_of script.now.actors.items cells.now (Read number n))) }
+    ensures { OnOk result (string_bytes text.new ≡ string_bytes text.old ++ text_of (play_of script.now) observer.now (moment_of (with_public no_caps script.now.actors.items) cells.now (Read number n))) }
 {
     let Some(actor) = script.actors.get(number as usize) else {
         return Ok(());
@@ -151,8 +153,8 @@ fn take_write(
     n: u64,
     value: i64,
 ) -> Result<(), NoMemory>
-    ensures cells { OnOk result (cells.new ≡ cells_from cells.old (moment_of script.now.actors.items cells.old (Write number n value))) }
-    ensures text { OnOk result (string_bytes text.new ≡ string_bytes text.old ++ text_of (play_of script.now) observer.now (moment_of script.now.actors.items cells.old (Write number n value))) }
+    ensures cells { OnOk result (cells.new ≡ cells_from cells.old (moment_of (with_public no_caps script.now.actors.items) cells.old (Write number n value))) }
+    ensures text { OnOk result (string_bytes text.new ≡ string_bytes text.old ++ text_of (play_of script.now) observer.now (moment_of (with_public no_caps script.now.actors.items) cells.old (Write number n value))) }
 {
     let Some(actor) = script.actors.get(number as usize) else {
         return Ok(());
@@ -175,13 +177,14 @@ fn take_copy(
     text: &mut String,
     cells: &mut Cells,
     script: &Script,
+    public: &Caps,
     observer: &Label,
     number: u64,
     n: u64,
     m: u64,
 ) -> Result<(), NoMemory>
-    ensures cells { OnOk result (cells.new ≡ cells_from cells.old (moment_of script.now.actors.items cells.old (Copy number n m))) }
-    ensures text { OnOk result (string_bytes text.new ≡ string_bytes text.old ++ text_of (play_of script.now) observer.now (moment_of script.now.actors.items cells.old (Copy number n m))) }
+    ensures cells { OnOk result (cells.new ≡ cells_from cells.old (moment_of (with_public public.now script.now.actors.items) cells.old (Copy number n m))) }
+    ensures text { OnOk result (string_bytes text.new ≡ string_bytes text.old ++ text_of (play_of script.now) observer.now (moment_of (with_public public.now script.now.actors.items) cells.old (Copy number n m))) }
 {
     let Some(actor) = script.actors.get(number as usize) else {
         return Ok(());
@@ -192,7 +195,7 @@ fn take_copy(
     let Some(to) = cell_at(cells, m) else {
         return Ok(());
     };
-    let outcome = outcome_of(copy_rule(actor, &from.label, &to.label), from.value);
+    let outcome = outcome_of(copy_rule(public, actor, &from.label, &to.label), from.value);
     let step = Step::Copy {
         actor: number,
         from: n,

@@ -7,6 +7,8 @@ use Rattle.flow_labels.specs.Names.{place_of}
 use Rattle.flow_labels.specs.LabelText.{label_of}
 use Rattle.capabilities.specs.Changes.{no_caps}
 use Rattle.capabilities.specs.CapsText.{caps_of}
+use Rattle.capabilities.specs.declared.kinds.TagKind.{TagKind}
+use Rattle.capabilities.specs.declared.kinds.TagKind.TheVariants.{Read as read_kind}
 use Rattle.flow_labels.specs.declared.Label.{Label}
 use Rattle.capabilities.specs.declared.Caps.{Caps}
 use Rattle.play_script.specs.declared.Actor.{Actor}
@@ -14,9 +16,9 @@ use Rattle.play_script.specs.declared.Step.{Step}
 use Rattle.play_script.specs.declared.Step.TheVariants.{Read, Write, Copy}
 use Rattle.play_script.specs.Pieces.{Word, pieces, onto_first, after_mark, parted, ended, lacks, each_lacks}
 use Rattle.decimal_text.specs.Decimal.{int_of}
-use Rattle.play_script.specs.Script.{Play, nothing, is_ascii, may_declare, with_tag, with_actor, with_cell, with_step, when, ok_of, then_some, actor_in, cell_in, after_tag, after_actor, after_cell, read_of, write_of, copy_of, step_of, after_step, after_words, after_line, at_line, or_line, at_end, last_or, read_lines, read_script}
+use Rattle.play_script.specs.Script.{Play, nothing, is_ascii, may_declare, with_tag, with_actor, with_cell, with_step, when, ok_of, then_some, kind_in, actor_in, cell_in, after_tag, after_actor, after_cell, read_of, write_of, copy_of, step_of, after_step, after_words, after_line, at_line, or_line, at_end, last_or, read_lines, read_script}
 use Rattle.play_script.specs.Grammar.{begins_step, Says, LineSays, Goes, Spells, Breaks, FirstBroken, ScriptsAreExact, BreaksAreExact, LinesAreExact}
-use Rattle.play_script.specs.Grammar.Says.{tag, actor, holder, cell, reads, writes, copies}
+use Rattle.play_script.specs.Grammar.Says.{tag, kind, actor, holder, cell, reads, writes, copies}
 use Rattle.play_script.specs.Grammar.Breaks.{open_line, says_nothing, one_too_many}
 use Rattle.play_script.proofs.LineLemmas.{more_pieces}
 use Rattle.play_script.proofs.GrammarLemmas.{line_first, one_piece, line_read, lines_go, script_read, append_nil}
@@ -77,12 +79,17 @@ then_some_some None f q e = absurd cc
 is_text : (a b : Word) → bytes_eq a b ≡ true → b ≡ a
 is_text a b e = sym ((bytes_eq-Decides a b).0 e)
 
+said_tag : (p : Play) (n : Word) (rest : List Word) (k : TagKind) → may_declare p n ≡ true → kind_in rest ≡ Some k → Says p (codes "tag" ∷ n ∷ rest) (with_tag p n k)
+said_tag p n [] k may e = subst (λ x. Says p (codes "tag" ∷ n ∷ []) (with_tag p n x)) (same_some read_kind k e) (tag n may)
+said_tag p n (w ∷ []) k may e = kind n w k may e
+said_tag p n (v ∷ w ∷ ws) k may e = absurd cc
+
 back_tag : (p q : Play) (ws : List Word) → after_tag p ws ≡ Some q → Says p (codes "tag" ∷ ws) q
 back_tag p q [] e = absurd cc
-back_tag p q (n ∷ []) e =
-    let may = when_some (may_declare p n) (Some (with_tag p n)) q e in
-    subst (Says p (codes "tag" ∷ n ∷ [])) (same_some (with_tag p n) q may.1) (tag n may.0)
-back_tag p q (n ∷ m ∷ ws) e = absurd cc
+back_tag p q (n ∷ rest) e =
+    let may = when_some (may_declare p n) (then_some (kind_in rest) (λ k. Some (with_tag p n k))) q e in
+    let there = then_some_some (kind_in rest) (λ k. Some (with_tag p n k)) q may.1 in
+    subst (Says p (codes "tag" ∷ n ∷ rest)) (same_some (with_tag p n there.0) q there.2) (said_tag p n rest there.0 may.0 there.1)
 
 -- the label and the capabilities of an actor, read from the words after its name
 data Holds (tags : List Word) (l : Word) : List Word → Actor → Type 0 where

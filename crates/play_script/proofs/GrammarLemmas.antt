@@ -6,13 +6,15 @@ use Rattle.flow_labels.specs.Names.{place_of}
 use Rattle.flow_labels.specs.LabelText.{label_of}
 use Rattle.capabilities.specs.Changes.{no_caps}
 use Rattle.capabilities.specs.CapsText.{caps_of}
+use Rattle.capabilities.specs.Kinds.{kind_of}
+use Rattle.capabilities.specs.declared.kinds.TagKind.TheVariants.{Read as read_kind}
 use Rattle.play_script.specs.declared.Step.{Step}
 use Rattle.play_script.specs.declared.Step.TheVariants.{Read, Write, Copy}
 use Rattle.play_script.specs.Pieces.{Word, pieces, onto_first, after_mark, parted, ended, lacks, each_lacks}
 use Rattle.decimal_text.specs.Decimal.{int_of}
-use Rattle.play_script.specs.Script.{Play, nothing, is_ascii, may_declare, with_tag, with_actor, with_cell, with_step, when, ok_of, then_some, actor_in, cell_in, after_tag, after_actor, after_cell, read_of, write_of, copy_of, step_of, after_step, after_words, after_line, at_line, or_line, at_end, read_lines, read_script}
+use Rattle.play_script.specs.Script.{Play, nothing, is_ascii, may_declare, with_tag, with_actor, with_cell, with_step, when, ok_of, then_some, kind_in, actor_in, cell_in, after_tag, after_actor, after_cell, read_of, write_of, copy_of, step_of, after_step, after_words, after_line, at_line, or_line, at_end, read_lines, read_script}
 use Rattle.play_script.specs.Grammar.{begins_step, Says, LineSays, Goes, Spells}
-use Rattle.play_script.specs.Grammar.Says.{tag, actor, holder, cell, reads, writes, copies}
+use Rattle.play_script.specs.Grammar.Says.{tag, kind, actor, holder, cell, reads, writes, copies}
 use Rattle.play_script.proofs.LineLemmas.{more_pieces}
 
 and_both : (a b : Bool) → (a && b) ≡ true → (a ≡ true) × (b ≡ true)
@@ -73,7 +75,8 @@ step_said : (p : Play) (a : Word) (more : List Word) (s : Step) → begins_step 
 step_said p a more s plain h = begins p (with_step p s) a more (bytes_eq a (codes "tag")) (bytes_eq a (codes "actor")) (bytes_eq a (codes "cell")) plain (found (step_of p (a ∷ more)) s (λ x. Some (with_step p x)) h)
 
 pub words_read : (p q : Play) (ws : List Word) → Says p ws q → after_words p ws ≡ Some q
-words_read p q ws (tag n may) = holds (may_declare p n) (Some (with_tag p n)) may
+words_read p q ws (tag n may) = holds (may_declare p n) (Some (with_tag p n read_kind)) may
+words_read p q ws (kind n w k may named) = holds (may_declare p n) (then_some (kind_in (w ∷ [])) (λ k. Some (with_tag p n k))) may ∙ found (kind_of w) k (λ k. Some (with_tag p n k)) named
 words_read p q ws (actor n l label may labelled) =
     holds (may_declare p n) (then_some (actor_in p.tags l []) (λ a. Some (with_actor p n a))) may
     ∙ found (actor_in p.tags l []) (record { label = label; caps = no_caps }) (λ a. Some (with_actor p n a))

@@ -11,6 +11,8 @@ use Rattle.std.proofs.lemmas.List.Quantifiers.{position-Some}
 use Rattle.std.proofs.lemmas.Slice.Eq.{bytes_eq-Decides}
 use Rattle.flow_labels.specs.Names.{is_name, place_of, AreNames}
 use Rattle.capabilities.specs.Changes.{no_caps}
+use Rattle.capabilities.specs.declared.kinds.TagKind.{TagKind}
+use Rattle.capabilities.specs.declared.kinds.TagKind.TheVariants.{Read as read_kind}
 use Rattle.play_script.specs.Pieces.{Word}
 use Rattle.play_script.specs.declared.Actor.{Actor}
 use Rattle.play_script.specs.declared.Cell.{Cell}
@@ -18,7 +20,7 @@ use Rattle.play_script.specs.declared.Step.{Step}
 use Rattle.play_script.specs.declared.Step.TheVariants.{Read, Write, Copy}
 use Rattle.play_script.specs.Script.{Play, nothing, is_empty, is_free, is_reserved, may_declare, with_tag, with_actor, with_cell, with_step, read_script}
 use Rattle.play_script.specs.Grammar.{Says, Goes}
-use Rattle.play_script.specs.Grammar.Says.{tag, actor, holder, cell, reads, writes, copies}
+use Rattle.play_script.specs.Grammar.Says.{tag, kind, actor, holder, cell, reads, writes, copies}
 use Rattle.play_script.specs.Whole.{all_names, IsDeclared, size, IsWhole}
 use Rattle.play_script.proofs.BackLemmas.{scripts_are_exact}
 
@@ -101,9 +103,9 @@ insert xs ys ns new n old made good named plain fresh =
       unreserved = all_insert (λ m. not (is_reserved m)) xs ys n (ap (list_all (λ m. not (is_reserved m))) (sym old) ∙ good.unreserved) plain;
     })
 
-tag_space : (p : Play) (n : Word) → AreScriptNames (all_names p) → MayStand p n → AreScriptNames (all_names (with_tag p n))
-tag_space p n good may =
-    insert p.tags (p.actor_names ++ p.cell_names) (all_names p) (all_names (with_tag p n)) n refl (append_assoc p.tags (n ∷ []) (p.actor_names ++ p.cell_names)) good may.named may.unreserved may.fresh
+tag_space : (p : Play) (n : Word) (k : TagKind) → AreScriptNames (all_names p) → MayStand p n → AreScriptNames (all_names (with_tag p n k))
+tag_space p n k good may =
+    insert p.tags (p.actor_names ++ p.cell_names) (all_names p) (all_names (with_tag p n k)) n refl (append_assoc p.tags (n ∷ []) (p.actor_names ++ p.cell_names)) good may.named may.unreserved may.fresh
 
 actor_space : (p : Play) (n : Word) (a : Actor) → AreScriptNames (all_names p) → MayStand p n → AreScriptNames (all_names (with_actor p n a))
 actor_space p n a good may =
@@ -140,20 +142,28 @@ placed names n at e = (position-Some (bytes_eq n) names at [] e).0
 
 -- all that a whole play has but its size
 record IsSound (p : Play) : Type 0 where
+  kinds : length p.tags ≡ length p.kinds
   actors : length p.actor_names ≡ length p.actors
   cells : length p.cell_names ≡ length p.cells
   space : AreScriptNames (all_names p)
   steps : All (IsDeclared p) p.steps
 
-with_tag_sound : (p : Play) (n : Word) → IsSound p → may_declare p n ≡ true → IsSound (with_tag p n)
-with_tag_sound p n s e =
+with_tag_sound : (p : Play) (n : Word) (k : TagKind) → IsSound p → may_declare p n ≡ true → IsSound (with_tag p n k)
+with_tag_sound p n k s e =
     let may = may_stand p n e in
-    record { actors = s.actors; cells = s.cells; space = tag_space p n s.space may; steps = none_all (IsDeclared (with_tag p n)) p.steps may.no_steps }
+    record {
+      kinds = both_more p.tags p.kinds n k s.kinds;
+      actors = s.actors;
+      cells = s.cells;
+      space = tag_space p n k s.space may;
+      steps = none_all (IsDeclared (with_tag p n k)) p.steps may.no_steps;
+    }
 
 with_actor_sound : (p : Play) (n : Word) (a : Actor) → IsSound p → may_declare p n ≡ true → IsSound (with_actor p n a)
 with_actor_sound p n a s e =
     let may = may_stand p n e in
     record {
+      kinds = s.kinds;
       actors = both_more p.actor_names p.actors n a s.actors;
       cells = s.cells;
       space = actor_space p n a s.space may;
@@ -164,6 +174,7 @@ with_cell_sound : (p : Play) (n : Word) (c : Cell) → IsSound p → may_declare
 with_cell_sound p n c s e =
     let may = may_stand p n e in
     record {
+      kinds = s.kinds;
       actors = s.actors;
       cells = both_more p.cell_names p.cells n c s.cells;
       space = cell_space p n c s.space may;
@@ -172,13 +183,14 @@ with_cell_sound p n c s e =
 
 with_step_sound : (p : Play) (t : Step) → IsSound p → IsDeclared p t → IsSound (with_step p t)
 with_step_sound p t s declared =
-    record { actors = s.actors; cells = s.cells; space = s.space; steps = All-append (IsDeclared p) p.steps (t ∷ []) s.steps (All-cons (IsDeclared p) t [] declared (All-nil (IsDeclared p))) }
+    record { kinds = s.kinds; actors = s.actors; cells = s.cells; space = s.space; steps = All-append (IsDeclared p) p.steps (t ∷ []) s.steps (All-cons (IsDeclared p) t [] declared (All-nil (IsDeclared p))) }
 
 here : (names : List Word) (count : ℕ) (n : Word) (at : ℕ) → length names ≡ count → place_of names n ≡ Some at → at < count
 here names count n at same e = subst (λ (k : ℕ). at < k) same (placed names n at e)
 
 sound_after : (p q : Play) (ws : List Word) → IsSound p → Says p ws q → IsSound q
-sound_after p q ws s (tag n may) = with_tag_sound p n s may
+sound_after p q ws s (tag n may) = with_tag_sound p n read_kind s may
+sound_after p q ws s (kind n w k may named) = with_tag_sound p n k s may
 sound_after p q ws s (actor n l label may labelled) = with_actor_sound p n (record { label = label; caps = no_caps }) s may
 sound_after p q ws s (holder n l c label caps may labelled held) = with_actor_sound p n (record { label = label; caps = caps }) s may
 sound_after p q ws s (cell n l v label value may labelled number) = with_cell_sound p n (record { label = label; value = value }) s may
@@ -192,6 +204,7 @@ sound_after p q ws s (copies a c d who from to plain named there other) =
 -- each line adds one
 size_after : (p q : Play) (ws : List Word) → Says p ws q → size q ≡ size p + 1
 size_after p q ws (tag n may) = let e : length (p.tags ++ n ∷ []) ≡ length p.tags + 1 = one_more p.tags n in omega arith
+size_after p q ws (kind n w k may named) = let e : length (p.tags ++ n ∷ []) ≡ length p.tags + 1 = one_more p.tags n in omega arith
 size_after p q ws (actor n l label may labelled) = let e : _ = one_more p.actors (record { label = label; caps = no_caps }) in omega arith
 size_after p q ws (holder n l c label caps may labelled held) = let e : _ = one_more p.actors (record { label = label; caps = caps }) in omega arith
 size_after p q ws (cell n l v label value may labelled number) = let e : _ = one_more p.cells (record { label = label; value = value }) in omega arith
@@ -211,13 +224,14 @@ size_goes p r (l ∷ ls) h = let first : size h.0 ≡ size p + 1 = size_after p 
     joined a b k c e f = omega arith
 
 nothing_sound : IsSound nothing
-nothing_sound = record { actors = refl; cells = refl; space = record { names = tt; unreserved = refl }; steps = All-nil (IsDeclared nothing) }
+nothing_sound = record { kinds = refl; actors = refl; cells = refl; space = record { names = tt; unreserved = refl }; steps = All-nil (IsDeclared nothing) }
 
 pub read_is_whole : (text : Word) (p : Play) → read_script text ≡ Ok p → IsWhole p
 read_is_whole text p e =
     let spelt = (scripts_are_exact text p).1 e in
     let sound = sound_goes nothing p spelt.lines nothing_sound spelt.go in
     record {
+      kinds = sound.kinds;
       actors = sound.actors;
       cells = sound.cells;
       names = sound.space.names;

@@ -4,7 +4,11 @@ use Rattle.flow_labels.specs.Names.{place_of}
 use Rattle.play_script.specs.Pieces.{Word, texts}
 use Rattle.decimal_text.specs.Decimal.{int_of}
 use Rattle.play_script.specs.declared.Step.TheVariants.{Read, Write, Copy}
-use Rattle.play_script.specs.Script.{Play, after_actor, after_cell, then_some, step_of, read_of, write_of, copy_of}
+use Rattle.play_script.specs.Script.{Play, after_tag, after_actor, after_cell, then_some, step_of, read_of, write_of, copy_of}
+
+pub no_tag : (p : Play) (ws : List (Bor Word)) → length ws < 1 → after_tag p (texts ws) ≡ None
+no_tag p [] few = refl
+no_tag p (a ∷ ws) few = absurd (omega arith)
 
 pub no_actor : (p : Play) (ws : List (Bor Word)) → length ws < 2 → after_actor p (texts ws) ≡ None
 no_actor p [] few = refl

@@ -6,7 +6,10 @@ use Rattle.flow_labels.specs.LabelText.{label_of}
 use Rattle.flow_labels.specs.declared.Label.{Label}
 use Rattle.capabilities.specs.Changes.{no_caps}
 use Rattle.capabilities.specs.CapsText.{caps_of}
+use Rattle.capabilities.specs.Kinds.{kind_of}
 use Rattle.capabilities.specs.declared.Caps.{Caps}
+use Rattle.capabilities.specs.declared.kinds.TagKind.{TagKind}
+use Rattle.capabilities.specs.declared.kinds.TagKind.TheVariants.{Read as read_kind}
 use Rattle.play_script.specs.Pieces.{Word, parted, ended, lacks, each_lacks}
 use Rattle.decimal_text.specs.Decimal.{int_of}
 use Rattle.play_script.specs.declared.Step.TheVariants.{Read, Write, Copy}
@@ -18,7 +21,8 @@ begins_step a = not (bytes_eq a (codes "tag") || (bytes_eq a (codes "actor") || 
 
 -- the forms of a line: its words, and the play after it, from the play before it
 pub data Says (p : Play) : List Word → Play → Type 0 where
-  tag : (n : Word) → may_declare p n ≡ true → Says p (codes "tag" ∷ n ∷ []) (with_tag p n)
+  tag : (n : Word) → may_declare p n ≡ true → Says p (codes "tag" ∷ n ∷ []) (with_tag p n read_kind)
+  kind : (n w : Word) (k : TagKind) → may_declare p n ≡ true → kind_of w ≡ Some k → Says p (codes "tag" ∷ n ∷ w ∷ []) (with_tag p n k)
   actor : (n l : Word) (label : Label) → may_declare p n ≡ true → label_of p.tags l ≡ Ok label → Says p (codes "actor" ∷ n ∷ l ∷ []) (with_actor p n (record { label = label; caps = no_caps }))
   holder : (n l c : Word) (label : Label) (caps : Caps) → may_declare p n ≡ true → label_of p.tags l ≡ Ok label → caps_of p.tags c ≡ Ok caps → Says p (codes "actor" ∷ n ∷ l ∷ c ∷ []) (with_actor p n (record { label = label; caps = caps }))
   cell : (n l v : Word) (label : Label) (value : ℤ) → may_declare p n ≡ true → label_of p.tags l ≡ Ok label → int_of v ≡ Some value → Says p (codes "cell" ∷ n ∷ l ∷ v ∷ []) (with_cell p n (record { label = label; value = value }))

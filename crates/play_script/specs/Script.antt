@@ -6,7 +6,10 @@ use Rattle.flow_labels.specs.Names.{is_name, place_of}
 use Rattle.flow_labels.specs.LabelText.{label_of}
 use Rattle.capabilities.specs.Changes.{no_caps}
 use Rattle.capabilities.specs.CapsText.{caps_of}
+use Rattle.capabilities.specs.Kinds.{kind_of}
 use Rattle.capabilities.specs.declared.Caps.{Caps}
+use Rattle.capabilities.specs.declared.kinds.TagKind.{TagKind}
+use Rattle.capabilities.specs.declared.kinds.TagKind.TheVariants.{Read as read_kind, Export, Integrity}
 use Rattle.play_script.specs.Pieces.{Word, pieces}
 use Rattle.decimal_text.specs.Decimal.{int_of}
 use Rattle.play_script.specs.declared.Actor.{Actor}
@@ -19,10 +22,11 @@ use Rattle.play_script.specs.declared.ScriptFault.TheVariants.{Line, NoMemory}
 use Rattle.play_script.specs.declared.faults.LineFault.{LineFault}
 use Rattle.play_script.specs.declared.faults.LineFault.TheVariants.{Broken, NoMemory as no_room}
 
--- what a script says: its tags, its actors and its cells with their names, and its steps;
+-- what a script says: its tags with their kinds, its actors and its cells with their names, and its steps;
 -- a tag's number, and the numbers by which a step names its actor and cells, are places in these lists
 pub record Play : Type 0 where
   pub tags : List Word
+  pub kinds : List TagKind
   pub actor_names : List Word
   pub actors : List Actor
   pub cell_names : List Word
@@ -30,10 +34,10 @@ pub record Play : Type 0 where
   pub steps : List Step
 
 abbrev pub nothing : Play
-nothing = record { tags = []; actor_names = []; actors = []; cell_names = []; cells = []; steps = [] }
+nothing = record { tags = []; kinds = []; actor_names = []; actors = []; cell_names = []; cells = []; steps = [] }
 
 abbrev pub play_of : Script → Play
-play_of s = record { tags = s.tags; actor_names = s.actor_names; actors = s.actors.items; cell_names = s.cell_names; cells = s.cells.items; steps = s.steps.items }
+play_of s = record { tags = s.tags; kinds = s.kinds.items; actor_names = s.actor_names; actors = s.actors.items; cell_names = s.cell_names; cells = s.cells.items; steps = s.steps.items }
 
 -- the words that name nothing
 abbrev pub is_reserved : Word → Bool
@@ -62,8 +66,8 @@ abbrev pub ok_of : {A E : Type 0} → Result A E → Option A
 ok_of (Ok x) = Some x
 ok_of (Err e) = None
 
-abbrev pub with_tag : Play → Word → Play
-with_tag p n = record p { tags = p.tags ++ n ∷ [] }
+abbrev pub with_tag : Play → Word → TagKind → Play
+with_tag p n k = record p { tags = p.tags ++ n ∷ []; kinds = p.kinds ++ k ∷ [] }
 
 abbrev pub with_actor : Play → Word → Actor → Play
 with_actor p n a = record p { actor_names = p.actor_names ++ n ∷ []; actors = p.actors ++ a ∷ [] }
@@ -74,9 +78,15 @@ with_cell p n c = record p { cell_names = p.cell_names ++ n ∷ []; cells = p.ce
 abbrev pub with_step : Play → Step → Play
 with_step p s = record p { steps = p.steps ++ s ∷ [] }
 
--- `tag NAME`
+-- a tag without a last word is of the kind read
+abbrev pub kind_in : List Word → Option TagKind
+kind_in [] = Some read_kind
+kind_in (w ∷ []) = kind_of w
+kind_in _ = None
+
+-- `tag NAME`, `tag NAME KIND`
 abbrev pub after_tag : Play → List Word → Option Play
-after_tag p (n ∷ []) = when (may_declare p n) (Some (with_tag p n))
+after_tag p (n ∷ rest) = when (may_declare p n) (then_some (kind_in rest) (λ k. Some (with_tag p n k)))
 after_tag p _ = None
 
 -- an actor without a last word has no capabilities
@@ -169,8 +179,17 @@ read_script text = read_lines nothing (pieces 10 text) 1
 empty_text : read_script [] ≡ Ok nothing
 empty_text = refl
 
-one_tag : read_script (codes "tag a" ++ 10 ∷ []) ≡ Ok (with_tag nothing (codes "a"))
+one_tag : read_script (codes "tag a" ++ 10 ∷ []) ≡ Ok (with_tag nothing (codes "a") read_kind)
 one_tag = refl
+
+export_tag : read_script (codes "tag a export" ++ 10 ∷ []) ≡ Ok (with_tag nothing (codes "a") Export)
+export_tag = refl
+
+integrity_tag : read_script (codes "tag a integrity" ++ 10 ∷ []) ≡ Ok (with_tag nothing (codes "a") Integrity)
+integrity_tag = refl
+
+no_such_kind : read_script (codes "tag a write" ++ 10 ∷ []) ≡ Err 1
+no_such_kind = refl
 
 no_line_feed : read_script (codes "tag a") ≡ Err 1
 no_line_feed = refl

@@ -22,6 +22,7 @@ abbrev pub size : Play → ℕ
 size p = length p.tags + length p.actors + length p.cells + length p.steps
 
 pub record IsWhole (p : Play) : Type 0 where
+  pub kinds : length p.tags ≡ length p.kinds
   pub actors : length p.actor_names ≡ length p.actors
   pub cells : length p.cell_names ≡ length p.cells
   pub names : AreNames (all_names p)

@@ -2,15 +2,16 @@
 
 ghost use Rattle.std.specs.Prelude.{◌≡◌, ◌++◌, ◌∷◌, [], true, is_none, Some};
 ghost use Rattle.capabilities.specs.CapsText.{caps_of};
+ghost use Rattle.capabilities.specs.Kinds.{kind_of};
 ghost use Rattle.flow_labels.specs.Names.{is_name, place_of};
 ghost use Rattle.flow_labels.specs.LabelText.{label_of};
 ghost use Rattle.decimal_text.specs.Decimal.{int_of};
 ghost use Rattle.play_script.specs.Pieces.{texts};
-ghost use Rattle.play_script.specs.Script.{play_of, after_tag, after_actor, after_cell, actor_in, caps_in, cell_in, may_declare, is_free, is_reserved, Adds, GivesSome, ok_of, with_actor, with_cell};
+ghost use Rattle.play_script.specs.Script.{play_of, after_tag, after_actor, after_cell, kind_in, actor_in, caps_in, cell_in, may_declare, is_free, is_reserved, Adds, GivesSome, ok_of, with_tag, with_actor, with_cell};
 
 use crate::faults::LineFault;
 use crate::{Actor, Cell, Script};
-use capabilities::{Caps, CapsFault, parse_caps};
+use capabilities::{Caps, CapsFault, TagKind, parse_caps};
 use decimal_text::read_int;
 use flow_labels::{Label, LabelFault, NameFault, TagNames, is_name, parse_label};
 use std::alloc::Global;
@@ -38,13 +39,44 @@ fn may_declare(script: &Script, name: &str) -> bool
         && is_free(script, name)
 }
 
+#[tactic(auto, using(crate::proofs::WordLemmas::no_tag))]
 pub fn take_tag(script: &mut Script, words: &[&str]) -> Result<(), LineFault>
     ensures { Adds result (play_of script.new) (after_tag (play_of script.old) (texts words.now)) }
 {
     match words {
-        [name] if may_declare(script, *name) => add_name(&mut script.tags, *name),
+        [name, rest @ ..] if may_declare(script, *name) => {
+            let kind = kind_in(rest)?;
+            add_tag(script, *name, kind)
+        }
         _ => Err(LineFault::Broken),
     }
+}
+
+fn kind_in(words: &[&str]) -> Result<TagKind, LineFault>
+    ensures { GivesSome (λ k. k) result (kind_in (texts words.now)) }
+{
+    match words {
+        [] => Ok(TagKind::Read),
+        [word] => kind_of(*word),
+        _ => Err(LineFault::Broken),
+    }
+}
+
+fn kind_of(word: &str) -> Result<TagKind, LineFault>
+    ensures { GivesSome (λ k. k) result (kind_of word.now) }
+{
+    match capabilities::kind_of(word) {
+        None => Err(LineFault::Broken),
+        Some(kind) => Ok(kind),
+    }
+}
+
+fn add_tag(script: &mut Script, name: &str, kind: TagKind) -> Result<(), LineFault>
+    requires { may_declare (play_of script.old) name.now ≡ true }
+    ensures { Adds result (play_of script.new) (Some (with_tag (play_of script.old) name.now kind)) }
+{
+    script.kinds.push(kind)?;
+    add_name(&mut script.tags, name)
 }
 
 /// Adds a name that is none of these.

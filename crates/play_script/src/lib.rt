@@ -4,7 +4,8 @@
 //! A script is at most 65,536 ASCII lines, each ended by a line feed, with one space between
 //! two words. First come declarations, each name before its use:
 //!
-//! - `tag NAME`,
+//! - `tag NAME` and `tag NAME KIND`, with a KIND of `read`, `export` and `integrity`; without it the kind
+//!   is `read`,
 //! - `actor NAME LABEL` and `actor NAME LABEL CAPS`; without CAPS it has no capabilities,
 //! - `cell NAME LABEL INT`;
 //!
@@ -32,7 +33,7 @@ mod steps;
 
 ghost use Rattle.play_script.specs.Grammar.{ScriptsAreExact, BreaksAreExact, LinesAreExact};
 
-use capabilities::Caps;
+use capabilities::{Caps, TagKind};
 use flow_labels::{Label, TagNames};
 pub use lines::read_script;
 
@@ -60,10 +61,11 @@ pub enum Step {
 }
 
 /// A script that was read. The n-th name of `actor_names` is that of the n-th of `actors`, and
-/// so with cells; each list of names is looked up in constant time.
+/// so with tags and their kinds, and with cells; each list of names is looked up in constant time.
 #[derive(Drop)]
 pub struct Script {
     pub tags: TagNames,
+    pub kinds: Vec<TagKind>,
     pub actor_names: TagNames,
     pub actors: Vec<Actor>,
     pub cell_names: TagNames,

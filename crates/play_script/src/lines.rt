@@ -22,6 +22,7 @@ pub fn read_script(alloc: Global, text: &[u8]) -> Result<Script, ScriptFault>
 {
     let mut script = Script {
         tags: TagNames::new(alloc),
+        kinds: Vec::new(alloc),
         actor_names: TagNames::new(alloc),
         actors: Vec::new(alloc),
         cell_names: TagNames::new(alloc),

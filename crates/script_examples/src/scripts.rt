@@ -82,6 +82,9 @@ fn broken_lines_are_named(rt: HostRuntime) {
         ("tag  a\n", 1),
         ("tag a \n", 1),
         ("tag a\r\n", 1),
+        ("tag a write\n", 1),
+        ("tag a read read\n", 1),
+        ("tag a Export\n", 1),
         ("tag copy\n", 1),
         ("tag a\nactor a {}/{}\n", 2),
         ("tag a\ncell c {}/{} 01\n", 2),
@@ -128,4 +131,23 @@ fn copy_down_needs_its_minus(rt: HostRuntime) {
         "tag a\nactor p {a}/{}\nactor q {}/{}\ncell c {a}/{} 7\ncell d {}/{} 0\np copy c d\nq read d\n";
     let refused = "p copy c d refused DropS a\nq read d = 0\n";
     assert!(rt; shows(rt.alloc(), text, "{a}/{}", refused) == Some(true));
+}
+
+#[test]
+fn public_minus_in_a_script(rt: HostRuntime) {
+    let free = "tag t integrity\nactor p {}/{t}\ncell c {}/{t} 5\ncell d {}/{} 0\np copy c d\n";
+    assert!(rt; shows(rt.alloc(), free, "{}/{}", "p copy c d = 5\n") == Some(true));
+    let bound = "tag t\nactor p {}/{t}\ncell c {}/{t} 5\ncell d {}/{} 0\np copy c d\n";
+    let refused = "p copy c d refused DropI t\n";
+    assert!(rt; shows(rt.alloc(), bound, "{}/{}", refused) == Some(true));
+    let read = "tag t read\nactor p {}/{t}\ncell c {}/{t} 5\ncell d {}/{} 0\np copy c d\n";
+    assert!(rt; shows(rt.alloc(), read, "{}/{}", refused) == Some(true));
+}
+
+#[test]
+fn public_plus_in_a_script(rt: HostRuntime) {
+    let text =
+        "tag a export\nactor p {}/{}\ncell c {}/{} 5\ncell d {a}/{} 0\np copy c d\np copy d c\n";
+    let lines = "p copy c d = 5\np copy d c refused ReadS a\n";
+    assert!(rt; shows(rt.alloc(), text, "{}/{}", lines) == Some(true));
 }

@@ -20,7 +20,9 @@ ghost use Rattle.std.specs.Hash as fed;
 ghost use Rattle.tag_sets.specs.Rising.{IsRising};
 ghost use Rattle.tag_sets.specs.Tags.{IsLeast, tags_of, least, lesser, apart};
 
-use rising::{find_missing_both, merged_tags, missing_tags, sorted_tags, tags_with};
+use rising::{
+    find_missing_both, find_missing_three, merged_tags, missing_tags, sorted_tags, tags_with,
+};
 use shared::SharedTags;
 use std::alloc::Global;
 use std::cmp::Ordering;
@@ -197,13 +199,31 @@ impl TagSet {
 
     /// The least tag of this set that is in neither of the others.
     pub fn first_missing_both(&self, first: &TagSet, second: &TagSet) -> Option<TagId>
-        ensures value { result ≡ least (set.difference (set.difference self.now first.now) second.now) }
-        ensures none { IsNone result ↔ IsTrue (set.is_subset (set.difference self.now first.now) second.now) }
+        ensures value { result ≡ least (set.difference self.now (set.union first.now second.now)) }
+        ensures none { IsNone result ↔ IsTrue (set.is_subset self.now (set.union first.now second.now)) }
     {
         find_missing_both(
             self.tags.as_slice(),
             first.tags.as_slice(),
             second.tags.as_slice(),
+        )
+    }
+
+    /// The least tag of this set that is in none of the three others.
+    pub fn first_missing_three(
+        &self,
+        first: &TagSet,
+        second: &TagSet,
+        third: &TagSet,
+    ) -> Option<TagId>
+        ensures value { result ≡ least (set.difference (set.difference self.now first.now) (set.union second.now third.now)) }
+        ensures none { IsNone result ↔ IsTrue (set.is_subset (set.difference self.now first.now) (set.union second.now third.now)) }
+    {
+        find_missing_three(
+            self.tags.as_slice(),
+            first.tags.as_slice(),
+            second.tags.as_slice(),
+            third.tags.as_slice(),
         )
     }
 
