@@ -14,7 +14,8 @@ use Rattle.lam_asks.specs.declared.ask.Ask.TheVariants as ask
 use Rattle.lam_bytecode.specs.declared.op.Op.TheVariants.{Call, NewObject, MakeLabel, System, EnterRegion, Spawn}
 use Rattle.thread_steps.specs.Operators.{prefix, label_from, with_sign}
 use Rattle.thread_steps.specs.Builtins.{builtin}
-use Rattle.thread_steps.specs.Ops.{calls, fails, wants, Around, effect, operated, called, on_known, on_many, on_caps, on_label, new_object, function_takes, region_takes, region_in, frames_limit}
+use Rattle.thread_steps.specs.Ops.{calls, fails, wants, Around, effect, operated, called, on_known, on_many, on_caps, on_label, new_object, function_takes, region_takes, region_in}
+use Rattle.thread_steps.specs.Limits.{frames_limit}
 use Rattle.lam_meaning.specs.Scheme.{prefix_op, sign_op}
 use Rattle.lam_acting.proofs.Lists.{push_all, many_same}
 

@@ -20,7 +20,8 @@ use Rattle.lam_bytecode.specs.declared.op.Op.TheVariants.{Load, Call}
 use Rattle.thread_steps.specs.Operators.{operator, prefix, label_from, with_sign}
 use Rattle.thread_steps.specs.Builtins.{builtin}
 use Rattle.thread_steps.specs.Ops as ops
-use Rattle.thread_steps.specs.Ops.{Did, calls, wants, effect, on_caps, frames_limit}
+use Rattle.thread_steps.specs.Ops.{Did, calls, wants, effect, on_caps}
+use Rattle.thread_steps.specs.Limits.{frames_limit}
 use Rattle.resolved_tree.specs.Tree.{ResolvedType, ResolvedGiven, ResolvedPlace, CapSlot, Expression, number_value, text_value, bool_value, null_value, local_value, unary_of, binary_of, field_of, element_of, call_of, builtin_of, new_object, new_array, label_of, caps_of, spawn_of, Expressions, args_end, args_more, ResolvedFunction, ResolvedTree}
 use Rattle.resolved_tree.specs.Typing.{Heads, heads_of, exact_places, Use, a_local, Scope, Operates, AreTags, Gives, AreArgs, AreRest, AreTagArgs}
 use Rattle.lam_meaning.specs.Trees as tree
@@ -30,11 +31,12 @@ use Rattle.lam_meaning.specs.Means.{At, sort_of, kind_of, class_fields, signed, 
 use Rattle.lam_meaning.specs.Scheme.{scheme, count, sign_op}
 use Rattle.lam_acting.specs.Nested.{Nested, operator_code, signs_code, expression_code, expressions_code}
 use Rattle.lam_acting.specs.Gathers.{Along, Out, gone, raised, and_on, Does, Caller, never_enters, did, around, op_does, picks, acts}
+use Rattle.lam_typed.proofs.Expressions.{head_at}
 use Rattle.lam_acting.proofs.Plays.{Keep, Held, MatchesAt, All, all_any, all_then, binds_where, binds, maps, onto_same}
 use Rattle.lam_acting.proofs.Lists.{push_all}
 use Rattle.lam_acting.proofs.Operations.{onto, fails_at, pure_at, value_at, called_at, read_field, read_element, array_at, load_is, builtin_plain}
 use Rattle.lam_acting.proofs.Effects.{prefix_is, sign_is, call_is, spawn_is, system_is, label_is, object_is}
-use Rattle.lam_acting.proofs.Units.{head_at, takes_params, class_kinds, as_many}
+use Rattle.lam_acting.proofs.Units.{takes_params, class_kinds, as_many}
 
 -- calls, beside those of nested code
 abbrev pub SameCalls : ResolvedTree → means.Caller → Caller → Type 0

@@ -45,9 +45,11 @@ module _ (code : CodeTree) (C : ℕ) where
       step code C kp pc w s held st res (Jump to) at_op ∙
       ap (λ b. done code (thread_of kp res (context kp pc s held st.own)) (context kp pc s held st.own) kp.below st.answers st.asks w (w + 1) (next_by code kp.phase (context kp pc s held st.own).inside (if b then ops.jumps to s else ops.breaks))) (is_below to (length (ops_of code kp.unit)) is)
 
-  true_turn : (kp : Kept) (pc w to : ℕ) (s : List Value) (held : List Name) (st : Along) (res : Option Outcome) → op_at code C kp.unit pc ≡ Some (JumpIfFalse to) → turns code 1 (at kp pc (Truth true ∷ s) held st res w) ≡ at kp (pc + 1) s held st res (w + 1)
+  true_turn : (kp : Kept) (pc w to : ℕ) (s : List Value) (held : List Name) (st : Along) (res : Option Outcome) → op_at code C kp.unit pc ≡ Some (JumpIfFalse to) → IsAddress code kp.unit to → turns code 1 (at kp pc (Truth true ∷ s) held st res w) ≡ at kp (pc + 1) s held st res (w + 1)
   unfolding effect
-  true_turn kp pc w to s held st res at_op = step code C kp pc w (Truth true ∷ s) held st res (JumpIfFalse to) at_op
+  true_turn kp pc w to s held st res at_op is =
+      step code C kp pc w (Truth true ∷ s) held st res (JumpIfFalse to) at_op ∙
+      ap (λ b. done code (thread_of kp res (context kp pc (Truth true ∷ s) held st.own)) (context kp pc (Truth true ∷ s) held st.own) kp.below st.answers st.asks w (w + 1) (next_by code kp.phase (context kp pc (Truth true ∷ s) held st.own).inside (if b then ops.gives s else ops.breaks))) (is_below to (length (ops_of code kp.unit)) is)
 
   false_turn : (kp : Kept) (pc w to : ℕ) (s : List Value) (held : List Name) (st : Along) (res : Option Outcome) → op_at code C kp.unit pc ≡ Some (JumpIfFalse to) → IsAddress code kp.unit to → turns code 1 (at kp pc (Truth false ∷ s) held st res w) ≡ at kp to s held st res (w + 1)
   unfolding effect
@@ -71,7 +73,7 @@ module _ (code : CodeTree) (C : ℕ) where
       (then_ends code C kp s0 n w pc pc1 1 c o (λ s n held st. gone s n held st) r (λ s m held st res v le. one_goes code C kp _ m v pc (v + 1) 1 s held st res (jump_turn kp pc1 v pc s held st res at_op is) (omega arith) (omega arith)))
 
   choice_runs : (kp : Kept) (n w pc to c : ℕ) (s : List Value) (held : List Name) (st : Along) (res : Option Outcome) (a b : List Value → Out (List Value)) (pc' : ℕ) → op_at code C kp.unit pc ≡ Some (JumpIfFalse to) → IsAddress code kp.unit to → ((s : List Value) → Ends code C kp (at kp (pc + 1) s held st res (w + 1)) n (w + 1) pc' c (a s)) → ((s : List Value) → Ends code C kp (at kp to s held st res (w + 1)) n (w + 1) pc' c (b s)) → Ends code C kp (at kp pc s held st res w) n w pc' (c + 1) (picks s st a b)
-  choice_runs kp n w pc to c (Truth true ∷ s) held st res a b pc' at_op is ra rb = shift code C kp _ _ n n w (w + 1) pc' (c + 1) c 1 (a s) (true_turn kp pc w to s held st res at_op) (omega arith) (omega arith) (omega arith) (ra s)
+  choice_runs kp n w pc to c (Truth true ∷ s) held st res a b pc' at_op is ra rb = shift code C kp _ _ n n w (w + 1) pc' (c + 1) c 1 (a s) (true_turn kp pc w to s held st res at_op is) (omega arith) (omega arith) (omega arith) (ra s)
   choice_runs kp n w pc to c (Truth false ∷ s) held st res a b pc' at_op is ra rb = shift code C kp _ _ n n w (w + 1) pc' (c + 1) c 1 (b s) (false_turn kp pc w to s held st res at_op is) (omega arith) (omega arith) (omega arith) (rb s)
   choice_runs kp n w pc to c s held st res a b pc' at_op is ra rb = tt
 
@@ -89,14 +91,14 @@ module _ (code : CodeTree) (C : ℕ) where
   loop_runs caller g b again t x kp pc n w (Truth false ∷ s) held st res lt le stands body =
       one_goes code C kp _ n w _ (w + 1) (cost x + 2) s held st res (false_turn kp (pc + width t) w (pc + width t + 1 + width x + 1) s held st res stands.1 stands.2) (omega arith) (omega arith)
   loop_runs caller g b again t x kp pc zero w (Truth true ∷ s) held st res lt le stands body =
-      let e = true_turn kp (pc + width t) w (pc + width t + 1 + width x + 1) s held st res stands.1 in
+      let e = true_turn kp (pc + width t) w (pc + width t + 1 + width x + 1) s held st res stands.1 stands.2 in
       let more = ap work_done e in
       record { count = 1; asked = ap asks_in e; work = omega (arith, more); few = omega arith }
   loop_runs caller g b again t x kp pc (suc m) w (Truth true ∷ s) held st res lt le stands body =
       let all = cost (loops t x) in
       let end : pc + width (loops t x) ≡ pc + width t + 1 + width x + 1 = omega arith in
       shift code C kp _ (at kp (pc + width t + 1) s held st res (w + 1)) (suc m) m w (w + 1) _ (cost x + 2) (cost x + (1 + all)) 1 _
-      (true_turn kp (pc + width t) w (pc + width t + 1 + width x + 1) s held st res stands.1) (omega (arith, le)) (omega arith) (omega arith)
+      (true_turn kp (pc + width t) w (pc + width t + 1 + width x + 1) s held st res stands.1 stands.2) (omega (arith, le)) (omega arith) (omega arith)
       (ends_at code C kp _ m (w + 1) _ _ _ _ end
       (then_ends code C kp _ m (w + 1) (pc + width (loops t x)) (pc + width t + 1 + width x) (1 + all) (cost x) (acts code caller g x (place_of kp) m s held st) (λ s m held st. g (loops t x) (place_of kp) m s held st) (body m (w + 1) s held st res (omega arith))
       (λ s m' held st' res' v le'. shift code C kp _ (at kp pc s held st' res' (v + 1)) m' m' v (v + 1) _ (1 + all) all 1 _ (jump_turn kp _ v pc s held st' res' stands.4 stands.5) (omega arith) (omega arith) (omega arith) (again (loops t x) kp pc m' (v + 1) s held st' res' (omega (arith, lt, le')) le stands))))

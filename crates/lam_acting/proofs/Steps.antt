@@ -1,11 +1,12 @@
 -- Single operations, as the flat machine does them.
 use Rattle.std.proofs.Common.{◌≡◌, ℕ, ◌+◌, ◌<◌, ◌≤◌, Bool, true, false, List, [], ◌∷◌, ◌++◌, Option, Some, None, refl, ap, ◌∙◌, arith}
+use Rattle.std.proofs.lemmas.Bool.Decides.{nat_tests}
 use Rattle.std.specs.Prelude.{if◌then◌else◌, nat_lt, drop, slice_get}
 use Rattle.flow_labels.specs.declared.Label.{Label}
 use Rattle.flow_labels.specs.declared.Denied.{Denied as Denial}
 use Rattle.lam_value.specs.declared.names.Name.{Name}
 use Rattle.lam_value.specs.declared.values.Value.{Value}
-use Rattle.lam_value.specs.declared.values.Value.TheVariants.{Bool as Truth, Nothing, Obj, Arr, Tag, CapV}
+use Rattle.lam_value.specs.declared.values.Value.TheVariants.{Nothing, Obj, Arr, Tag, CapV}
 use Rattle.lam_asks.specs.declared.fault.Fault.TheVariants.{Denied}
 use Rattle.lam_asks.specs.declared.answer.Outcome.{Outcome}
 use Rattle.lam_asks.specs.declared.answer.Answer.{Answer}
@@ -17,13 +18,16 @@ use Rattle.lam_bytecode.specs.declared.op.Op.{Op}
 use Rattle.lam_bytecode.specs.declared.op.Op.TheVariants.{Const, Jump, JumpIfFalse, ReadBarrier, WriteBarrier}
 use Rattle.thread_steps.specs.Threads.{Context}
 use Rattle.thread_steps.specs.Ops as ops
-use Rattle.thread_steps.specs.Ops.{Did, effect, barrier, on_thing, on_constant}
+use Rattle.thread_steps.specs.Ops.{Did, effect, barrier, on_thing, on_truth, on_constant}
 use Rattle.thread_steps.specs.Next as machine
 use Rattle.thread_steps.specs.Next.{next_by, past, called, gains}
 use Rattle.lam_meaning.specs.Trees.{Own, gained}
 use Rattle.lam_acting.specs.Gathers.{Along, with_locals, gone, and_on, Caller, never_enters, awaits, did, around, op_does}
 use Rattle.lam_acting.specs.Lone.{Lone, runs, asked, done, turns}
 use Rattle.lam_acting.proofs.Turns.{Kept, context, thread_of, at, place_of, op_at, around_at, Ends, step, one_goes, one_raises, one_waits}
+
+no_address : (to : ℕ) → nat_lt to 0 ≡ false
+no_address to = grind (arith, nat_tests)
 
 gains_same : (kp : Kept) (pc : ℕ) (s : List Value) (held : List Name) (a : Ask) (v : Value) (o : Own) → gains a v (context kp pc s held o) ≡ context kp pc s held (gained a v o)
 gains_same kp pc s held ask.Mint (Tag t) o = refl
@@ -71,9 +75,10 @@ module _ (code : CodeTree) (C : ℕ) where
 
   -- ---- operations
 
-  jump_ends : (caller : Caller) (kp : Kept) (s0 : Lone) (n w pc to : ℕ) (b : Bool) (s : List Value) (held : List Name) (st : Along) → Ends code C kp s0 n w pc 1 (did caller never_enters (if b then ops.jumps to s else ops.breaks) (place_of kp) n held st)
-  jump_ends caller kp s0 n w pc to true s held st = tt
-  jump_ends caller kp s0 n w pc to false s held st = tt
+  -- nothing stands round a single operation, so it has no address to go to
+  jump_ends : (caller : Caller) (kp : Kept) (s0 : Lone) (n w pc : ℕ) (d : Did) (b : Bool) (held : List Name) (st : Along) → b ≡ false → Ends code C kp s0 n w pc 1 (did caller never_enters (if b then d else ops.breaks) (place_of kp) n held st)
+  jump_ends caller kp s0 n w pc d true held st e = absurd cc
+  jump_ends caller kp s0 n w pc d false held st e = tt
 
   barrier_calls : (s : List Value) (d : Option Denial) (u : ℕ) (vs s' : List Value) → barrier s d ≡ ops.calls u vs s' → ⊥
   barrier_calls s None u vs s' e = cc
@@ -93,10 +98,9 @@ module _ (code : CodeTree) (C : ℕ) where
 
   pub op_runs : (caller : Caller) (b : ℕ) → CallsRun caller b → (kp : Kept) (n w pc : ℕ) (s : List Value) (held : List Name) (st : Along) (res : Option Outcome) (o : Op) → n < b → op_at code C kp.unit pc ≡ Some o → Ends code C kp (at kp pc s held st res w) n w (pc + 1) 1 (op_does code caller never_enters o (place_of kp) n s held st)
   unfolding effect
-  op_runs caller b calls kp n w pc s held st res (Jump to) lt at_op = jump_ends caller kp _ n w (pc + 1) to (nat_lt to 0) s held st
-  op_runs caller b calls kp n w pc (Truth true ∷ s) held st res (JumpIfFalse to) lt at_op = one_goes code C kp _ n w (pc + 1) (w + 1) 1 s held st res (step code C kp pc w (Truth true ∷ s) held st res (JumpIfFalse to) at_op) (omega arith) (omega arith)
-  op_runs caller b calls kp n w pc (Truth false ∷ s) held st res (JumpIfFalse to) lt at_op = jump_ends caller kp _ n w (pc + 1) to (nat_lt to 0) s held st
-  op_runs caller b calls kp n w pc s held st res (JumpIfFalse to) lt at_op = tt
+  op_runs caller b calls kp n w pc s held st res (Jump to) lt at_op = jump_ends caller kp _ n w (pc + 1) (ops.jumps to s) (nat_lt to 0) held st (no_address to)
+  op_runs caller b calls kp n w pc s held st res (JumpIfFalse to) lt at_op =
+      jump_ends caller kp _ n w (pc + 1) (on_truth s (λ b s. if b then ops.gives s else ops.jumps to s)) (nat_lt to 0) held st (no_address to)
   op_runs caller b calls kp n w pc s held st res (ReadBarrier d) lt at_op =
       did_runs caller kp n w pc (w + 0) s held st res (ReadBarrier d) _ at_op refl (step code C kp pc w s held st res (ReadBarrier d) at_op) (omega arith) (λ u vs s' e t. absurd (tested_calls (drop d s) s (ops.may_read kp.label) u vs s' e))
   op_runs caller b calls kp n w pc s held st res (WriteBarrier d) lt at_op =

@@ -1,5 +1,5 @@
 -- Calls and threads, beside those of nested code.
-use Rattle.std.proofs.Common.{◌≡◌, ℕ, zero, suc, Bool, true, false, List, [], ◌∷◌, length, Option, Some, refl, sym, ap, ◌∙◌, subst, arith, length-append}
+use Rattle.std.proofs.Common.{◌≡◌, ℕ, zero, suc, Bool, true, false, List, [], length, Some, refl, sym, ap, ◌∙◌, subst, arith, length-append}
 use Rattle.std.proofs.lemmas.List.{length-replicate}
 use Rattle.std.specs.Prelude.{if◌then◌else◌, ◌-◌, nat_lt, replicate, slice_get}
 use Rattle.flow_labels.specs.Flow.{public_label}
@@ -12,7 +12,7 @@ use Rattle.lam_asks.specs.declared.ask.Ask.{Ask}
 use Rattle.lam_asks.specs.declared.ask.Ask.TheVariants as ask
 use Rattle.thread_steps.specs.Ops.{region_takes}
 use Rattle.resolved_tree.specs.Tree.{ResolvedType, Statement, if_block, while_block, sync_block, region_block, Block, block_end, block_more, OtherBlock, no_other, other_block, ResolvedFunction, ResolvedTree}
-use Rattle.resolved_tree.specs.Typing.{Heads, heads_of, Scope, locals_of, Returning, in_function, IsBlock, IsFunction, AreFunctions, IsTypedTree}
+use Rattle.resolved_tree.specs.Typing.{heads_of, Scope, locals_of, Returning, in_function, IsBlock, IsFunction, IsTypedTree}
 use Rattle.resolved_tree.specs.Regions.{AreNumbered}
 use Rattle.lam_meaning.specs.Trees.{End, goes, raises, leaves, Tree, on_end}
 use Rattle.lam_meaning.specs.Means.{At, Does, means, calls_limit, call_end, first_locals, body_of, deeper, calls_to, runs, block_runs, last_ask}
@@ -22,6 +22,7 @@ use Rattle.lam_acting.specs.Gathers.{Along, with_locals, Out, call_result, body_
 use Rattle.lam_acting.specs.Gathers as nested
 use Rattle.lam_acting.proofs.Placed.{IsPlaced, BlockPlaced, OtherPlaced, functions_placed}
 use Rattle.lam_acting.specs.Joined.{NestedMeans}
+use Rattle.lam_typed.proofs.Threads.{function_at}
 use Rattle.lam_acting.proofs.Plays.{Keep, Held, stands, played, told, EndSized, Matches, MatchesAt, end_on, how_played, asks_played, not_broken, final_told}
 use Rattle.lam_acting.proofs.Lists.{monitors}
 use Rattle.lam_acting.proofs.Operations.{stays}
@@ -29,9 +30,6 @@ use Rattle.lam_acting.proofs.Expressions.{SameCalls, Inside}
 use Rattle.lam_acting.proofs.Regions.{last_same}
 use Rattle.lam_acting.proofs.Scopes.{inside_head}
 use Rattle.lam_acting.proofs.Statements.{IsIn, BlockIn, OtherIn, keep_of, SameStatements, spend_same, exec_same, block_same}
-
-some_is : {A : Type 0} (a b : A) → ◌≡◌ {A = Option A} (Some a) (Some b) → a ≡ b
-some_is a b e = cc
 
 -- ---- the regions of a program have as many captures in its code
 
@@ -52,11 +50,6 @@ mutual
   other_in r (other_block body) h = block_in r body h
 
 -- ---- calls
-
-function_at : (p : Heads) (fs : List ResolvedFunction) (f : ℕ) (fn : ResolvedFunction) → AreFunctions p fs → slice_get fs f ≡ Some fn → IsFunction p fn
-function_at p [] f fn h e = absurd cc
-function_at p (g ∷ fs) zero fn h e = subst (λ g. IsFunction p g) (some_is g fn e) h.0
-function_at p (g ∷ fs) (suc f) fn h e = function_at p fs f fn h.1 e
 
 -- what a call gives, with the caller's locals
 result_same : (kp : Keep) (H : Held) (size : ℕ) (ls : List Value) → length ls ≡ kp.size → (t : Tree (Unit {0})) (st : Along) (r : Out (List Value)) → MatchesAt (record { size = size; base = H ls }) (monitors [] (H ls)) (stays []) t st r → MatchesAt kp H (λ (v : Value). v) (on_end t (call_end ls)) st (call_result ls r)

@@ -25,6 +25,7 @@ use Rattle.lam_asks.specs.declared.ask.Ask.TheVariants as ask
 use Rattle.lam_asks.specs.Suits as sorts
 use Rattle.lam_asks.specs.Suits.{Sort, numbers}
 use Rattle.thread_steps.specs.Operators.{operator, prefix, label_from, with_sign}
+use Rattle.thread_steps.specs.Limits.{frames_limit, length_limit}
 use Rattle.thread_steps.specs.Builtins as calls
 use Rattle.thread_steps.specs.Builtins.{Calls, builtin}
 use Rattle.resolved_tree.specs.Tree.{ResolvedType, CapSlot, Expression, number_value, text_value, bool_value, null_value, local_value, unary_of, binary_of, field_of, element_of, call_of, builtin_of, new_object, new_array, label_of, caps_of, spawn_of, Expressions, args_end, args_more, Statement, let_slot, if_block, while_block, return_value, throw_value, sync_block, region_block, do_value, set_local, set_field, set_element, Block, block_end, block_more, OtherBlock, no_other, other_block, ResolvedFunction, ResolvedTree}
@@ -86,7 +87,7 @@ class_fields None = []
 class_fields (Some ts) = map (λ t. zero_of (kind_of t)) ts
 
 abbrev pub makes_array : Kind → ℤ → ℕ → Own → Tree Value
-makes_array k (pos m) n o = if nat_le m 65536 then ask_value (asked numbers (ask.New (Array k m))) n o else fails Long n o
+makes_array k (pos m) n o = if nat_le m length_limit then ask_value (asked numbers (ask.New (Array k m))) n o else fails Long n o
 makes_array k (negsuc m) n o = fails Long n o
 
 -- the sort of a built-in call's result
@@ -243,7 +244,7 @@ abbrev mutual
 
 -- a context has at most this many open calls
 abbrev pub calls_limit : ℕ
-calls_limit = 256
+calls_limit = frames_limit
 
 -- the caller's locals are as they were; the capabilities are the context's
 abbrev pub call_end : List Value → End (Unit {0}) → Tree Value

@@ -23,7 +23,8 @@ use Rattle.thread_steps.specs.Operators as operators
 use Rattle.thread_steps.specs.Operators.{Pure, fine, is_small, some_null, label_from}
 use Rattle.thread_steps.specs.Builtins as builtins
 use Rattle.thread_steps.specs.Builtins.{Calls, now, asks, acts, byte_now, byte_at, slice_at, number_in, own_label, copied, read_from, cut_to, builtin}
-use Rattle.thread_steps.specs.Ops.{Did, calls, fails, wants, on_any, on_int, on_truth, on_many, on_thing, on_caps, on_label, operated, between, before, unless_denied, barrier, may_read, may_write, within, gets_field, puts_field, gets_element, puts_element, new_object, new_array, on_known, called, is_held, monitor_of, frames_limit, on_constant, goes_to, Around, effect}
+use Rattle.thread_steps.specs.Ops.{Did, calls, fails, wants, on_any, on_int, on_truth, on_many, on_thing, on_caps, on_label, operated, between, before, unless_denied, barrier, may_read, may_write, within, gets_field, puts_field, gets_element, puts_element, new_object, new_array, on_known, called, is_held, monitor_of, on_constant, at_address, Around, effect}
+use Rattle.thread_steps.specs.Limits.{frames_limit}
 use Rattle.lam_worlds.specs.Turns.{lists}
 use Rattle.lam_valid_steps.specs.Laws.{IsTop, IsBarred, LeadsTo, IsRead, IsWritten}
 
@@ -208,8 +209,8 @@ module _ (a : Around) (s : List Value) (op : Op) where
   constant_by None = tt
   constant_by (Some v) = tt
 
-  goes_by : (size to : ℕ) (t : List Value) → P (goes_to size to t)
-  goes_by size to t = if_by (nat_lt to size) _ _ (λ e. tt) tt
+  goes_by : (size to : ℕ) (d : Did) → P d → P (at_address size to d)
+  goes_by size to d h = if_by (nat_lt to size) _ _ (λ e. h) tt
 
   barrier_by : (x : Option Denied) → ((d : Denied) → x ≡ Some d → IsBarred a.label s d op) → P (barrier s x)
   barrier_by None h = tt
@@ -298,8 +299,8 @@ effect_is a s Lt = between_by a s Lt binary.Lt
 effect_is a s Le = between_by a s Le binary.Le
 effect_is a s Gt = between_by a s Gt binary.Gt
 effect_is a s Ge = between_by a s Ge binary.Ge
-effect_is a s (Jump to) = goes_by a s (Jump to) a.size to s
-effect_is a s (JumpIfFalse to) = truth_by a s (JumpIfFalse to) s _ (λ b t. if_by a s (JumpIfFalse to) b _ _ (λ e. tt) (goes_by a s (JumpIfFalse to) a.size to t))
+effect_is a s (Jump to) = goes_by a s (Jump to) a.size to _ tt
+effect_is a s (JumpIfFalse to) = goes_by a s (JumpIfFalse to) a.size to _ (truth_by a s (JumpIfFalse to) s _ (λ b t. if_by a s (JumpIfFalse to) b _ _ (λ e. tt) tt))
 effect_is a s (Call u) = known_by a s (Call u) _ _ (λ n. many_by a s (Call u) n s (λ vs t. if nat_lt a.frames frames_limit then calls u vs t else fails fault.Deep) (λ vs t. if_by a s (Call u) (nat_lt a.frames frames_limit) (calls u vs t) (fails fault.Deep) (λ e. e) tt))
 effect_is a s Return = any_by a s Return s _ (λ v t. tt)
 effect_is a s Throw = int_by a s Throw s _ (λ n t. tt)

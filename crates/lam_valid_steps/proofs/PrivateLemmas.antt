@@ -34,7 +34,8 @@ use Rattle.thread_steps.specs.Operators as operators
 use Rattle.thread_steps.specs.Operators.{Pure, fine, of_numbers, by_divisor, number, is_small, is_zero, operator, prefix, some_null, tag_before, tags_in, label_by, label_from, with_sign}
 use Rattle.thread_steps.specs.Builtins as builtins
 use Rattle.thread_steps.specs.Builtins.{Calls, now, faults, asks, acts, wrong, root_name, byte_now, byte_at, slice_at, number_in, own_label, copied, read_from, cut_to, send_into, builtin}
-use Rattle.thread_steps.specs.Ops.{Did, gives, sets, jumps, calls, returns, fails, wants, leaves, breaks, on_any, on_int, on_truth, on_many, on_thing, on_caps, on_label, operated, between, before, unless_denied, barrier, within, gets_field, puts_field, gets_element, puts_element, may_read, may_write, new_object, new_array, on_known, called, is_held, monitor_of, frames_limit, on_constant, goes_to, Around, effect}
+use Rattle.thread_steps.specs.Ops.{Did, gives, sets, jumps, calls, returns, fails, wants, leaves, breaks, on_any, on_int, on_truth, on_many, on_thing, on_caps, on_label, operated, between, before, unless_denied, barrier, within, gets_field, puts_field, gets_element, puts_element, may_read, may_write, new_object, new_array, on_known, called, is_held, monitor_of, on_constant, at_address, Around, effect}
+use Rattle.thread_steps.specs.Limits.{frames_limit}
 use Rattle.thread_steps.specs.Next as next
 use Rattle.thread_steps.specs.Next.{next_of, next_by, next_in, next_op, entry, returned, ending, leaving, raised, around}
 use Rattle.lam_worlds.specs.Worlds.{World}
@@ -371,8 +372,8 @@ module _ (w : World) where
   put_live s None h k = tt
   put_live s (Some v) h k = (k v refl, h)
 
-  goes_live : (size to : ℕ) (s : List Value) → AllLive w s → DidLives (goes_to size to s)
-  goes_live size to s h = either DidLives (nat_lt to size) (jumps to s) breaks h tt
+  goes_live : (size to : ℕ) (d : Did) → DidLives d → DidLives (at_address size to d)
+  goes_live size to d h = either DidLives (nat_lt to size) d breaks h tt
 
   -- ---- the rows
 
@@ -396,8 +397,8 @@ module _ (w : World) where
     effect_live s Le h = between_live binary.Le s h
     effect_live s Gt h = between_live binary.Gt s h
     effect_live s Ge h = between_live binary.Ge s h
-    effect_live s (Jump to) h = goes_live a.size to s h
-    effect_live s (JumpIfFalse to) h = truth_live s _ h (λ b s h. either DidLives b (gives s) (goes_to a.size to s) h (goes_live a.size to s h))
+    effect_live s (Jump to) h = goes_live a.size to (jumps to s) h
+    effect_live s (JumpIfFalse to) h = goes_live a.size to _ (truth_live s _ h (λ b s h. either DidLives b (gives s) (jumps to s) h h))
     effect_live s (Call u) h = known_live _ _ (λ n. many_live n s (λ args s. if nat_lt a.frames frames_limit then calls u args s else fails fault.Deep) h (λ args s la h. either DidLives (nat_lt a.frames frames_limit) (calls u args s) (fails fault.Deep) (la, h) tt))
     effect_live s Return h = any_live s _ h (λ v s lv h. lv)
     effect_live s Throw h = int_live s _ h (λ n s h. tt)

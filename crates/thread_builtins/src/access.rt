@@ -14,6 +14,9 @@ use lam_threads::Operands;
 use lam_value::{Kind, Name, Value};
 use thread_sights::{Sight, Sketch, is_null, same_names, thing_in};
 
+/// How long an array may be.
+const LENGTH_LIMIT: u64 = 65_536;
+
 fn barred(denied: Option<Denied>) -> Sight<'static>
     ensures { (locals s : List Value) → did_of result locals s ≡ barrier s denied }
 {
@@ -210,7 +213,7 @@ pub fn new_array(stack: &Operands, kind: Kind) -> Sight<'_>
         return Sight::Fails(Fault::Long);
     }
     let len = *n as u64;
-    if len > 65_536 {
+    if len > LENGTH_LIMIT {
         return Sight::Fails(Fault::Long);
     }
     Sight::Asks {

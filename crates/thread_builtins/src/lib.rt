@@ -28,7 +28,7 @@ use lam_threads::Operands;
 use lam_value::{ByteText, Name, Value};
 use thread_sights::{Called, Sight, Sketch, Worth, some_null};
 
-/// How many bytes a value may have.
+/// How many bytes a value may have, and how many of a file are read at once.
 const BYTES_LIMIT: usize = 65_536;
 /// How many bytes a message may have.
 const MESSAGE_LIMIT: usize = 4_096;
@@ -119,7 +119,7 @@ fn read_from(file: &Name, at: i64, n: i64) -> Called<'_>
         return Called::Faults(Fault::Long);
     }
     let (at, n) = (at as u64, n as u64);
-    if n > 65_536 {
+    if n > BYTES_LIMIT as u64 {
         return Called::Faults(Fault::Long);
     }
     Called::Asks(Sketch::FileRead { file, at, n })

@@ -1,8 +1,8 @@
 //! What an operation does, before it is done.
 
-ghost use Rattle.std.specs.Prelude.{◌≡◌, ◌+◌, if◌then◌else◌, List, slice_get, length, drop};
+ghost use Rattle.std.specs.Prelude.{◌≡◌, ◌+◌, if◌then◌else◌, List, slice_get, length};
 ghost use Rattle.lam_value.specs.declared.values.Value.{Value};
-ghost use Rattle.thread_steps.specs.Ops.{effect, on_constant, on_any, on_truth, on_int, stores, goes_to, gives, fails, returns};
+ghost use Rattle.thread_steps.specs.Ops.{effect, on_constant, on_any, on_truth, on_int, stores, at_address, gives, jumps, fails, returns};
 ghost use Rattle.lam_asks.specs.declared.fault.Fault.TheVariants as fault;
 ghost use Rattle.thread_steps.specs.Next.{around, ops_of};
 ghost use Rattle.thread_sights.specs.Acting.{did_of, calls_unit};
@@ -58,27 +58,32 @@ fn pop(stack: &Operands) -> Sight<'static>
 }
 
 /// An address of the unit, which has so many operations.
-fn jump(size: usize, to: u32, takes: usize) -> Sight<'static>
-    ensures { (locals s : List Value) → did_of result locals s ≡ goes_to size to (drop takes s) }
+fn jump(size: usize, to: u32) -> Sight<'static>
+    ensures { (locals s : List Value) → did_of result locals s ≡ at_address size to (jumps to s) }
 {
     let to = to as usize;
     if to < size {
-        Sight::Jumps { to, takes }
+        Sight::Jumps { to, takes: 0 }
     } else {
         Sight::Breaks
     }
 }
 
+/// An address of the unit, where the top operand is false. One that the unit does not have breaks whatever the operand is.
 fn jump_if_false(stack: &Operands, size: usize, to: u32) -> Sight<'static>
-    ensures { (locals : List Value) → did_of result locals stack.now ≡ on_truth stack.now (λ b s. if b then gives s else goes_to size to s) }
+    ensures { (locals : List Value) → did_of result locals stack.now ≡ at_address size to (on_truth stack.now (λ b s. if b then gives s else jumps to s)) }
 {
+    let to = to as usize;
+    if to >= size {
+        return Sight::Breaks;
+    }
     let Some(v) = stack.get(0) else {
         return Sight::Breaks;
     };
     match truth_in(v) {
         None => Sight::Breaks,
         Some(true) => Sight::Drops { takes: 1 },
-        Some(false) => jump(size, to, 1),
+        Some(false) => Sight::Jumps { to, takes: 1 },
     }
 }
 
@@ -157,7 +162,7 @@ pub fn see<'a>(c: &'a Context, code: &'a Code, op: Op) -> Sight<'a>
         Op::Le => between(BinaryOp::Le, stack),
         Op::Gt => between(BinaryOp::Gt, stack),
         Op::Ge => between(BinaryOp::Ge, stack),
-        Op::Jump(to) => jump(size_of(code, c.unit), to, 0),
+        Op::Jump(to) => jump(size_of(code, c.unit), to),
         Op::JumpIfFalse(to) => jump_if_false(stack, size_of(code, c.unit), to),
         Op::Call(unit) => call(stack, code.units(), unit, c.callers.len()),
         Op::Return => ret(stack),

@@ -20,7 +20,8 @@ use Rattle.thread_steps.specs.Operators as operators
 use Rattle.thread_steps.specs.Operators.{Pure, label_from, with_sign}
 use Rattle.thread_steps.specs.Builtins as built
 use Rattle.thread_steps.specs.Builtins.{Calls, builtin, root_name}
-use Rattle.thread_steps.specs.Ops.{Did, gives, sets, jumps, calls, returns, fails, wants, leaves, breaks, on_any, on_many, on_known, on_caps, on_label, operated, new_object, region_takes, region_in, function_takes, called, frames_limit}
+use Rattle.thread_steps.specs.Limits.{frames_limit}
+use Rattle.thread_steps.specs.Ops.{Did, gives, sets, jumps, calls, returns, fails, wants, leaves, breaks, on_any, on_many, on_known, on_caps, on_label, operated, new_object, region_takes, region_in, function_takes, called}
 use Rattle.lam_asks.specs.declared.fault.Fault.TheVariants as fault
 use Rattle.thread_sights.specs.declared.acted.Computed.{Computed}
 use Rattle.thread_sights.specs.declared.acted.Computed.TheVariants as computed

@@ -1,4 +1,5 @@
 pub mod Equal
+pub mod Limits
 pub mod Operators
 pub mod Threads
 pub mod Builtins
