@@ -1,7 +1,7 @@
 #!/usr/bin/env python3
 """Tries the edits that stand outside the gate.
 
-Usage: tools/edits.py [CRATE ..]
+Usage: tools/edits.py [--read] [CRATE ..]
 
 An edit turns the meaning of a function, and the proofs have to refuse it. The gate tries those in `crates/NAME/must-fail/`;
 this tries those in `crates/NAME/edits/`, of the crates named or of all that have some. It copies the crates as they stand
@@ -12,6 +12,8 @@ was not checked since it changed, `rt check` first is quicker.
 For each crate it says how many of its edits were refused and how many processor seconds that took, and it prints a line
 for each edit that was not refused, is bad, or was not tried. Status 0: all were refused. 1: some were not. 2: a crate that
 was named has no edits.
+
+--read proves nothing: it says at once which edits no longer fit the text that they change.
 """
 import os
 import re
@@ -28,6 +30,38 @@ REFUSED = ': refused, as it must be'
 def edits_of(crate):
     folder = os.path.join(HERE, 'crates', crate, 'edits')
     return sorted(os.listdir(folder)) if os.path.isdir(folder) else []
+
+
+def unfit(crate, edit):
+    """Why the edit can't be applied to the crate's files, or None: each `old:` text stands in its file once."""
+    path, old, texts = '', None, {}
+    with open(os.path.join(HERE, 'crates', crate, 'edits', edit), encoding='utf-8') as lines:
+        for line in lines.read().split('\n'):
+            word, _, rest = line.partition(': ')
+            if word == 'file':
+                path = os.path.join(HERE, 'crates', crate, rest.strip())
+                if not os.path.isfile(path):
+                    return f'there is no file {rest.strip()}'
+            elif word == 'old':
+                old = rest
+            elif line.startswith('new:'):
+                if path not in texts:
+                    with open(path, encoding='utf-8') as file:
+                        texts[path] = file.read()
+                if texts[path].count(old) != 1:
+                    return f"an 'old:' text stands there {texts[path].count(old)} times: {old.strip()}"
+                texts[path] = texts[path].replace(old, rest)
+    return None
+
+
+def read_all(crates):
+    found = [(crate, edit, unfit(crate, edit)) for crate in crates for edit in edits_of(crate)]
+    for crate, edit, why in found:
+        if why:
+            print(f'{crate}/edits/{edit}: {why}')
+    bad = sum(why is not None for _, _, why in found)
+    print(f'{len(found)} edits, {bad} that do not fit')
+    return 1 if bad else 0
 
 
 def in_order():
@@ -73,12 +107,15 @@ def tried(crate, room):
     return well
 
 
-def main(names):
+def main(words):
+    names = [word for word in words if word != '--read']
     wanted = names or [name for name in in_order() if edits_of(name)]
     for name in wanted:
         if not edits_of(name):
             print(f'tools/edits.py: the crate {name} has no edits', file=sys.stderr)
             return 2
+    if '--read' in words:
+        return read_all(wanted)
     with tempfile.TemporaryDirectory(prefix='lam-edits-') as room:
         copy_crates(room)
         # (where a repository ends)
