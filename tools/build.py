@@ -51,7 +51,7 @@ def copy_to(folder, lines):
     """Copies these crates to a folder, as a repository of their own."""
     for name in lines:
         shutil.copytree(os.path.join(HERE, 'crates', name), os.path.join(folder, 'crates', name),
-                        ignore=shutil.ignore_patterns('out', 'must-fail'))
+                        ignore=shutil.ignore_patterns('out', 'must-fail', 'edits'))
     with open(os.path.join(folder, 'crates.txt'), 'w', encoding='utf-8') as out:
         out.writelines(lines.values())
     shutil.copy(os.path.join(HERE, 'HANDLES'), folder)
