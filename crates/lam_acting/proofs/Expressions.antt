@@ -34,7 +34,8 @@ use Rattle.lam_acting.proofs.Plays.{Keep, Held, MatchesAt, All, all_any, all_the
 use Rattle.lam_acting.proofs.Lists.{push_all}
 use Rattle.lam_acting.proofs.Operations.{onto, fails_at, pure_at, value_at, called_at, read_field, read_element, array_at, load_is, builtin_plain}
 use Rattle.lam_acting.proofs.Effects.{prefix_is, sign_is, call_is, spawn_is, system_is, label_is, object_is}
-use Rattle.lam_acting.proofs.Units.{head_at, takes_params, class_kinds, as_many}
+use Rattle.lam_typed.proofs.Expressions.{head_at}
+use Rattle.lam_acting.proofs.Units.{takes_params, class_kinds, as_many}
 
 -- calls, beside those of nested code
 abbrev pub SameCalls : ResolvedTree → means.Caller → Caller → Type 0

@@ -12,11 +12,12 @@ use Rattle.lam_asks.specs.declared.ask.Ask.{Ask}
 use Rattle.lam_asks.specs.declared.ask.Ask.TheVariants as ask
 use Rattle.thread_steps.specs.Ops.{region_takes}
 use Rattle.resolved_tree.specs.Tree.{ResolvedType, Statement, if_block, while_block, sync_block, region_block, Block, block_end, block_more, OtherBlock, no_other, other_block, ResolvedFunction, ResolvedTree}
-use Rattle.resolved_tree.specs.Typing.{Heads, heads_of, Scope, locals_of, Returning, in_function, IsBlock, IsFunction, AreFunctions, IsTypedTree}
+use Rattle.resolved_tree.specs.Typing.{heads_of, Scope, locals_of, Returning, in_function, IsBlock, IsFunction, IsTypedTree}
 use Rattle.resolved_tree.specs.Regions.{AreNumbered}
 use Rattle.lam_meaning.specs.Trees.{End, goes, raises, leaves, Tree, on_end}
 use Rattle.lam_meaning.specs.Means.{At, Does, means, calls_limit, call_end, first_locals, body_of, deeper, calls_to, runs, block_runs, last_ask}
 use Rattle.lam_meaning.specs.Scheme.{scheme}
+use Rattle.lam_typed.proofs.Threads.{function_at}
 use Rattle.lam_acting.specs.Nested.{Nested, block_code}
 use Rattle.lam_acting.specs.Gathers.{Along, with_locals, Out, call_result, body_does, called, acts, acts_to, closing, Final, final_of, first_along}
 use Rattle.lam_acting.specs.Gathers as nested
@@ -52,11 +53,6 @@ mutual
   other_in r (other_block body) h = block_in r body h
 
 -- ---- calls
-
-function_at : (p : Heads) (fs : List ResolvedFunction) (f : ℕ) (fn : ResolvedFunction) → AreFunctions p fs → slice_get fs f ≡ Some fn → IsFunction p fn
-function_at p [] f fn h e = absurd cc
-function_at p (g ∷ fs) zero fn h e = subst (λ g. IsFunction p g) (some_is g fn e) h.0
-function_at p (g ∷ fs) (suc f) fn h e = function_at p fs f fn h.1 e
 
 -- what a call gives, with the caller's locals
 result_same : (kp : Keep) (H : Held) (size : ℕ) (ls : List Value) → length ls ≡ kp.size → (t : Tree (Unit {0})) (st : Along) (r : Out (List Value)) → MatchesAt (record { size = size; base = H ls }) (monitors [] (H ls)) (stays []) t st r → MatchesAt kp H (λ (v : Value). v) (on_end t (call_end ls)) st (call_result ls r)

@@ -10,17 +10,11 @@ use Rattle.lam_builtins.specs.declared.Builtin.TheVariants as call
 use Rattle.lam_builtins.specs.Builtins.{row, row_by}
 use Rattle.thread_steps.specs.Ops.{function_takes}
 use Rattle.resolved_tree.specs.Tree.{ResolvedType, ResolvedFunction, ResolvedTree}
-use Rattle.resolved_tree.specs.Typing.{Head, head_of}
 use Rattle.lam_meaning.specs.Means.{kind_of, class_fields}
 use Rattle.lam_meaning.specs.Scheme.{Draft, arg_kind, function_draft, unit_of, all_regions, all_constants, drafts, scheme}
 
 some_is : {A : Type 0} (a b : A) → ◌≡◌ {A = Option A} (Some a) (Some b) → a ≡ b
 some_is a b e = cc
-
-pub head_at : (fs : List ResolvedFunction) (f : ℕ) (h : Head) → slice_get (map head_of fs) f ≡ Some h → (fn : ResolvedFunction) × (slice_get fs f ≡ Some fn) × (head_of fn ≡ h)
-head_at [] f h e = absurd cc
-head_at (fn ∷ fs) zero h e = (fn, refl, some_is (head_of fn) h e)
-head_at (fn ∷ fs) (suc f) h e = head_at fs f h e
 
 draft_at : (vs : List Value) (fs : List ResolvedFunction) (more : List Draft) (f : ℕ) (fn : ResolvedFunction) → slice_get fs f ≡ Some fn → slice_get (map (unit_of vs) (map function_draft fs ++ more)) f ≡ Some (unit_of vs (function_draft fn))
 draft_at vs [] more f fn e = absurd cc

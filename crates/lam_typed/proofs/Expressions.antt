@@ -45,7 +45,7 @@ gained_same ask.Mint (Tag t) o = refl
 gained_same (ask.ReceiveCaps p) (CapV a b) o = refl
 gained_same a v o = refl
 
-head_at : (fs : List ResolvedFunction) (f : ℕ) (h : Head) → slice_get (map head_of fs) f ≡ Some h → (fn : ResolvedFunction) × (slice_get fs f ≡ Some fn) × (head_of fn ≡ h)
+pub head_at : (fs : List ResolvedFunction) (f : ℕ) (h : Head) → slice_get (map head_of fs) f ≡ Some h → (fn : ResolvedFunction) × (slice_get fs f ≡ Some fn) × (head_of fn ≡ h)
 head_at [] f h e = absurd cc
 head_at (fn ∷ fs) zero h e = (fn, refl, some_is (head_of fn) h e)
 head_at (fn ∷ fs) (suc f) h e = head_at fs f h e

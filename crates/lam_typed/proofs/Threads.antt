@@ -18,7 +18,7 @@ use Rattle.lam_typed.proofs.Trees.{IsTree, end_tree, done_tree, if_tree, spend_t
 use Rattle.lam_typed.proofs.Expressions.{Values, CallsWell}
 use Rattle.lam_typed.proofs.Statements.{OfBlock, DoesWell, exec_tree, block_tree}
 
-function_at : (p : Heads) (fs : List ResolvedFunction) (f : ℕ) (fn : ResolvedFunction) → AreFunctions p fs → slice_get fs f ≡ Some fn → IsFunction p fn
+pub function_at : (p : Heads) (fs : List ResolvedFunction) (f : ℕ) (fn : ResolvedFunction) → AreFunctions p fs → slice_get fs f ≡ Some fn → IsFunction p fn
 function_at p [] f fn h e = absurd cc
 function_at p (g ∷ fs) zero fn h e = subst (λ g. IsFunction p g) (some_is g fn e) h.0
 function_at p (g ∷ fs) (suc f) fn h e = function_at p fs f fn h.1 e
