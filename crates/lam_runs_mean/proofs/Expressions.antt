@@ -23,8 +23,8 @@ use Rattle.resolved_tree.specs.Tree.{ResolvedType, ResolvedGiven, ResolvedPlace,
 use Rattle.resolved_tree.specs.Typing.{Head, head_of, heads_of, given_by, exact_places, a_local, Scope, Fits, FitsBy, Operates, AreTags, Gives, AreArgs, AreRest, AreTagArgs}
 use Rattle.lam_meaning.specs.Trees.{Own, local, End, goes, raises, leaves, Tree, and_then, purely, ask_value, asked, gained, nothing_gained}
 use Rattle.lam_meaning.specs.Means.{sort_of, kind_of, At, may_read, Caller, class_fields, makes_array, result_sort, called_in, signed, two, eval, eval_all}
-use Rattle.lam_typed.proofs.Locals.{some_is}
 use Rattle.lam_typed.proofs.Rows.{PureIs, divided_is}
+use Rattle.lam_typed.proofs.Expressions.{head_at}
 use Rattle.lam_runs_mean.specs.Typing.{an_object, an_array, Typing, Extends, Classes, fields_in, Is, Are}
 use Rattle.lam_runs_mean.specs.Served.{IsSlot, IsAsk, given_type}
 use Rattle.lam_runs_mean.proofs.HeapLemmas.{is_on}
@@ -50,11 +50,6 @@ gained_same : (a : Ask) (v : Value) (o : Own) → (gained a v o).locals ≡ o.lo
 gained_same ask.Mint (Tag t) o = refl
 gained_same (ask.ReceiveCaps p) (CapV a b) o = refl
 gained_same a v o = refl
-
-head_at : (fs : List ResolvedFunction) (f : ℕ) (h : Head) → slice_get (map head_of fs) f ≡ Some h → (fn : ResolvedFunction) × (slice_get fs f ≡ Some fn) × (head_of fn ≡ h)
-head_at [] f h e = absurd cc
-head_at (fn ∷ fs) zero h e = (fn, refl, some_is (head_of fn) h e)
-head_at (fn ∷ fs) (suc f) h e = head_at fs f h e
 
 -- ---- slots
 

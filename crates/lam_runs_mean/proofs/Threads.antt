@@ -9,10 +9,10 @@ use Rattle.lam_builtins.specs.Types.{int}
 use Rattle.lam_asks.specs.declared.answer.Outcome.TheVariants as outcome
 use Rattle.lam_asks.specs.declared.ask.Ask.TheVariants as ask
 use Rattle.resolved_tree.specs.Tree.{ResolvedType, Block, ResolvedFunction, ResolvedTree}
-use Rattle.resolved_tree.specs.Typing.{Heads, heads_of, given_by, Scope, locals_of, Returning, in_function, IsBlock, block_ends, EndsWith, IsFunction, AreFunctions, IsTypedTree}
+use Rattle.resolved_tree.specs.Typing.{heads_of, given_by, Scope, locals_of, Returning, in_function, IsBlock, block_ends, EndsWith, IsTypedTree}
 use Rattle.lam_meaning.specs.Trees.{Own, with_locals, End, goes, raises, leaves}
 use Rattle.lam_meaning.specs.Means.{At, Does, Caller, calls_limit, call_end, first_locals, body_of, deeper, calls_to, runs, block_runs, last_ask, means}
-use Rattle.lam_typed.proofs.Locals.{some_is}
+use Rattle.lam_typed.proofs.Threads.{function_at}
 use Rattle.lam_runs_mean.specs.Typing.{Typing, Extends, Is, Are}
 use Rattle.lam_runs_mean.specs.Served.{IsNumber}
 use Rattle.lam_runs_mean.specs.Asks.{IsStart, AsksWell, AnyEnd, AsksAreTyped}
@@ -21,11 +21,6 @@ use Rattle.lam_runs_mean.proofs.Locals.{Fit, fit_on, fit_head}
 use Rattle.lam_runs_mean.proofs.Trees.{any_ask, end_tree, done_tree, if_tree, spend_tree}
 use Rattle.lam_runs_mean.proofs.Expressions.{Values, CallsWell}
 use Rattle.lam_runs_mean.proofs.Statements.{OfBlock, DoesWell, exec_tree, block_tree}
-
-function_at : (p : Heads) (fs : List ResolvedFunction) (f : ℕ) (fn : ResolvedFunction) → AreFunctions p fs → slice_get fs f ≡ Some fn → IsFunction p fn
-function_at p [] f fn h e = absurd cc
-function_at p (g ∷ fs) zero fn h e = subst (λ g. IsFunction p g) (some_is g fn e) h.0
-function_at p (g ∷ fs) (suc f) fn h e = function_at p fs f fn h.1 e
 
 module _ (r : ResolvedTree) (typed : IsTypedTree r) where
   abbrev RunsWell : (Block → Does) → Type 0
