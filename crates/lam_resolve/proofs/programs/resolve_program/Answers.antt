@@ -20,4 +20,4 @@ returns c =
     program_done (program_tree c.args.p.now) (tables c.in_ok-t.t) (functions_tree c.in_ok-functions.functions.items) (classes_tree c.in_ok-classes.classes.items)
     (c.in_ok-t.ensures ∙ ap (λ l. tables_of (items_tree l)) c.as_slice-items.ensures.value)
     (c.in_ok-functions.ensures ∙ ap (λ l. resolve_functions (tables c.in_ok-t.t) 0 (items_tree l)) c.as_slice-items.ensures.value)
-    (c.in_ok-classes.ensures ∙ ap (λ l. types_of_all (all_fields l)) c.as_slice-2.ensures.value)
+    (c.in_ok-classes.ensures ∙ ap (λ l. types_of_all (all_fields l)) c.as_slice.ensures.value)
