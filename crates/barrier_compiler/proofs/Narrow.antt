@@ -12,7 +12,7 @@ use Rattle.lam_builtins.specs.Types.{int}
 use Rattle.lam_builtins.specs.Operators.{operand}
 use Rattle.lam_builtins.specs.Builtins.{row_by}
 use Rattle.resolved_tree.specs.Tree.{ResolvedType, ResolvedGiven, ResolvedPlace, CapSlot, Expression, number_value, text_value, bool_value, null_value, local_value, unary_of, binary_of, field_of, element_of, call_of, builtin_of, new_object, new_array, label_of, caps_of, spawn_of, Expressions, args_end, args_more, Statement, let_slot, if_block, while_block, return_value, throw_value, sync_block, region_block, do_value, set_local, set_field, set_element, Block, block_end, block_more, OtherBlock, no_other, other_block, ResolvedFunction, ResolvedTree}
-use Rattle.resolved_tree.specs.Typing.{Head, Heads, head_of, heads_of, IsField, Use, a_local, a_monitor, Scope, with_use, local_if, locals_of, exact_places, Operates, AreTags, Gives, AreArgs, AreRest, AreTagArgs, IsFree, Returning, in_region, in_function, Returns, AreCaptured, use_of, after, IsStatement, IsBlock, IsOther, AreFunctions, IsTypedTree}
+use Rattle.resolved_tree.specs.Typing.{Heads, head_of, heads_of, IsField, Use, a_local, a_monitor, Scope, with_use, local_if, locals_of, exact_places, Operates, AreTags, Gives, AreArgs, AreRest, AreTagArgs, Returning, in_region, in_function, Returns, AreCaptured, use_of, after, IsStatement, IsBlock, IsOther, AreFunctions, IsTypedTree}
 use Rattle.resolved_tree.specs.Regions as tree
 use Rattle.resolved_tree.specs.Regions.{count_up, function_regions, AreNumbered}
 use Rattle.resolved_tree.specs.Limits.{RegionsFit, BlockFits, OtherFits, AllUnitsFit, AllFieldsFit, WithinLimits}
