@@ -1,16 +1,12 @@
 -- As many lists of kinds as classes.
-use Rattle.std.proofs.Common.{◌≡◌, ℕ, ◌≤◌, List, [], ◌∷◌, ◌++◌, length, map, refl, ap, arith, length-append}
+use Rattle.std.proofs.Common.{◌≡◌, ◌^◌, ◌<◌, ◌≤◌, List, length, map, ap, arith}
 use Rattle.std.proofs.lemmas.List.{length-map}
 use Rattle.lam_value.specs.declared.shapes.Kind.{Kind}
-use Rattle.resolved_tree.specs.declared.Class.{Class}
-use Rattle.resolved_tree.specs.Tree.{ResolvedType, classes_tree}
+use Rattle.lam_builtins.specs.Limits.{most_classes}
+use Rattle.resolved_tree.specs.Tree.{ResolvedType}
 use Rattle.lam_meaning.specs.Means.{kind_of}
 
-length-classes : (cs : List Class) → length (classes_tree cs) ≡ length cs
-length-classes [] = refl
-length-classes (c ∷ cs) = omega (arith, length-classes cs)
-
-pub room : (all : List (List Kind)) (cs rest : List Class) (n : ℕ) → all ++ map (λ ts. map kind_of ts) (classes_tree rest) ≡ map (λ ts. map kind_of ts) (classes_tree cs) → length cs ≤ n → length all ≤ n
-room all cs rest n e h =
+pub room : (all : List (List Kind)) (cs : List (List ResolvedType)) → all ≡ map (λ ts. map kind_of ts) cs → length cs ≤ most_classes → length all < 2 ^ 32
+room all cs e h =
     let f : List ResolvedType → List Kind = λ ts. map kind_of ts in
-    omega (arith, ap length e, length-append all (map f (classes_tree rest)), length-map (classes_tree cs) f, length-classes cs, h)
+    omega (arith, ap length e, length-map cs f, h)

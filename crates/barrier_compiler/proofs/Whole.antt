@@ -1,5 +1,5 @@
 -- The units of all drafts make a program's code.
-use Rattle.std.proofs.Common.{◌≡◌, ℕ, ◌+◌, ◌*◌, ◌^◌, ◌<◌, ◌≤◌, Bool, true, false, nat_lt, if◌then◌else◌, List, [], ◌∷◌, length, map, Some, None, Ok, Err, inl, inr, ◌⊎◌, refl, sym, ap, ◌∙◌, subst, arith}
+use Rattle.std.proofs.Common.{◌≡◌, ℕ, ◌+◌, ◌*◌, ◌^◌, ◌<◌, ◌≤◌, Bool, true, false, nat_lt, if◌then◌else◌, List, [], ◌∷◌, length, map, Some, None, Ok, Err, inl, inr, ◌⊎◌, refl, sym, ap, ◌∙◌, subst, arith, true≢false}
 use Rattle.std.specs.List.{AllByRecursion}
 use Rattle.lam_value.specs.declared.values.Value.{Value}
 use Rattle.lam_value.specs.declared.shapes.Kind.{Kind}
@@ -13,8 +13,8 @@ use Rattle.lam_meaning.specs.Pieces.{Flat, an_op, a_constant, numbered}
 use Rattle.lam_meaning.specs.Scheme.{Draft, function_draft, all_regions, drafts, unit_of, scheme}
 use Rattle.lam_meaning.specs.Long.{long_from, first_long_unit, unless_long, compiled}
 use Rattle.emit_units.specs.declared.units.Halt.{Halt}
-use Rattle.emit_units.specs.declared.units.Halt.TheVariants.{TooLong, NoMemory}
-use Rattle.emit_units.specs.Adds.{Made, made_of, Stage, Adds_units, AddsBy, Adds}
+use Rattle.emit_units.specs.declared.units.Halt.TheVariants.{TooLong, Wide, NoMemory}
+use Rattle.emit_units.specs.Adds.{drafts_narrow, Made, made_of, Stage, Adds_units, AddsBy, Adds}
 use Rattle.emit_units.proofs.Joins.{joins}
 use Rattle.barrier_compiler.proofs.Given.{AllGiven, all_given}
 use Rattle.barrier_compiler.proofs.Numbered.{are_counted}
@@ -86,3 +86,15 @@ module _ (r : ResolvedTree) where
   pub long_answer : {a s : Stage} (h : Halt) (unit : ℕ) → h ≡ TooLong unit → (h ≡ NoMemory) ⊎ (s ≡ Err h) → a ≡ Ok (made_of [] []) → Adds a s (drafts r) → compiled r ≡ Err unit
   long_answer h unit e (inl n) z g = let no : ⊥ = cc in absurd no
   long_answer h unit e (inr n) z g = is_long_at unit z (n ∙ ap (λ (x : Halt). Err x) e) g
+
+  -- no number is too wide, and there are not too many units
+  pub never_wide : {a s : Stage} (h : Halt) → h ≡ Wide → (h ≡ NoMemory) ⊎ (s ≡ Err h) → a ≡ Ok (made_of [] []) → Adds a s (drafts r) → drafts_narrow (drafts r) ≡ true → length (drafts r) < 65536 → ⊥
+  never_wide h e (inl n) z g narrow few = cc
+  never_wide {a = a} {s = s} h e (inr n) z g narrow few =
+      let is : s ≡ Err Wide = n ∙ ap (λ (x : Halt). Err x) e in
+      let k : AddsBy (Ok (made_of [] [])) (Err Wide) (drafts r) = subst (λ (s : Stage). AddsBy (Ok (made_of [] [])) s (drafts r)) is (subst (λ (x : Stage). Adds x s (drafts r)) z g).by in
+      by k
+    where
+      by : (drafts_narrow (drafts r) ≡ false) ⊎ (65536 ≤ length {A = CodeUnit} [] + length (drafts r)) → ⊥
+      by (inl w) = true≢false (sym narrow ∙ w)
+      by (inr w) = omega (arith, w, few)

@@ -3,9 +3,11 @@
 //! Each access stands behind a barrier, and each region is a unit of its own. What a program comes to, its code or the
 //! number of its first unit that is too long, is the definition `compiled` of `lam_meaning`; `emit` computes it.
 
-ghost use Rattle.std.specs.Prelude.{◌≡◌, ◌<◌, ◌^◌, length, map, Ok, IfOk, IfErr};
+ghost use Rattle.std.specs.Prelude.{◌≡◌, map, Ok, IfOk, IfErr};
 ghost use Rattle.resolved_tree.specs.Tree.{types_tree, classes_tree, resolved_tree};
+ghost use Rattle.resolved_tree.specs.Typing.{IsTypedTree};
 ghost use Rattle.resolved_tree.specs.Slots.{SlotsDiffer};
+ghost use Rattle.resolved_tree.specs.Limits.{WithinLimits};
 ghost use Rattle.resolved_tree.specs.Regions.{AreNumbered};
 ghost use Rattle.lam_bytecode.specs.Codes.{IsCode};
 ghost use Rattle.lam_meaning.specs.Means.{kind_of};
@@ -20,16 +22,12 @@ use resolved_tree::{Class, Resolved, ValueType};
 use std::alloc::{AllocError, AllocFailed, Global};
 use want_of_memory::NoMemory;
 
-/// The most classes that code can name. A checked program has far fewer.
-const MOST_CLASSES: usize = 4294967295;
-
 /// Why a program has no code.
 #[derive(Clone, Copy, Debug, PartialEq, Eq)]
 pub enum CompileFault {
     /// This unit has more than 65,535 operations, and none before it has.
     CodeTooLong { unit: u32 },
-    /// Memory was refused. It stands as well for what code of 32 bits cannot name: 65,536 units, or a slot, field,
-    /// class, function or region past 2^32. No checked program comes near.
+    /// Memory was refused.
     NoMemory,
 }
 
@@ -57,14 +55,16 @@ impl<T: Drop> From<AllocFailed<T>> for CompileFault {
     }
 }
 
-/// The code of a program.
+/// The code of a program. It is within the limits of the language, so each of its numbers is one of 32 bits.
 ///
 /// # Errors
 ///
 /// `CodeTooLong` with the number of the first unit that has more than 65,535 operations; `NoMemory`.
 pub fn emit(alloc: Global, program: &Resolved) -> Result<Code, CompileFault>
+    requires typed { IsTypedTree (resolved_tree program.now) }
     requires slots { SlotsDiffer (resolved_tree program.now) }
     requires regions { AreNumbered (resolved_tree program.now) }
+    requires limits { WithinLimits (resolved_tree program.now) }
     ensures ok { IfOk result (λ code. compiled (resolved_tree program.now) ≡ Ok code) }
     ensures sound { IfOk result (λ code. IsCode code) }
     ensures fault { IfErr result (λ f. IsFaultOf f (compiled (resolved_tree program.now))) }
@@ -78,19 +78,15 @@ pub fn emit(alloc: Global, program: &Resolved) -> Result<Code, CompileFault>
             Ok(Code::new(parts.units, parts.constants, classes))
         }
         Err(Halt::TooLong { unit }) => Err(CompileFault::CodeTooLong { unit }),
-        Err(Halt::Wide) => Err(CompileFault::NoMemory),
+        Err(Halt::Wide) => unreachable!(),
         Err(Halt::NoMemory) => Err(CompileFault::NoMemory),
     }
 }
 
 /// The kinds of each class's fields.
 fn classes_of(alloc: Global, classes: &Vec<Class>) -> Result<Vec<Kinds>, NoMemory>
-    ensures kinds { IfOk result (λ v. v.items ≡ map (λ ts. map kind_of ts) (classes_tree classes.now.items)) }
-    ensures room { IfOk result (λ v. length v.items < 2 ^ 32) }
+    ensures { IfOk result (λ v. v.items ≡ map (λ ts. map kind_of ts) (classes_tree classes.now.items)) }
 {
-    if classes.len() > MOST_CLASSES {
-        return Err(NoMemory);
-    }
     let mut all = Vec::new(alloc);
     for class in classes {
         all.push(kinds_of(alloc, &class.fields)?)?;

@@ -18,7 +18,6 @@ use lam_bytecode::Code;
 use lam_resolve::resolve;
 use lam_resolved::resolves;
 use region_check::Checked;
-use std::alloc::Global;
 
 /// The code of a checked program, which is the one that the scheme gives it. A thread of that code makes the asks that
 /// the program means, in order, and is not stuck.
@@ -26,14 +25,14 @@ use std::alloc::Global;
 /// # Errors
 ///
 /// `CodeTooLong` with the number of the first unit that has more than 65,535 operations by the scheme; `NoMemory`.
-pub fn compile(alloc: Global, c: Checked) -> Result<Code, CompileFault>
-    ensures ok { IfOk result (λ code. IsCompiledTo (checked_tree c) (Ok code)) }
+pub fn compile(c: &Checked) -> Result<Code, CompileFault>
+    ensures ok { IfOk result (λ code. IsCompiledTo (checked_tree c.now) (Ok code)) }
     ensures sound { IfOk result (λ code. IsCode code) }
-    ensures acts { ActsAsProgram (checked_tree c) }
-    ensures long { IfErr result (λ f. (f ≡ no_memory) ⊎ ((unit : ℕ) × (f ≡ CodeTooLong unit) × IsCompiledTo (checked_tree c) (Err unit))) }
+    ensures acts { ActsAsProgram (checked_tree c.now) }
+    ensures long { IfErr result (λ f. (f ≡ no_memory) ⊎ ((unit : ℕ) × (f ≡ CodeTooLong unit) × IsCompiledTo (checked_tree c.now) (Err unit))) }
 {
-    resolves(&c);
+    resolves(c);
     compiled_code_acts_as_its_source();
     let program = resolve(c)?;
-    emit(alloc, &program)
+    emit(*c.program().items.allocator(), &program)
 }

@@ -38,7 +38,7 @@ and_assoc : (a b c : Bool) → (a && (b && c)) ≡ ((a && b) && c)
 and_assoc true b c = refl
 and_assoc false b c = refl
 
-narrow-append : (ds es : List Draft) → drafts_narrow (ds ++ es) ≡ (drafts_narrow ds && drafts_narrow es)
+pub narrow-append : (ds es : List Draft) → drafts_narrow (ds ++ es) ≡ (drafts_narrow ds && drafts_narrow es)
 narrow-append [] es = refl
 narrow-append (d ∷ ds) es = ap (λ b. draft_narrow d && b) (narrow-append ds es) ∙ and_assoc (draft_narrow d) (drafts_narrow ds) (drafts_narrow es)
 

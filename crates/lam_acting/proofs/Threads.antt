@@ -17,6 +17,7 @@ use Rattle.resolved_tree.specs.Regions.{AreNumbered}
 use Rattle.lam_meaning.specs.Trees.{End, goes, raises, leaves, Tree, on_end}
 use Rattle.lam_meaning.specs.Means.{At, Does, means, calls_limit, call_end, first_locals, body_of, deeper, calls_to, runs, block_runs, last_ask}
 use Rattle.lam_meaning.specs.Scheme.{scheme}
+use Rattle.lam_typed.proofs.Threads.{function_at}
 use Rattle.lam_acting.specs.Nested.{Nested, block_code}
 use Rattle.lam_acting.specs.Gathers.{Along, with_locals, Out, call_result, body_does, called, acts, acts_to, closing, Final, final_of, first_along}
 use Rattle.lam_acting.specs.Gathers as nested

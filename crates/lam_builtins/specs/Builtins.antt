@@ -27,7 +27,7 @@ pub record RowBy (C : Type 0) : Type 0 where
   pub name : Word
   pub signature : SignatureBy C
 
-abbrev row_of : {C : Type 0} → Word → List (PlaceBy C) → AnswerBy C → RowBy C
+abbrev pub row_of : {C : Type 0} → Word → List (PlaceBy C) → AnswerBy C → RowBy C
 row_of name takes answer = record { name = name; signature = record { takes = takes; answer = answer } }
 
 -- the table. No row names a class

@@ -3,12 +3,25 @@
 //! `specs/Types` says which types there are, what an expression may give and what a place takes; a class in a type
 //! stands by its name or, once names are resolved, by its number. `specs/Operators` has the types of operators, and
 //! `specs/Builtins` is the one table of built-in calls: the name of each, its arguments and its result. The type
-//! checker, the meaning of a program, its bytecode and the machine all read these.
+//! checker, the meaning of a program, its bytecode and the machine all read these. `rows` has the same table as values,
+//! `operators` the types of operators; every other table of them in code is made from these. `limits` says how much a
+//! program may have.
 #![tactic(auto)]
+
+mod limits;
+mod operators;
+mod rows;
 
 ghost use Rattle.std.specs.Prelude.{◌≡◌, length};
 ghost use Rattle.std.specs.Str.{bytes_eq};
 ghost use Rattle.lam_builtins.specs.Builtins.{row, builtin_named, named_in as first_named};
+
+pub use limits::{
+    MOST_CLASSES, MOST_FIELDS, MOST_FUNCTIONS, MOST_OPERATIONS, MOST_PARAMS, MOST_REGIONS,
+    MOST_SLOTS,
+};
+pub use operators::{operand_type, operator_type, prefix_type};
+pub use rows::{Answers, Arguments, PlainType, Row, Takes};
 
 /// The built-in calls. `specs/Builtins.antt` has the table of their names, arguments and results.
 #[derive(Clone, Copy, Debug, PartialEq, Eq, Drop)]
@@ -89,51 +102,14 @@ impl Builtin {
     pub fn name(self) -> &'static str
         ensures { result.now ≡ (row self).name }
     {
-        match self {
-            Builtin::Len => "len",
-            Builtin::Size => "size",
-            Builtin::Byte => "byte",
-            Builtin::Slice => "slice",
-            Builtin::Cat => "cat",
-            Builtin::Text => "text",
-            Builtin::Number => "number",
-            Builtin::MyLabel => "my_label",
-            Builtin::MyCaps => "my_caps",
-            Builtin::Root => "root",
-            Builtin::LabelOf => "label_of",
-            Builtin::Copy => "copy",
-            Builtin::Mint => "mint",
-            Builtin::Say => "say",
-            Builtin::MakeFile => "make_file",
-            Builtin::MakeDir => "make_dir",
-            Builtin::OpenFile => "open_file",
-            Builtin::OpenDir => "open_dir",
-            Builtin::Remove => "remove",
-            Builtin::Read => "read",
-            Builtin::Length => "length",
-            Builtin::Append => "append",
-            Builtin::Cut => "cut",
-            Builtin::MakePipe => "make_pipe",
-            Builtin::Send => "send",
-            Builtin::SendCaps => "send_caps",
-            Builtin::Receive => "receive",
-            Builtin::ReceiveCaps => "receive_caps",
-            Builtin::Join => "join",
-        }
+        self.row().name
     }
 
     /// How many arguments it takes, at most three.
     pub fn arity(self) -> usize
         ensures { result ≡ length (row self).signature.takes }
     {
-        match self {
-            Builtin::MyLabel | Builtin::MyCaps | Builtin::Root | Builtin::Mint => 0,
-            Builtin::Len | Builtin::Size | Builtin::Text | Builtin::Number => 1,
-            Builtin::LabelOf | Builtin::Say | Builtin::Length | Builtin::MakePipe => 1,
-            Builtin::Receive | Builtin::ReceiveCaps | Builtin::Join => 1,
-            Builtin::Slice | Builtin::MakeFile | Builtin::MakeDir | Builtin::Read => 3,
-            _ => 2,
-        }
+        self.row().takes.count()
     }
 }
 

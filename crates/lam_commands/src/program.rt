@@ -1,10 +1,13 @@
 //! The commands on a program alone, `format`, `check` and `code`, and the code of a program in a file.
 
-ghost use Rattle.std.specs.Prelude.{◌≡◌, ◌≢◌, ◌≤◌, Ok, IsTrue, IfOk, IfErr, string_bytes};
+ghost use Rattle.std.specs.Prelude.{◌≡◌, ◌≢◌, ◌≤◌, ◌⊎◌, ℕ, Ok, Err, IsTrue, IfOk, IfErr, string_bytes};
 ghost use Rattle.lam_io.specs.Outside.{Rose, AllStay};
 ghost use Rattle.lam_syntax.specs.Tree.{program_tree};
 ghost use Rattle.lam_print.specs.Canon.{canon};
+ghost use Rattle.region_check.specs.Seen.{checked_tree};
 ghost use Rattle.lam_bytecode.specs.Codes.{IsCode};
+ghost use Rattle.barrier_compiler.specs.Compiled.{IsCompiledTo};
+ghost use Rattle.barrier_compiler.specs.declared.emitting.CompileFault.TheVariants.{CodeTooLong, NoMemory as no_memory};
 ghost use Rattle.lam_plan.specs.Reading.{HasFile, WithFile, Never, IsCompiled, Compiles, program_limit};
 ghost use Rattle.lam_plan.specs.Plan.{Formats, Checks, Lists};
 ghost use Rattle.lam_commands.specs.Halts.{Says, Finds, Gives};
@@ -14,9 +17,10 @@ use crate::halt::Halt;
 use lam_bytecode::{Code, listing};
 use lam_front::{check_program, read_program};
 use lam_io::Shelf;
-use lam_plan::compile;
+use lam_plan::{CompileFault, compile};
 use lam_print::print;
 use lam_syntax::Program;
+use region_check::Checked;
 use std::alloc::Global;
 use std::mem::forget;
 use want_of_memory::NoMemory;
@@ -116,5 +120,16 @@ pub fn compiled(alloc: Global, bytes: &[u8]) -> Result<Code, Halt>
     ensures no_fault { IfErr result (λ halt. halt ≢ Halt.ShelfFailed) }
 {
     let checked = check_program(alloc, bytes)?;
-    Ok(compile(alloc, checked)?)
+    Ok(code_of(checked)?)
+}
+
+/// The code of a checked program, whose tree is left to the end of the call's process.
+fn code_of(checked: Checked) -> Result<Code, CompileFault>
+    ensures ok { IfOk result (λ code. IsCompiledTo (checked_tree checked) (Ok code)) }
+    ensures sound { IfOk result (λ code. IsCode code) }
+    ensures long { IfErr result (λ f. (f ≡ no_memory) ⊎ ((unit : ℕ) × (f ≡ CodeTooLong unit) × IsCompiledTo (checked_tree checked) (Err unit))) }
+{
+    let code = compile(&checked);
+    forget(checked);
+    code
 }

@@ -16,12 +16,13 @@ ghost use Rattle.lam_kinds.specs.Tables.{find, named_if, type_known};
 ghost use Rattle.first_breaks.specs.Verdicts.{Fine, then_on};
 ghost use Rattle.lam_kinds.specs.Values.{decls, names, value_type, option_type, given, place, places, answer, option_signature, Gives, Passes};
 ghost use Rattle.lam_exprs.specs.Exprs.{at_of, placed, operate, field_type, found_field, element_of, known as known_name, count, counted, called, spawnable, started, cap_tag, cap_tags, given_of, form_given, args_given, tags_given};
-ghost use Rattle.lam_builtins.specs.Operators.{operand, operator_type, unary_type};
+ghost use Rattle.lam_builtins.specs.Operators.{operand, operator_type as type_of_operator, unary_type};
 ghost use Rattle.lam_exprs.specs.Judgement.{IsGiven};
 ghost use Rattle.lam_exprs.specs.Meets.{first_of, signature_as, GivesSignature, TakesAsMany};
 ghost use Rattle.lam_kinds.specs.Meets.{HasNoBreak};
 
-use lam_kinds::builtins::{answered, builtin_returns, builtin_wants};
+use lam_builtins::{operand_type, operator_type, prefix_type};
+use lam_kinds::builtins::{answered, builtin_returns, builtin_wants, plain_ref};
 use lam_kinds::fault::{fit, unequal};
 use lam_kinds::tables::{find_name, known_type};
 use lam_kinds::types::{comparable, type_ref};
@@ -30,33 +31,25 @@ use lam_operators::{BinaryOp, UnaryOp};
 use lam_syntax::{CapItem, Expr, ExprKind, Id, TypeExpr};
 use std::alloc::Global;
 
-fn operand_type(op: BinaryOp) -> Option<TypeRef<'static>>
+fn operand_ref(op: BinaryOp) -> Option<TypeRef<'static>>
     ensures { option_type result ≡ operand op }
 {
-    match op {
-        BinaryOp::Or | BinaryOp::And => Some(TypeRef::Bool),
-        BinaryOp::Eq | BinaryOp::Ne => None,
-        _ => Some(TypeRef::Int),
+    match operand_type(op) {
+        Some(t) => Some(plain_ref(t)),
+        None => None,
     }
 }
 
-fn result_type(op: BinaryOp) -> TypeRef<'static>
-    ensures { value_type result ≡ operator_type op }
+fn result_ref(op: BinaryOp) -> TypeRef<'static>
+    ensures { value_type result ≡ type_of_operator op }
 {
-    match op {
-        BinaryOp::Add | BinaryOp::Sub | BinaryOp::Mul => TypeRef::Int,
-        BinaryOp::Div | BinaryOp::Rem => TypeRef::Int,
-        _ => TypeRef::Bool,
-    }
+    plain_ref(operator_type(op))
 }
 
-fn prefix_type(op: UnaryOp) -> TypeRef<'static>
+fn prefix_ref(op: UnaryOp) -> TypeRef<'static>
     ensures { value_type result ≡ unary_type op }
 {
-    match op {
-        UnaryOp::Not => TypeRef::Bool,
-        UnaryOp::Neg => TypeRef::Int,
-    }
+    plain_ref(prefix_type(op))
 }
 
 // An operator's own rule, once its operands are typed.
@@ -68,17 +61,17 @@ fn check_operator<'a>(
     left: Got<'a>,
     right: Got<'a>,
 ) -> Result<Got<'a>, TypeFault>
-    ensures { Gives result (operate (operand op) (operator_type op) left_at right_at (given left.entry) (given right.entry)) }
+    ensures { Gives result (operate (operand op) (type_of_operator op) left_at right_at (given left.entry) (given right.entry)) }
 {
-    match operand_type(op) {
+    match operand_ref(op) {
         Some(t) => {
             fit(alloc, left_at, Want::Exactly(t), left)?;
             fit(alloc, right_at, Want::Exactly(t), right)?;
-            Ok(Got::Value(result_type(op)))
+            Ok(Got::Value(result_ref(op)))
         }
         None => {
             if comparable(left, right) {
-                Ok(Got::Value(result_type(op)))
+                Ok(Got::Value(result_ref(op)))
             } else {
                 Err(unequal(alloc, left_at, right_at, left, right))
             }
@@ -281,8 +274,8 @@ fn check_prefix<'a>(
 ) -> Result<Got<'a>, TypeFault>
     ensures { Gives result (then_on (placed (at_of (expr_tree of.now)) (exactly (unary_type op)) (given_of (decls known.now) (names env.now.entries) (expr_tree of.now))) (λ _. Fine (a_value (unary_type op)))) }
 {
-    check_at(alloc, known, env, Want::Exactly(prefix_type(op)), of)?;
-    Ok(Got::Value(prefix_type(op)))
+    check_at(alloc, known, env, Want::Exactly(prefix_ref(op)), of)?;
+    Ok(Got::Value(prefix_ref(op)))
 }
 
 #[cycle(expr)]

@@ -1,5 +1,6 @@
 -- One more entry in a table.
 use Rattle.std.proofs.Common.{◌≡◌, ℕ, Bool, true, false, List, [], ◌∷◌, ◌++◌, map, is_some, Result, Ok, Err, OnOk, IfErr, sym, ap, ◌∙◌, subst, Bor}
+use Rattle.lam_builtins.specs.Limits.{most_functions}
 use Rattle.lam_syntax.specs.Tree.{IdTree}
 use Rattle.lam_operators.specs.Words.{Word}
 use Rattle.first_breaks.specs.Verdicts.{Fine, then_on}
@@ -35,12 +36,12 @@ pub to_leaves : {A : Type 0} (r : Result (Unit {0}) TypeFault) (new : A) (v w : 
 to_leaves r new v w e h = subst (λ v. Leaves r new v) (sym e) h
 
 -- a function's name that is no built-in call's
-pub declared_name : (es : List (Bor Word × Callable)) (x : IdTree) → is_some (builtin_named x.word) ≡ false → function_name (function_entries es) x ≡ new_name 1024 (keyed es) x
-declared_name es x e = ap (λ b. then_on (twice_if b x.at) (λ _. new_name 1024 (function_entries es) x)) e ∙ new_name_see signature 1024 es x
+pub declared_name : (es : List (Bor Word × Callable)) (x : IdTree) → is_some (builtin_named x.word) ≡ false → function_name (function_entries es) x ≡ new_name most_functions (keyed es) x
+declared_name es x e = ap (λ b. then_on (twice_if b x.at) (λ _. new_name most_functions (function_entries es) x)) e ∙ new_name_see signature most_functions es x
 
 unless_builtin : (b : Bool) (at : ℕ) (v : Verdict (Unit {0})) → then_on (twice_if b at) (λ _. v) ≡ Fine tt → v ≡ Fine tt
 unless_builtin true at v e = absurd cc
 unless_builtin false at v e = e
 
-pub new_function : (es : List (Bor Word × Callable)) (x : IdTree) → function_name (function_entries es) x ≡ Fine tt → new_name 1024 (keyed es) x ≡ Fine tt
-new_function es x e = sym (new_name_see signature 1024 es x) ∙ unless_builtin (is_some (builtin_named x.word)) x.at (new_name 1024 (function_entries es) x) e
+pub new_function : (es : List (Bor Word × Callable)) (x : IdTree) → function_name (function_entries es) x ≡ Fine tt → new_name most_functions (keyed es) x ≡ Fine tt
+new_function es x e = sym (new_name_see signature most_functions es x) ∙ unless_builtin (is_some (builtin_named x.word)) x.at (new_name most_functions (function_entries es) x) e

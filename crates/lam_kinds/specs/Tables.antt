@@ -8,6 +8,7 @@ use Rattle.lam_kinds.specs.Written.{written}
 use Rattle.first_breaks.specs.Verdicts.{Fine, Stop, then_on}
 use Rattle.lam_kinds.specs.Breaks.{no_name, twice, too_many, Verdict}
 use Rattle.lam_builtins.specs.declared.Builtin.{Builtin}
+use Rattle.lam_builtins.specs.Limits.{most_classes, most_functions}
 use Rattle.lam_builtins.specs.Builtins.{Answer, answers, no_answer, Signature, row, builtin_named}
 
 -- what the first entry of a name has
@@ -93,7 +94,7 @@ new_name limit es x = then_on (fresh es x) (λ _. room x.at limit (length es))
 
 -- one more class
 unfoldable pub with_class : List (Word × Names) → ClassTree → Verdict (List (Word × Names))
-with_class es c = then_on (new_name 1024 es c.name) (λ _. Fine (es ++ (c.name.word, fields_of c) ∷ []))
+with_class es c = then_on (new_name most_classes es c.name) (λ _. Fine (es ++ (c.name.word, fields_of c) ∷ []))
 
 -- the classes of a program, after those before it
 abbrev pub class_table : List (Word × Names) → ProgramTree → Verdict (List (Word × Names))
@@ -103,7 +104,7 @@ class_table es (function_item f ∷ p) = class_table es p
 
 -- a function's name is no built-in call's
 abbrev pub function_name : List (Word × Signature) → IdTree → Verdict (Unit {0})
-function_name es x = then_on (twice_if (is_some (builtin_named x.word)) x.at) (λ _. new_name 1024 es x)
+function_name es x = then_on (twice_if (is_some (builtin_named x.word)) x.at) (λ _. new_name most_functions es x)
 
 -- one more function
 unfoldable pub with_function : List (Word × Signature) → FunctionTree → Verdict (List (Word × Signature))

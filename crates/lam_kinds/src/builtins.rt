@@ -1,11 +1,13 @@
-//! How built-in calls are called, by types that borrow from a program's tree.
+//! How built-in calls are called, by types that borrow from a program's tree. The table is that of `lam_builtins`.
 
 ghost use Rattle.std.specs.Prelude.{◌≡◌, take, length};
+ghost use Rattle.lam_operators.specs.Words.{Word};
 ghost use Rattle.lam_builtins.specs.Builtins.{row, answered};
-ghost use Rattle.lam_kinds.specs.Values.{places, answer, given};
+ghost use Rattle.lam_builtins.specs.Rows.{plain_type, place_taken, places_taken, answer_given};
+ghost use Rattle.lam_kinds.specs.Values.{value_type, place, places, answer, given};
 
 use crate::types::{Got, TypeRef, Want};
-use lam_builtins::Builtin;
+use lam_builtins::{Answers, Arguments, Builtin, PlainType, Takes};
 
 /// The result of a call: a value of a type, none, or a value of the first argument's type.
 #[derive(Clone, Copy)]
@@ -15,58 +17,72 @@ pub enum Returns<'a> {
     AsFirst,
 }
 
+// A place that no argument takes.
+const PAST: Want<'static> = Want::Exactly(TypeRef::Int);
+
+/// The type that a row speaks of.
+pub fn plain_ref(t: PlainType) -> TypeRef<'static>
+    ensures { value_type result ≡ plain_type t }
+{
+    match t {
+        PlainType::Int => TypeRef::Int,
+        PlainType::Bool => TypeRef::Bool,
+        PlainType::Bytes => TypeRef::Bytes,
+        PlainType::Tag => TypeRef::Tag,
+        PlainType::Label => TypeRef::Label,
+        PlainType::Caps => TypeRef::Caps,
+        PlainType::File => TypeRef::File,
+        PlainType::Dir => TypeRef::Dir,
+        PlainType::Pipe => TypeRef::Pipe,
+        PlainType::Thread => TypeRef::Thread,
+    }
+}
+
+fn want_of(takes: Takes) -> Want<'static>
+    ensures { place result ≡ place_taken takes }
+{
+    match takes {
+        Takes::Exactly(t) => Want::Exactly(plain_ref(t)),
+        Takes::AnyArray => Want::AnyArray,
+        Takes::AnyObject => Want::AnyObject,
+        Takes::AnyLabelled => Want::AnyLabelled,
+    }
+}
+
+fn wants_of(takes: Arguments) -> [Want<'static>; 3]
+    ensures takes { places (take (length (places_taken {C = Word} takes)) result) ≡ places_taken takes }
+    ensures three { length result ≡ 3 }
+{
+    match takes {
+        Arguments::Zero => [PAST, PAST, PAST],
+        Arguments::One(a) => [want_of(a), PAST, PAST],
+        Arguments::Two(a, b) => [want_of(a), want_of(b), PAST],
+        Arguments::Three(a, b, c) => [want_of(a), want_of(b), want_of(c)],
+    }
+}
+
 /// What the arguments of a built-in call are; past its arity, places that no argument takes.
 pub fn builtin_wants(call: Builtin) -> [Want<'static>; 3]
     ensures takes { places (take (length (row call).signature.takes) result) ≡ (row call).signature.takes }
     ensures three { length result ≡ 3 }
 {
-    let int = Want::Exactly(TypeRef::Int);
-    let bytes = Want::Exactly(TypeRef::Bytes);
-    let label = Want::Exactly(TypeRef::Label);
-    let file = Want::Exactly(TypeRef::File);
-    let dir = Want::Exactly(TypeRef::Dir);
-    let pipe = Want::Exactly(TypeRef::Pipe);
-    match call {
-        Builtin::MyLabel | Builtin::MyCaps | Builtin::Root | Builtin::Mint => [int, int, int],
-        Builtin::Len => [Want::AnyArray, int, int],
-        Builtin::Size | Builtin::Number | Builtin::Say => [bytes, int, int],
-        Builtin::Text => [int, int, int],
-        Builtin::Byte | Builtin::Slice => [bytes, int, int],
-        Builtin::Cat => [bytes, bytes, int],
-        Builtin::LabelOf => [Want::AnyLabelled, int, int],
-        Builtin::Copy => [Want::AnyObject, label, int],
-        Builtin::MakeFile | Builtin::MakeDir => [dir, bytes, label],
-        Builtin::OpenFile | Builtin::OpenDir | Builtin::Remove => [dir, bytes, int],
-        Builtin::Read | Builtin::Length | Builtin::Cut => [file, int, int],
-        Builtin::Append => [file, bytes, int],
-        Builtin::MakePipe => [label, int, int],
-        Builtin::Send => [pipe, bytes, int],
-        Builtin::SendCaps => [pipe, Want::Exactly(TypeRef::Caps), int],
-        Builtin::Receive | Builtin::ReceiveCaps => [pipe, int, int],
-        Builtin::Join => [Want::Exactly(TypeRef::Thread), int, int],
-    }
+    wants_of(call.row().takes)
 }
 
 /// The result of a built-in call.
 pub fn builtin_returns(call: Builtin) -> Returns<'static>
     ensures { answer result ≡ (row call).signature.answer }
 {
-    match call {
-        Builtin::Len | Builtin::Size | Builtin::Byte | Builtin::Number => Returns::Value(
-            TypeRef::Int,
-        ),
-        Builtin::Length | Builtin::Join => Returns::Value(TypeRef::Int),
-        Builtin::Slice | Builtin::Cat | Builtin::Text => Returns::Value(TypeRef::Bytes),
-        Builtin::Read | Builtin::Receive => Returns::Value(TypeRef::Bytes),
-        Builtin::MyLabel | Builtin::LabelOf => Returns::Value(TypeRef::Label),
-        Builtin::MyCaps | Builtin::ReceiveCaps => Returns::Value(TypeRef::Caps),
-        Builtin::Root | Builtin::MakeDir | Builtin::OpenDir => Returns::Value(TypeRef::Dir),
-        Builtin::MakeFile | Builtin::OpenFile => Returns::Value(TypeRef::File),
-        Builtin::Copy => Returns::AsFirst,
-        Builtin::Mint => Returns::Value(TypeRef::Tag),
-        Builtin::MakePipe => Returns::Value(TypeRef::Pipe),
-        Builtin::Say | Builtin::Remove | Builtin::Append => Returns::Nothing,
-        Builtin::Cut | Builtin::Send | Builtin::SendCaps => Returns::Nothing,
+    returns_of(call.row().answer)
+}
+
+fn returns_of(given: Answers) -> Returns<'static>
+    ensures { answer result ≡ answer_given given }
+{
+    match given {
+        Answers::Value(t) => Returns::Value(plain_ref(t)),
+        Answers::Nothing => Returns::Nothing,
+        Answers::AsFirst => Returns::AsFirst,
     }
 }
 

@@ -11,7 +11,7 @@ use crate::builtins::Returns;
 use crate::fault::TypeFault;
 use crate::types::{TypeRef, Want, type_ref};
 use indexmap::IndexMap;
-use lam_builtins::Builtin;
+use lam_builtins::{Builtin, MOST_CLASSES, MOST_FUNCTIONS};
 use lam_syntax::{Class, Function, Id, Item, TypeExpr, TypeKind, Var};
 use std::alloc::Global;
 
@@ -43,7 +43,7 @@ pub fn find_name<'a>(all: &Names<'a>, name: &str) -> Option<TypeRef<'a>>
 }
 
 impl<'a> Known<'a> {
-    /// The tables of a program: all class names, then all function names, each once and within the limits of 1,024.
+    /// The tables of a program: all class names, then all function names, each once and within the limits of a program.
     pub fn of(alloc: Global, items: &'a [Item]) -> Result<Known<'a>, TypeFault>
         ensures { Makes decls result (tables_of (items_tree items.now)) }
     {
@@ -160,7 +160,7 @@ fn add_class<'a>(
 ) -> Result<(), TypeFault>
     ensures { Leaves result (class_entries classes.new.entries) (with_class (class_entries classes.old.entries) (class_tree c.now)) }
 {
-    new_name(classes, 1024, &c.name)?;
+    new_name(classes, MOST_CLASSES, &c.name)?;
     let fields = fields_of(alloc, c.fields.as_slice())?;
     add_name(classes, c.name.name.as_str(), fields)
 }
@@ -187,7 +187,7 @@ fn function_name(functions: &IndexMap<&str, Callable>, x: &Id) -> Result<(), Typ
     if Builtin::named(x.name.as_str()).is_some() {
         return Err(TypeFault::Twice { at: x.at });
     }
-    new_name(functions, 1024, x)
+    new_name(functions, MOST_FUNCTIONS, x)
 }
 
 fn add_function<'a>(

@@ -2,7 +2,7 @@
 use Rattle.std.proofs.Common.{◌≡◌, ℕ, ◌+◌, ◌<◌, List, [], ◌∷◌, ◌++◌, length, map, drop, get_or, Option, Some, None, IsSome, is_some, refl, sym, ap, ◌∙◌, append_assoc, subst}
 use Rattle.std.specs.Option.{IsSomeAnd}
 use Rattle.lam_syntax.specs.declared.Item.{Item}
-use Rattle.lam_syntax.specs.Tree.{StmtList, FunctionTree, ClassTree, ItemTree, class_item, function_item, ProgramTree, items_tree, item_tree}
+use Rattle.lam_syntax.specs.Tree.{FunctionTree, ClassTree, ItemTree, class_item, function_item, ProgramTree, items_tree, item_tree}
 use Rattle.lam_operators.specs.Words.{Word}
 use Rattle.resolved_tree.specs.declared.Class.{Class}
 use Rattle.resolved_tree.specs.declared.Function.{Function}
@@ -13,7 +13,6 @@ use Rattle.lam_resolve_tables.specs.declared.named.Named.{Named}
 use Rattle.lam_resolve_tables.specs.Tables.{fields, all_fields}
 use Rattle.lam_resolve_tables.proofs.Options.{first_some, next_some, goes, Collected, collected_some, one_more}
 use Rattle.lam_resolve.specs.Meets.{types_of_all, IsAdded}
-use Rattle.lam_resolve.specs.Parts.{item_of, left_after, together}
 
 module _ (t : Tables) (m : ℕ) (f : FunctionTree) where
   abbrev after_body : List (Word × ResolvedType) → Option ResolvedType → Closed Block → Option (ResolvedFunction × ℕ)
@@ -84,16 +83,15 @@ module _ (t : Tables) (m : ℕ) where
   item_alone (class_item c) p h = refl
   item_alone (function_item f) p h = one_function (resolve_function t m f) (first_some (resolve_function t m f) (λ a. then_some (resolve_functions t a.1 p) (λ fs. Some (a.0 ∷ fs))) h)
 
-  pub items_need : (w : Option (List ResolvedFunction)) (done : List ResolvedFunction) (xs : List Item) (k : ℕ) (x : Item) (bs : List StmtList) → k < length xs → x ≡ get_or xs k x → Collected w (resolve_functions t m (together (items_tree (drop k xs)) bs)) done → IsSome w →
-      IsSome (resolve_functions t m (item_of (item_tree x) bs ∷ []))
-  items_need w done xs k x bs lt is c h =
-      item_alone (item_of (item_tree x) bs) (together (items_tree (drop (k + 1) xs)) (left_after (item_tree x) bs))
-      (sym (ap (λ l. is_some (resolve_functions t m (together (items_tree l) bs))) (one_more xs k x lt is)) ∙ collected_some w (resolve_functions t m (together (items_tree (drop k xs)) bs)) done c h)
+  pub items_need : (w : Option (List ResolvedFunction)) (done : List ResolvedFunction) (xs : List Item) (k : ℕ) (x : Item) → k < length xs → x ≡ get_or xs k x → Collected w (resolve_functions t m (items_tree (drop k xs))) done → IsSome w → IsSome (resolve_functions t m (item_tree x ∷ []))
+  items_need w done xs k x lt is c h =
+      item_alone (item_tree x) (items_tree (drop (k + 1) xs))
+      (sym (ap (λ l. is_some (resolve_functions t m (items_tree l))) (one_more xs k x lt is)) ∙ collected_some w (resolve_functions t m (items_tree (drop k xs))) done c h)
 
-  pub items_next : (w : Option (List ResolvedFunction)) (old new : List ResolvedFunction) (n : ℕ) (xs : List Item) (k : ℕ) (x : Item) (bs left : List StmtList) → k < length xs → x ≡ get_or xs k x → Collected w (resolve_functions t m (together (items_tree (drop k xs)) bs)) old →
-      IsAdded t m (item_of (item_tree x) bs) n old new → left ≡ left_after (item_tree x) bs → Collected w (resolve_functions t n (together (items_tree (drop (k + 1) xs)) left)) new
-  items_next w old new n xs k x bs left lt is c a e =
-      record { joins = c.joins ∙ ap (λ l. then_some (resolve_functions t m (together (items_tree l) bs)) (λ fs. Some (old ++ fs))) (one_more xs k x lt is) ∙ a (together (items_tree (drop (k + 1) xs)) (left_after (item_tree x) bs)) ∙ ap (λ left. then_some (resolve_functions t n (together (items_tree (drop (k + 1) xs)) left)) (λ fs. Some (new ++ fs))) (sym e) }
+  pub items_next : (w : Option (List ResolvedFunction)) (old new : List ResolvedFunction) (n : ℕ) (xs : List Item) (k : ℕ) (x : Item) → k < length xs → x ≡ get_or xs k x → Collected w (resolve_functions t m (items_tree (drop k xs))) old → IsAdded t m (item_tree x) n old new →
+      Collected w (resolve_functions t n (items_tree (drop (k + 1) xs))) new
+  items_next w old new n xs k x lt is c a =
+      record { joins = c.joins ∙ ap (λ l. then_some (resolve_functions t m (items_tree l)) (λ fs. Some (old ++ fs))) (one_more xs k x lt is) ∙ a (items_tree (drop (k + 1) xs)) }
 
 -- the classes
 classes_push : (cs : List Class) (c : Class) → classes_tree (cs ++ c ∷ []) ≡ classes_tree cs ++ class_tree c ∷ []

@@ -1,2 +1,1 @@
 pub mod Meets
-pub mod Parts

@@ -6,7 +6,8 @@ ghost use Rattle.std.specs.Prelude.{◌≡◌, ℕ, IfOk, IsSome, Some, slice_ge
 ghost use Rattle.std.specs.Option.{option_map, option_copied};
 ghost use Rattle.lam_syntax.specs.Tree.{cap_tree as written_cap, caps_tree as written_caps};
 ghost use Rattle.lam_builtins.specs.Types.{a_value, a_null, bytes as bytes_type, label as label_type, caps as caps_type, thread as thread_type, object, array};
-ghost use Rattle.lam_builtins.specs.Operators.{operator_type, unary_type};
+ghost use Rattle.lam_builtins.specs.Operators.{operator_type as type_of_operator, unary_type};
+ghost use Rattle.lam_builtins.specs.Rows.{plain_type};
 ghost use Rattle.lam_builtins.specs.Builtins.{row_by, answered as answered_by};
 ghost use Rattle.resolved_tree.specs.Tree.{expr_tree, exprs_tree, cap_tree, caps_tree, text_value as text_tree, null_value as null_tree, local_value as local_tree, option_type_tree, new_object as new_object_tree, unary_of, builtin_of, call_of, field_of, binary_of, new_array as new_array_tree, label_of as label_tree, caps_of as caps_of_tree, spawn_of};
 ghost use Rattle.lam_resolved.specs.Resolved.{then_some, value_as, local_named as first_local, field_read as read_field, element_read as read_element, builtin_value as value_of_builtin, called as called_by, found, resolve_caps as resolved_caps};
@@ -16,7 +17,7 @@ ghost use Rattle.lam_resolve_tables.specs.Tables.{tables};
 ghost use Rattle.resolved_tree.specs.Typing.{given_by as result_given};
 ghost use Rattle.lam_resolve_exprs.specs.Values.{local, locals, value, args as seen_args, field_seen, function_seen, called_seen, cap_at};
 
-use lam_builtins::Builtin;
+use lam_builtins::{Answers, Builtin, PlainType, operator_type, prefix_type};
 use lam_operators::{BinaryOp, UnaryOp};
 use lam_resolve_tables::kinds::{
     Base, Given, Kind, array_of, class_of, element_of, given_kind, option_value_type, plain,
@@ -106,21 +107,21 @@ pub fn local_value(scope: &Named<Local>, name: &str) -> Value
     }
 }
 
-fn result_base(op: BinaryOp) -> Base
-    ensures { base_type result ≡ operator_type op }
+// The base that a row of operators or of built-in calls speaks of.
+fn plain_base(t: PlainType) -> Base
+    ensures { base_type result ≡ plain_type t }
 {
-    match op {
-        BinaryOp::Add | BinaryOp::Sub | BinaryOp::Mul | BinaryOp::Div | BinaryOp::Rem => Base::Int,
-        _ => Base::Bool,
-    }
-}
-
-fn prefix_base(op: UnaryOp) -> Base
-    ensures { base_type result ≡ unary_type op }
-{
-    match op {
-        UnaryOp::Not => Base::Bool,
-        UnaryOp::Neg => Base::Int,
+    match t {
+        PlainType::Int => Base::Int,
+        PlainType::Bool => Base::Bool,
+        PlainType::Bytes => Base::Bytes,
+        PlainType::Tag => Base::Tag,
+        PlainType::Label => Base::Label,
+        PlainType::Caps => Base::Caps,
+        PlainType::File => Base::File,
+        PlainType::Dir => Base::Dir,
+        PlainType::Pipe => Base::Pipe,
+        PlainType::Thread => Base::Thread,
     }
 }
 
@@ -130,14 +131,14 @@ fn prefix_base(op: UnaryOp) -> Base
 ///
 /// `NoMemory` where memory is refused.
 pub fn binary(alloc: Global, op: BinaryOp, left: Value, right: Value) -> Result<Value, NoMemory>
-    ensures { IfOk result (λ v. value v ≡ value_as (binary_of op (expr_tree left.it) (expr_tree right.it)) (a_value (operator_type op))) }
+    ensures { IfOk result (λ v. value v ≡ value_as (binary_of op (expr_tree left.it) (expr_tree right.it)) (a_value (type_of_operator op))) }
 {
     let it = Expr::Binary {
         op,
         left: Box::new(alloc, left.it)?,
         right: Box::new(alloc, right.it)?,
     };
-    Ok(plain_value(it, result_base(op)))
+    Ok(plain_value(it, plain_base(operator_type(op))))
 }
 
 /// An operator before its operand.
@@ -152,7 +153,7 @@ pub fn unary(alloc: Global, op: UnaryOp, of: Value) -> Result<Value, NoMemory>
         op,
         of: Box::new(alloc, of.it)?,
     };
-    Ok(plain_value(it, prefix_base(op)))
+    Ok(plain_value(it, plain_base(prefix_type(op))))
 }
 
 fn class_at<'t, 'a>(classes: &'t [Named<'a, Kind>], class: usize) -> Option<&'t Named<'a, Kind>>
@@ -260,20 +261,10 @@ fn builtin_call(call: Builtin, args: Vec<Expr>, ty: Option<ValueType>, gives: Gi
 fn answer(call: Builtin, first: Given) -> Given
     ensures { given result ≡ answered_by (row_by ℕ call).signature.answer (given first) }
 {
-    match call {
-        Builtin::Len | Builtin::Size | Builtin::Byte | Builtin::Number => given_base(Base::Int),
-        Builtin::Length | Builtin::Join => given_base(Base::Int),
-        Builtin::Slice | Builtin::Cat | Builtin::Text => given_base(Base::Bytes),
-        Builtin::Read | Builtin::Receive => given_base(Base::Bytes),
-        Builtin::MyLabel | Builtin::LabelOf => given_base(Base::Label),
-        Builtin::MyCaps | Builtin::ReceiveCaps => given_base(Base::Caps),
-        Builtin::Root | Builtin::MakeDir | Builtin::OpenDir => given_base(Base::Dir),
-        Builtin::MakeFile | Builtin::OpenFile => given_base(Base::File),
-        Builtin::Copy => first,
-        Builtin::Mint => given_base(Base::Tag),
-        Builtin::MakePipe => given_base(Base::Pipe),
-        Builtin::Say | Builtin::Remove | Builtin::Append => Given::Nothing,
-        Builtin::Cut | Builtin::Send | Builtin::SendCaps => Given::Nothing,
+    match call.row().answer {
+        Answers::Value(t) => given_base(plain_base(t)),
+        Answers::Nothing => Given::Nothing,
+        Answers::AsFirst => first,
     }
 }
 

@@ -4,7 +4,7 @@ use Rattle.lam_syntax.specs.Tree.{IdTree, ExprTree, StmtList, region_stmt}
 use Rattle.lam_builtins.specs.Types.{int}
 use Rattle.lam_operators.specs.Words.{Word}
 use Rattle.resolved_tree.specs.Tree.{ResolvedType, Expression, Statement, Block, region_block}
-use Rattle.lam_resolved.specs.Resolved.{then_some, Tables, Locals, State, state_as, next_slot, Value, Step, step_as, Closed, with_local, locals_from, taken_over, types_of, slots_of, resolve, resolve_captures, resolve_stmt_form, resolve_stmts}
+use Rattle.lam_resolved.specs.Resolved.{then_some, Tables, Locals, State, state_as, next_slot, Value, Step, step_as, Closed, with_local, locals_from, taken_over, types_of, slots_of, resolve, enter_region, resolve_stmt_form, resolve_stmts}
 use Rattle.lam_resolve_tables.proofs.Options.{first_some, next_some, goes}
 use Rattle.lam_resolve_units.specs.Seen.{Inside, entered_by}
 use Rattle.lam_resolve_stmts.specs.Regions.{expr_of, Opening, opening_as, opening, Bodies, bodies_as, bodies_of, node_as}
@@ -54,7 +54,7 @@ module _ (t : Tables) (ls : Locals) (st : State) (l k : ExprTree) (xs : List IdT
 
   parts_joined : then_some (opening t ls st.regions l k xs) (λ o. after_opening o) ≡ resolve_stmt_form t ls st (region_stmt l k xs body x handler)
   parts_joined =
-      three_bound (resolve t ls l) (resolve t ls k) (resolve_captures ls xs) (λ (v w : Value) (cs : Locals). opening_as st.regions v.it w.it (entered_by cs st.regions)) (λ o. after_opening o) (λ v w cs. after_captures v w cs) blocks_joined
+      three_bound (resolve t ls l) (resolve t ls k) (enter_region st.regions ls xs) (λ (v w : Value) (cs : Locals). opening_as st.regions v.it w.it (entered_by cs st.regions)) (λ o. after_opening o) (λ v w cs. after_captures v w cs) blocks_joined
 
   pub region_opens : IsSome (resolve_stmt_form t ls st (region_stmt l k xs body x handler)) → IsSome (opening t ls st.regions l k xs)
   region_opens h = first_some (opening t ls st.regions l k xs) (λ o. after_opening o) (ap is_some parts_joined ∙ h)
@@ -94,17 +94,17 @@ expr_done t ls e v a i p = ap Some p ∙ sym (goes (resolve t ls e) v (λ v. Som
 
 module _ (t : Tables) (ls : Locals) (n : ℕ) (l k : ExprTree) (xs : List IdTree) where
   pub opens_label : IsSome (opening t ls n l k xs) → IsSome (resolve t ls l)
-  opens_label h = first_some (resolve t ls l) (λ v. then_some (resolve t ls k) (λ w. then_some (resolve_captures ls xs) (λ cs. Some (opening_as n v.it w.it (entered_by cs n))))) h
+  opens_label h = first_some (resolve t ls l) (λ v. then_some (resolve t ls k) (λ w. then_some (enter_region n ls xs) (λ cs. Some (opening_as n v.it w.it (entered_by cs n))))) h
 
   pub opens_caps : IsSome (opening t ls n l k xs) → IsSome (resolve t ls k)
-  opens_caps h = needs_second (resolve t ls l) (resolve t ls k) (λ (v w : Value). then_some (resolve_captures ls xs) (λ cs. Some (opening_as n v.it w.it (entered_by cs n)))) h
+  opens_caps h = needs_second (resolve t ls l) (resolve t ls k) (λ (v w : Value). then_some (enter_region n ls xs) (λ cs. Some (opening_as n v.it w.it (entered_by cs n)))) h
 
-  pub opens_captures : IsSome (opening t ls n l k xs) → IsSome (resolve_captures ls xs)
-  opens_captures h = needs_third (resolve t ls l) (resolve t ls k) (resolve_captures ls xs) (λ (v w : Value) (cs : Locals). Some (opening_as n v.it w.it (entered_by cs n))) h
+  pub opens_captures : IsSome (opening t ls n l k xs) → IsSome (enter_region n ls xs)
+  opens_captures h = needs_third (resolve t ls l) (resolve t ls k) (enter_region n ls xs) (λ (v w : Value) (cs : Locals). Some (opening_as n v.it w.it (entered_by cs n))) h
 
-  pub opens_done : (i : Inside) (a b : Expression) → Some a ≡ expr_of t ls l → Some b ≡ expr_of t ls k → Some i ≡ then_some (resolve_captures ls xs) (λ cs. Some (entered_by cs n)) → Some (opening_as n a b i) ≡ opening t ls n l k xs
+  pub opens_done : (i : Inside) (a b : Expression) → Some a ≡ expr_of t ls l → Some b ≡ expr_of t ls k → Some i ≡ then_some (enter_region n ls xs) (λ cs. Some (entered_by cs n)) → Some (opening_as n a b i) ≡ opening t ls n l k xs
   opens_done i a b p q r =
-      built (resolve t ls l) (resolve t ls k) (resolve_captures ls xs) (λ (v : Value). v.it) (λ (v : Value). v.it) (λ (cs : Locals). entered_by cs n) (λ (a b : Expression) (i : Inside). opening_as n a b i) a b i p q r
+      built (resolve t ls l) (resolve t ls k) (enter_region n ls xs) (λ (v : Value). v.it) (λ (v : Value). v.it) (λ (cs : Locals). entered_by cs n) (λ (a b : Expression) (i : Inside). opening_as n a b i) a b i p q r
 
 -- ---- the blocks
 

@@ -3,7 +3,7 @@ use Rattle.std.specs.Prelude.{ℕ, List, length, Option, Some}
 use Rattle.lam_syntax.specs.Tree.{IdTree, ExprTree, StmtForm, StmtList, region_stmt, expr_tree, ids_tree, id_tree, stmts_tree}
 use Rattle.lam_builtins.specs.Types.{int}
 use Rattle.resolved_tree.specs.Tree.{Expression, Statement, Block, region_block, expr_tree as resolved_expr, stmts_tree as resolved_stmts}
-use Rattle.lam_resolved.specs.Resolved.{then_some, Tables, Locals, State, with_local, next_slot, resolve, resolve_captures, resolve_stmts}
+use Rattle.lam_resolved.specs.Resolved.{then_some, Tables, Locals, State, with_local, next_slot, resolve, enter_region, resolve_stmts}
 use Rattle.lam_resolve_exprs.specs.Values.{locals}
 use Rattle.lam_resolve_units.specs.declared.parts.Head.{Head}
 use Rattle.lam_resolve_units.specs.Seen.{Inside, entered_by, state}
@@ -30,7 +30,7 @@ abbrev pub opening_as : ℕ → Expression → Expression → Inside → Opening
 opening_as n l k i = record { number = n; label = l; caps = k; inside = i }
 
 abbrev pub opening : Tables → Locals → ℕ → ExprTree → ExprTree → List IdTree → Option Opening
-opening t ls n l k xs = then_some (resolve t ls l) (λ l. then_some (resolve t ls k) (λ k. then_some (resolve_captures ls xs) (λ cs. Some (opening_as n l.it k.it (entered_by cs n)))))
+opening t ls n l k xs = then_some (resolve t ls l) (λ l. then_some (resolve t ls k) (λ k. then_some (enter_region n ls xs) (λ cs. Some (opening_as n l.it k.it (entered_by cs n)))))
 
 abbrev pub opening_of : Tables → Locals → ℕ → Written → Option Opening
 opening_of t ls n w = opening t ls n (expr_tree w.label.now) (expr_tree w.caps.now) (ids_tree w.captures.now.items)

@@ -1,9 +1,12 @@
 -- Parts of statements, as the code meets them.
-use Rattle.std.proofs.Common.{◌≡◌, ℕ, ◌+◌, List, length, Option, Some, IsSome, is_some, sym, ap, ◌∙◌}
-use Rattle.lam_syntax.specs.Tree.{ExprTree, VarTree, let_stmt}
+use Rattle.std.proofs.Common.{◌≡◌, ℕ, ◌+◌, ◌<◌, Bool, true, false, List, length, Option, Some, None, IsSome, is_some, refl, sym, ap, ◌∙◌, arith}
+use Rattle.std.proofs.lemmas.Bool.Decides.{nat_tests}
+use Rattle.std.specs.Prelude.{nat_lt, if◌then◌else◌}
+use Rattle.lam_builtins.specs.Limits.{most_regions}
+use Rattle.lam_syntax.specs.Tree.{IdTree, ExprTree, VarTree, let_stmt}
 use Rattle.lam_operators.specs.Words.{Word}
 use Rattle.resolved_tree.specs.Tree.{ResolvedType, Statement, let_slot}
-use Rattle.lam_resolved.specs.Resolved.{then_some, Tables, Locals, State, Value, step_as, with_local, next_slot, resolve, resolve_type, resolve_value, resolve_stmt_form, assignment, state_as, slots_of, taken_over, locals_from, types_of}
+use Rattle.lam_resolved.specs.Resolved.{then_some, Tables, Locals, State, Value, step_as, with_local, next_slot, resolve, resolve_type, resolve_value, resolve_captures, enter_region, resolve_stmt_form, assignment, state_as, slots_of, taken_over, locals_from, types_of}
 use Rattle.lam_resolve_tables.proofs.Options.{first_some, next_some, goes}
 use Rattle.lam_resolve_units.specs.Seen.{Inside, entered_by}
 use Rattle.lam_resolve_units.specs.Parts.{assigned_tree}
@@ -44,6 +47,14 @@ module _ (t : Tables) (ls : Locals) where
         ap (λ w. Some (step_as (let_slot (length st.slots) v.it) (with_local ls w (length st.slots) u) last)) q ∙
         ap (λ last. Some (step_as (let_slot (length st.slots) v.it) (with_local ls x.name.word (length st.slots) u) last)) s ∙
         sym (goes (resolve_type t.names x.ty) u _ i ∙ goes (resolve t ls e) v _ j)
+
+-- a region that is entered is not past the limit
+pub may_enter : (m : ℕ) (ls : Locals) (xs : List IdTree) → IsSome (enter_region m ls xs) → (m < most_regions) × (enter_region m ls xs ≡ resolve_captures ls xs)
+may_enter m ls xs h = by (nat_lt m most_regions) refl h
+  where
+    by : (b : Bool) → nat_lt m most_regions ≡ b → IsSome (if b then resolve_captures ls xs else None) → (m < most_regions) × ((if b then resolve_captures ls xs else None) ≡ resolve_captures ls xs)
+    by true e h = (grind (arith, nat_tests, e), refl)
+    by false e h = absurd cc
 
 pub enter_done : (o : Option Locals) (cs : Locals) (regions inner : ℕ) (slots : List ℕ) (vs : List (Word × ResolvedType)) (names : Locals) (last : State) → Some cs ≡ o → inner ≡ regions + 1 → slots ≡ slots_of cs → vs ≡ taken_over cs → names ≡ locals_from 0 vs →
     last ≡ state_as (types_of vs) inner → ◌≡◌ {A = Option Inside} (Some (record { captures = slots; names = names; state = last })) (then_some o (λ cs. Some (entered_by cs regions)))

@@ -2,7 +2,7 @@
 
 ghost use Rattle.std.specs.Prelude.{◌≡◌, ◌+◌, IfOk, IsSome, OnOk, Some, length, take};
 ghost use Rattle.lam_syntax.specs.Tree.{ids_tree, id_tree};
-ghost use Rattle.lam_resolved.specs.Resolved.{then_some, with_local, locals_from, local_named as first_local, next_slot, state_as, types_of, resolve_captures as resolved_captures, slots_of as slots_of_locals, taken_over as taken};
+ghost use Rattle.lam_resolved.specs.Resolved.{then_some, with_local, locals_from, local_named as first_local, next_slot, state_as, types_of, resolve_captures as resolved_captures, enter_region, slots_of as slots_of_locals, taken_over as taken};
 ghost use Rattle.lam_resolve_tables.specs.Kinds.{kind_type};
 ghost use Rattle.lam_resolve_tables.specs.Tables.{vars as seen_vars};
 ghost use Rattle.lam_resolve_exprs.specs.Values.{local, locals};
@@ -143,15 +143,6 @@ fn taken_over<'a>(
     Ok(vars)
 }
 
-fn one_more(regions: usize) -> Result<usize, NoMemory>
-    ensures { IfOk result (λ n. n ≡ regions + 1) }
-{
-    if regions == usize::MAX {
-        return Err(NoMemory);
-    }
-    Ok(regions + 1)
-}
-
 /// A region that is entered: the slots that it captures, and its own unit.
 #[derive(Drop)]
 pub struct Entered<'a> {
@@ -159,20 +150,19 @@ pub struct Entered<'a> {
     pub unit: Unit<'a>,
 }
 
-/// Enters a region, after so many regions before it.
+/// Enters a region, after so many regions before it, which are fewer than the limit.
 pub fn enter<'a>(
     alloc: Global,
     scope: &Named<Local>,
     regions: usize,
     xs: &'a [Id],
 ) -> Result<Entered<'a>, NoMemory>
-    requires { IsSome (resolved_captures (locals scope.now) (ids_tree xs.now)) }
-    ensures { IfOk result (λ e. Some (entered e) ≡ then_some (resolved_captures (locals scope.now) (ids_tree xs.now)) (λ cs. Some (entered_by cs regions))) }
+    requires { IsSome (enter_region regions (locals scope.now) (ids_tree xs.now)) }
+    ensures { IfOk result (λ e. Some (entered e) ≡ then_some (enter_region regions (locals scope.now) (ids_tree xs.now)) (λ cs. Some (entered_by cs regions))) }
 {
-    let inner = one_more(regions)?;
     let found = resolve_captures(alloc, scope, xs)?;
     let captures = slots_of(alloc, found.as_slice())?;
     let vars = taken_over(alloc, found.as_slice())?;
-    let unit = open_unit(alloc, vars.as_slice(), inner)?;
+    let unit = open_unit(alloc, vars.as_slice(), regions + 1)?;
     Ok(Entered { captures, unit })
 }

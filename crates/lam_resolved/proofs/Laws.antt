@@ -9,6 +9,7 @@ use Rattle.resolved_tree.specs.Tree.{ResolvedTree}
 use Rattle.resolved_tree.specs.Typing.{IsTypedTree}
 use Rattle.resolved_tree.specs.Regions.{AreNumbered}
 use Rattle.resolved_tree.specs.Slots.{SlotsDiffer}
+use Rattle.resolved_tree.specs.Limits.{WithinLimits}
 use Rattle.lam_resolved.specs.Resolved.{resolved}
 use Rattle.lam_resolved.specs.Names.{names_of, program_named}
 use Rattle.lam_resolved.proofs.Has.{Has}
@@ -30,6 +31,9 @@ module _ (p : ProgramTree) (typed : IsTyped p) (legal : IsRegionLegal p) where
 
   pub resolves_regions : IsSomeAnd (resolved p) (λ r. AreNumbered r)
   resolves_regions = some_and (resolved p) (λ r. IsResolvedFrom p r) (λ r. AreNumbered r) (program_is p typed legal) (λ r h. h.numbered_by_place)
+
+  pub resolves_limits : IsSomeAnd (resolved p) (λ r. WithinLimits r)
+  resolves_limits = some_and (resolved p) (λ r. IsResolvedFrom p r) (λ r. WithinLimits r) (program_is p typed legal) (λ r h. h.limits)
 
   pub resolves_reads : IsSomeAnd (resolved p) (λ r. program_named (names_of p) r ≡ unplaced p)
   resolves_reads = some_and (resolved p) (λ r. IsResolvedFrom p r) (λ r. program_named (names_of p) r ≡ unplaced p) (program_is p typed legal) (λ r h. h.reads)

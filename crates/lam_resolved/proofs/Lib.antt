@@ -5,6 +5,7 @@ pub mod Finding
 pub mod Scopes
 pub mod Exprs
 pub mod Parts
+pub mod Counts
 pub mod ScopeSteps
 pub mod Stmts
 pub mod Declares

@@ -1,11 +1,12 @@
 -- How a scope goes on: a name more, a slot more, the head of a unit.
 use Rattle.std.proofs.Common.{◌≡◌, ℕ, suc, ◌+◌, ◌<◌, ◌≤◌, Bool, true, false, cond, ◌||◌, List, [], ◌∷◌, ◌++◌, length, map, Option, Some, None, refl, sym, ap, ◌∙◌, subst, arith}
 use Rattle.std.proofs.lemmas.Bool.Decides.{nat_tests}
-use Rattle.std.specs.Prelude.{nat_eq, slice_get}
+use Rattle.std.specs.Prelude.{nat_eq, nat_lt, if◌then◌else◌, slice_get}
 use Rattle.std.specs.Str.{bytes_eq}
 use Rattle.lam_syntax.specs.Tree.{IdTree, VarTree}
 use Rattle.lam_operators.specs.Words.{Word}
 use Rattle.lam_syntax.specs.Unplaced.{unplaced_ids}
+use Rattle.lam_builtins.specs.Limits.{most_regions}
 use Rattle.lam_builtins.specs.Types.{ValueType}
 use Rattle.lam_kinds.specs.Written.{written}
 use Rattle.lam_kinds.specs.Tables.{Names, find, typed_names}
@@ -15,7 +16,7 @@ use Rattle.region_check.specs.Breaks.{has, with_name}
 use Rattle.region_check.specs.Legal.{IsReached, AreReached, words}
 use Rattle.resolved_tree.specs.Tree.{ResolvedType}
 use Rattle.resolved_tree.specs.Typing.{Use, a_local, a_monitor, Scope, with_use, local_if, locals_of, AreCaptured}
-use Rattle.lam_resolved.specs.Resolved.{numbered, types_of, Local, Locals, with_local, locals_from, resolve_captures, slots_of, taken_over}
+use Rattle.lam_resolved.specs.Resolved.{numbered, types_of, Local, Locals, with_local, locals_from, resolve_captures, enter_region, slots_of, taken_over}
 use Rattle.lam_resolved.specs.Names.{id_as, captures_named, var_words}
 use Rattle.lam_resolved.proofs.Has.{Has, done, next, known, weaker, some_is}
 use Rattle.lam_resolved.proofs.Finding.{same_word, get_map, get_below, word_is, local_has}
@@ -256,6 +257,12 @@ captures_are cs i own names ls n env ws c (x ∷ xs) ((ty, f), h) (r, rs) =
       captured = (k.in_scope, ks.captured);
       reads = ap (λ (y : Word). id_as y ∷ captures_named ws (slots_of caps)) (word_is ws l.slot x.word k.named) ∙ ap (λ rest. id_as x.word ∷ rest) ks.reads;
     })))
+
+-- where there are not too many regions
+pub entered : {P : Locals → Type 0} (ls : Locals) (xs : List IdTree) (m : ℕ) → m < most_regions → Has (resolve_captures ls xs) P → Has (enter_region m ls xs) P
+entered {P} ls xs m few h =
+    let e : nat_lt m most_regions ≡ true = grind (arith, nat_tests, few) in
+    subst (λ (b : Bool). Has (if b then resolve_captures ls xs else None) P) (sym e) h
 
 capture_reached : (cs : List (Word × Unit {0})) (names : Names) (caps : Locals) (n : ℕ) (x : Word) (ty : ValueType) → AllCaptured cs names caps → find x names ≡ Some ty → has (map (λ v. v.0) (taken_over caps)) x ≡ true →
     Has (find x (locals_from n (taken_over caps))) (λ l. LocalFrom n (taken_over caps) x l × (numbered cs ty ≡ Some l.ty))

@@ -6,27 +6,30 @@ use Rattle.std.proofs.lemmas.List.{length-map, append-nil}
 use Rattle.lam_syntax.specs.Tree.{IdTree, VarTree, ExprTree, expr_node, binary_expr, unary_expr, field_expr, element_expr, number_expr, text_expr, bool_expr, null_expr, name_expr, call_expr, new_class_expr, new_array_expr, label_expr, caps_expr, spawn_expr, StmtTree, stmt_node, StmtForm, let_stmt, if_stmt, while_stmt, return_stmt, throw_stmt, sync_stmt, region_stmt, do_stmt, assign_stmt, StmtList, no_stmts, stmts, ElseTree, no_else, else_block}
 use Rattle.lam_operators.specs.Words.{Word}
 use Rattle.lam_syntax.specs.Unplaced.{unplaced_id, unplaced_ids, unplaced_var, unplaced_expr, unplaced_option_expr, unplaced_stmt_form, unplaced_stmts, unplaced_else}
+use Rattle.lam_builtins.specs.Limits.{most_slots, most_regions}
 use Rattle.lam_builtins.specs.Types.{ValueType, int, bool, label, caps, object, array, Given, a_value, given_type, exactly, any_object, suits}
 use Rattle.lam_kinds.specs.Written.{written}
 use Rattle.lam_kinds.specs.Tables.{Names, Decls}
 use Rattle.lam_exprs.specs.Judgement.{IsDeclared, IsGiven}
 use Rattle.lam_types.specs.Endings.{ends_form, ends_stmt, both_end, ends as tree_ends}
 use Rattle.lam_types.specs.Stmts.{with_local as with_name_typed, is_place}
-use Rattle.lam_types.specs.Judgement.{IsNew, Stands as StandsWords, Returns as ReturnsWords, AllInScope, after as names_after, IsStmt, IsElse, IsBlock as IsBlockWords}
+use Rattle.lam_types.specs.Judgement.{region_slots, IsNew, Stands as StandsWords, Returns as ReturnsWords, AllInScope, after as names_after, IsStmt, IsElse, IsBlock as IsBlockWords}
 use Rattle.region_check.specs.Breaks.{with_name}
 use Rattle.region_check.specs.Legal.{Reaches, AreReached, ValueReaches, words, after as own_after, IsLegalForm, IsLegalElse, IsLegalBlock}
 use Rattle.resolved_tree.specs.Tree.{ResolvedType, ResolvedGiven, Expression, local_value, field_of, element_of, Statement, return_value, throw_value, do_value, set_local, set_field, set_element, Block, OtherBlock}
 use Rattle.resolved_tree.specs.Typing.{Heads, Use, a_local, a_monitor, Scope, with_use, locals_of, is_object, FitsBy, Gives, Stands, Returning, in_region, in_function, Returns, use_of, after, IsStatement, IsBlock, IsOther, ends, block_ends, other_ends}
+use Rattle.resolved_tree.specs.Limits.{RegionsFit, BlockFits, OtherFits}
 use Rattle.resolved_tree.specs.Regions.{regions_in, regions_of, regions_or, count_up}
 use Rattle.lam_resolved.specs.Resolved.{then_some, numbered, types_of, Tables, Locals, with_local, locals_from, Value, State, state_as, next_slot, Step, step_as, Closed, resolve_value, assignment, slots_of, taken_over, resolve_stmt_form, resolve_else, resolve_stmts}
 use Rattle.lam_resolved.specs.Names.{id_words, slot_words, block_words, else_words, region_words, block_region_words, else_region_words, Words, with_slots, word_at, words_at, id_as, var_named, captures_named, type_at, expr_named, value_named, stmt_as, stmt_named, block_named, other_named}
 use Rattle.lam_resolved.proofs.Has.{Has, done, next, from, with_is}
-use Rattle.lam_resolved.proofs.Finding.{word_is, words_are}
+use Rattle.lam_resolved.proofs.Counts.{block_slots}
+use Rattle.lam_resolved.proofs.Finding.{get_below, word_is, words_are}
 use Rattle.lam_resolved.proofs.SameTypes.{shape, SameGiven}
 use Rattle.lam_resolved.proofs.Scopes.{AreTied, InScope}
 use Rattle.lam_resolved.proofs.Exprs.{declared_type, type_reads, expr_is, stands_is}
 use Rattle.lam_resolved.proofs.Parts.{IsPart, Starts, part_left, part_right, part_head, part_tail, part_at, part_whole, starts_whole, starts_left, Grows, grows_none, grows_then, grows_slot, length_grows, starts_before, length_more, slot_taken, numbers_both}
-use Rattle.lam_resolved.proofs.ScopeSteps.{in_later, is_free, in_monitor, in_let, below_locals, captures_are, in_captures}
+use Rattle.lam_resolved.proofs.ScopeSteps.{in_later, is_free, in_monitor, in_let, below_locals, captures_are, entered, in_captures}
 
 -- ---- what may be returned
 
@@ -60,6 +63,7 @@ module _ (p : Heads) (w : Words) (rs : List (List Word)) where
     pub grows : Grows st b.state (block_words body) (block_region_words body)
     pub numbers : regions_of b.it ≡ count_up st.regions (length (block_region_words body))
     pub ends_so : (before : Bool) → block_ends before b.it ≡ ends_after before body
+    pub fits : BlockFits b.it
     pub typed : (whole : List ResolvedType) → Starts b.state.slots whole → IsBlock p whole ret env b.it
     pub reads : (whole : List ResolvedType) → Starts b.state.slots whole → block_named rs (with_slots w ws) whole b.it ≡ unplaced_stmts body
 
@@ -67,6 +71,7 @@ module _ (p : Heads) (w : Words) (rs : List (List Word)) where
     pub grows : Grows st b.state (else_words body) (else_region_words body)
     pub numbers : regions_or b.it ≡ count_up st.regions (length (else_region_words body))
     pub ends_so : (before : Bool) → (before && other_ends b.it) ≡ both_end before body
+    pub fits : OtherFits b.it
     pub typed : (whole : List ResolvedType) → Starts b.state.slots whole → IsOther p whole ret env b.it
     pub reads : (whole : List ResolvedType) → Starts b.state.slots whole → other_named rs (with_slots w ws) whole b.it ≡ unplaced_else body
 
@@ -74,6 +79,7 @@ module _ (p : Heads) (w : Words) (rs : List (List Word)) where
     pub grows : Grows st s.state (slot_words form) (region_words form)
     pub numbers : regions_in s.it ≡ count_up st.regions (length (region_words form))
     pub ends_so : ends s.it ≡ ends_form form
+    pub fits : RegionsFit s.it
     pub typed : (whole : List ResolvedType) → Starts s.state.slots whole → IsStatement p whole ret env s.it
     pub reads : (whole : List ResolvedType) → Starts s.state.slots whole → stmt_named rs (with_slots w ws) whole s.it ≡ unplaced_stmt_form form
 
@@ -120,7 +126,7 @@ same_value t u e = cc
 moved_fit : (p : Heads) (env : Scope) (t u : ResolvedType) (v : Expression) → ◌≡◌ {A = ResolvedGiven} (a_value t) (a_value u) → Stands p env (exactly t) v → Stands p env (exactly u) v
 moved_fit p env t u v e h = subst (λ (z : ResolvedType). Stands p env (exactly z) v) (same_value t u e) h
 
-module _ (d : Decls) (t : Tables) (p : Heads) (w : Words) (tied : AreTied d t p w.classes w.fields w.functions) (rs : List (List Word)) (res : Option ValueType) where
+module _ (d : Decls) (t : Tables) (p : Heads) (w : Words) (tied : AreTied d t p w.classes w.fields w.functions) (rs : List (List Word)) (few_regions : length rs ≤ most_regions) (res : Option ValueType) where
   module _ (i : Bool) (own : List Word) (names : Names) (ls : Locals) (st : State) (env : Scope) (ws : List Word) (ret : Returning) (c : InScope t.names i own names ls (length st.slots) env ws) where
     -- what is said of a statement's step
     abbrev pub Fine : StmtForm → Step → Type 0
@@ -141,6 +147,7 @@ module _ (d : Decls) (t : Tables) (p : Heads) (w : Words) (tied : AreTied d t p 
             grows = grows_slot st (next_slot st u) u x.name.word [] [] (grows_none (next_slot st u));
             numbers = refl;
             ends_so = refl;
+            fits = tt;
             typed = λ whole s. (u, (slot_taken st u whole s, is_free t.names i own names ls n env ws c), y.fits);
             reads = λ whole s.
                 ap (λ (a : Word). let_stmt (var_named w.classes a (type_at whole n)) (expr_named (with_slots w ws) v.it)) (word_is ws n x.name.word named) ∙
@@ -158,13 +165,14 @@ module _ (d : Decls) (t : Tables) (p : Heads) (w : Words) (tied : AreTied d t p 
         )))
 
     -- a statement without slots and regions of its own
-    plain_step : (form : StmtForm) (s : Statement) → slot_words form ≡ [] → region_words form ≡ [] → own_after own form ≡ own → names_after names form ≡ names → regions_in s ≡ [] → ends s ≡ ends_form form → ((whole : List ResolvedType) → after whole env s ≡ env) →
+    plain_step : (form : StmtForm) (s : Statement) → slot_words form ≡ [] → region_words form ≡ [] → own_after own form ≡ own → names_after names form ≡ names → regions_in s ≡ [] → ends s ≡ ends_form form → RegionsFit s → ((whole : List ResolvedType) → after whole env s ≡ env) →
         ((whole : List ResolvedType) → IsStatement p whole ret env s) → ((whole : List ResolvedType) → stmt_named rs (with_slots w ws) whole s ≡ unplaced_stmt_form form) → Fine form (step_as s ls st)
-    plain_step form s e f own_is names_are g ends_so env_is typed reads = (
+    plain_step form s e f own_is names_are g ends_so fits env_is typed reads = (
       record {
         grows = subst (λ (l : List Word). Grows st st l (region_words form)) (sym e) (subst (λ (l : List (List Word)). Grows st st [] l) (sym f) (grows_none st));
         numbers = g ∙ ap (λ (l : List (List Word)). count_up st.regions (length l)) (sym f);
         ends_so = ends_so;
+        fits = fits;
         typed = λ whole _. typed whole;
         reads = λ whole _. reads whole;
       },
@@ -180,12 +188,12 @@ module _ (d : Decls) (t : Tables) (p : Heads) (w : Words) (tied : AreTied d t p 
     throw_is : (e : ExprTree) → StandsWords d names (exactly int) e → Reaches i own e → Has (resolve_stmt_form t ls st (throw_stmt e)) (λ s. Fine (throw_stmt e) s)
     throw_is e h r =
         next (stands_is d t p w tied i own names ls (length st.slots) env ws c (exactly int) (exactly int) e refl h r) (λ v y.
-        done _ (plain_step (throw_stmt e) (throw_value v.it) refl refl refl refl refl refl (λ _. refl) (λ _. y.fits) (λ _. ap throw_stmt y.reads)))
+        done _ (plain_step (throw_stmt e) (throw_value v.it) refl refl refl refl refl refl tt (λ _. refl) (λ _. y.fits) (λ _. ap throw_stmt y.reads)))
 
     do_is : (e : ExprTree) (g : Given) → IsGiven d names e g → Reaches i own e → Has (resolve_stmt_form t ls st (do_stmt e)) (λ s. Fine (do_stmt e) s)
     do_is e g h r =
         next (expr_is d t p w tied i own names ls (length st.slots) env ws c e g h r) (λ v y.
-        done _ (plain_step (do_stmt e) (do_value v.it) refl refl refl refl refl refl (λ _. refl) (λ _. (v.gives, y.typed)) (λ _. ap do_stmt y.reads)))
+        done _ (plain_step (do_stmt e) (do_value v.it) refl refl refl refl refl refl tt (λ _. refl) (λ _. (v.gives, y.typed)) (λ _. ap do_stmt y.reads)))
 
     -- the value of a return
     record IsReturned (e : Option ExprTree) (v : Option Expression) : Type 0 where
@@ -203,24 +211,24 @@ module _ (d : Decls) (t : Tables) (p : Heads) (w : Words) (tied : AreTied d t p 
     return_is : (e : Option ExprTree) → ReturnsWords d res names e → (i ≡ false) × ValueReaches i own e → ReturnsAs t.names i res ret → Has (resolve_stmt_form t ls st (return_stmt e)) (λ s. Fine (return_stmt e) s)
     return_is e h (outside, reach) k =
         let a = subst (λ (i : Bool). ReturnsAs t.names i res ret) outside k in
-        next (value_is e res a.0 h reach a.1 a.2) (λ v y. done _ (plain_step (return_stmt e) (return_value v) refl refl refl refl refl refl (λ _. refl) (λ _. y.typed) (λ _. ap return_stmt y.reads)))
+        next (value_is e res a.0 h reach a.1 a.2) (λ v y. done _ (plain_step (return_stmt e) (return_value v) refl refl refl refl refl refl tt (λ _. refl) (λ _. y.typed) (λ _. ap return_stmt y.reads)))
 
     assigned : (q e : ExprTree) (a : Expression) (v : Value) (ty : ResolvedType) → is_place (expr_named (with_slots w ws) a) ≡ true → expr_named (with_slots w ws) a ≡ unplaced_expr q → Gives p env a (a_value ty) →
         FitsBy (exactly ty) (λ h. Gives p env v.it h) → expr_named (with_slots w ws) v.it ≡ unplaced_expr e → Has (then_some (assignment a v.it) (λ s. Some (step_as s ls st))) (λ s. Fine (assign_stmt q e) s)
     assigned q e (local_value n) v ty place reads (u, h, same) fits y =
         from _ (set_local n v.it) refl
         (done _
-        (plain_step (assign_stmt q e) (set_local n v.it) refl refl refl refl refl refl (λ _. refl) (λ _. (u, h, moved_fit p env ty u v.it same fits))
+        (plain_step (assign_stmt q e) (set_local n v.it) refl refl refl refl refl refl tt (λ _. refl) (λ _. (u, h, moved_fit p env ty u v.it same fits))
         (λ _. ap (λ a. assign_stmt a (expr_named (with_slots w ws) v.it)) reads ∙ ap (λ a. assign_stmt (unplaced_expr q) a) y)))
     assigned q e (field_of o k f u) v ty place reads (h, field, same) fits y =
         from _ (set_field o k f u v.it) refl
         (done _
-        (plain_step (assign_stmt q e) (set_field o k f u v.it) refl refl refl refl refl refl (λ _. refl) (λ _. (h, field, moved_fit p env ty u v.it same fits))
+        (plain_step (assign_stmt q e) (set_field o k f u v.it) refl refl refl refl refl refl tt (λ _. refl) (λ _. (h, field, moved_fit p env ty u v.it same fits))
         (λ _. ap (λ a. assign_stmt a (expr_named (with_slots w ws) v.it)) reads ∙ ap (λ a. assign_stmt (unplaced_expr q) a) y)))
     assigned q e (element_of o j u) v ty place reads (h, index, same) fits y =
         from _ (set_element o j u v.it) refl
         (done _
-        (plain_step (assign_stmt q e) (set_element o j u v.it) refl refl refl refl refl refl (λ _. refl) (λ _. (h, index, moved_fit p env ty u v.it same fits))
+        (plain_step (assign_stmt q e) (set_element o j u v.it) refl refl refl refl refl refl tt (λ _. refl) (λ _. (h, index, moved_fit p env ty u v.it same fits))
         (λ _. ap (λ a. assign_stmt a (expr_named (with_slots w ws) v.it)) reads ∙ ap (λ a. assign_stmt (unplaced_expr q) a) y)))
     assigned q e _ v ty place reads h fits y = absurd cc
 
@@ -240,6 +248,7 @@ module _ (d : Decls) (t : Tables) (p : Heads) (w : Words) (tied : AreTied d t p 
             grows = x.grows;
             numbers = x.numbers;
             ends_so = refl;
+            fits = x.fits;
             typed = λ whole s. (y.fits, x.typed whole s);
             reads = λ whole s. ap (λ q. while_stmt q (block_named rs (with_slots w ws) whole a.it)) y.reads ∙ ap (λ q. while_stmt (unplaced_expr e) q) (x.reads whole s);
           },
@@ -257,6 +266,7 @@ module _ (d : Decls) (t : Tables) (p : Heads) (w : Words) (tied : AreTied d t p 
             grows = g;
             numbers = numbers_both st.regions a.state.regions (block_region_words first) (else_region_words other) (regions_of a.it) (regions_or b.it) x.numbers z.numbers x.grows.regions_are;
             ends_so = ap (λ q. q && other_ends b.it) (x.ends_so false ∙ sym (ends_is first)) ∙ z.ends_so (tree_ends first);
+            fits = (x.fits, z.fits);
             typed = λ whole s. (y.fits, x.typed whole (starts_before a.state b.state (else_words other) (else_region_words other) whole z.grows s), z.typed whole s);
             reads = λ whole s.
                 ap (λ q. if_stmt q (block_named rs (with_slots w ws) whole a.it) (other_named rs (with_slots w ws) whole b.it)) y.reads ∙
@@ -280,6 +290,7 @@ module _ (d : Decls) (t : Tables) (p : Heads) (w : Words) (tied : AreTied d t p 
             grows = grows;
             numbers = x.numbers;
             ends_so = refl;
+            fits = x.fits;
             typed = λ whole s.
                 (k.0, (slot_taken st k.0 whole (starts_before (next_slot st k.0) a.state (block_words body) (block_region_words body) whole x.grows s), is_free t.names i own names ls (length st.slots) env ws c), subst (λ (g : ResolvedGiven). Gives p env v.it g) k.1 y.typed, k.2, x.typed whole s);
             reads = λ whole s. ap (λ q. sync_stmt q (block_named rs (with_slots w ws) whole a.it)) y.reads ∙ ap (λ q. sync_stmt (unplaced_expr e) q) (x.reads whole s);
@@ -289,7 +300,7 @@ module _ (d : Decls) (t : Tables) (p : Heads) (w : Words) (tied : AreTied d t p 
 
     -- a region: its body at the head of its unit, and its catch block after the body and the catch name
     region_is : (l k : ExprTree) (xs : List IdTree) (body : StmtList) (x : IdTree) (handler : StmtList) → StandsWords d names (exactly label) l → StandsWords d names (exactly caps) k → AllInScope names xs → IsNew x.word names →
-        Reaches i own l → Reaches i own k → AreReached i own xs → IsPart rs st.regions (region_words (region_stmt l k xs body x handler)) →
+        Reaches i own l → Reaches i own k → AreReached i own xs → region_slots xs body handler ≤ most_slots → IsPart rs st.regions (region_words (region_stmt l k xs body x handler)) →
         ((cs : Locals) → InScope t.names true (words xs) names (locals_from 0 (taken_over cs)) (length (types_of (taken_over cs))) (locals_of (types_of (taken_over cs))) (id_words xs ++ (block_words body ++ x.word ∷ block_words handler)) →
         IsPart (id_words xs ++ (block_words body ++ x.word ∷ block_words handler)) (length (types_of (taken_over cs))) (block_words body) → IsPart rs (st.regions + 1) (block_region_words body) →
         Has (resolve_stmts t (locals_from 0 (taken_over cs)) (state_as (types_of (taken_over cs)) (st.regions + 1)) body)
@@ -299,14 +310,14 @@ module _ (d : Decls) (t : Tables) (p : Heads) (w : Words) (tied : AreTied d t p 
         Has (resolve_stmts t (with_local (locals_from 0 (taken_over cs)) x.word (length a.slots) int) (next_slot a int) handler)
         (λ b. IsClosed p w rs in_region (with_use (locals_of (types_of (taken_over cs))) (length a.slots) (a_local int)) (id_words xs ++ (block_words body ++ x.word ∷ block_words handler)) (next_slot a int) handler b)) →
         Has (resolve_stmt_form t ls st (region_stmt l k xs body x handler)) (λ s. Fine (region_stmt l k xs body x handler) s)
-    region_is l k xs body x handler hl hk hxs new rl rk rxs part go_body go_handler =
+    region_is l k xs body x handler hl hk hxs new rl rk rxs few part go_body go_handler =
         let inside : List Word = id_words xs ++ (block_words body ++ x.word ∷ block_words handler) in
         let regions : List (List Word) = block_region_words body ++ block_region_words handler in
         let inside_is : words_at rs st.regions ≡ inside = words_are rs st.regions inside (part_head rs st.regions inside regions part) in
         let regions_part : IsPart rs (st.regions + 1) regions = part_tail rs st.regions inside regions part in
         next (stands_is d t p w tied i own names ls (length st.slots) env ws c (exactly label) (exactly label) l refl hl rl) (λ u y.
         next (stands_is d t p w tied i own names ls (length st.slots) env ws c (exactly caps) (exactly caps) k refl hk rk) (λ v z.
-        next (captures_are t.names i own names ls (length st.slots) env ws c xs hxs rxs) (λ cs q.
+        next (entered ls xs st.regions (omega (arith, few_regions, get_below rs st.regions inside (part_head rs st.regions inside regions part))) (captures_are t.names i own names ls (length st.slots) env ws c xs hxs rxs)) (λ cs q.
         let ts : List ResolvedType = types_of (taken_over cs) in
         let count : length (id_words xs) ≡ length ts = ap length (sym q.named) ∙ length-map (taken_over cs) (λ v. v.0) ∙ sym (length-map (taken_over cs) (λ v. v.1)) in
         let first_state : State = state_as ts (st.regions + 1) in
@@ -330,12 +341,16 @@ module _ (d : Decls) (t : Tables) (p : Heads) (w : Words) (tied : AreTied d t p 
         let own_slots : List ResolvedType = b.state.slots in
         let to_catch : Starts (next_slot a.state int).slots own_slots = starts_before (next_slot a.state int) b.state (block_words handler) (block_region_words handler) own_slots o.grows (starts_whole own_slots) in
         let to_body : Starts a.state.slots own_slots = starts_left a.state.slots (int ∷ []) own_slots to_catch in
+        let own_count : length own_slots ≤ most_slots =
+        omega
+        (arith, few, n_is, count, length-map xs (λ (x : IdTree). x.word), length_more a.state.slots int, length_grows (next_slot a.state int) b.state (block_words handler) (block_region_words handler) o.grows, block_slots body, block_slots handler) in
         done _ (
           record {
             grows = record { more = []; slots_are = sym (append-nil st.slots); count = refl; regions_are = (let g = grows.regions_are in omega (arith, g)) };
             numbers =
                 ap (λ ns. st.regions ∷ ns) (numbers_both (st.regions + 1) a.state.regions (block_region_words body) (block_region_words handler) (regions_of a.it) (regions_of b.it) m.numbers o.numbers m.grows.regions_are ∙ ap (λ f. count_up f (length regions)) one_more);
             ends_so = refl;
+            fits = (own_count, m.fits, o.fits);
             typed = λ whole _.
                 (ts, grows.more, y.fits, z.fits, q.captured, grows.slots_are, m.typed own_slots to_body, (slot_taken a.state int own_slots to_catch, past_locals ts n (omega (arith, n_is))), o.typed own_slots (starts_whole own_slots));
             reads = λ whole _.
@@ -379,7 +394,7 @@ module _ (d : Decls) (t : Tables) (p : Heads) (w : Words) (tied : AreTied d t p 
         (subst (λ n. InScope t.names i own names ls n (with_use env (length st.slots) (a_monitor ty)) ws) (sym (length_more st.slots ty)) (in_monitor t.names i own names ls (length st.slots) env ws c ty))
         (part_at ws (length st.slots + 1) (length (next_slot st ty).slots) (block_words body) (sym (length_more st.slots ty)) (part_tail ws (length st.slots) [] (block_words body) part)) rpart may a u)
     stmt_is (region_stmt l k xs body x handler) i own names ls st env ws ret c part rpart may (h, j, q, a, new, b, f) (r, u, v, g, y, z) =
-        region_is i own names ls st env ws ret c l k xs body x handler h j q new r u v rpart
+        region_is i own names ls st env ws ret c l k xs body x handler h j q new r u v f rpart
         (λ cs s p q.
         block_is body true (words xs) names (locals_from 0 (taken_over cs)) (state_as (types_of (taken_over cs)) (st.regions + 1)) (locals_of (types_of (taken_over cs))) (id_words xs ++ (block_words body ++ x.word ∷ block_words handler)) in_region s p q refl a y)
         (λ cs m s p q.
@@ -391,20 +406,20 @@ module _ (d : Decls) (t : Tables) (p : Heads) (w : Words) (tied : AreTied d t p 
         IsPart ws (length st.slots) (else_words other) → IsPart rs st.regions (else_region_words other) → ReturnsAs t.names i res ret → IsElse d res names other → IsLegalElse i own other →
         Has (resolve_else t ls st other) (λ b. IsClosedElse p w rs ret env ws st other b)
     else_is no_else i own names ls st env ws ret c part rpart may h r =
-        done _ (record { grows = grows_none st; numbers = refl; ends_so = λ before. none before; typed = λ whole s. tt; reads = λ whole s. refl })
+        done _ (record { grows = grows_none st; numbers = refl; ends_so = λ before. none before; fits = tt; typed = λ whole s. tt; reads = λ whole s. refl })
       where
         none : (b : Bool) → (b && false) ≡ false
         none true = refl
         none false = refl
     else_is (else_block body) i own names ls st env ws ret c part rpart may h r =
         next (block_is body i own names ls st env ws ret c part rpart may h r) (λ a x.
-        done _ (record { grows = x.grows; numbers = x.numbers; ends_so = λ before. ap (λ q. before && q) (x.ends_so false ∙ sym (ends_is body)); typed = x.typed; reads = λ whole s. ap else_block (x.reads whole s) }))
+        done _ (record { grows = x.grows; numbers = x.numbers; ends_so = λ before. ap (λ q. before && q) (x.ends_so false ∙ sym (ends_is body)); fits = x.fits; typed = x.typed; reads = λ whole s. ap else_block (x.reads whole s) }))
 
     pub block_is : (body : StmtList) (i : Bool) (own : List Word) (names : Names) (ls : Locals) (st : State) (env : Scope) (ws : List Word) (ret : Returning) (c : InScope t.names i own names ls (length st.slots) env ws) →
         IsPart ws (length st.slots) (block_words body) → IsPart rs st.regions (block_region_words body) → ReturnsAs t.names i res ret → IsBlockWords d res names body → IsLegalBlock i own body →
         Has (resolve_stmts t ls st body) (λ b. IsClosed p w rs ret env ws st body b)
     block_is no_stmts i own names ls st env ws ret c part rpart may h r =
-        done _ (record { grows = grows_none st; numbers = refl; ends_so = λ before. refl; typed = λ whole s. tt; reads = λ whole s. refl })
+        done _ (record { grows = grows_none st; numbers = refl; ends_so = λ before. refl; fits = tt; typed = λ whole s. tt; reads = λ whole s. refl })
     block_is (stmts (stmt_node at form) rest) i own names ls st env ws ret c part rpart may (h, hs) (r, rs') =
         next (stmt_is form i own names ls st env ws ret c (part_left ws (length st.slots) (slot_words form) (block_words rest) part) (part_left rs st.regions (region_words form) (block_region_words rest) rpart) may h r) (λ a x.
         let goes = x.1 in
@@ -419,6 +434,7 @@ module _ (d : Decls) (t : Tables) (p : Heads) (w : Words) (tied : AreTied d t p 
           grows = grows_then st a.state b.state (slot_words form) (block_words rest) (region_words form) (block_region_words rest) g y.grows;
           numbers = numbers_both st.regions a.state.regions (region_words form) (block_region_words rest) (regions_in a.it) (regions_of b.it) x.0.numbers y.numbers g.regions_are;
           ends_so = λ before. ap (λ q. block_ends q b.it) x.0.ends_so ∙ y.ends_so (ends_form form);
+          fits = (x.0.fits, y.fits);
           typed = λ whole s.
               let first = starts_before a.state b.state (block_words rest) (block_region_words rest) whole y.grows s in
               (x.0.typed whole first, subst (λ (f : Scope). IsBlock p whole ret f b.it) (sym (goes.is_after whole first)) (y.typed whole s));

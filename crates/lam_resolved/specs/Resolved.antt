@@ -1,10 +1,11 @@
 -- A program with its names resolved, where they are declared and reached.
 -- A unit's slots are those of its parameters or captures, and then one for each `let`, catch name and `sync`, in order
 -- of appearance. The regions of a program are numbered by the position of their `region`.
-use Rattle.std.specs.Prelude.{ℕ, ◌+◌, if◌then◌else◌, List, [], ◌∷◌, ◌++◌, length, map, slice_get, Option, Some, None}
+use Rattle.std.specs.Prelude.{ℕ, ◌+◌, nat_lt, if◌then◌else◌, List, [], ◌∷◌, ◌++◌, length, map, slice_get, Option, Some, None}
 use Rattle.std.specs.Str.{bytes_eq}
 use Rattle.lam_syntax.specs.Tree.{IdTree, CapTree, TypeTree, VarTree, FunctionTree, class_item, function_item, ProgramTree, ExprTree, expr_node, ExprForm, binary_expr, unary_expr, field_expr, element_expr, number_expr, text_expr, bool_expr, null_expr, name_expr, call_expr, new_class_expr, new_array_expr, label_expr, caps_expr, spawn_expr, ExprList, no_exprs, exprs, StmtTree, stmt_node, StmtForm, let_stmt, if_stmt, while_stmt, return_stmt, throw_stmt, sync_stmt, region_stmt, do_stmt, assign_stmt, StmtList, no_stmts, stmts, ElseTree, no_else, else_block}
 use Rattle.lam_operators.specs.Words.{Word}
+use Rattle.lam_builtins.specs.Limits.{most_regions}
 use Rattle.lam_builtins.specs.declared.Builtin.{Builtin}
 use Rattle.lam_builtins.specs.Types.{ValueType, int, bool, bytes, tag, label, caps, file, dir, pipe, thread, object, array, a_value, a_null, nothing, given_type}
 use Rattle.lam_kinds.specs.Written.{written}
@@ -227,6 +228,10 @@ abbrev pub resolve_captures : Locals → List IdTree → Option Locals
 resolve_captures ls [] = Some []
 resolve_captures ls (x ∷ xs) = then_some (local_named ls x.word) (λ l. then_some (resolve_captures ls xs) (λ cs. Some ((x.word, l) ∷ cs)))
 
+-- the captured names of region m of a program. None has more regions than the limit
+abbrev pub enter_region : ℕ → Locals → List IdTree → Option Locals
+enter_region m ls xs = if nat_lt m most_regions then resolve_captures ls xs else None
+
 abbrev pub slots_of : Locals → List ℕ
 slots_of cs = map (λ c. c.1.slot) cs
 
@@ -250,7 +255,7 @@ abbrev mutual
   resolve_stmt_form t ls st (sync_stmt e body) =
       then_some (resolve t ls e) (λ v. then_some (given_type v.gives) (λ u. then_some (resolve_stmts t ls (next_slot st u) body) (λ a. Some (step_as (sync_block (length st.slots) v.it a.it) ls a.state))))
   resolve_stmt_form t ls st (region_stmt l k xs body x handler) =
-      then_some (resolve t ls l) (λ l. then_some (resolve t ls k) (λ k. then_some (resolve_captures ls xs) (λ cs.
+      then_some (resolve t ls l) (λ l. then_some (resolve t ls k) (λ k. then_some (enter_region st.regions ls xs) (λ cs.
       then_some (resolve_stmts t (locals_from 0 (taken_over cs)) (state_as (types_of (taken_over cs)) (st.regions + 1)) body) (λ a.
       then_some (resolve_stmts t (with_local (locals_from 0 (taken_over cs)) x.word (length a.state.slots) int) (next_slot a.state int) handler) (λ b.
       Some (step_as (region_block st.regions l.it k.it (slots_of cs) b.state.slots a.it (length a.state.slots) b.it) ls (state_as st.slots b.state.regions)))))))

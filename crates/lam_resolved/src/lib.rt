@@ -10,6 +10,7 @@ ghost use Rattle.lam_syntax.specs.Unplaced.{unplaced};
 ghost use Rattle.resolved_tree.specs.Typing.{IsTypedTree};
 ghost use Rattle.resolved_tree.specs.Regions.{AreNumbered};
 ghost use Rattle.resolved_tree.specs.Slots.{SlotsDiffer};
+ghost use Rattle.resolved_tree.specs.Limits.{WithinLimits};
 ghost use Rattle.lam_resolved.specs.Resolved.{resolved};
 ghost use Rattle.lam_resolved.specs.Names.{names_of, program_named};
 ghost use Rattle.region_check.specs.Seen.{checked_tree};
@@ -17,13 +18,14 @@ ghost use Rattle.region_check.specs.Seen.{checked_tree};
 use region_check::Checked;
 
 /// A checked program resolves, to a tree that is typed by slots and numbers alone. The slots in scope differ and are
-/// below the number of their unit's slots, the regions are numbered by place, and the tree is the program: with the
-/// names put back it is the same but for positions. The call does nothing; its contract is the law.
+/// below the number of their unit's slots, the regions are numbered by place, and there is no more of anything than the
+/// limits of the language allow. The tree is the program: with the names put back it is the same but for positions. The call does nothing; its contract is the law.
 pub fn resolves(c: &Checked)
     ensures some { IsSome (resolved (checked_tree c.now)) }
     ensures typed { IsSomeAnd (resolved (checked_tree c.now)) (λ r. IsTypedTree r) }
     ensures slots { IsSomeAnd (resolved (checked_tree c.now)) (λ r. SlotsDiffer r) }
     ensures regions { IsSomeAnd (resolved (checked_tree c.now)) (λ r. AreNumbered r) }
+    ensures limits { IsSomeAnd (resolved (checked_tree c.now)) (λ r. WithinLimits r) }
     ensures reads { IsSomeAnd (resolved (checked_tree c.now)) (λ r. program_named (names_of (checked_tree c.now)) r ≡ unplaced (checked_tree c.now)) }
 {
     let _tree = c.program();

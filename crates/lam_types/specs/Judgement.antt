@@ -2,6 +2,7 @@
 use Rattle.std.specs.Prelude.{◌≡◌, ℕ, ◌+◌, ◌≤◌, true, List, [], ◌∷◌, ◌++◌, length, Option, Some, None}
 use Rattle.lam_syntax.specs.Tree.{IdTree, TypeTree, VarTree, FunctionTree, ItemTree, class_item, function_item, ProgramTree, ExprTree, stmt_node, StmtForm, let_stmt, if_stmt, while_stmt, return_stmt, throw_stmt, sync_stmt, region_stmt, do_stmt, assign_stmt, StmtList, no_stmts, stmts, ElseTree, no_else, else_block}
 use Rattle.lam_operators.specs.Words.{Word}
+use Rattle.lam_builtins.specs.Limits.{most_classes, most_functions, most_fields, most_params, most_slots, most_regions}
 use Rattle.lam_builtins.specs.Types.{ValueType, int, bool, label, caps, Given, a_value, Place, exactly, any_object}
 use Rattle.lam_kinds.specs.Written.{written}
 use Rattle.lam_builtins.specs.Builtins.{builtin_named}
@@ -91,7 +92,7 @@ abbrev mutual
   IsStmt d res env (sync_stmt e body) = Stands d env any_object e × IsBlock d res env body
   IsStmt d res env (region_stmt l k xs body x handler) =
       Stands d env (exactly label) l × Stands d env (exactly caps) k × AllInScope env xs × IsBlock d res env body ×
-      IsNew x.word env × IsBlock d res (with_local env x.word int) handler × (region_slots xs body handler ≤ 1024)
+      IsNew x.word env × IsBlock d res (with_local env x.word int) handler × (region_slots xs body handler ≤ most_slots)
   IsStmt d res env (do_stmt e) = (g : Given) × IsGiven d env e g
   IsStmt d res env (assign_stmt p e) = (t : ValueType) × (is_place p ≡ true) × IsGiven d env p (a_value t) × Stands d env (exactly t) e
 
@@ -129,10 +130,10 @@ EndsWith (Some t) body = ends body ≡ true
 
 abbrev pub IsFunction : Decls → FunctionTree → Type 0
 IsFunction d f =
-    EndsWith f.result f.body × AreVars d 64 f.params × IsResult d f.result × IsBlock d (result_type f.result) (typed_names f.params) f.body × (length f.params + slots_of f.body ≤ 1024)
+    EndsWith f.result f.body × AreVars d most_params f.params × IsResult d f.result × IsBlock d (result_type f.result) (typed_names f.params) f.body × (length f.params + slots_of f.body ≤ most_slots)
 
 abbrev pub IsItem : Decls → ItemTree → Type 0
-IsItem d (class_item c) = AreVars d 256 c.fields
+IsItem d (class_item c) = AreVars d most_fields c.fields
 IsItem d (function_item f) = IsFunction d f
 
 abbrev pub AllItems : Decls → ProgramTree → Type 0
@@ -145,8 +146,8 @@ NoBuiltin [] = Unit {0}
 NoBuiltin (e ∷ es) = (builtin_named e.0 ≡ None) × NoBuiltin es
 
 abbrev pub AreTables : Decls → Type 0
-AreTables d = Differ [] d.classes × (length d.classes ≤ 1024) × NoBuiltin d.functions × Differ [] d.functions × (length d.functions ≤ 1024)
+AreTables d = Differ [] d.classes × (length d.classes ≤ most_classes) × NoBuiltin d.functions × Differ [] d.functions × (length d.functions ≤ most_functions)
 
 -- a program is typed
 abbrev pub IsTyped : ProgramTree → Type 0
-IsTyped p = AreTables (declared p) × AllItems (declared p) p × (regions_of_program p ≤ 4096)
+IsTyped p = AreTables (declared p) × AllItems (declared p) p × (regions_of_program p ≤ most_regions)

@@ -6,6 +6,7 @@
 --   fn f(x:int):int{return (x+1)*2;}                                 none
 use Rattle.std.specs.Prelude.{ℕ, ◌&&◌, not, if◌then◌else◌, is_some, [], ◌∷◌, length, Option, Some, None}
 use Rattle.lam_syntax.specs.Tree.{TypeTree, ClassTree, FunctionTree, ItemTree, class_item, function_item, ProgramTree}
+use Rattle.lam_builtins.specs.Limits.{most_fields, most_params}
 use Rattle.lam_builtins.specs.Types.{ValueType}
 use Rattle.lam_kinds.specs.Written.{written}
 use Rattle.first_breaks.specs.Verdicts.{Fine, Stop, then_on, first_break}
@@ -34,11 +35,11 @@ at_head f regions = record { slots = length f.params; regions = regions }
 -- a function, after so many regions of the program
 abbrev pub function_checked : Decls → ℕ → FunctionTree → Verdict ℕ
 function_checked d regions f =
-    then_on (returns f) (λ _. then_on (vars_known d 64 [] f.params) (λ env. then_on (result_known d f.result) (λ _.
+    then_on (returns f) (λ _. then_on (vars_known d most_params [] f.params) (λ env. then_on (result_known d f.result) (λ _.
     then_on (block_checked d (result_type f.result) env (at_head f regions) f.body) (λ c. Fine c.regions))))
 
 abbrev pub class_checked : Decls → ClassTree → Verdict (Unit {0})
-class_checked d c = then_on (vars_known d 256 [] c.fields) (λ _. Fine tt)
+class_checked d c = then_on (vars_known d most_fields [] c.fields) (λ _. Fine tt)
 
 abbrev pub item_checked : Decls → ℕ → ItemTree → Verdict ℕ
 item_checked d regions (class_item c) = then_on (class_checked d c) (λ _. Fine regions)

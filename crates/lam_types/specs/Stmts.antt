@@ -2,6 +2,7 @@
 use Rattle.std.specs.Prelude.{ℕ, ◌+◌, ◌++◌, Bool, true, false, is_some, List, [], ◌∷◌, Option, Some, None}
 use Rattle.lam_syntax.specs.Tree.{IdTree, VarTree, ExprTree, expr_node, field_expr, element_expr, name_expr, StmtTree, stmt_node, StmtForm, let_stmt, if_stmt, while_stmt, return_stmt, throw_stmt, sync_stmt, region_stmt, do_stmt, assign_stmt, StmtList, no_stmts, stmts, ElseTree, no_else, else_block}
 use Rattle.lam_operators.specs.Words.{Word}
+use Rattle.lam_builtins.specs.Limits.{most_slots, most_regions}
 use Rattle.lam_builtins.specs.Types.{ValueType, int, bool, label, caps, Given, given_type, Place, exactly, any_object}
 use Rattle.lam_kinds.specs.Written.{written}
 use Rattle.first_breaks.specs.Verdicts.{Fine, Stop, then_on}
@@ -16,11 +17,11 @@ stands d env p e = then_on (placed (at_of e) p (given_of d env e)) (λ _. Fine t
 
 -- one more slot of the unit
 abbrev pub one_slot : ℕ → Counts → Verdict Counts
-one_slot at c = then_on (room at 1024 c.slots) (λ _. Fine (record { slots = c.slots + 1; regions = c.regions }))
+one_slot at c = then_on (room at most_slots c.slots) (λ _. Fine (record { slots = c.slots + 1; regions = c.regions }))
 
 -- one more region of the program, whose unit has no slots yet
 abbrev pub one_region : ℕ → Counts → Verdict Counts
-one_region at c = then_on (room at 4096 c.regions) (λ _. Fine (record { slots = 0; regions = c.regions + 1 }))
+one_region at c = then_on (room at most_regions c.regions) (λ _. Fine (record { slots = 0; regions = c.regions + 1 }))
 
 -- after a region the slots go on where they were
 abbrev pub back_in : Counts → Counts → Counts

@@ -13,6 +13,7 @@ use crate::endings::block_ends;
 use crate::stmts::{Counts, check_block};
 use crate::typed::Typed;
 use indexmap::IndexMap;
+use lam_builtins::{MOST_FIELDS, MOST_PARAMS};
 use lam_kinds::tables::{known_type, known_vars};
 use lam_kinds::types::type_ref;
 use lam_kinds::{Known, TypeFault, TypeRef};
@@ -23,7 +24,7 @@ fn check_class<'a>(alloc: Global, known: &Known<'a>, c: &'a Class) -> Result<(),
     ensures { Passes result (class_checked (decls known.now) (class_tree c.now)) }
 {
     let mut fields = IndexMap::new(alloc);
-    known_vars(known, 256, &mut fields, c.fields.as_slice())?;
+    known_vars(known, MOST_FIELDS, &mut fields, c.fields.as_slice())?;
     Ok(())
 }
 
@@ -67,7 +68,7 @@ fn check_function<'a>(
     check_returns(f)?;
     let mut env = IndexMap::new(alloc);
     let params = f.params.as_slice();
-    known_vars(known, 64, &mut env, params)?;
+    known_vars(known, MOST_PARAMS, &mut env, params)?;
     check_result(known, &f.result)?;
     let head = Counts {
         slots: params.len() as u32,

@@ -12,6 +12,7 @@ ghost use Rattle.lam_types.specs.Parts.{guarded, synced, opened, caught};
 ghost use Rattle.lam_types.specs.Meets.{Counted, Steps};
 ghost use Rattle.lam_kinds.specs.declared.fault.TypeFault.TheVariants.{NoMemory as no_memory};
 
+use lam_builtins::{MOST_REGIONS, MOST_SLOTS};
 use lam_exprs::{check_at, check_expr};
 use lam_kinds::fault::mismatch;
 use lam_kinds::tables::{add_name, find_name, fresh_name, known_type};
@@ -53,7 +54,7 @@ fn check_stands<'a>(
 fn count_slot(at: u64, c: Counts) -> Result<Counts, TypeFault>
     ensures { Counted result (one_slot at c) }
 {
-    if c.slots < 1024 {
+    if c.slots < MOST_SLOTS {
         Ok(Counts {
             slots: c.slots + 1,
             regions: c.regions,
@@ -66,7 +67,7 @@ fn count_slot(at: u64, c: Counts) -> Result<Counts, TypeFault>
 fn count_region(at: u64, c: Counts) -> Result<Counts, TypeFault>
     ensures { Counted result (one_region at c) }
 {
-    if c.regions < 4096 {
+    if c.regions < MOST_REGIONS {
         Ok(Counts {
             slots: 0,
             regions: c.regions + 1,

@@ -9,7 +9,7 @@ use std::test::Fail;
 /// Fails where a program resolves to another tree than the one with this text.
 fn resolves(rt: &HostRuntime, text: &str, want: &str) -> Result<(), Fail> {
     let checked = check_program(rt.alloc(), text.as_bytes())?;
-    is_shown(rt, &resolve(checked)?, want)
+    is_shown(rt, &resolve(&checked)?, want)
 }
 
 fn is_shown(rt: &HostRuntime, tree: &Resolved, want: &str) -> Result<(), Fail> {

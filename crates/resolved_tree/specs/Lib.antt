@@ -2,3 +2,4 @@ pub mod Tree
 pub mod Typing
 pub mod Regions
 pub mod Slots
+pub mod Limits

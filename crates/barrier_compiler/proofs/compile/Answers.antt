@@ -5,13 +5,13 @@ use Rattle.barrier_compiler.proofs.Acts.{acts_of}
 use Rattle.barrier_compiler.proofs.compile.Goals as goal
 
 pub returns-clause-ok : goal.returns-clause-ok
-returns-clause-ok c = made_ok (checked_tree c.args.c) (resolved_tree c.in_ok-program.program) c.in_ok-program.ensures.resolved c.emit.result c.emit.ensures.ok
+returns-clause-ok c = made_ok (checked_tree c.args.c.now) (resolved_tree c.in_ok-program.program) c.in_ok-program.ensures.resolved c.emit.result c.emit.ensures.ok
 
 pub returns-clause-long : goal.returns-clause-long
-returns-clause-long c = made_err (checked_tree c.args.c) (resolved_tree c.in_ok-program.program) c.in_ok-program.ensures.resolved c.emit.result c.emit.ensures.fault
+returns-clause-long c = made_err (checked_tree c.args.c.now) (resolved_tree c.in_ok-program.program) c.in_ok-program.ensures.resolved c.emit.result c.emit.ensures.fault
 
 pub returns-clause-acts : goal.returns-clause-acts
-returns-clause-acts c = acts_of (checked_tree c.args.c) c.resolves.ensures.typed c.resolves.ensures.regions c.compiled_code_acts_as_its_source.ensures
+returns-clause-acts c = acts_of (checked_tree c.args.c.now) c.resolves.ensures.typed c.resolves.ensures.regions c.compiled_code_acts_as_its_source.ensures
 
 pub returns-in_err-program-clause-acts : goal.returns-in_err-program-clause-acts
-returns-in_err-program-clause-acts c = acts_of (checked_tree c.args.c) c.resolves.ensures.typed c.resolves.ensures.regions c.compiled_code_acts_as_its_source.ensures
+returns-in_err-program-clause-acts c = acts_of (checked_tree c.args.c.now) c.resolves.ensures.typed c.resolves.ensures.regions c.compiled_code_acts_as_its_source.ensures

@@ -94,7 +94,7 @@ check_expr-returns-in_ok-check_at-in-Spawn t c =
 pub check_prefix-returns-in_err-check_at : goal.check_prefix-returns-in_err-check_at
 check_prefix-returns-in_err-check_at t c =
     let p = err_from_is_err_and c.from_residual.result c.from_residual.ensures.1 in
-    rw (p.1, p.2) (Arms.unary_stop (decls c.args.known.now) (names c.args.env.now.entries) 0 _ c.in_err-check_at.field-0.0 c.args.op (value_type c.prefix_type.result) c.args.of.now c.args.of.now refl c.prefix_type.ensures refl c.in_err-check_at.ensures)
+    rw (p.1, p.2) (Arms.unary_stop (decls c.args.known.now) (names c.args.env.now.entries) 0 _ c.in_err-check_at.field-0.0 c.args.op (value_type c.prefix_ref.result) c.args.of.now c.args.of.now refl c.prefix_ref.ensures refl c.in_err-check_at.ensures)
 
 pub check_access-returns-in_err-got : goal.check_access-returns-in_err-got
 check_access-returns-in_err-got t c =

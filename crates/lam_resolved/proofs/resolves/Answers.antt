@@ -1,5 +1,5 @@
 use Rattle.region_check.specs.Seen.{checked_tree}
-use Rattle.lam_resolved.proofs.Laws.{resolves, resolves_typed, resolves_slots, resolves_regions, resolves_reads}
+use Rattle.lam_resolved.proofs.Laws.{resolves, resolves_typed, resolves_slots, resolves_regions, resolves_limits, resolves_reads}
 use Rattle.lam_resolved.proofs.resolves.Goals as goal
 
 pub returns-clause-some : goal.returns-clause-some
@@ -13,6 +13,9 @@ returns-clause-slots c = resolves_slots (checked_tree c.args.c.now) c.program-tr
 
 pub returns-clause-regions : goal.returns-clause-regions
 returns-clause-regions c = resolves_regions (checked_tree c.args.c.now) c.program-tree.ensures.typed c.program-tree.ensures.legal
+
+pub returns-clause-limits : goal.returns-clause-limits
+returns-clause-limits c = resolves_limits (checked_tree c.args.c.now) c.program-tree.ensures.typed c.program-tree.ensures.legal
 
 pub returns-clause-reads : goal.returns-clause-reads
 returns-clause-reads c = resolves_reads (checked_tree c.args.c.now) c.program-tree.ensures.typed c.program-tree.ensures.legal

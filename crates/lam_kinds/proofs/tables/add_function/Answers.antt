@@ -1,5 +1,6 @@
 use Rattle.std.proofs.Common.{ap, ◌∙◌, ◌++◌, ◌∷◌, []}
 use Rattle.std.proofs.lemmas.Result.{err_from_is_err_and}
+use Rattle.lam_builtins.specs.Limits.{most_functions}
 use Rattle.lam_syntax.specs.Tree.{function_tree}
 use Rattle.lam_operators.specs.Words.{Word}
 use Rattle.first_breaks.specs.Verdicts.{Fine, then_on}
@@ -20,7 +21,7 @@ returns-in_err-function_name c =
 pub add_name-requires : goal.add_name-requires
 add_name-requires c =
     ap (λ (w : Word). find w (keyed c.args.functions.now.entries)) c.as_str.ensures.value ∙
-    new_none 1024 c.args.functions.now.entries (function_tree c.args.f.now).name (new_function c.args.functions.now.entries (function_tree c.args.f.now).name c.in_ok-function_name.ensures)
+    new_none most_functions c.args.functions.now.entries (function_tree c.args.f.now).name (new_function c.args.functions.now.entries (function_tree c.args.f.now).name c.in_ok-function_name.ensures)
 
 pub returns : goal.returns
 unfolding with_function
