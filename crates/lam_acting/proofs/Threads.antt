@@ -23,7 +23,6 @@ use Rattle.lam_acting.specs.Gathers.{Along, with_locals, Out, call_result, body_
 use Rattle.lam_acting.specs.Gathers as nested
 use Rattle.lam_acting.proofs.Placed.{IsPlaced, BlockPlaced, OtherPlaced, functions_placed}
 use Rattle.lam_acting.specs.Joined.{NestedMeans}
-use Rattle.lam_typed.proofs.Threads.{function_at}
 use Rattle.lam_acting.proofs.Plays.{Keep, Held, stands, played, told, EndSized, Matches, MatchesAt, end_on, how_played, asks_played, not_broken, final_told}
 use Rattle.lam_acting.proofs.Lists.{monitors}
 use Rattle.lam_acting.proofs.Operations.{stays}
