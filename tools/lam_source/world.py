@@ -1,0 +1,280 @@
+"""World documents and books, for the tools that help a person: what a document says, and the place of each part of it.
+
+What a document is, the proved program says (docs/FORMATS.md). This reads the same form and looks at its members in the
+same order, so that a refusal can be given its line, its column and what was wanted there.
+"""
+import json
+import re
+
+NAME = re.compile(r'[A-Za-z][A-Za-z0-9_]{0,31}')
+LABEL = re.compile(r'\{([^{}]*)\}/\{([^{}]*)\}')
+PIECES = re.compile(r'\s*("(?:[^"\\]|\\.)*"|-?[0-9][0-9.eE+-]*|true|false|null|[][{}:,])', re.S)
+ORDER = ['version', 'tags', 'tree', 'pipes', 'threads']
+
+
+class Part:
+    """A part of a document: its value, its place, and its own parts by name or by index."""
+
+    def __init__(self, value, at, parts=None, whole=True):
+        self.value, self.at, self.parts, self.whole = value, at, parts or {}, whole
+
+
+class Wrong(Exception):
+    """The first break: its line without `lam: 4 `, its place, and what was wanted."""
+
+    def __init__(self, kind, at, wanted):
+        super().__init__(kind)
+        self.kind, self.at, self.wanted = kind, at, wanted
+
+
+class Item:
+    def __init__(self, **parts):
+        self.__dict__.update(parts)
+
+
+# ---- JSON with places
+
+class Places:
+    def __init__(self, text):
+        self.text, self.at = text, 0
+
+    def piece(self):
+        found = PIECES.match(self.text, self.at)
+        self.at = found.end()
+        return found[1], found.start(1)
+
+    def part(self, given=None):
+        piece, at = given or self.piece()
+        if piece == '{':
+            return self.of_object(at)
+        if piece == '[':
+            return self.of_list(at)
+        whole = not re.match(r'-?[0-9]+[.eE]', piece)
+        return Part(json.loads(piece), at, whole=whole)
+
+    def of_object(self, at):
+        parts, value = {}, {}
+        piece = self.piece()
+        while piece[0] != '}':
+            name = json.loads(piece[0])
+            self.piece()
+            parts[name] = self.part()
+            value[name] = parts[name].value
+            piece = self.piece()
+            if piece[0] == ',':
+                piece = self.piece()
+        return Part(value, at, parts)
+
+    def of_list(self, at):
+        parts = {}
+        piece = self.piece()
+        while piece[0] != ']':
+            parts[len(parts)] = self.part(piece)
+            piece = self.piece()
+            if piece[0] == ',':
+                piece = self.piece()
+        return Part([it.value for it in parts.values()], at, parts)
+
+
+def parts_of(text):
+    try:
+        json.loads(text)
+    except json.JSONDecodeError as broken:
+        raise Wrong('NotJson', broken.pos, broken.msg[0].lower() + broken.msg[1:]) from None
+    except RecursionError:
+        raise Wrong('NotJson', 0, 'less nesting') from None
+    return Places(text).part()
+
+
+# ---- what a document says
+
+class Start:
+    """The world at the start: tags, tree, pipes, threads."""
+
+    def __init__(self, text, functions):
+        self.functions = functions
+        self.tags, self.tree, self.pipes, self.threads = [], [], [], []
+        document = parts_of(text)
+        if not isinstance(document.value, dict):
+            raise Wrong('BadMember version', document.at, 'an object with version, tags, tree, pipes and threads')
+        for name in ORDER:
+            part = self.member(document, name)
+            getattr(self, f'read_{name}')(part)
+
+    @staticmethod
+    def member(part, name, wanted=None):
+        if name not in part.parts:
+            raise Wrong(f'NoMember {name}', part.at, wanted or f'a member "{name}" in this object')
+        return part.parts[name]
+
+    @staticmethod
+    def is_list(part, name, wanted):
+        if not isinstance(part.value, list):
+            raise Wrong(f'BadMember {name}', part.at, wanted)
+        return part.parts.values()
+
+    @staticmethod
+    def is_object(part, name):
+        if not isinstance(part.value, dict):
+            raise Wrong(f'BadMember {name}', part.at, 'an object: { .. }')
+        return part
+
+    def text(self, part, name):
+        if not isinstance(part.value, str):
+            raise Wrong(f'BadMember {name}', part.at, 'a text: ".."')
+        return part.value
+
+    def read_version(self, part):
+        if part.value != 1 or not part.whole or isinstance(part.value, bool):
+            raise Wrong('BadMember version', part.at, 'the number 1')
+
+    def read_tags(self, part):
+        for tag in self.is_list(part, 'tags', 'a list of tag names'):
+            if not isinstance(tag.value, str) or not NAME.fullmatch(tag.value):
+                raise Wrong('BadMember tags', tag.at, 'a tag name: a letter and up to 31 letters, digits or _')
+            if tag.value in self.tags:
+                raise Wrong('BadMember tags', tag.at, 'another name: this tag is there already')
+            self.tags.append(tag.value)
+        if len(self.tags) > 65536:
+            raise Wrong('BadMember tags', part.at, 'at most 65,536 tags')
+
+    def label(self, part):
+        value = self.text(part, 'label')
+        found = LABEL.fullmatch(value)
+        sets = [piece.split(',') if piece else [] for piece in found.groups()] if found else []
+        if not found or not all(NAME.fullmatch(name) for names in sets for name in names):
+            raise Wrong('BadMember label', part.at, 'a label without blanks, {SECRECY}/{INTEGRITY}: "{a,b}/{c}"')
+        return tuple(frozenset(self.tag(name, part) for name in names) for names in sets)
+
+    def tag(self, name, part):
+        if name not in self.tags:
+            raise Wrong(f'NoTag {name}', part.at, f'a tag of the list "tags", which has {listed(self.tags)}')
+        return self.tags.index(name)
+
+    def read_tree(self, part):
+        made, full = {'': [None, 0]}, {}
+        full[frozenset(), frozenset()] = 1
+        for index, it in enumerate(self.is_list(part, 'tree', 'a list of files and directories')):
+            self.is_object(it, 'tree')
+            path = self.text(self.member(it, 'path'), 'path')
+            above, _, entry = path.rpartition('/')
+            bad = not 1 <= len(entry.encode(errors='surrogatepass')) <= 255 or '\0' in entry or entry in ('.', '..')
+            place = it.parts['path'].at
+            if bad or path.startswith('/'):
+                raise Wrong(f'BadPath {index}', place, 'names joined by /, none of them empty, . or ..')
+            if above not in made:
+                raise Wrong(f'BadPath {index}', place, f'a directory "{above}" earlier in the list: {{"path": "{above}", "label": .., "dir": true}}')
+            if made[above][0] == 'file':
+                raise Wrong(f'BadPath {index}', place, f'a directory before the last /, and "{above}" is a file')
+            if path in made:
+                raise Wrong(f'PathTwice {index}', place, 'a path that no earlier item has')
+            label = self.label(self.member(it, 'label'))
+            text = self.content(it)
+            made[above][1] += 1
+            full[label] = full.get(label, 0) + 1
+            if made[above][1] > 4096 or full[label] > 65536:
+                raise Wrong(f'BadPath {index}', place, 'room: a directory has at most 4,096 entries, a label 65,536 files and directories')
+            made[path] = ['dir' if text is None else 'file', 0]
+            self.tree.append(Item(path=path, label=label, text=text, at=it.at))
+
+    def content(self, it):
+        if 'dir' in it.parts:
+            if it.parts['dir'].value is not True:
+                raise Wrong('BadMember dir', it.parts['dir'].at, 'true')
+            if 'text' in it.parts:
+                raise Wrong('BadMember dir', it.parts['dir'].at, 'either "dir" or "text": an item is a directory or a file')
+            return None
+        if 'text' not in it.parts:
+            raise Wrong('NoMember text', it.at, 'a "text" where the item is a file, or "dir": true')
+        text = self.text(it.parts['text'], 'text').encode()
+        if len(text) > 1048576:
+            raise Wrong('BadMember text', it.parts['text'].at, 'at most 1,048,576 bytes')
+        return text
+
+    def read_pipes(self, part):
+        count = {}
+        for it in self.is_list(part, 'pipes', 'a list of pipes'):
+            self.is_object(it, 'pipes')
+            name = self.text(self.member(it, 'name'), 'name')
+            if name in [pipe.name for pipe in self.pipes]:
+                raise Wrong('BadMember name', it.parts['name'].at, 'a name that no earlier pipe has')
+            label = self.label(self.member(it, 'label'))
+            count[label] = count.get(label, 0) + 1
+            if count[label] > 4096:
+                raise Wrong('BadMember pipes', it.at, 'at most 4,096 pipes at one label')
+            self.pipes.append(Item(name=name, label=label))
+
+    def read_threads(self, part):
+        items = list(self.is_list(part, 'threads', 'a list of 1 to 64 threads'))
+        if not 1 <= len(items) <= 64:
+            raise Wrong('BadMember threads', part.at, 'a list of 1 to 64 threads')
+        if not all(isinstance(it.value, dict) for it in items):
+            it = next(it for it in items if not isinstance(it.value, dict))
+            raise Wrong('BadMember threads', it.at, 'an object: { .. }')
+        for it in items:
+            self.threads.append(self.thread(it))
+
+    def thread(self, it):
+        run = self.member(it, 'run')
+        known = {name: takes for name, takes in self.functions}
+        if run.value not in known:
+            raise Wrong('BadMember run', run.at, f'a function of the program that gives an int; it has {listed(list(known))}')
+        arguments = self.arguments(self.member(it, 'args'), known[run.value], run.value)
+        caps = self.is_object(self.member(it, 'caps'), 'caps')
+        sets = []
+        for name in ('plus', 'minus'):
+            held = self.is_list(self.member(caps, name), name, 'a list of tag names')
+            sets.append(frozenset(self.tag(self.text(tag, name), tag) for tag in held))
+        return Item(run=run.value, arguments=arguments, caps=tuple(sets), at=it.at)
+
+    def arguments(self, part, takes, run):
+        parts = list(self.is_list(part, 'args', f'a list of {len(takes)} objects'))
+        wanted = ', '.join(f'{{"{KINDS.get(kind, kind)}": ..}}' for kind in takes)
+        wanted = f'as many and of such kinds as {run} takes: [{wanted}]'
+        if len(parts) != len(takes):
+            raise Wrong('BadMember args', part.at, wanted)
+        return [self.argument(it, kind, wanted) for it, kind in zip(parts, takes)]
+
+    def argument(self, it, kind, wanted):
+        kind = KINDS.get(kind, kind)
+        named = [name for name in ('int', 'bool', 'text', 'tag', 'pipe') if isinstance(it.value, dict) and name in it.parts]
+        if named != [kind]:
+            raise Wrong('BadMember args', it.at, wanted)
+        content = it.parts[kind]
+        good = {'int': isinstance(content.value, int) and not isinstance(content.value, bool) and content.whole
+                and -2 ** 63 <= content.value < 2 ** 63,
+                'bool': isinstance(content.value, bool)}.get(kind, isinstance(content.value, str))
+        if not good:
+            raise Wrong(f'BadMember {kind}', content.at, {'int': 'a whole number without quotes', 'bool': 'true or false'}.get(kind, 'a text: ".."'))
+        if kind == 'text':
+            if len(content.value.encode()) > 65536:
+                raise Wrong('BadMember text', content.at, 'at most 65,536 bytes')
+            return kind, content.value.encode()
+        if kind == 'tag':
+            return kind, self.tag(content.value, content)
+        if kind == 'pipe' and content.value not in [pipe.name for pipe in self.pipes]:
+            raise Wrong('BadMember pipe', content.at, f'a pipe of the list "pipes", which has {listed([it.name for it in self.pipes])}')
+        return kind, content.value
+
+
+KINDS = {'bytes': 'text'}
+
+
+def listed(names):
+    return ', '.join(names) if names else 'none'
+
+
+def functions_of(code):
+    """The functions that a thread may run: their names and the types of their parameters."""
+    return [(it.name, [local.type for local in it.locals]) for it in code.functions if it.type == 'int']
+
+
+# ---- books
+
+def turns_of(text):
+    """The turns of a book, thread by thread."""
+    found = []
+    for line in text.splitlines()[1:]:
+        thread, count = line.split(' ')
+        found += [int(thread)] * int(count)
+    return found
