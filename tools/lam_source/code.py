@@ -280,15 +280,19 @@ def shown_bytes(value):
 
 
 class Code:
-    """The units of a program, and the names of what it declares."""
+    """The units of a program, and the names of what it declares.
 
-    def __init__(self, text):
+    With a listing, the operations are those that `lam code` printed, each with the place of the one that the scheme has."""
+
+    def __init__(self, text, listing=None):
         items = grammar.read(text)
         types.typed(items)
         emitter = Emitter(items)
         self.text, self.units = text, emitter.units()
         self.classes, self.functions = emitter.classes, emitter.functions
         self.of_regions = self.units[len(self.functions):]
+        if listing is not None and listing != self.listing():
+            self.follow(listing)
 
     def listing(self):
         """What `lam code` prints."""
@@ -299,3 +303,22 @@ class Code:
             lines.append(f'unit {unit.number} {kind} locals {unit.locals}{catch}')
             lines += [f'{at} {op.text()}' for at, op in enumerate(unit.ops)]
         return ''.join(f'{line}\n' for line in lines)
+
+    def follow(self, listing):
+        """Takes the operations of a listing, which may lack barriers that the scheme has."""
+        found = None
+        for line in listing.splitlines():
+            words = line.split(' ')
+            if words[0] == 'unit':
+                unit = self.units[int(words[1])]
+                found, unit.ops = iter(unit.ops), []
+                if 'catch' in words:
+                    unit.catch = int(words[-1])
+                continue
+            scheme = next(op for op in found if op.name == words[1] or op.name not in ('rbar', 'wbar'))
+            operands = [' '.join(words[2:])] if words[1] == 'const' else words[2:]
+            unit.ops.append(Op(words[1], list(map(operand, operands)), scheme.at, scheme.end))
+
+
+def operand(text):
+    return int(text) if text.lstrip('-').isdigit() else text

@@ -3,6 +3,7 @@
 What a document is, the proved program says (docs/FORMATS.md). This reads the same form and looks at its members in the
 same order, so that a refusal can be given its line, its column and what was wanted there.
 """
+import contextlib
 import json
 import re
 
@@ -24,7 +25,7 @@ class Wrong(Exception):
 
     def __init__(self, kind, at, wanted):
         super().__init__(kind)
-        self.kind, self.at, self.wanted = kind, at, wanted
+        self.kind, self.at, self.wanted, self.where = kind, at, wanted, None
 
 
 class Item:
@@ -80,10 +81,22 @@ def parts_of(text):
     try:
         json.loads(text)
     except json.JSONDecodeError as broken:
-        raise Wrong('NotJson', broken.pos, broken.msg[0].lower() + broken.msg[1:]) from None
+        raise Wrong('NotJson', broken.pos, json_wanted(broken.msg)) from None
     except RecursionError:
         raise Wrong('NotJson', 0, 'less nesting') from None
     return Places(text).part()
+
+
+def json_wanted(message):
+    """What JSON wants at a place, by what the library says."""
+    wants = {"Expecting ',' delimiter": 'a `,` before this, or the end of the list or object before',
+             "Expecting ':' delimiter": 'a `:` after the name of a member',
+             'Expecting property name': 'the name of a member between `"`; after the last member stands no `,`',
+             'Expecting value': 'a value; after the last item of a list stands no `,`, and texts stand between `"`',
+             'Illegal trailing comma': 'no `,` after the last item or member',
+             'Extra data': 'the end of the document', 'Unterminated string': 'a `"` at the end of this text',
+             'Invalid \\escape': r'one of the escapes of JSON: \n \t \\ \" \uHHHH'}
+    return next((wanted for head, wanted in wants.items() if message.startswith(head)), 'JSON')
 
 
 # ---- what a document says
@@ -118,6 +131,16 @@ class Start:
         if not isinstance(part.value, dict):
             raise Wrong(f'BadMember {name}', part.at, 'an object: { .. }')
         return part
+
+    @staticmethod
+    @contextlib.contextmanager
+    def within(where):
+        """What breaks inside stands in this item of the document."""
+        try:
+            yield
+        except Wrong as wrong:
+            wrong.where = wrong.where or where
+            raise
 
     def text(self, part, name):
         if not isinstance(part.value, str):
@@ -155,27 +178,31 @@ class Start:
         made, full = {'': [None, 0]}, {}
         full[frozenset(), frozenset()] = 1
         for index, it in enumerate(self.is_list(part, 'tree', 'a list of files and directories')):
-            self.is_object(it, 'tree')
-            path = self.text(self.member(it, 'path'), 'path')
-            above, _, entry = path.rpartition('/')
-            bad = not 1 <= len(entry.encode(errors='surrogatepass')) <= 255 or '\0' in entry or entry in ('.', '..')
-            place = it.parts['path'].at
-            if bad or path.startswith('/'):
-                raise Wrong(f'BadPath {index}', place, 'names joined by /, none of them empty, . or ..')
-            if above not in made:
-                raise Wrong(f'BadPath {index}', place, f'a directory "{above}" earlier in the list: {{"path": "{above}", "label": .., "dir": true}}')
-            if made[above][0] == 'file':
-                raise Wrong(f'BadPath {index}', place, f'a directory before the last /, and "{above}" is a file')
-            if path in made:
-                raise Wrong(f'PathTwice {index}', place, 'a path that no earlier item has')
-            label = self.label(self.member(it, 'label'))
-            text = self.content(it)
-            made[above][1] += 1
-            full[label] = full.get(label, 0) + 1
-            if made[above][1] > 4096 or full[label] > 65536:
-                raise Wrong(f'BadPath {index}', place, 'room: a directory has at most 4,096 entries, a label 65,536 files and directories')
-            made[path] = ['dir' if text is None else 'file', 0]
-            self.tree.append(Item(path=path, label=label, text=text, at=it.at))
+            with self.within(f'item {index} of "tree"'):
+                self.read_item(index, it, made, full)
+
+    def read_item(self, index, it, made, full):
+        self.is_object(it, 'tree')
+        path = self.text(self.member(it, 'path'), 'path')
+        above, _, entry = path.rpartition('/')
+        bad = not 1 <= len(entry.encode(errors='surrogatepass')) <= 255 or '\0' in entry or entry in ('.', '..')
+        place = it.parts['path'].at
+        if bad or path.startswith('/'):
+            raise Wrong(f'BadPath {index}', place, 'names joined by /, none of them empty, . or ..')
+        if above not in made:
+            raise Wrong(f'BadPath {index}', place, f'a directory "{above}" earlier in the list: {{"path": "{above}", "label": .., "dir": true}}')
+        if made[above][0] == 'file':
+            raise Wrong(f'BadPath {index}', place, f'a directory before the last /, and "{above}" is a file')
+        if path in made:
+            raise Wrong(f'PathTwice {index}', place, 'a path that no earlier item has')
+        label = self.label(self.member(it, 'label'))
+        text = self.content(it)
+        made[above][1] += 1
+        full[label] = full.get(label, 0) + 1
+        if made[above][1] > 4096 or full[label] > 65536:
+            raise Wrong(f'BadPath {index}', place, 'room: a directory has at most 4,096 entries, a label 65,536 files and directories')
+        made[path] = ['dir' if text is None else 'file', 0]
+        self.tree.append(Item(path=path, label=label, text=text, at=it.at))
 
     def content(self, it):
         if 'dir' in it.parts:
@@ -193,16 +220,20 @@ class Start:
 
     def read_pipes(self, part):
         count = {}
-        for it in self.is_list(part, 'pipes', 'a list of pipes'):
-            self.is_object(it, 'pipes')
-            name = self.text(self.member(it, 'name'), 'name')
-            if name in [pipe.name for pipe in self.pipes]:
-                raise Wrong('BadMember name', it.parts['name'].at, 'a name that no earlier pipe has')
-            label = self.label(self.member(it, 'label'))
-            count[label] = count.get(label, 0) + 1
-            if count[label] > 4096:
-                raise Wrong('BadMember pipes', it.at, 'at most 4,096 pipes at one label')
-            self.pipes.append(Item(name=name, label=label))
+        for index, it in enumerate(self.is_list(part, 'pipes', 'a list of pipes')):
+            with self.within(f'item {index} of "pipes"'):
+                self.pipe(it, count)
+
+    def pipe(self, it, count):
+        self.is_object(it, 'pipes')
+        name = self.text(self.member(it, 'name'), 'name')
+        if name in [pipe.name for pipe in self.pipes]:
+            raise Wrong('BadMember name', it.parts['name'].at, 'a name that no earlier pipe has')
+        label = self.label(self.member(it, 'label'))
+        count[label] = count.get(label, 0) + 1
+        if count[label] > 4096:
+            raise Wrong('BadMember pipes', it.at, 'at most 4,096 pipes at one label')
+        self.pipes.append(Item(name=name, label=label))
 
     def read_threads(self, part):
         items = list(self.is_list(part, 'threads', 'a list of 1 to 64 threads'))
@@ -211,8 +242,9 @@ class Start:
         if not all(isinstance(it.value, dict) for it in items):
             it = next(it for it in items if not isinstance(it.value, dict))
             raise Wrong('BadMember threads', it.at, 'an object: { .. }')
-        for it in items:
-            self.threads.append(self.thread(it))
+        for index, it in enumerate(items):
+            with self.within(f'thread {index}'):
+                self.threads.append(self.thread(it))
 
     def thread(self, it):
         run = self.member(it, 'run')
@@ -236,27 +268,40 @@ class Start:
         return [self.argument(it, kind, wanted) for it, kind in zip(parts, takes)]
 
     def argument(self, it, kind, wanted):
-        kind = KINDS.get(kind, kind)
-        named = [name for name in ('int', 'bool', 'text', 'tag', 'pipe') if isinstance(it.value, dict) and name in it.parts]
-        if named != [kind]:
+        kinds = [name for name in CONTENTS if isinstance(it.value, dict) and name in it.parts]
+        if len(kinds) != 1:
             raise Wrong('BadMember args', it.at, wanted)
-        content = it.parts[kind]
-        good = {'int': isinstance(content.value, int) and not isinstance(content.value, bool) and content.whole
-                and -2 ** 63 <= content.value < 2 ** 63,
-                'bool': isinstance(content.value, bool)}.get(kind, isinstance(content.value, str))
-        if not good:
-            raise Wrong(f'BadMember {kind}', content.at, {'int': 'a whole number without quotes', 'bool': 'true or false'}.get(kind, 'a text: ".."'))
-        if kind == 'text':
-            if len(content.value.encode()) > 65536:
-                raise Wrong('BadMember text', content.at, 'at most 65,536 bytes')
-            return kind, content.value.encode()
-        if kind == 'tag':
-            return kind, self.tag(content.value, content)
-        if kind == 'pipe' and content.value not in [pipe.name for pipe in self.pipes]:
+        given = kinds[0]
+        content = it.parts[given]
+        self.content_of(given, content)
+        if given != KINDS.get(kind, kind):
+            raise Wrong('BadMember args', it.at, wanted)
+        if given == 'text':
+            return given, content.value.encode()
+        if given == 'tag':
+            return given, self.tag(content.value, content)
+        if given == 'pipe' and content.value not in [pipe.name for pipe in self.pipes]:
             raise Wrong('BadMember pipe', content.at, f'a pipe of the list "pipes", which has {listed([it.name for it in self.pipes])}')
-        return kind, content.value
+        return given, content.value
+
+    def content_of(self, kind, content):
+        """That a content is of its own kind."""
+        value = content.value
+        good = isinstance(value, str)
+        if kind == 'int':
+            good = isinstance(value, int) and not isinstance(value, bool) and content.whole and -2 ** 63 <= value < 2 ** 63
+        elif kind == 'bool':
+            good = isinstance(value, bool)
+        elif kind == 'tag':
+            good = good and bool(NAME.fullmatch(value))
+        elif kind == 'text':
+            good = good and len(value.encode()) <= 65536
+        if not good:
+            raise Wrong(f'BadMember {kind}', content.at, CONTENTS[kind])
 
 
+CONTENTS = {'int': 'a whole number without quotes', 'bool': 'true or false', 'text': 'a text of at most 65,536 bytes: ".."',
+            'tag': 'the name of a tag', 'pipe': 'the name of a pipe'}
 KINDS = {'bytes': 'text'}
 
 
