@@ -69,14 +69,13 @@ def in_full(told, event):
     """All that there is to say of an event."""
     op = event.unit.ops[event.at]
     place = told.run.place_of(event.unit, event.at)
-    lines = [f'turn {event.turn}: {machine.line_of(told.texts, event)}',
-             place.shown(told.run.program, op.end - op.at).replace('\n', '\n  ').replace('line', '  line', 0)]
-    lines[1] = '  ' + lines[1]
+    shown = place.shown(told.run.program, op.end - op.at).replace('\n', '\n  ')
+    lines = [f'turn {event.turn}: {machine.line_of(told.texts, event)}', f'  {shown}']
     more = [f'{told.thread(event.thread)}, {told.inside(event)}, at {told.texts.label(event.label)} with {told.texts.caps(event.caps)}',
             *told.calls(event)]
     if told.words(event) != event.words:
         more.append(f'asked: {told.words(event)}')
-    return '\n'.join(lines + [f'  {line}' for line in more + told.sentences(event)])
+    return '\n'.join(lines + [f'  {line}' for line in more + told.sentences(event) + told.named(event)])
 
 
 def of_turn(told, turn, turns):

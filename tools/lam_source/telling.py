@@ -82,8 +82,9 @@ class Telling:
             tags = event.by[1 if at else 0]
             sign = '-' if at else '+'
             held = ', '.join(f'{self.texts.tag(tag)}{sign}' for tag in sorted(tags))
-            said.append(f'this is {"a" if at else "an"} {kind}, by {held}: what was known at {self.texts.label(event.label)} '
-                        f'goes to {self.texts.label(event.made)}')
+            how = 'what was known at {} goes to {}' if at else 'what stood at {} is vouched for at {}'
+            how = how.format(self.texts.label(event.label), self.texts.label(event.made))
+            said.append(f'this is {"a" if at else "an"} {kind}, by {held}: {how}')
         if event.refused:
             rule = RULES[event.refused.rule].format(tag=self.texts.tag(event.refused.tag))
             said.append(f'refused by {event.refused.rule}: {rule}')
@@ -94,6 +95,11 @@ class Telling:
         if self.is_polling(event):
             said.append('nothing was there to be taken')
         return said
+
+    def named(self, event):
+        """What the world document calls the pipes, files and directories of an event's line."""
+        line = machine.line_of(self.texts, event)
+        return [f'{text} is {what}' for text, what in self.run.world.named(self.texts).items() if text in line]
 
     def calls(self, event):
         """The lines from which the acting function was called, and its regions entered, the outermost first."""
