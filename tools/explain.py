@@ -27,6 +27,8 @@ FILES = {
     'replay': {1: 'the program', 2: 'the world', 3: 'the book'}, 'audit': {1: 'the program', 2: 'the world', 3: 'the book'},
     'run': {1: 'the program', 2: 'the world', 4: 'the book to be written'}, 'make': {3: 'the book to be written'},
 }
+MEANT = {'FILE': 'the name of a script', 'P': 'the name of a program', 'W': 'the name of a world document', 'BOOK': 'the name of a book',
+         'OBS': "an observer's label, as '{}/{}'", 'BOOKOUT': 'a name for the book that is to be written'}
 OBSERVER = {'play': 2, 'replay': 4, 'run': 3}
 RANGES = {'--workers': 'a number from 1 to 16', '--turns': 'a number from 1 to 1000000',
           'SEED': 'a number from 0 to 18446744073709551615', 'THREADS': 'a number from 1 to 64'}
@@ -72,6 +74,8 @@ def of_label(words, index):
     """Why a word is no label of an observer."""
     word = words[index]
     if not world.LABEL.fullmatch(word) or re.search(r'\s', word):
+        if any(map(world.LABEL.fullmatch, words)):
+            return 'the label stands in another place of the words than that of OBS'
         return f"a label is {{SECRECY}}/{{INTEGRITY}}, with no blank: '{{a,b}}/{{c}}'; the public's is '{{}}/{{}}'"
     tags = tags_of(words)
     unknown = [name for name in re.findall(r'\w+', word) if name not in tags]
@@ -116,9 +120,11 @@ def hint_of_words(words, index, forms):
     if index == 0 and words:
         near = difflib.get_close_matches(words[0], [form[0] for form in forms], 1)
         return f'did you mean {near[0]}?' if near else None
+    form = next((form for form in forms if form[0] == words[0]), []) if words else []
+    if words and index == len(words) and index < len(form) and '[' not in form[index]:
+        return f'{form[index]} is missing: {MEANT.get(form[index], "a word")}'
     if words and words[0] == 'run':
         return of_options(words)
-    form = next((form for form in forms if form[0] == words[0]), []) if words else []
     wanted = form[index] if index < len(form) else ''
     return f'{wanted} is {RANGES[wanted]}' if wanted in RANGES and index < len(words) else None
 
@@ -141,10 +147,11 @@ def of_words(program, line, words):
     given = ['lam', *words]
     start = sum(len(word) + 1 for word in given[:index + 1])
     shown = [places.marked(' '.join(given), start, len(words[index]) if index < len(words) else 1)]
-    if names_observer(words, index, forms):
-        return shown + [of_label(words, index)]
-    hint = hint_of_words(words, index, forms)
     alike = forms_alike(forms, words)
+    if names_observer(words, index, forms):
+        said = [of_label(words, index)]
+        return shown + said + ([] if world.LABEL.fullmatch(words[index]) else [f'the form is: lam {" ".join(alike[0])}'])
+    hint = hint_of_words(words, index, forms)
     shown += [hint] if hint else []
     shown.append('the forms are:' if len(alike) > 1 else 'the form is:')
     return shown + [f'  lam {" ".join(form)}' for form in alike]
@@ -248,8 +255,10 @@ def of_book(program, line, words):
 def of_short_book(program, words):
     """Says that a book that was replayed ends while a thread lives."""
     turns = world.turns_of(runs.text_of(words[3]))
-    run = runs.Run(program, words[1], words[2]).take(turns[:MANY])
-    if len(turns) > MANY or not run.world.lives():
+    if len(turns) > MANY:
+        return []
+    run = runs.Run(program, words[1], words[2]).take(turns)
+    if not run.world.lives():
         return []
     return [f'the book ends while {counted(len(run.world.lives()))}: what is printed is the beginning of a run',
             SEES_ALL, *standing(run, observer_of(words, run))]

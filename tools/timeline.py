@@ -44,7 +44,7 @@ def item_of(told, event, labels):
     """An event as the page has it."""
     texts = told.texts
     line = machine.line_of(texts, event)
-    release = f'turn {event.turn}: release t{event.thread} {event.content} by {texts.caps(event.by)}' if event.by else ''
+    release = f'turn {event.turn}: {machine.release_line(texts, event)}' if event.by else ''
     said = event.words[4:].strip('"') if event.ask == 'say' else ''
     return {
         'turn': event.turn, 'thread': event.thread, 'label': labels.number(event.label), 'kind': kind_of(told, event),

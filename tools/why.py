@@ -57,6 +57,12 @@ def label_of(text, tags):
     return tuple(frozenset(map(tags.index, side)) for side in sides)
 
 
+def lines_of(told, event):
+    """The lines that `run`, `replay` and `audit` have of an event."""
+    lines = [machine.line_of(told.texts, event), machine.noted_line(told.texts, event) or '']
+    return lines + ([machine.release_line(told.texts, event)] if event.by else [])
+
+
 def in_short(told, event):
     """One line of an event."""
     place = told.run.place_of(event.unit, event.at)
@@ -108,10 +114,7 @@ def main():
         if re.fullmatch(r'\d+', wanted):
             print(of_turn(told, int(wanted), turns))
             continue
-        everything = telling.all_tags(run.texts) if observer is None else observer
-        found = [it for it in shown if wanted in machine.line_of(run.texts, it)
-                 or wanted in (machine.seen_line(run.texts, it, everything) or '')
-                 or wanted in f'{machine.noted_line(run.texts, it)}']
+        found = [it for it in shown if any(wanted in line for line in lines_of(told, it))]
         print('\n'.join(in_full(told, it) for it in found) if found else f'no event has {wanted} in its line')
     if not words.wanted:
         for event in shown:

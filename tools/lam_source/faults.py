@@ -78,6 +78,7 @@ def hints(reader, token, wanted):
         (wanted == ['('] and last in ('if', 'while', 'sync'), f'what {last} tests or takes stands in ( )'),
         (';' in wanted and on_later_line(reader, token), 'perhaps the line before lacks its `;`'),
         (token.text == ';' and '{' in wanted, 'after the head stands a block: { .. }'),
+        (token.text == '{' and not before, 'a world document begins so; the program is the word before the world'),
         (wanted == ['the end of the program', 'class', 'fn'] and token.kind != 'mark',
          'all statements stand in functions: fn main(): int { .. return 0; }'),
     ) if fits][:1]

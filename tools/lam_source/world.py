@@ -129,7 +129,8 @@ class Start:
     @staticmethod
     def is_object(part, name):
         if not isinstance(part.value, dict):
-            raise Wrong(f'BadMember {name}', part.at, 'an object: { .. }')
+            wanted = {'caps': '{"plus": [..], "minus": [..]} with names of tags'}.get(name, 'an object: { .. }')
+            raise Wrong(f'BadMember {name}', part.at, wanted)
         return part
 
     @staticmethod
