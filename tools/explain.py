@@ -12,13 +12,11 @@ where there is nothing more to say.
 import difflib
 import os
 import re
-import subprocess
 import sys
 
 from lam_source import faults, places, runs, world
 
 DONE, WORDS, PROGRAM, WORLD, BOOK, MISSING, SHELF, OUTPUT, BUDGET, WAITING = 0, 2, 3, 4, 5, 6, 7, 8, 9, 10
-REFUSALS = (WORDS, PROGRAM, WORLD, BOOK, MISSING)
 MANY = 200_000      # turns; of a longer book nothing is said where the program has refused nothing
 
 # Which words of each command are which files.
@@ -27,8 +25,8 @@ FILES = {
     'replay': {1: 'the program', 2: 'the world', 3: 'the book'}, 'audit': {1: 'the program', 2: 'the world', 3: 'the book'},
     'run': {1: 'the program', 2: 'the world', 4: 'the book to be written'}, 'make': {3: 'the book to be written'},
 }
-MEANT = {'FILE': 'the name of a script', 'P': 'the name of a program', 'W': 'the name of a world document', 'BOOK': 'the name of a book',
-         'OBS': "an observer's label, as '{}/{}'", 'BOOKOUT': 'a name for the book that is to be written'}
+MEANT = {'FILE': 'the name of a script', 'P': 'the name of a program', 'W': 'the name of a world document',
+         'BOOK': 'the name of a book', 'OBS': "an observer's label, as '{}/{}'", 'BOOKOUT': 'a name for the book that is to be written'}
 OBSERVER = {'play': 2, 'replay': 4, 'run': 3}
 RANGES = {'--workers': 'a number from 1 to 16', '--turns': 'a number from 1 to 1000000',
           'SEED': 'a number from 0 to 18446744073709551615', 'THREADS': 'a number from 1 to 64'}
@@ -47,8 +45,7 @@ def same_words(given, form):
 
 
 def forms_of(program):
-    printed = subprocess.run([program, 'help'], capture_output=True, text=True, check=False).stdout
-    return [line.split()[1:] for line in printed.splitlines()]
+    return [line.split()[1:] for line in runs.printed(program, 'help').splitlines()]
 
 
 def forms_alike(forms, words):
@@ -149,8 +146,8 @@ def of_words(program, line, words):
     shown = [places.marked(' '.join(given), start, len(words[index]) if index < len(words) else 1)]
     alike = forms_alike(forms, words)
     if names_observer(words, index, forms):
-        said = [of_label(words, index)]
-        return shown + said + ([] if world.LABEL.fullmatch(words[index]) else [f'the form is: lam {" ".join(alike[0])}'])
+        form = [] if world.LABEL.fullmatch(words[index]) else [f'the form is: lam {" ".join(alike[0])}']
+        return [*shown, of_label(words, index), *form]
     hint = hint_of_words(words, index, forms)
     shown += [hint] if hint else []
     shown.append('the forms are:' if len(alike) > 1 else 'the form is:')
@@ -179,8 +176,8 @@ def of_program(_, line, words):
             return of_place(words[1], data, 'NotUtf8', broken.start)
     long = re.fullmatch(r'lam: 3 CodeTooLong (\d+)', line)
     if long:
-        return [f'unit {long[1]} has more than 65,535 operations: make several functions of it (`lam code` counts the units '
-                'from 0, functions first)']
+        return [f'unit {long[1]} has more than 65,535 operations: make several functions of it '
+                '(units are counted from 0, functions first)']
     return []
 
 
@@ -238,7 +235,8 @@ def of_book(program, line, words):
         lines = runs.text_of(words[3]).split('\n')
         number = int(broken[2])
         text = lines[number - 1] if number <= len(lines) else ''
-        return [f'{words[3]}: line {number}', f'  {text[:100]}', LINES[broken[1]], f'is {words[3]} a book that `lam run` wrote?']
+        return [f'{words[3]}: line {number}', f'  {text[:100]}', LINES[broken[1]],
+                f'is {words[3]} a book that `lam run` wrote?']
     run = runs.Run(program, words[1], words[2]).take_book(words[3])
     if run.stopped is None:
         return []
@@ -274,7 +272,8 @@ def of_missing(_, line, words):
     kind, name = re.fullmatch(r'lam: 6 (\w+) (.*)', line, re.S).groups()
     role = next((role for at, role in FILES.get(words[0], {}).items() if at < len(words) and words[at] == name), 'a file')
     if kind == 'TooLong':
-        return [f'{name}, {role}, is longer than its limit: 1,048,576 bytes for a program or a script, 16,777,216 for a world or a book']
+        limit = '1,048,576' if role in ('the program', 'the script') else '16,777,216'
+        return [f'{name}, {role}, is longer than its limit of {limit} bytes']
     folder, base = os.path.split(name)
     if folder and not os.path.isdir(folder):
         return [f'{role} is not there: there is no folder {folder}']
@@ -283,15 +282,22 @@ def of_missing(_, line, words):
     return [f'{role} is not there{more}']
 
 
+def not_written(name):
+    """Why a file could not be written."""
+    folder = os.path.dirname(name) or '.'
+    if not os.path.isdir(folder):
+        return 'there is no such folder'
+    if os.path.isdir(name):
+        return 'it is a folder'
+    return 'writing failed' if os.access(name if os.path.exists(name) else folder, os.W_OK) else 'it may not be written'
+
+
 def of_shelf(words):
     """Which file could not be read or written."""
     for at, role in FILES.get(words[0], {}).items():
         name = words[at] if at < len(words) else ''
         if role == 'the book to be written':
-            folder = os.path.dirname(name) or '.'
-            why = 'there is no such folder' if not os.path.isdir(folder) else 'it is a folder' if os.path.isdir(name) else \
-                'it may not be written' if not os.access(name if os.path.exists(name) else folder, os.W_OK) else 'writing failed'
-            return [f'{name}, {role}, could not be written: {why}']
+            return [f'{name}, {role}, could not be written: {not_written(name)}']
         if os.path.isdir(name) or not os.access(name, os.R_OK):
             return [f'{name}, {role}, could not be read: {"it is a folder" if os.path.isdir(name) else "it may not be read"}']
     return ['a file could not be read or written']
@@ -353,14 +359,17 @@ def of_unended(program, status, words):
     lines = standing(run, observer_of(words, run))
     if status == WAITING:
         return ['no thread that lives can go on: they wait for each other', SEES_ALL, *lines]
-    return [f'all {run.world.turn} turns are used up and {counted(len(run.world.lives()))}; --turns N gives more, up to 1000000',
-            SEES_ALL, *lines, last_turns(turns)]
+    head = f'all {run.world.turn} turns are used up and {counted(len(run.world.lives()))}'
+    return [f'{head}; --turns N gives more, up to 1000000', SEES_ALL, *lines, last_turns(turns)]
+
+
+REFUSALS = {WORDS: of_words, PROGRAM: of_program, WORLD: of_world, BOOK: of_book, MISSING: of_missing}
 
 
 def explained(program, status, words):
     if status in REFUSALS:
-        line = subprocess.run([program, *words], capture_output=True, text=True, errors='replace', check=False).stdout.rstrip('\n')
-        return {WORDS: of_words, PROGRAM: of_program, WORLD: of_world, BOOK: of_book, MISSING: of_missing}[status](program, line, words)
+        line = runs.printed(program, *words).rstrip('\n')
+        return REFUSALS[status](program, line, words)
     if status in (BUDGET, WAITING):
         return of_unended(program, status, words)
     if status == DONE:

@@ -77,8 +77,8 @@ def in_full(told, event):
     place = told.run.place_of(event.unit, event.at)
     shown = place.shown(told.run.program, op.end - op.at).replace('\n', '\n  ')
     lines = [f'turn {event.turn}: {machine.line_of(told.texts, event)}', f'  {shown}']
-    more = [f'{told.thread(event.thread)}, {told.inside(event)}, at {told.texts.label(event.label)} with {told.texts.caps(event.caps)}',
-            *told.calls(event)]
+    label, caps = told.texts.label(event.label), told.texts.caps(event.caps)
+    more = [f'{told.thread(event.thread)}, {told.inside(event)}, at {label} with {caps}', *told.calls(event)]
     if told.words(event) != event.words:
         more.append(f'asked: {told.words(event)}')
     return '\n'.join(lines + [f'  {line}' for line in more + told.sentences(event) + told.named(event)])

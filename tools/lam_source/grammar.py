@@ -142,7 +142,8 @@ class Reader:
         self.take(')')
         result = self.type() if self.took(':') else None
         body = self.block()
-        return Node('fn', start.at, body.end, name=name.text, name_at=name.at, parameters=parameters, result=result, body=body)
+        return Node('fn', start.at, body.end, name=name.text, name_at=name.at, parameters=parameters, result=result,
+                    body=body)
 
     def parameter(self):
         name = self.name()

@@ -114,7 +114,8 @@ def differs(run, lam, document, book):
     """Where the lines of this reading of a run differ from those of the proved program: a line, or None."""
     from .runs import printed
     everything = all_tags(run.texts)
-    mine = [machine.noted_line(run.texts, it) for it in run.events], [machine.seen_line(run.texts, it, everything) for it in run.events]
+    mine = ([machine.noted_line(run.texts, it) for it in run.events],
+            [machine.seen_line(run.texts, it, everything) for it in run.events])
     theirs = (printed(lam, 'audit', run.program, document, book),
               printed(lam, 'replay', run.program, document, book, run.texts.label(everything)))
     for my_lines, text in zip(mine, theirs):

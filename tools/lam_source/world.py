@@ -191,7 +191,8 @@ class Start:
         if bad or path.startswith('/'):
             raise Wrong(f'BadPath {index}', place, 'names joined by /, none of them empty, . or ..')
         if above not in made:
-            raise Wrong(f'BadPath {index}', place, f'a directory "{above}" earlier in the list: {{"path": "{above}", "label": .., "dir": true}}')
+            item = f'{{"path": "{above}", "label": .., "dir": true}}'
+            raise Wrong(f'BadPath {index}', place, f'a directory "{above}" earlier in the list: {item}')
         if made[above][0] == 'file':
             raise Wrong(f'BadPath {index}', place, f'a directory before the last /, and "{above}" is a file')
         if path in made:
@@ -201,7 +202,8 @@ class Start:
         made[above][1] += 1
         full[label] = full.get(label, 0) + 1
         if made[above][1] > 4096 or full[label] > 65536:
-            raise Wrong(f'BadPath {index}', place, 'room: a directory has at most 4,096 entries, a label 65,536 files and directories')
+            raise Wrong(f'BadPath {index}', place, 'room: a directory has at most 4,096 entries, and at one label there '
+                                                   'are at most 65,536 files and directories')
         made[path] = ['dir' if text is None else 'file', 0]
         self.tree.append(Item(path=path, label=label, text=text, at=it.at))
 
@@ -282,7 +284,8 @@ class Start:
         if given == 'tag':
             return given, self.tag(content.value, content)
         if given == 'pipe' and content.value not in [pipe.name for pipe in self.pipes]:
-            raise Wrong('BadMember pipe', content.at, f'a pipe of the list "pipes", which has {listed([it.name for it in self.pipes])}')
+            known = listed([it.name for it in self.pipes])
+            raise Wrong('BadMember pipe', content.at, f'a pipe of the list "pipes", which has {known}')
         return given, content.value
 
     def content_of(self, kind, content):
