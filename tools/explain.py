@@ -209,6 +209,10 @@ def of_script_line(lines, is_ended):
 def of_world(_, line, words):
     """Explains the refusal of a world document."""
     text = runs.text_of(words[2])
+    odd = re.search(r'[\udc80-\udcff]', text)
+    if odd:
+        return [places.Place(text, odd.start()).shown(words[2]).encode(errors='replace').decode(),
+                'a world document is UTF-8, and this byte is not']
     try:
         world.Start(text, world.functions_of(runs.codes.Code(runs.text_of(words[1]))))
     except world.Wrong as wrong:
