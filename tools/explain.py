@@ -16,20 +16,39 @@ import sys
 
 from lam_source import faults, places, runs, world
 
-DONE, WORDS, PROGRAM, WORLD, BOOK, MISSING, SHELF, OUTPUT, BUDGET, WAITING = 0, 2, 3, 4, 5, 6, 7, 8, 9, 10
+DONE, NO_MEMORY, WORDS, PROGRAM, WORLD, BOOK, MISSING, SHELF, OUTPUT, BUDGET, WAITING = range(11)
 MANY = 200_000      # turns; of a longer book nothing is said where the program has refused nothing
 
-# Which words of each command are which files.
-FILES = {
-    'play': {1: 'the script'}, 'check': {1: 'the program'}, 'format': {1: 'the program'}, 'code': {1: 'the program'},
-    'replay': {1: 'the program', 2: 'the world', 3: 'the book'}, 'audit': {1: 'the program', 2: 'the world', 3: 'the book'},
-    'run': {1: 'the program', 2: 'the world', 4: 'the book to be written'}, 'make': {3: 'the book to be written'},
-}
+# What the words of the forms stand for.
+FILES = {'FILE': 'the script', 'P': 'the program', 'W': 'the world', 'BOOK': 'the book', 'BOOKOUT': 'the book to be written'}
 MEANT = {'FILE': 'the name of a script', 'P': 'the name of a program', 'W': 'the name of a world document',
-         'BOOK': 'the name of a book', 'OBS': "an observer's label, as '{}/{}'", 'BOOKOUT': 'a name for the book that is to be written'}
-OBSERVER = {'play': 2, 'replay': 4, 'run': 3}
+         'BOOK': 'the name of a book', 'OBS': "an observer's label, as '{}/{}'", 'BOOKOUT': 'a name for the book to be written'}
 RANGES = {'--workers': 'a number from 1 to 16', '--turns': 'a number from 1 to 1000000',
           'SEED': 'a number from 0 to 18446744073709551615', 'THREADS': 'a number from 1 to 64'}
+
+
+class Call:
+    """A call: the program, the words that it was given, and the form of its command, where it has one."""
+
+    def __init__(self, program, words):
+        self.program, self.words = program, words
+        self.forms = [line.split()[1:] for line in runs.printed(program, 'help').splitlines()]
+        self.form = next((form for form in self.forms if form[:1] == words[:1]), [])
+
+    def at(self, name):
+        """The index of the word that stands where the form has this name, or None."""
+        return self.form.index(name) if name in self.form and self.form.index(name) < len(self.words) else None
+
+    def word(self, name):
+        at = self.at(name)
+        return None if at is None else self.words[at]
+
+    def files(self):
+        """The file names among the words, each with what the file is."""
+        return [(self.words[at], FILES[name]) for at, name in enumerate(self.form[:len(self.words)]) if name in FILES]
+
+    def run(self):
+        return runs.Run(self.program, self.word('P'), self.word('W'))
 
 
 # ---- words
@@ -42,10 +61,6 @@ def same_words(given, form):
             break
         count += 1
     return count
-
-
-def forms_of(program):
-    return [line.split()[1:] for line in runs.printed(program, 'help').splitlines()]
 
 
 def forms_alike(forms, words):
@@ -67,29 +82,29 @@ def split_label(words):
     return None
 
 
-def of_label(words, index):
+def of_label(call, word):
     """Why a word is no label of an observer."""
-    word = words[index]
     if not world.LABEL.fullmatch(word) or re.search(r'\s', word):
-        if any(map(world.LABEL.fullmatch, words)):
+        if any(map(world.LABEL.fullmatch, call.words)):
             return 'the label stands in another place of the words than that of OBS'
         return f"a label is {{SECRECY}}/{{INTEGRITY}}, with no blank: '{{a,b}}/{{c}}'; the public's is '{{}}/{{}}'"
-    tags = tags_of(words)
+    tags = tags_of(call)
     unknown = [name for name in re.findall(r'\w+', word) if name not in tags]
-    if unknown and words[0] != 'play' or unknown and tags:
-        near = difflib.get_close_matches(unknown[0], tags, 1)
-        more = f'; did you mean {near[0]}?' if near else ''
-        return f'there is no tag {unknown[0]}; the tags are {world.listed(tags)}{more}'
-    return 'the label names a tag that is not declared'
+    if not unknown:
+        return 'the label names a tag that is not declared'
+    near = difflib.get_close_matches(unknown[0], tags, 1)
+    more = f'; did you mean {near[0]}?' if near else ''
+    return f'there is no tag {unknown[0]}; the tags are {world.listed(tags)}{more}'
 
 
-def tags_of(words):
+def tags_of(call):
     """The tags that a script or a world declares."""
     try:
-        if words[0] == 'play':
-            return re.findall(r'^tag (\w+)$', runs.text_of(words[1]), re.M)
-        return [it for it in world.parts_of(runs.text_of(words[2])).value['tags'] if isinstance(it, str)]
-    except (OSError, world.Wrong, KeyError, TypeError, IndexError):
+        if call.word('FILE'):
+            return re.findall(r'^tag (\w+)$', runs.text_of(call.word('FILE')), re.M)
+        document = world.parts_of(runs.text_of(call.word('W')))
+        return [it for it in document.value['tags'] if isinstance(it, str)]
+    except (OSError, world.Wrong, KeyError, TypeError):
         return []
 
 
@@ -109,46 +124,44 @@ def of_options(words):
     return None
 
 
-def hint_of_words(words, index, forms):
+def hint_of_words(call, index):
     """What may be wrong with words in no form, beyond the forms."""
+    words, form = call.words, call.form
     split = split_label(words)
     if split:
         return f"the shell has made several words of one label; quote it: '{split[1]}'"
     if index == 0 and words:
-        near = difflib.get_close_matches(words[0], [form[0] for form in forms], 1)
+        near = difflib.get_close_matches(words[0], [form[0] for form in call.forms], 1)
         return f'did you mean {near[0]}?' if near else None
-    form = next((form for form in forms if form[0] == words[0]), []) if words else []
-    if words and index == len(words) and index < len(form) and '[' not in form[index]:
-        return f'{form[index]} is missing: {MEANT.get(form[index], "a word")}'
+    wanted = form[index] if index < len(form) else ''
+    if words and index == len(words) and wanted in MEANT:
+        return f'{wanted} is missing: {MEANT[wanted]}'
     if words and words[0] == 'run':
         return of_options(words)
-    wanted = form[index] if index < len(form) else ''
     return f'{wanted} is {RANGES[wanted]}' if wanted in RANGES and index < len(words) else None
 
 
-def names_observer(words, index, forms):
+def names_observer(call, index):
     """Whether the words are in a form, and the one of this index is the observer's label."""
-    if not words or OBSERVER.get(words[0]) != index or index >= len(words) or split_label(words):
+    if call.at('OBS') != index or split_label(call.words):
         return False
-    form = next(form for form in forms if form[0] == words[0])
-    required = [word for word in form if '[' not in word and not word.endswith(']')]
-    rest = words[len(required):]
-    return len(words) >= len(required) and rest[::2] == [it for it in ('--workers', '--turns') if it in rest[::2]] \
-        and len(rest) % 2 == 0
+    required = [word for word in call.form if '[' not in word and not word.endswith(']')]
+    rest = call.words[len(required):]
+    options = [it for it in ('--workers', '--turns') if it in rest[::2]]
+    return len(call.words) >= len(required) and rest[::2] == options and len(rest) % 2 == 0
 
 
-def of_words(program, line, words):
+def of_words(call, line):
     """Explains that the words are in no form, or that one of them names an unknown tag."""
     index = int(re.fullmatch(r'lam: 2 word (\d+)', line)[1])
-    forms = forms_of(program)
-    given = ['lam', *words]
+    word = call.words[index] if index < len(call.words) else ''
+    given = ['lam', *call.words]
     start = sum(len(word) + 1 for word in given[:index + 1])
-    shown = [places.marked(' '.join(given), start, len(words[index]) if index < len(words) else 1)]
-    alike = forms_alike(forms, words)
-    if names_observer(words, index, forms):
-        form = [] if world.LABEL.fullmatch(words[index]) else [f'the form is: lam {" ".join(alike[0])}']
-        return [*shown, of_label(words, index), *form]
-    hint = hint_of_words(words, index, forms)
+    shown = [places.marked(' '.join(given), start, len(word))]
+    if names_observer(call, index):
+        form = [] if world.LABEL.fullmatch(word) else [f'the form is: lam {" ".join(call.form)}']
+        return [*shown, of_label(call, word), *form]
+    hint, alike = hint_of_words(call, index), forms_alike(call.forms, call.words)
     shown += [hint] if hint else []
     shown.append('the forms are:' if len(alike) > 1 else 'the form is:')
     return shown + [f'  lam {" ".join(form)}' for form in alike]
@@ -156,24 +169,25 @@ def of_words(program, line, words):
 
 # ---- programs and scripts
 
-def of_program(_, line, words):
+def of_program(call, line):
     """Explains the refusal of a program or a script."""
-    with open(words[1], 'rb') as file:
+    name = call.word('P') or call.word('FILE')
+    with open(name, 'rb') as file:
         data = file.read()
     at = re.fullmatch(r'lam: 3 (\w+) at (\d+)', line)
     if at:
-        return of_place(words[1], data, at[1], int(at[2]))
+        return of_place(name, data, at[1], int(at[2]))
     script = re.fullmatch(r'lam: 3 Script line (\d+)', line)
     if script:
         lines = data.split(b'\n')
         number = int(script[1])
         text = lines[number - 1].decode(errors='replace') if number <= len(lines) else ''
-        return [f'{words[1]}: line {number}', f'  {text}', of_script_line(lines[:number], number <= len(lines) - 1)]
+        return [f'{name}: line {number}', f'  {text}', of_script_line(lines[:number], number <= len(lines) - 1)]
     if line == 'lam: 3 NotUtf8':
         try:
             data.decode()
         except UnicodeDecodeError as broken:
-            return of_place(words[1], data, 'NotUtf8', broken.start)
+            return of_place(name, data, 'NotUtf8', broken.start)
     long = re.fullmatch(r'lam: 3 CodeTooLong (\d+)', line)
     if long:
         return [f'unit {long[1]} has more than 65,535 operations: make several functions of it '
@@ -206,18 +220,19 @@ def of_script_line(lines, is_ended):
 
 # ---- worlds
 
-def of_world(_, line, words):
+def of_world(call, line):
     """Explains the refusal of a world document."""
-    text = runs.text_of(words[2])
+    name = call.word('W')
+    text = runs.text_of(name)
     odd = re.search(r'[\udc80-\udcff]', text)
     if odd:
-        return [places.Place(text, odd.start()).shown(words[2]).encode(errors='replace').decode(),
-                'a world document is UTF-8, and this byte is not']
+        shown = places.Place(text, odd.start()).shown(name)
+        return [shown.encode(errors='replace').decode(), 'a world document is UTF-8, and this byte is not']
     try:
-        world.Start(text, world.functions_of(runs.codes.Code(runs.text_of(words[1]))))
+        world.Start(text, world.functions_of(runs.codes.Code(runs.text_of(call.word('P')))))
     except world.Wrong as wrong:
         if f'lam: 4 {wrong.kind}' == line:
-            place = places.Place(text, min(wrong.at, len(text))).shown(words[2])
+            place = places.Place(text, min(wrong.at, len(text))).shown(name)
             return [place, (f'{wrong.where}; ' if wrong.where else '') + f'wanted: {wrong.wanted}']
     return []
 
@@ -232,16 +247,17 @@ LINES = {
 }
 
 
-def of_book(program, line, words):
+def of_book(call, line):
     """Explains the refusal of a book."""
+    name = call.word('BOOK')
     broken = re.fullmatch(r'lam: 5 (\w+) line (\d+)', line)
     if broken:
-        lines = runs.text_of(words[3]).split('\n')
+        lines = runs.text_of(name).split('\n')
         number = int(broken[2])
         text = lines[number - 1] if number <= len(lines) else ''
-        return [f'{words[3]}: line {number}', f'  {text[:100]}', LINES[broken[1]],
-                f'is {words[3]} a book that `lam run` wrote?']
-    run = runs.Run(program, words[1], words[2]).take_book(words[3])
+        return [f'{name}: line {number}', f'  {text[:100]}', LINES[broken[1]],
+                f'is {name} a book that `lam run` wrote?']
+    run = call.run().take_book(name)
     if run.stopped is None:
         return []
     number, threads = run.stopped, run.world.threads
@@ -251,19 +267,19 @@ def of_book(program, line, words):
         why = f't{number} ({run.called(number)}) has ended before that turn'
     else:
         why = f't{number} ({run.called(number)}) {run.waiting(number)}'
-    return [f'{why}', f'is {words[3]} the book of this program and this world?']
+    return [why, f'is {name} the book of this program and this world?']
 
 
-def of_short_book(program, words):
+def of_short_book(call):
     """Says that a book that was replayed ends while a thread lives."""
-    turns = world.turns_of(runs.text_of(words[3]))
+    turns = world.turns_of(runs.text_of(call.word('BOOK')))
     if len(turns) > MANY:
         return []
-    run = runs.Run(program, words[1], words[2]).take(turns)
+    run = call.run().take(turns)
     if not run.world.lives():
         return []
     return [f'the book ends while {counted(len(run.world.lives()))}: what is printed is the beginning of a run',
-            SEES_ALL, *standing(run, observer_of(words, run))]
+            SEES_ALL, *standing(run, observer_of(call, run))]
 
 
 # ---- files
@@ -272,9 +288,9 @@ def counted(number):
     return 'a thread lives' if number == 1 else f'{number} threads live'
 
 
-def of_missing(_, line, words):
+def of_missing(call, line):
     kind, name = re.fullmatch(r'lam: 6 (\w+) (.*)', line, re.S).groups()
-    role = next((role for at, role in FILES.get(words[0], {}).items() if at < len(words) and words[at] == name), 'a file')
+    role = dict(reversed(call.files())).get(name, 'a file')
     if kind == 'TooLong':
         limit = '1,048,576' if role in ('the program', 'the script') else '16,777,216'
         return [f'{name}, {role}, is longer than its limit of {limit} bytes']
@@ -296,10 +312,9 @@ def not_written(name):
     return 'writing failed' if os.access(name if os.path.exists(name) else folder, os.W_OK) else 'it may not be written'
 
 
-def of_shelf(words):
+def of_shelf(call):
     """Which file could not be read or written."""
-    for at, role in FILES.get(words[0], {}).items():
-        name = words[at] if at < len(words) else ''
+    for name, role in call.files():
         if role == 'the book to be written':
             return [f'{name}, {role}, could not be written: {not_written(name)}']
         if os.path.isdir(name) or not os.access(name, os.R_OK):
@@ -312,11 +327,11 @@ def of_shelf(words):
 SEES_ALL = 'from the book, which is for who may see all:'
 
 
-def observer_of(words, run):
-    """The label of the words that names an observer; an audit has none, since it tells all."""
-    if words[0] == 'audit':
+def observer_of(call, run):
+    """The observer's label; an audit has none, since it tells all."""
+    if not call.word('OBS'):
         return None
-    sides = world.LABEL.fullmatch(words[OBSERVER[words[0]]]).groups()
+    sides = world.LABEL.fullmatch(call.word('OBS')).groups()
     return tuple(frozenset(run.start.tags.index(name) for name in side.split(',') if name) for side in sides)
 
 
@@ -352,15 +367,15 @@ def last_turns(turns):
     return f'  of the last {len(turns)} turns ' + ', '.join(f't{thread} took {count}' for thread, count in counts.items())
 
 
-def of_unended(program, status, words):
-    if words[0] != 'run':
+def of_unended(call, status):
+    if not call.word('P'):
         return ['all 1,000,000 turns are used up' if status == BUDGET else 'no thread that lives can go on']
-    turns = world.turns_of(runs.text_of(words[4]))
+    turns = world.turns_of(runs.text_of(call.word('BOOKOUT')))
     if len(turns) > MANY:
         head = f'all {len(turns)} turns are used up' if status == BUDGET else 'no thread that lives can go on'
         return [head, SEES_ALL, last_turns(turns)]
-    run = runs.Run(program, words[1], words[2]).take(turns)
-    lines = standing(run, observer_of(words, run))
+    run = call.run().take(turns)
+    lines = standing(run, observer_of(call, run))
     if status == WAITING:
         return ['no thread that lives can go on: they wait for each other', SEES_ALL, *lines]
     head = f'all {run.world.turn} turns are used up and {counted(len(run.world.lives()))}'
@@ -371,16 +386,17 @@ REFUSALS = {WORDS: of_words, PROGRAM: of_program, WORLD: of_world, BOOK: of_book
 
 
 def explained(program, status, words):
+    call = Call(program, words)
     if status in REFUSALS:
-        line = runs.printed(program, *words).rstrip('\n')
-        return REFUSALS[status](program, line, words)
+        return REFUSALS[status](call, runs.printed(program, *words).rstrip('\n'))
     if status in (BUDGET, WAITING):
-        return of_unended(program, status, words)
+        return of_unended(call, status)
     if status == DONE:
-        return of_short_book(program, words) if words[0] in ('replay', 'audit') else []
+        return of_short_book(call) if call.word('BOOK') else []
     if status == OUTPUT:
-        return ['the output could not be written to its end' + ('; the book is written' if words[0] in ('run', 'make') else '')]
-    return {SHELF: of_shelf(words), 1: ['memory ran out; nothing is printed']}.get(status, [])
+        written = '; the book is written' if call.word('BOOKOUT') else ''
+        return [f'the output could not be written to its end{written}']
+    return {SHELF: of_shelf(call), NO_MEMORY: ['memory ran out; nothing is printed']}.get(status, [])
 
 
 def main():
