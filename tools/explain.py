@@ -1,27 +1,60 @@
 #!/usr/bin/env python3
-"""Says to a person at a terminal more of a refusal than its line does.
+"""Says to a person at a terminal more of a call that was refused, or that did not come to its end.
 
-Usage: explain.py PROGRAM STATUS LINE [WORD..]
+Usage: explain.py PROGRAM STATUS [WORD..]
 
-PROGRAM is the built program, LINE what it printed when it ended with STATUS, and the WORDs are those that it was given.
-Of words in no form it shows the forms that begin alike, with a mark under the word that fits none. Of a program or a
-script it shows the line and the column of the place that the refusal names, and a mark under it. Nothing is printed
+PROGRAM is the built program, which was given the WORDs and ended with STATUS. Where it refused them, it has written
+nothing but its line, so it is asked for that line again. Then this says, on standard error: which word fits no form;
+what stands at the place of a program or a world document, and what could; what the book has at the turn that it cannot
+have; which file is not there; which threads of a run live, where they stand and for whom they wait. Nothing is printed
 where there is nothing more to say.
 """
+import difflib
+import os
 import re
-import subprocess
 import sys
 
-WORDS, PROGRAM = 2, 3
+from lam_source import faults, places, runs, world
+
+DONE, NO_MEMORY, WORDS, PROGRAM, WORLD, BOOK, MISSING, SHELF, OUTPUT, BUDGET, WAITING = range(11)
+MANY = 200_000      # turns; of a longer book nothing is said where the program has refused nothing
+
+# What the words of the forms stand for.
+FILES = {'FILE': 'the script', 'P': 'the program', 'W': 'the world', 'BOOK': 'the book', 'BOOKOUT': 'the book to be written'}
+MEANT = {'FILE': 'the name of a script', 'P': 'the name of a program', 'W': 'the name of a world document',
+         'BOOK': 'the name of a book', 'OBS': "an observer's label, as '{}/{}'", 'BOOKOUT': 'a name for the book to be written'}
+RANGES = {'--workers': 'a number from 1 to 16', '--turns': 'a number from 1 to 1000000',
+          'SEED': 'a number from 0 to 18446744073709551615', 'THREADS': 'a number from 1 to 64'}
 
 
-def marked(text, start, width):
-    """Returns a line and, under a part of it, a mark."""
-    return f"  {text}\n  {' ' * start}{'^' * max(width, 1)}"
+class Call:
+    """A call: the program, the words that it was given, and the form of its command, where it has one."""
 
+    def __init__(self, program, words):
+        self.program, self.words = program, words
+        self.forms = [line.split()[1:] for line in runs.printed(program, 'help').splitlines()]
+        self.form = next((form for form in self.forms if form[:1] == words[:1]), [])
+
+    def at(self, name):
+        """The index of the word that stands where the form has this name, or None."""
+        return self.form.index(name) if name in self.form and self.form.index(name) < len(self.words) else None
+
+    def word(self, name):
+        at = self.at(name)
+        return None if at is None else self.words[at]
+
+    def files(self):
+        """The file names among the words, each with what the file is."""
+        return [(self.words[at], FILES[name]) for at, name in enumerate(self.form[:len(self.words)]) if name in FILES]
+
+    def run(self):
+        return runs.Run(self.program, self.word('P'), self.word('W'))
+
+
+# ---- words
 
 def same_words(given, form):
-    """Returns how many of the given words agree with a form, whose words in capitals stand for any."""
+    """How many of the given words agree with a form, whose words in capitals stand for any."""
     count = 0
     for word, wanted in zip(given, form):
         if word != wanted and not wanted.isupper():
@@ -30,89 +63,351 @@ def same_words(given, form):
     return count
 
 
-def forms_alike(program, words):
-    """Returns the forms that agree with the most of the words, or all where none begins alike."""
-    printed = subprocess.run([program, "help"], capture_output=True, text=True, check=False).stdout
-    forms = [line.split()[1:] for line in printed.splitlines()]
+def forms_alike(forms, words):
+    """The forms that agree with the most of the words, or all where none begins alike."""
     best = max((same_words(words, form) for form in forms), default=0)
     return [form for form in forms if same_words(words, form) == best] if best else forms
 
 
-def is_whole(words, form):
-    """Returns whether the words are as many as those of a form, with or without its options, which stand in brackets."""
-    required = [word for word in form if not word.startswith("[") and not word.endswith("]")]
-    options = [word[1:] for word in form if word.startswith("[")]
-    rest = words[len(required) :]
-    named = [option for option in options if option in rest[::2]]
-    return same_words(words, required) == len(required) and len(rest) % 2 == 0 and named == rest[::2]
-
-
-def of_words(program, index, words):
-    """Explains that the words are in no form, or that one of them names an unknown tag."""
-    given = ["lam", *words]
-    start = sum(len(word) + 1 for word in given[: index + 1])
-    width = len(words[index]) if index < len(words) else 1
-    shown = [marked(" ".join(given), start, width)]
-    forms = forms_alike(program, words)
-    if any(is_whole(words, form) and form[index : index + 1] == ["OBS"] for form in forms):
-        shown.append("the label names a tag that is not declared, or is no label: {a,b}/{c}")
-    else:
-        shown.append("the forms are:" if len(forms) > 1 else "the form is:")
-        shown += [f"  lam {' '.join(form)}" for form in forms]
-    return "\n".join(shown)
-
-
-def text_line(data, start):
-    """Returns the number, the column and the text of the line of a place in bytes."""
-    before = data[:start]
-    first = before.rfind(b"\n") + 1
-    end = data.find(b"\n", start)
-    line = data[first : end if end >= 0 else len(data)]
-    column = len(data[first:start].decode(errors="replace"))
-    return before.count(b"\n") + 1, column, line.decode(errors="replace").replace("\t", " ").rstrip("\r")
-
-
-def of_place(name, data, start):
-    number, column, text = text_line(data, min(start, len(data)))
-    word = re.match(r"\w+", text[column:])
-    return f"{name}: line {number}, column {column + 1}\n{marked(text, column, len(word[0]) if word else 1)}"
-
-
-def of_program(line, name):
-    """Explains the refusal of a program or a script."""
-    with open(name, "rb") as file:
-        data = file.read()
-    at = re.fullmatch(r"lam: 3 \w+ at (\d+)", line)
-    if at:
-        return of_place(name, data, int(at[1]))
-    script = re.fullmatch(r"lam: 3 Script line (\d+)", line)
-    if script:
-        lines = data.split(b"\n")
-        number = int(script[1])
-        text = lines[number - 1].decode(errors="replace") if number <= len(lines) else ""
-        return f"{name}: line {number}\n  {text}"
-    if line == "lam: 3 NotUtf8":
-        try:
-            data.decode()
-        except UnicodeDecodeError as broken:
-            return of_place(name, data, broken.start)
+def split_label(words):
+    """The one label that the shell has split into several of the words, and the index of the first of them, or None."""
+    part = r'\{?([A-Za-z]\w*)?\}?'
+    for first in range(len(words)):
+        last = first
+        while last < len(words) and re.fullmatch(f'{part}/{part}', words[last]) and not os.path.exists(words[last]):
+            last += 1
+        if last - first > 1:
+            sides = [[word.split('/')[side].strip('{}') for word in words[first:last]] for side in (0, 1)]
+            return first, '/'.join('{' + ','.join(dict.fromkeys(filter(None, side))) + '}' for side in sides)
     return None
 
 
-def main():
-    program, status, line, *words = sys.argv[1:]
-    said = None
+def of_label(call, word):
+    """Why a word is no label of an observer."""
+    if not world.LABEL.fullmatch(word) or re.search(r'\s', word):
+        if any(map(world.LABEL.fullmatch, call.words)):
+            return 'the label stands in another place of the words than that of OBS'
+        return f"a label is {{SECRECY}}/{{INTEGRITY}}, with no blank: '{{a,b}}/{{c}}'; the public's is '{{}}/{{}}'"
+    tags = tags_of(call)
+    unknown = [name for name in re.findall(r'\w+', word) if name not in tags]
+    if not unknown:
+        return 'the label names a tag that is not declared'
+    near = difflib.get_close_matches(unknown[0], tags, 1)
+    more = f'; did you mean {near[0]}?' if near else ''
+    return f'there is no tag {unknown[0]}; the tags are {world.listed(tags)}{more}'
+
+
+def tags_of(call):
+    """The tags that a script or a world declares."""
     try:
-        place = re.fullmatch(r"lam: 2 word (\d+)", line)
-        if int(status) == WORDS and place:
-            said = of_words(program, int(place[1]), words)
-        elif int(status) == PROGRAM and len(words) > 1:
-            said = of_program(line, words[1])
-    except OSError:
-        return
+        if call.word('FILE'):
+            return re.findall(r'^tag (\w+)$', runs.text_of(call.word('FILE')), re.M)
+        document = world.parts_of(runs.text_of(call.word('W')))
+        return [it for it in document.value['tags'] if isinstance(it, str)]
+    except (OSError, world.Wrong, KeyError, TypeError):
+        return []
+
+
+def of_options(words):
+    """What is wrong with the options of `run`, or None."""
+    given = [word for word in words[:-1] if word in ('--workers', '--turns')]
+    for name in given:
+        value = words[words.index(name) + 1]
+        limit = 16 if name == '--workers' else 1_000_000
+        if not re.fullmatch(r'[1-9][0-9]{0,6}', value) or int(value) > limit:
+            return f'{name} takes {RANGES[name]}'
+    unknown = [word for word in words if word.startswith('-') and word not in ('--workers', '--turns')]
+    if unknown:
+        return f'there is no option {unknown[0]}; `run` has --workers N and --turns N'
+    if given:
+        return 'the options stand last, after the book: .. BOOKOUT [--workers N] [--turns N], in this order'
+    return None
+
+
+def hint_of_words(call, index):
+    """What may be wrong with words in no form, beyond the forms."""
+    words, form = call.words, call.form
+    split = split_label(words)
+    if split:
+        return f"the shell has made several words of one label; quote it: '{split[1]}'"
+    if index == 0 and words:
+        near = difflib.get_close_matches(words[0], [form[0] for form in call.forms], 1)
+        return f'did you mean {near[0]}?' if near else None
+    wanted = form[index] if index < len(form) else ''
+    if words and index == len(words) and wanted in MEANT:
+        return f'{wanted} is missing: {MEANT[wanted]}'
+    if words and words[0] == 'run':
+        return of_options(words)
+    return f'{wanted} is {RANGES[wanted]}' if wanted in RANGES and index < len(words) else None
+
+
+def names_observer(call, index):
+    """Whether the words are in a form, and the one of this index is the observer's label."""
+    if call.at('OBS') != index or split_label(call.words):
+        return False
+    required = [word for word in call.form if '[' not in word and not word.endswith(']')]
+    rest = call.words[len(required):]
+    options = [it for it in ('--workers', '--turns') if it in rest[::2]]
+    return len(call.words) >= len(required) and rest[::2] == options and len(rest) % 2 == 0
+
+
+def of_words(call, line):
+    """Explains that the words are in no form, or that one of them names an unknown tag."""
+    index = int(re.fullmatch(r'lam: 2 word (\d+)', line)[1])
+    word = call.words[index] if index < len(call.words) else ''
+    given = ['lam', *call.words]
+    start = sum(len(word) + 1 for word in given[:index + 1])
+    shown = [places.marked(' '.join(given), start, len(word))]
+    if names_observer(call, index):
+        form = [] if world.LABEL.fullmatch(word) else [f'the form is: lam {" ".join(call.form)}']
+        return [*shown, of_label(call, word), *form]
+    hint, alike = hint_of_words(call, index), forms_alike(call.forms, call.words)
+    shown += [hint] if hint else []
+    shown.append('the forms are:' if len(alike) > 1 else 'the form is:')
+    return shown + [f'  lam {" ".join(form)}' for form in alike]
+
+
+# ---- programs and scripts
+
+def of_program(call, line):
+    """Explains the refusal of a program or a script."""
+    name = call.word('P') or call.word('FILE')
+    with open(name, 'rb') as file:
+        data = file.read()
+    at = re.fullmatch(r'lam: 3 (\w+) at (\d+)', line)
+    if at:
+        return of_place(name, data, at[1], int(at[2]))
+    script = re.fullmatch(r'lam: 3 Script line (\d+)', line)
+    if script:
+        lines = data.split(b'\n')
+        number = int(script[1])
+        text = lines[number - 1].decode(errors='replace') if number <= len(lines) else ''
+        return [f'{name}: line {number}', f'  {text}', of_script_line(lines[:number], number <= len(lines) - 1)]
+    if line == 'lam: 3 NotUtf8':
+        try:
+            data.decode()
+        except UnicodeDecodeError as broken:
+            return of_place(name, data, 'NotUtf8', broken.start)
+    long = re.fullmatch(r'lam: 3 CodeTooLong (\d+)', line)
+    if long:
+        return [f'unit {long[1]} has more than 65,535 operations: make several functions of it '
+                '(units are counted from 0, functions first)']
+    return []
+
+
+def of_place(name, data, kind, at):
+    text, start = places.characters(data, min(at, len(data)))
+    word = re.match(r'\w+', text[start:])
+    width = len(word[0]) if word else 2 if text[start:start + 2] in ('==', '!=', '<=', '>=', '&&', '||') else 1
+    shown = [places.Place(text, start).shown(name, width)]
+    if kind == 'NotUtf8':
+        return shown + ['a program is UTF-8, and this byte is not']
+    return shown + faults.sentences(kind, text, start)
+
+
+def of_script_line(lines, is_ended):
+    """Why a line of a script is in no form."""
+    if not is_ended:
+        return 'the last line has no line feed'
+    words = lines[-1].decode(errors='replace').split(' ')
+    steps = [it for it in lines[:-1] if it.split(b' ')[0] not in (b'tag', b'actor', b'cell')]
+    forms = {'tag': 'tag NAME', 'actor': 'actor NAME LABEL [CAPS]', 'cell': 'cell NAME LABEL INT'}
+    if words[0] in forms:
+        return 'declarations stand before all steps' if steps else \
+            f'the form is {forms[words[0]]}, with names that are declared before and once, and numbers without leading zeros'
+    return 'the forms of a step are ACTOR read CELL, ACTOR write CELL INT and ACTOR copy FROM TO, with declared names'
+
+
+# ---- worlds
+
+def of_world(call, line):
+    """Explains the refusal of a world document."""
+    name = call.word('W')
+    text = runs.text_of(name)
+    odd = re.search(r'[\udc80-\udcff]', text)
+    if odd:
+        shown = places.Place(text, odd.start()).shown(name)
+        return [shown.encode(errors='replace').decode(), 'a world document is UTF-8, and this byte is not']
+    try:
+        world.Start(text, world.functions_of(runs.codes.Code(runs.text_of(call.word('P')))))
+    except world.Wrong as wrong:
+        if f'lam: 4 {wrong.kind}' == line:
+            place = places.Place(text, min(wrong.at, len(text))).shown(name)
+            return [place, (f'{wrong.where}; ' if wrong.where else '') + f'wanted: {wrong.wanted}']
+    return []
+
+
+# ---- books
+
+LINES = {
+    'BadHead': 'a book begins with the line `lam book 1`',
+    'BadLine': 'a line of a book is THREAD COUNT, two numbers without leading zeros and one blank, and ends with a line feed',
+    'SameThread': 'the line has the thread of the line before: the turns of one stretch stand in one line',
+    'TooMany': 'with this line the book has more than 1,000,000 turns',
+}
+
+
+def of_book(call, line):
+    """Explains the refusal of a book."""
+    name = call.word('BOOK')
+    broken = re.fullmatch(r'lam: 5 (\w+) line (\d+)', line)
+    if broken:
+        lines = runs.text_of(name).split('\n')
+        number = int(broken[2])
+        text = lines[number - 1] if number <= len(lines) else ''
+        return [f'{name}: line {number}', f'  {text[:100]}', LINES[broken[1]],
+                f'is {name} a book that `lam run` wrote?']
+    run = call.run().take_book(name)
+    if run.stopped is None:
+        return []
+    number, threads = run.stopped, run.world.threads
+    if number >= len(threads):
+        why = f'there is no thread t{number} at that turn: threads are numbered from 0, and there are {len(threads)}'
+    elif threads[number].result:
+        why = f't{number} ({run.called(number)}) has ended before that turn'
+    else:
+        why = f't{number} ({run.called(number)}) {run.waiting(number)}'
+    return [why, f'is {name} the book of this program and this world?']
+
+
+def of_short_book(call):
+    """Says that a book that was replayed ends while a thread lives."""
+    turns = world.turns_of(runs.text_of(call.word('BOOK')))
+    if len(turns) > MANY:
+        return []
+    run = call.run().take(turns)
+    if not run.world.lives():
+        return []
+    return [f'the book ends while {counted(len(run.world.lives()))}: what is printed is the beginning of a run',
+            SEES_ALL, *standing(run, observer_of(call, run))]
+
+
+# ---- files
+
+def counted(number):
+    return 'a thread lives' if number == 1 else f'{number} threads live'
+
+
+def of_missing(call, line):
+    kind, name = re.fullmatch(r'lam: 6 (\w+) (.*)', line, re.S).groups()
+    role = dict(reversed(call.files())).get(name, 'a file')
+    if kind == 'TooLong':
+        limit = '1,048,576' if role in ('the program', 'the script') else '16,777,216'
+        return [f'{name}, {role}, is longer than its limit of {limit} bytes']
+    folder, base = os.path.split(name)
+    if folder and not os.path.isdir(folder):
+        return [f'{role} is not there: there is no folder {folder}']
+    near = difflib.get_close_matches(base, os.listdir(folder or '.'), 1)
+    more = f'; did you mean {os.path.join(folder, near[0])}?' if near else ''
+    return [f'{role} is not there{more}']
+
+
+def not_written(name):
+    """Why a file could not be written."""
+    folder = os.path.dirname(name) or '.'
+    if not os.path.isdir(folder):
+        return 'there is no such folder'
+    if os.path.isdir(name):
+        return 'it is a folder'
+    return 'writing failed' if os.access(name if os.path.exists(name) else folder, os.W_OK) else 'it may not be written'
+
+
+def of_shelf(call):
+    """Which file could not be read or written."""
+    for name, role in call.files():
+        if role == 'the book to be written':
+            return [f'{name}, {role}, could not be written: {not_written(name)}']
+        if os.path.isdir(name) or not os.access(name, os.R_OK):
+            return [f'{name}, {role}, could not be read: {"it is a folder" if os.path.isdir(name) else "it may not be read"}']
+    return ['a file could not be read or written']
+
+
+# ---- runs that did not end
+
+SEES_ALL = 'from the book, which is for who may see all:'
+
+
+def observer_of(call, run):
+    """The observer's label; an audit has none, since it tells all."""
+    if not call.word('OBS'):
+        return None
+    sides = world.LABEL.fullmatch(call.word('OBS')).groups()
+    return tuple(frozenset(run.start.tags.index(name) for name in side.split(',') if name) for side in sides)
+
+
+def standing(run, observer):
+    """Lines for each thread that lives: where it stands, and for whom it waits or what it asked last.
+
+    What was asked and answered at a label that the observer does not see is left out."""
+    said = []
+    for thread in run.world.lives():
+        number, label = thread.number, thread.context.label
+        last = run.last.get(number)
+        if observer is not None and not runs.machine.flows(label, observer):
+            what = f'at {run.texts.label(label)}'
+        elif run.waiting(number):
+            what = run.waiting(number)
+        elif last and (observer is None or runs.machine.flows(last.label, observer)):
+            what = f'last asked {shortened(last.words)} = {shortened(last.answer)}'
+        else:
+            what = f'at {run.texts.label(label)}'
+        said.append(f'  t{number} ({run.called(number)}), {thread.turns} turns, {what}')
+        said.append(f'    {run.now_at(number)}')
+    return said
+
+
+def shortened(text):
+    return text if len(text) <= 60 else f'{text[:57]}..'
+
+
+def last_turns(turns):
+    """Who took the last turns, of the last hundred."""
+    turns = turns[-100:]
+    counts = {thread: turns.count(thread) for thread in dict.fromkeys(reversed(turns))}
+    return f'  of the last {len(turns)} turns ' + ', '.join(f't{thread} took {count}' for thread, count in counts.items())
+
+
+def of_unended(call, status):
+    if not call.word('P'):
+        return ['all 1,000,000 turns are used up' if status == BUDGET else 'no thread that lives can go on']
+    turns = world.turns_of(runs.text_of(call.word('BOOKOUT')))
+    if len(turns) > MANY:
+        head = f'all {len(turns)} turns are used up' if status == BUDGET else 'no thread that lives can go on'
+        return [head, SEES_ALL, last_turns(turns)]
+    run = call.run().take(turns)
+    lines = standing(run, observer_of(call, run))
+    if status == WAITING:
+        return ['no thread that lives can go on: they wait for each other', SEES_ALL, *lines]
+    head = f'all {run.world.turn} turns are used up and {counted(len(run.world.lives()))}'
+    return [f'{head}; --turns N gives more, up to 1000000', SEES_ALL, *lines, last_turns(turns)]
+
+
+REFUSALS = {WORDS: of_words, PROGRAM: of_program, WORLD: of_world, BOOK: of_book, MISSING: of_missing}
+
+
+def explained(program, status, words):
+    call = Call(program, words)
+    if status in REFUSALS:
+        return REFUSALS[status](call, runs.printed(program, *words).rstrip('\n'))
+    if status in (BUDGET, WAITING):
+        return of_unended(call, status)
+    if status == DONE:
+        return of_short_book(call) if call.word('BOOK') else []
+    if status == OUTPUT:
+        written = '; the book is written' if call.word('BOOKOUT') else ''
+        return [f'the output could not be written to its end{written}']
+    return {SHELF: of_shelf(call), NO_MEMORY: ['memory ran out; nothing is printed']}.get(status, [])
+
+
+def main():
+    program, status, *words = sys.argv[1:]
+    try:
+        said = explained(program, int(status), words)
+    except (OSError, runs.NotToRun, IndexError, TypeError, KeyError, ValueError, RecursionError):
+        return      # there is nothing more to say
     if said:
-        print(said, file=sys.stderr)
+        print('\n'.join(said), file=sys.stderr)
 
 
-if __name__ == "__main__":
+if __name__ == '__main__':
     main()

@@ -16,6 +16,7 @@ import sys
 
 HERE = pathlib.Path(__file__).resolve().parent
 TOP = HERE.parent.parent
+BROKEN = TOP / "examples" / "terminal"      # its programs are full of mistakes
 
 # What the reserved words that are no types are for. A new one has to be put somewhere here.
 NAMED = {"fn": "entity.name.function.lam", "class": "entity.name.type.class.lam"}
@@ -35,18 +36,19 @@ class Wrong(Exception):
 
 # ---- the words, from the sources
 
-def body_of(path, head):
-    """Returns the text of a function of a source file, from its head to the brace that ends it."""
+def bodies_of(path, head):
+    """Returns the texts of the functions of a source file whose names fit, each from its head to the brace that ends it."""
     text = (TOP / "crates" / path).read_text(encoding="utf-8")
-    found = re.search(rf"^( *)(?:pub )?fn {head}\(.*?^\1}}$", text, re.MULTILINE | re.DOTALL)
-    if not found:
+    found = re.finditer(rf"^( *)(?:pub )?fn {head}[(<].*?^\1}}$", text, re.MULTILINE | re.DOTALL)
+    bodies = "\n".join(body.group(0) for body in found)
+    if not bodies:
         raise Wrong(f"{path} has no function {head}")
-    return found.group(0)
+    return bodies
 
 
 def found_in(path, head, pattern):
-    """Returns what a pattern finds in a function of a source file, which is something."""
-    found = re.findall(pattern, body_of(path, head))
+    """Returns what a pattern finds in a function of a source file, or in several that begin alike; it is something."""
+    found = re.findall(pattern, bodies_of(path, head))
     if not found:
         raise Wrong(f"{head} of {path} has nothing like {pattern}")
     return found
@@ -66,7 +68,7 @@ def read_marks():
 
 def read_words():
     """Returns the words of the language by what they are."""
-    kinds = found_in("lam_lexer/src/lexer.rt", "reserved", r'"(\w+)" => Some\(TokenKind::(\w+)\)')
+    kinds = found_in("lam_lexer/src/words.rt", r"of(?:_\w)+", r'"(\w+)" => Some\(TokenKind::(\w+)\)')
     typed = set(found_in("lam_parse_parts/src/types.rt", "type_kind", r"TokenKind::(\w+) => Ok\(TypeKind::\1\)"))
     reserved = [word for word, _ in kinds]
     types = [word for word, kind in kinds if kind in typed]
@@ -350,7 +352,7 @@ def check_line(line, words, patterns):
 def check_examples(words):
     """Checks the colours of each program of the examples; returns how many there are, and how many pieces."""
     patterns = json.loads((HERE / "lam.tmLanguage.json").read_text(encoding="utf-8"))["patterns"]
-    programs = sorted((TOP / "examples").glob("*/*.lam"))
+    programs = sorted(it for it in (TOP / "examples").rglob("*.lam") if BROKEN not in it.parents)
     if not programs:
         raise Wrong("there are no examples")
     count = 0

@@ -3,10 +3,10 @@ if exists("b:current_syntax")
   finish
 endif
 syn keyword lamDeclaration class fn let
-syn keyword lamControl if else while return throw sync region catch
+syn keyword lamControl catch else if return region while sync throw
 syn keyword lamMaking new spawn
-syn keyword lamConstant true false null
-syn keyword lamType int bool bytes tag label caps file dir pipe thread
+syn keyword lamConstant false null true
+syn keyword lamType bool bytes caps dir int pipe file label tag thread
 syn match lamBuiltin /\<\%(len\|size\|byte\|slice\|cat\|text\|number\|my_label\|my_caps\|root\|label_of\|copy\|mint\|say\|make_file\|make_dir\|open_file\|open_dir\|remove\|read\|length\|append\|cut\|make_pipe\|send\|send_caps\|receive\|receive_caps\|join\)\>\ze\s*(/
 syn match lamFunction /\%(\<fn\s\+\)\@<=\h\w*/
 syn match lamClass /\%(\<class\s\+\)\@<=\h\w*/

@@ -1,0 +1,1 @@
+"""What the tools for people know of programs, worlds, books and runs; the proved program rules."""

@@ -1,0 +1,207 @@
+"""A sentence for each fault of a program: what stands at its place, what could stand there, and what often helps."""
+import difflib
+import re
+
+from . import grammar, types
+
+EXPRESSION = ['!', '-', 'a number', 'a text', 'true', 'false', 'null', '(', 'a name', 'new', 'label', 'caps', 'spawn']
+STATEMENT = ['let', 'if', 'while', 'return', 'throw', 'sync', 'region']
+OPERATOR = ['||', '&&', '==', '!=', '<', '<=', '>', '>=', '+', '-', '*', '/', '%', '.', '[']
+TYPE = grammar.TYPES + ['a name', '[']
+
+PLAIN = {
+    'BadNumber': 'a number is at most 9223372036854775807, and no letter stands directly after it',
+    'BadEscape': r'in a text stand \n, \t, \\, \" and \xHH with two hexadecimal digits, and no other escape',
+    'OpenText': 'the text that begins here has no " at its end on this line, or is longer than 65,536 bytes',
+    'TooDeep': 'more than 128 constructs are open in each other here: make a function of what is inside',
+    'TooMany': 'with this declaration a limit is passed: 1,024 classes, functions, or locals of a function or region, '
+               '256 fields, 64 parameters, 4,096 regions',
+    'ReturnInRegion': 'a region ends at its }, and a return would take out what was learnt inside',
+}
+# Names that people bring from other languages.
+OFTEN = {'print': 'say(..)', 'println': 'say(..)', 'echo': 'say(..)', 'puts': 'say(..)', 'log': 'say(..)',
+         'concat': 'cat(..)', 'str': 'text(..) of a number, and the type bytes', 'parse': 'number(..)',
+         'string': 'the type bytes, and text(..) of a number', 'String': 'the type bytes', 'Int': 'the type int',
+         'boolean': 'the type bool', 'char': 'byte(..), which gives an int', 'float': 'the type int; there are no fractions',
+         'void': 'no type: a function without a result has none', 'list': 'an array: [int]', 'array': 'an array: [int]',
+         'declassify': 'a region with a lower label: region (label{;}, caps{}) [x] { .. } catch (e) { }',
+         'open': 'open_file(..) or open_dir(..)', 'write': 'append(..)', 'exit': 'return, or throw with a number',
+         'thread_join': 'join(..)', 'lock': 'sync (x) { .. }', 'endorse': 'a region whose label has the integrity tag'}
+
+
+def told(wanted):
+    """What could stand at a place, in words."""
+    left, said = list(wanted), []
+    groups = [('a statement', STATEMENT + EXPRESSION), ('an expression', EXPRESSION), ('a type', TYPE),
+              ('an operator', OPERATOR[:13])]
+    for name, group in groups:
+        if all(it in left for it in group):
+            said.append(name)
+            left = [it for it in left if it not in group]
+    if sum(it in left for it in OPERATOR) > 4:
+        said.append('an operator')
+        left = [it for it in left if it not in OPERATOR]
+    said += [it if it.startswith(('a ', 'the ')) else f'`{it}`' for it in left]
+    return said[0] if len(said) == 1 else ', '.join(said[:-1]) + ' or ' + said[-1]
+
+
+def unexpected(text, at):
+    reader = grammar.Reader(text)
+    try:
+        reader.program()
+    except grammar.Broken as broken:
+        if broken.token.at != at:
+            return []
+        token = broken.token
+        here = 'the text ends here' if token.kind == 'end' else f'`{token.text}` cannot stand here'
+        return [f'{here}; what could: {told(broken.wanted)}', *hints(reader, token, broken.wanted)]
+    return []
+
+
+def hints(reader, token, wanted):
+    """What often was meant where a token is unexpected."""
+    before = [it.text for it in reader.tokens[max(0, reader.at - 4):reader.at]]
+    last = before[-1] if before else ''
+    return [say for fits, say in (
+        (last == 'else' and token.text == 'if', 'after else stands a block: else { if (..) { .. } }'),
+        ('for' in before[-2:], 'there is no for: let i: int = 0; while (i < n) { .. i = i + 1; }'),
+        (before[-2:-1] == ['let'] and token.text == '=', f'a let says its type: let {last}: int = ..;'),
+        (token.text == '=' and last in '+-*/%' and last, f'there is no {last}=: x = x {last} ..;'),
+        (token.text == '+' and last == '+', 'there is no ++: x = x + 1;'),
+        (wanted == ['['] and last == ')', 'a region lists the names that it copies, or none: '
+                                          'region (label{;}, caps{}) [] { .. } catch (e) { }'),
+        (wanted == ['catch'], 'a region ends with the block that gets the number of a fault: } catch (e) { }'),
+        (token.kind == 'word' and 'a name' in wanted and 'a number' not in wanted,
+         f'`{token.text}` is a word of the language, and cannot be a name'),
+        (token.text == '-' and ':' in wanted and '{' in wanted, 'a result stands after a colon: fn f(): int { .. }'),
+        (token.text == '=' and ')' in wanted, '`=` sets a variable; `==` compares'),
+        (wanted == ['('] and last in ('if', 'while', 'sync'), f'what {last} tests or takes stands in ( )'),
+        (';' in wanted and on_later_line(reader, token), 'perhaps the line before lacks its `;`'),
+        (token.text == ';' and '{' in wanted, 'after the head stands a block: { .. }'),
+        (token.text == '{' and not before, 'a world document begins so; the program is the word before the world'),
+        (wanted == ['the end of the program', 'class', 'fn'] and token.kind != 'mark',
+         'all statements stand in functions: fn main(): int { .. return 0; }'),
+    ) if fits][:1]
+
+
+def on_later_line(reader, token):
+    return reader.at > 0 and '\n' in reader.text[reader.before.end:token.at]
+
+
+def bad_char(text, at):
+    meant = {'&': 'and is `&&`', '|': 'or is `||`', "'": 'a text stands between two `"`', '?': 'a choice is an if with an else',
+             '#': 'a comment begins with `//`', '`': 'a text stands between two `"`'}
+    more = f': {meant[text[at]]}' if text[at:at + 1] in meant else ''
+    return [f'`{text[at:at + 1]}` begins nothing of the language{more}']
+
+
+# ---- types
+
+def type_break(text, at):
+    """The break of the types and regions at a place, with what was known there, or None."""
+    try:
+        items = grammar.read(text)
+        typing = types.Typing(items)
+        typing.program()
+    except types.Break as found:
+        return found if found.at == at else None, typing
+    except grammar.Broken:
+        return None, None
+    return None, typing
+
+
+def kind_of(of):
+    if of in types.SEVERAL:
+        return types.SEVERAL[of]
+    return {types.NULL: 'null', types.NOTHING: 'a call without a result', None: 'nothing'}.get(of, f'of type {types.shown(of)}')
+
+
+def mismatch(found):
+    if found.want is None and found.got == types.NOTHING:
+        return ['a call without a result stands here, and there is nothing to compare']
+    if found.want is None:
+        return [f'this is {kind_of(found.got)}, and the function has no result: return ;'
+                if found.got not in (types.INT, types.BOOL) else
+                'null is compared with what has a name or bytes, and an int or a bool is never null; '
+                'and a function without a result returns none']
+    wanted = kind_of(found.want) if found.want in types.SEVERAL else \
+        found.want if found.want == 'an object' else types.shown(found.want)
+    said = [f'wanted here: {wanted}; what stands here is {kind_of(found.got)}']
+    turns = {(types.BYTES, types.INT): 'text(n) writes a number as bytes',
+             (types.INT, types.BYTES): 'number(b) reads a number, size(b) counts the bytes, byte(b, i) takes one',
+             (types.BOOL, types.INT): 'a test compares: n != 0',
+             (types.INT, types.BOOL): 'there is no number of a truth: let n: int = 0; if (b) { n = 1; }',
+             (types.DIR, types.FILE): 'a directory is root() or open_dir(d, name)',
+             (types.FILE, types.BYTES): 'a name is no file yet: open_file(root(), name)',
+             (types.DIR, types.BYTES): 'a name is no directory yet: open_dir(root(), name)',
+             (types.PIPE, types.BYTES): 'a pipe is an argument of the thread in the world document, or make_pipe(l)',
+             (types.LABEL, types.TAG): 'a label of one secrecy tag is label{t;}',
+             (types.CAPS, types.TAG): 'capabilities of a tag are caps{t+, t-}'}
+    more = turns.get((found.want, found.got))
+    if found.got == types.NULL and found.want in (types.INT, types.BOOL):
+        more = 'an int begins as 0 and a bool as false'
+    return said + ([more] if more else [])
+
+
+def no_name(text, found, typing):
+    name = found.name or re.match(r'\w*', text[found.at:])[0]
+    called = re.match(r'\s*\(', text[found.at + len(name):])
+    known = [local for scope in typing.scopes for local in scope]
+    known += [*typing.functions, *types.BUILTINS] if called else [*typing.classes, *grammar.TYPES]
+    near = difflib.get_close_matches(name, known, 1)
+    kind = 'function' if called else 'variable or type'
+    more = f'; what comes near is {OFTEN[name]}' if name in OFTEN else f'; did you mean {near[0]}?' if near else ''
+    return [f'no {kind} {name} is declared here{more}']
+
+
+def twice(text, found, typing):
+    name = found.name or re.match(r'\w*', text[found.at:])[0]
+    if name in types.BUILTINS and not typing.local(name):
+        return [f'{name} is a built-in call, and no other function has its name']
+    earlier = typing.local(name) or typing.functions.get(name) or typing.classes.get(name)
+    place = getattr(earlier, 'name_at', getattr(earlier, 'at', None))
+    more = '' if place is None or place >= found.at else f', at line {text.count(chr(10), 0, place) + 1}'
+    return [f'{name} is declared already{more}; a name is declared once where it is in scope']
+
+
+def counted(number, what):
+    return f'{number} {what}' if number == 1 else f'{number} {what}s'
+
+
+def of_types(kind, text, at):
+    found, typing = type_break(text, at)
+    name = re.match(r'\w*', text[at:])[0]
+    if kind == 'OuterRead':
+        return [f'{name} is a variable of the outside, and a region has its own and those in its [ ]: [{name}] takes a copy along']
+    if kind == 'OuterWrite':
+        return [f'{name} is a variable of the outside, and what a region learns would leave by it;',
+                'a result leaves in an object, a file or a message, whose label says who may read it']
+    if kind == 'CaptureTwice':
+        return [f'{name} stands in these [ ] already']
+    if not found:
+        return []
+    if kind == 'Mismatch':
+        return mismatch(found)
+    if kind == 'NoName':
+        return no_name(text, found, typing)
+    if kind == 'Twice':
+        return twice(text, found, typing)
+    if kind == 'Arity':
+        return [f'{found.name} takes {counted(found.want, "argument")}, and {found.got} stand{"s" if found.got == 1 else ""} here']
+    if kind == 'NoField':
+        fields = ', '.join(it.name for it in typing.classes[found.want].fields) or 'none'
+        return [f'the class {found.want} has no field {found.name}; its fields: {fields}']
+    if kind == 'NoReturn':
+        return [f'{found.name} has a result, and can come to its end without a return or a throw']
+    return []
+
+
+def sentences(kind, text, at):
+    """What there is to say of a fault of this kind at a place of the program's text, by characters."""
+    if kind == 'Unexpected':
+        return unexpected(text, at)
+    if kind == 'BadChar':
+        return bad_char(text, at)
+    if kind in PLAIN:
+        return [PLAIN[kind]]
+    return of_types(kind, text, at)

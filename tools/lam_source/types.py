@@ -1,0 +1,327 @@
+"""The types of a program's expressions, by the rules of docs/LANGUAGE.md, for the tools that help a person.
+
+`typed` writes to each expression of a tree its type, and to each name of a local which local it is. What breaks a rule
+is raised as a Break, with what the place wants and what stands there, where that is known.
+"""
+from .grammar import TYPES
+
+INT, BOOL, BYTES, TAG, LABEL, CAPS, FILE, DIR, PIPE, THREAD = TYPES
+NULL, NOTHING = 'null', 'nothing'       # of the word null, and of a call without a result
+
+# The built-in calls: what they take, and what they give. `[]` is an array, `thing` an object or an array, `labelled` all
+# that has a label; `same` gives the type of the first argument.
+BUILTINS = {
+    'len': (['[]'], INT), 'size': ([BYTES], INT), 'byte': ([BYTES, INT], INT), 'slice': ([BYTES, INT, INT], BYTES),
+    'cat': ([BYTES, BYTES], BYTES), 'text': ([INT], BYTES), 'number': ([BYTES], INT), 'my_label': ([], LABEL),
+    'my_caps': ([], CAPS), 'root': ([], DIR), 'label_of': (['labelled'], LABEL), 'copy': (['thing', LABEL], 'same'),
+    'mint': ([], TAG), 'say': ([BYTES], NOTHING), 'make_file': ([DIR, BYTES, LABEL], FILE),
+    'make_dir': ([DIR, BYTES, LABEL], DIR), 'open_file': ([DIR, BYTES], FILE), 'open_dir': ([DIR, BYTES], DIR),
+    'remove': ([DIR, BYTES], NOTHING), 'read': ([FILE, INT, INT], BYTES), 'length': ([FILE], INT),
+    'append': ([FILE, BYTES], NOTHING), 'cut': ([FILE, INT], NOTHING), 'make_pipe': ([LABEL], PIPE),
+    'send': ([PIPE, BYTES], NOTHING), 'send_caps': ([PIPE, CAPS], NOTHING), 'receive': ([PIPE], BYTES),
+    'receive_caps': ([PIPE], CAPS), 'join': ([THREAD], INT),
+}
+SEVERAL = {'[]': 'an array', 'thing': 'an object or an array', 'labelled': 'something that has a label'}
+
+
+class Break(Exception):
+    """The first break of a rule: its kind, its place, what is wanted, what is found, and a name where it is of one."""
+
+    def __init__(self, kind, at, want=None, got=None, name=None):
+        super().__init__(kind)
+        self.kind, self.at, self.want, self.got, self.name = kind, at, want, got, name
+
+
+class Local:
+    def __init__(self, name, of, at):
+        self.name, self.type, self.at = name, of, at
+
+
+def is_array(of):
+    return isinstance(of, tuple)
+
+
+def shown(of):
+    """A type as it is written."""
+    return f'[{shown(of[1])}]' if is_array(of) else of
+
+
+class Typing:
+    def __init__(self, items):
+        self.items, self.scopes, self.result = items, [], None
+        self.classes, self.functions = {}, {}
+
+    # ---- names
+
+    def declare_all(self):
+        for kind, table in (('class', self.classes), ('fn', self.functions)):
+            for item in self.items:
+                if item.kind == kind:
+                    if item.name in table or kind == 'fn' and item.name in BUILTINS:
+                        raise Break('Twice', item.name_at, name=item.name)
+                    table[item.name] = item
+
+    def local(self, name):
+        for scope in reversed(self.scopes):
+            if name in scope:
+                return scope[name]
+        return None
+
+    def declare(self, name, of, at):
+        if self.local(name):
+            raise Break('Twice', at, name=name)
+        self.scopes[-1][name] = Local(name, of, at)
+        return self.scopes[-1][name]
+
+    def named(self, name, at):
+        found = self.local(name)
+        if not found:
+            raise Break('NoName', at, name=name)
+        return found
+
+    def type_of(self, node):
+        if node.kind == 'array':
+            return ('array', self.type_of(node.of))
+        if node.name not in TYPES and node.name not in self.classes:
+            raise Break('NoName', node.at, name=node.name)
+        return node.name
+
+    # ---- items
+
+    def program(self):
+        self.declare_all()
+        for item in self.items:
+            if item.kind == 'class':
+                self.of_class(item)
+            else:
+                self.of_function(item)
+
+    def of_class(self, item):
+        known = set()
+        for field in item.fields:
+            if field.name in known:
+                raise Break('Twice', field.at, name=field.name)
+            known.add(field.name)
+            field.type = self.type_of(field.of)
+
+    def of_function(self, item):
+        self.scopes = [{}]
+        item.locals = []
+        for parameter in item.parameters:
+            of = None
+            if self.local(parameter.name):
+                raise Break('Twice', parameter.at, name=parameter.name)
+            of = self.type_of(parameter.of)
+            item.locals.append(self.declare(parameter.name, of, parameter.at))
+        self.result = self.type_of(item.result) if item.result else NOTHING
+        item.type = self.result
+        if item.result and not self.ends(item.body):
+            raise Break('NoReturn', item.name_at, name=item.name)
+        self.statements(item.body)
+
+    def ends(self, block):
+        last = block.statements[-1] if block.statements else None
+        if last is None:
+            return False
+        return last.kind in ('return', 'throw') or \
+            last.kind == 'if' and bool(last.other) and self.ends(last.then) and self.ends(last.other)
+
+    # ---- statements
+
+    def statements(self, block):
+        self.scopes.append({})
+        for statement in block.statements:
+            getattr(self, f'of_{statement.kind}')(statement)
+        self.scopes.pop()
+
+    def of_let(self, it):
+        if self.local(it.name):
+            raise Break('Twice', it.name_at, name=it.name)
+        of = self.type_of(it.of)
+        self.wants(it.value, of)
+        it.local = self.declare(it.name, of, it.name_at)
+
+    def of_if(self, it):
+        self.wants(it.test, BOOL)
+        self.statements(it.then)
+        if it.other:
+            self.statements(it.other)
+
+    def of_while(self, it):
+        self.wants(it.test, BOOL)
+        self.statements(it.body)
+
+    def of_return(self, it):
+        if it.value is None:
+            if self.result != NOTHING:
+                raise Break('Mismatch', it.at, self.result, NOTHING)
+        elif self.result == NOTHING:
+            raise Break('Mismatch', it.value.at, None, self.of(it.value))
+        else:
+            self.wants(it.value, self.result)
+
+    def of_throw(self, it):
+        self.wants(it.value, INT)
+
+    def of_sync(self, it):
+        self.wants(it.thing, 'thing')
+        self.statements(it.body)
+
+    def of_region(self, it):
+        self.wants(it.label, LABEL)
+        self.wants(it.caps, CAPS)
+        it.captured = [self.named(name.text, name.at) for name in it.captures]
+        self.statements(it.body)
+        self.scopes.append({})
+        it.local = self.declare(it.name, INT, it.name_at)
+        self.statements(it.catch)
+        self.scopes.pop()
+
+    def of_expr(self, it):
+        self.of(it.value)
+
+    def of_assign(self, it):
+        self.wants(it.value, self.of(it.target))
+
+    # ---- expressions
+
+    def wants(self, node, want):
+        """That an expression has a type that fits: a type, or one of several."""
+        got = self.of(node)
+        if not fits(got, want):
+            raise Break('Mismatch', node.at, want, got)
+        return got
+
+    def of(self, node):
+        node.type = getattr(self, 'is_' + node.kind.replace(' ', '_'))(node)
+        return node.type
+
+    def is_number(self, _):
+        return INT
+
+    def is_text(self, _):
+        return BYTES
+
+    def is_constant(self, node):
+        return NULL if node.value == 'null' else BOOL
+
+    def is_name(self, node):
+        node.local = self.named(node.name, node.at)
+        return node.local.type
+
+    def is_unary(self, node):
+        return self.wants(node.value, BOOL if node.op == '!' else INT)
+
+    def is_binary(self, node):
+        if node.op in ('==', '!='):
+            return self.is_comparison(node)
+        of = BOOL if node.op in ('&&', '||') else INT
+        self.wants(node.left, of)
+        self.wants(node.right, of)
+        return INT if node.op in ('+', '-', '*', '/', '%') else BOOL
+
+    def is_comparison(self, node):
+        left = self.of(node.left)
+        if left == NOTHING:
+            raise Break('Mismatch', node.left.at, None, NOTHING)
+        right = self.of(node.right)
+        if left == NULL and right in (INT, BOOL, NOTHING):
+            raise Break('Mismatch', node.right.at, None, right)
+        if left != NULL and not fits(right, left):
+            raise Break('Mismatch', node.right.at, left, right)
+        return BOOL
+
+    def is_member(self, node):
+        of = self.of(node.of)
+        if of not in self.classes:
+            raise Break('Mismatch', node.of.at, 'an object', of)
+        for place, field in enumerate(self.classes[of].fields):
+            if field.name == node.name:
+                node.place = place
+                return self.type_of(field.of)
+        raise Break('NoField', node.name_at, name=node.name, want=of)
+
+    def is_element(self, node):
+        of = self.of(node.of)
+        if not is_array(of):
+            raise Break('Mismatch', node.of.at, '[]', of)
+        self.wants(node.index, INT)
+        return of[1]
+
+    def is_new(self, node):
+        if node.name not in self.classes:
+            raise Break('NoName', node.name_at, name=node.name)
+        return node.name
+
+    def is_new_array(self, node):
+        of = self.type_of(node.of)
+        self.wants(node.length, INT)
+        return ('array', of)
+
+    def is_label(self, node):
+        for item in node.secrecy + node.integrity:
+            self.wants(item, TAG)
+        return LABEL
+
+    def is_caps(self, node):
+        node.locals = []
+        for name, _ in node.items:
+            local = self.named(name.text, name.at)
+            if local.type != TAG:
+                raise Break('Mismatch', name.at, TAG, local.type)
+            node.locals.append(local)
+        return CAPS
+
+    def is_spawn(self, node):
+        called = self.functions.get(node.name)
+        if not called:
+            self.wants(node.caps, CAPS)
+            raise Break('NoName', node.name_at, name=node.name)
+        self.arity(node, [it.of for it in called.parameters])
+        self.wants(node.caps, CAPS)
+        self.arguments(node, called)
+        result = self.type_of(called.result) if called.result else NOTHING
+        if result != INT:
+            raise Break('Mismatch', node.at, INT, result)
+        return THREAD
+
+    def arity(self, node, wanted):
+        if len(node.arguments) != len(wanted):
+            raise Break('Arity', node.at, want=len(wanted), got=len(node.arguments), name=node.name)
+
+    def arguments(self, node, called):
+        for argument, parameter in zip(node.arguments, called.parameters):
+            self.wants(argument, self.type_of(parameter.of))
+
+    def is_call(self, node):
+        if node.name in BUILTINS:
+            takes, gives = BUILTINS[node.name]
+            self.arity(node, takes)
+            got = [self.wants(argument, want) for argument, want in zip(node.arguments, takes)]
+            return got[0] if gives == 'same' else gives
+        called = self.functions.get(node.name)
+        if not called:
+            raise Break('NoName', node.at, name=node.name)
+        self.arity(node, called.parameters)
+        self.arguments(node, called)
+        return self.type_of(called.result) if called.result else NOTHING
+
+
+def fits(got, want):
+    """Whether an expression of a type may stand where a type, or one of several, is wanted."""
+    if got == NOTHING or want in SEVERAL and got == NULL:
+        return False
+    if want == '[]':
+        return is_array(got)
+    if want == 'thing':
+        return is_array(got) or got not in TYPES
+    if want == 'labelled':
+        return is_array(got) or got not in TYPES or got in (FILE, DIR, PIPE)
+    return got == want or got == NULL and want not in (INT, BOOL)
+
+
+def typed(items):
+    """Writes the types to a tree. Raises the first Break."""
+    typing = Typing(items)
+    typing.program()
+    return typing

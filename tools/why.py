@@ -1,0 +1,128 @@
+#!/usr/bin/env python3
+"""Shows where the events of a run come from: the line of the program, and what it asked, in the program's names.
+
+Usage: tools/why.py P W BOOK [TURN | TEXT]..  [--declassifications] [--endorsements] [--refusals] [--no-polling] [--as OBS]
+
+P, W and BOOK are a program, a world and the book of a run (`lam run` writes it, `lam audit` numbers its turns). For each
+TURN, and for each event whose line has a TEXT in it, it says which thread asked what, at which line, with which
+capabilities, and what was released or which rule refused it. Without a TURN or a TEXT it lists the events, a line for
+each: turn, thread, line of the program, what was asked and the answer. The filters keep only those events; --no-polling
+leaves out looks into empty pipes, --as OBS what that observer does not see.
+
+Like the audit, this is for who may see all. The run is gone through beside the proved program, and compared with what
+`lam audit` and `lam replay` print of it; where they differ, that is said and the status is 1.
+"""
+import argparse
+import os
+import re
+import sys
+
+from lam_source import machine, runs, telling, world
+
+LAM = os.path.join(os.path.dirname(os.path.dirname(os.path.abspath(__file__))), 'lam')
+
+
+def words_of():
+    words = argparse.ArgumentParser(usage=__doc__.split('Usage: ')[1].split('\n')[0], add_help=True,
+                                    description='\n'.join(__doc__.split('\n')[4:]),
+                                    formatter_class=argparse.RawDescriptionHelpFormatter)
+    for name in ('program', 'world', 'book'):
+        words.add_argument(name)
+    words.add_argument('wanted', nargs='*')
+    for name in ('--declassifications', '--endorsements', '--refusals', '--no-polling'):
+        words.add_argument(name, action='store_true')
+    words.add_argument('--as', dest='observer')
+    words.add_argument('--lam', default=LAM, help=argparse.SUPPRESS)
+    return words.parse_args()
+
+
+def kept(told, event, words, observer):
+    """Whether the filters keep an event."""
+    kinds = told.kinds(event)
+    chosen = [words.declassifications and 'declassification' in kinds, words.endorsements and 'endorsement' in kinds,
+              words.refusals and event.refused]
+    asked = words.declassifications or words.endorsements or words.refusals
+    return (any(chosen) or not asked) and not (words.no_polling and told.is_polling(event)) \
+        and (observer is None or machine.seen_line(told.texts, event, observer))
+
+
+def label_of(text, tags):
+    found = world.LABEL.fullmatch(text)
+    if not found:
+        sys.exit(f"why: {text} is no label: '{{a,b}}/{{c}}'")
+    sides = [[name for name in side.split(',') if name] for side in found.groups()]
+    for name in sides[0] + sides[1]:
+        if name not in tags:
+            sys.exit(f'why: there is no tag {name}; the tags are {world.listed(tags)}')
+    return tuple(frozenset(map(tags.index, side)) for side in sides)
+
+
+def lines_of(told, event):
+    """The lines that `run`, `replay` and `audit` have of an event."""
+    lines = [machine.line_of(told.texts, event), machine.noted_line(told.texts, event) or '']
+    return lines + ([machine.release_line(told.texts, event)] if event.by else [])
+
+
+def in_short(told, event):
+    """One line of an event."""
+    place = told.run.place_of(event.unit, event.at)
+    kinds = ''.join(f'  [{kind} by {told.texts.caps(event.by)}]' for kind in told.kinds(event)[:1])
+    return f'{event.turn} {told.thread(event.thread)} {told.texts.label(event.label)} line {place.number}: ' \
+           f'{told.words(event)} = {event.answer}{kinds}'
+
+
+def in_full(told, event):
+    """All that there is to say of an event."""
+    op = event.unit.ops[event.at]
+    place = told.run.place_of(event.unit, event.at)
+    shown = place.shown(told.run.program, op.end - op.at).replace('\n', '\n  ')
+    lines = [f'turn {event.turn}: {machine.line_of(told.texts, event)}', f'  {shown}']
+    label, caps = told.texts.label(event.label), told.texts.caps(event.caps)
+    more = [f'{told.thread(event.thread)}, {told.inside(event)}, at {label} with {caps}', *told.calls(event)]
+    if told.words(event) != event.words:
+        more.append(f'asked: {told.words(event)}')
+    return '\n'.join(lines + [f'  {line}' for line in more + told.sentences(event) + told.named(event)])
+
+
+def of_turn(told, turn, turns):
+    """What happened at a turn, which may have asked nothing."""
+    if turn >= told.run.world.turn:
+        return f'turn {turn}: the book has {told.run.world.turn} turns, from 0'
+    event = next((it for it in told.run.events if it.turn == turn), None)
+    if event:
+        return in_full(told, event)
+    near = [it.turn for it in told.run.events if it.thread == turns[turn]]
+    after = next((it for it in near if it > turn), None)
+    return f'turn {turn}: {told.thread(turns[turn])} did something of its own and asked nothing' + \
+        (f'; its next event is at turn {after}' if after is not None else '')
+
+
+def main():
+    words = words_of()
+    try:
+        run = runs.Run(words.lam, words.program, words.world)
+        turns = world.turns_of(runs.text_of(words.book))
+        run.take(turns)
+    except (OSError, ValueError, runs.NotToRun) as fault:
+        sys.exit(f'why: this is no run ({fault}); `lam replay P W BOOK OBS` says why')
+    if run.stopped is not None:
+        sys.exit(f'why: at turn {run.world.turn} t{run.stopped} cannot go on: this is not the book of this program and this world')
+    told = telling.Telling(run)
+    observer = label_of(words.observer, run.texts.tags) if words.observer else None
+    shown = [it for it in run.events if kept(told, it, words, observer)]
+    for wanted in words.wanted:
+        if re.fullmatch(r'\d+', wanted):
+            print(of_turn(told, int(wanted), turns))
+            continue
+        found = [it for it in shown if any(wanted in line for line in lines_of(told, it))]
+        print('\n'.join(in_full(told, it) for it in found) if found else f'no event has {wanted} in its line')
+    if not words.wanted:
+        for event in shown:
+            print(in_short(told, event))
+    line = telling.differs(run, words.lam, words.world, words.book)
+    if line:
+        sys.exit(f'why: lam tells this run otherwise, so do not trust the above: {line}')
+
+
+if __name__ == '__main__':
+    main()
