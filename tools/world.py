@@ -170,13 +170,16 @@ class Reader:
     """Reads JSON, and notes where each value begins."""
 
     def __init__(self, text):
-        self.text, self.at, self.decoder = text, 0, json.JSONDecoder(parse_constant=no_constant)
+        self.text, self.at, self.line, self.counted = text, 0, 1, 0
+        self.decoder = json.JSONDecoder(parse_constant=no_constant)
 
     def skip(self):
         """Goes past white space, and gives the line."""
         while self.text[self.at:self.at + 1] in (' ', '\n', '\r', '\t'):
             self.at += 1
-        return self.text.count('\n', 0, self.at) + 1
+        self.line += self.text.count('\n', self.counted, self.at)
+        self.counted = self.at
+        return self.line
 
     def sees(self, mark):
         self.skip()
@@ -319,6 +322,9 @@ def read_document(path, text):
         node = Reader(text).whole()
     except Broken as broken:
         world.fault(*broken.args)
+        return world
+    except RecursionError:
+        world.fault(1, 'objects and lists stand too deep in one another')
         return world
     version = member(world, node, 'version', int)
     if version and version.value != 1:
