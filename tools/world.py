@@ -187,10 +187,13 @@ class Reader:
         self.at += len(mark) if found else 0
         return found
 
+    def missing(self, what):
+        found = f'`{self.text[self.at]}`' if self.at < len(self.text) else 'the end'
+        raise Broken(self.skip(), f'this is no JSON: here should be {what}, and is {found}')
+
     def needs(self, mark):
         if not self.sees(mark):
-            found = f'`{self.text[self.at]}`' if self.at < len(self.text) else 'the end'
-            raise Broken(self.skip(), f'this is no JSON: here should be `{mark}`, and is {found}')
+            self.missing(f'`{mark}`')
 
     def plain(self):
         """A number, a text or a word."""
@@ -216,9 +219,11 @@ class Reader:
             members = {}
 
             def member():
+                if self.skip() and not self.text.startswith('"', self.at):
+                    self.missing("a member's name in `\"`")
                 name = self.plain()
                 self.needs(':')
-                members[str(name)] = self.value()
+                members[name] = self.value()
             self.listed('}', member)
             return Node(line, members)
         if self.sees('['):
