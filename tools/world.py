@@ -132,19 +132,17 @@ def read_short(path, text):
         words = words.strip()
         if not words or words.startswith('#'):
             continue
-        word, _, rest = words.partition(' ')
-        first, _, more = rest.strip().partition(' ')
-        second, _, third = more.strip().partition(' ')
-        if word == 'tag' and first and not more:
+        word, first, second, third = (words.split(None, 3) + [''] * 3)[:4]
+        if word == 'tag' and first and not second:
             world.tags.append((line, first))
         elif word == 'dir' and second and not third:
             world.items.append(Item(line, first, short_label(world, line, second), None))
         elif word == 'file' and third:
-            world.items.append(Item(line, first, short_label(world, line, second), take_text(world, line, third.strip())))
+            world.items.append(Item(line, first, short_label(world, line, second), take_text(world, line, third)))
         elif word == 'pipe' and second and not third:
             world.pipes.append(Pipe(line, first, short_label(world, line, second)))
         elif word == 'thread':
-            read_thread(world, line, rest.strip())
+            read_thread(world, line, words[len(word):].strip())
         elif word in ('tag', 'dir', 'file', 'pipe'):
             form = {'tag': 'NAME', 'dir': 'PATH LABEL', 'file': 'PATH LABEL "TEXT"', 'pipe': 'NAME LABEL'}[word]
             world.fault(line, f'this line is written `{word} {form}`')
