@@ -10,10 +10,11 @@ ghost use Rattle.lam_deeds.specs.Parts.{world_of};
 ghost use Rattle.lam_turn_parts.specs.Turned.{IsTurn};
 ghost use Rattle.lam_machine.specs.Asking.{label_at, IsReadiness, MayAsk, Serves, Fits, Applied, with_born, Took, TookAt};
 
-use lam_asks::{Answer, Ask};
+use lam_asks::{Answer, Ask, Outcome};
 use lam_bytecode::Code;
 use lam_deeds::{Deed, Effect, Stores, apply};
 use lam_threads::{Context, LamThread};
+use lam_value::Value;
 use lam_world::{deed_of, is_ready};
 use std::alloc::Global;
 use std::mem::replace;
@@ -206,7 +207,8 @@ fn settle(
     ensures same_stores { OnErr result (stores.new ≡ stores.old) }
     ensures same_slot { OnErr result (slot.new ≡ slot.old) }
 {
-    let taken = replace(slot, LamThread::ended(alloc));
+    let none = LamThread::ended(alloc, Outcome::Value(Value::Nothing));
+    let taken = replace(slot, none);
     match make_ready(taken, code, ask, answer) {
         Err(back) => {
             put(slot, back);

@@ -1,8 +1,9 @@
 //! Threads.
 
-ghost use Rattle.std.specs.Prelude.{◌≡◌, IfOk, [], None, reverse, length, slice_get};
+ghost use Rattle.std.specs.Prelude.{◌≡◌, IfOk, [], None, Some, reverse, length, slice_get};
 ghost use Rattle.std.specs.Option.{option_copied};
 ghost use Rattle.thread_steps.specs.Next.{started, locals_in};
+ghost use Rattle.lam_threads.specs.Stacked.{IsThread};
 ghost use Rattle.flow_labels.specs.Flow.{public_label};
 ghost use Rattle.lam_threads.specs.Seen.{context_of, frame_of};
 
@@ -52,7 +53,8 @@ impl LamThread {
         args: Values,
         caps: Caps,
     ) -> Result<LamThread, NoMemory>
-        ensures { IfOk result (λ t. t ≡ started code.now unit args caps) }
+        ensures started { IfOk result (λ t. t ≡ started code.now unit args caps) }
+        ensures kept { IfOk result (λ t. IsThread t) }
     {
         let locals = filled(alloc, args.as_slice(), locals_of(code, unit as usize))?;
         let mut contexts = Vec::with_capacity(alloc, 1)?;
@@ -63,14 +65,15 @@ impl LamThread {
         })
     }
 
-    /// A thread without contexts or a result. Takes no memory.
-    pub fn ended(alloc: Global) -> LamThread
+    /// A thread that ended so. Takes no memory.
+    pub fn ended(alloc: Global, outcome: Outcome) -> LamThread
         ensures contexts { result.contexts ≡ [] }
-        ensures result { result.result ≡ None }
+        ensures result { result.result ≡ Some outcome }
+        ensures kept { IsThread result }
     {
         LamThread {
             contexts: Vec::new(alloc),
-            result: None,
+            result: Some(outcome),
         }
     }
 

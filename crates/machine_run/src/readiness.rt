@@ -1,18 +1,17 @@
 //! Whether a thread is ready.
 //!
 //! [`ready`] tells whether there is a turn of a thread to take, without memory: it reads how the thread stands, and, where
-//! it asks next, for whom the ask may wait. `lam_worlds` says by the turn itself what ready means; `specs/Readiness` says
+//! it asks next, what the ask waits for. `lam_worlds` says by the turn itself what ready means; `specs/Readiness` says
 //! it by these two.
 
 ghost use Rattle.std.specs.Prelude.{◌≡◌, slice_get};
 ghost use Rattle.std.specs.Option.{option_copied};
 ghost use Rattle.thread_steps.specs.Next as next;
-ghost use Rattle.thread_core.specs.Turning.{ask_of, awaited, awaited_by};
+ghost use Rattle.thread_core.specs.Turning.{awaited_of, awaited_by};
 ghost use Rattle.lam_worlds.specs.Turns as turns;
 ghost use Rattle.lam_deeds.specs.Parts.{world_of};
-ghost use Rattle.machine_run.specs.Readiness.{top_label, waits_on, ready_by};
+ghost use Rattle.machine_run.specs.Readiness.{waits_on, ready_by};
 
-use flow_labels::{Label, read_rule, same_rule};
 use lam_bytecode::Code;
 use lam_deeds::Stores;
 use lam_threads::LamThread;
@@ -51,44 +50,23 @@ fn stands_ready(
     thread: u32,
     found: &LamThread,
 ) -> bool
-    ensures { result ≡ ready_by (next.standing code.now found.now) (waits_on (world_of stores.now threads.now) thread (top_label found.now.contexts) (awaited (ask_of code.now found.now))) }
+    ensures { result ≡ ready_by (next.standing code.now found.now) (waits_on (world_of stores.now threads.now) thread (awaited_of code.now found.now)) }
 {
     match standing(found, code) {
         Standing::Private => true,
-        Standing::Shared => !ask_waits(stores, threads, code, thread, found),
+        Standing::Shared => !ask_waits(stores, threads, thread, waits_for(found, code)),
         Standing::Stuck => false,
         Standing::Ended => false,
     }
 }
 
-/// Whether the ask of a thread waits.
-fn ask_waits(
-    stores: &Stores,
-    threads: &[LamThread],
-    code: &Code,
-    thread: u32,
-    found: &LamThread,
-) -> bool
-    ensures { result ≡ waits_on (world_of stores.now threads.now) thread (top_label found.now.contexts) (awaited (ask_of code.now found.now)) }
-{
-    match found.top() {
-        None => false,
-        Some(c) => waits_at(stores, threads, thread, c.label(), waits_for(found, code)),
-    }
-}
-
-/// Whether a thread waits at a label, for what its ask may wait for.
-fn waits_at(stores: &Stores, threads: &[LamThread], thread: u32, p: &Label, waits: Waits) -> bool
-    ensures { result ≡ waits_on (world_of stores.now threads.now) thread p.now (awaited_by waits.entry) }
+/// Whether a thread waits for what its ask waits for: another one holds the monitor, or the other one lives.
+fn ask_waits(stores: &Stores, threads: &[LamThread], thread: u32, waits: Waits) -> bool
+    ensures { result ≡ waits_on (world_of stores.now threads.now) thread (awaited_by waits.entry) }
 {
     match waits {
         Waits::Nobody => false,
-        Waits::Monitor(name) => {
-            same_rule(p, name.own()).is_none() && !stores.monitors.is_free_for(name, thread)
-        }
-        Waits::Thread(number) => {
-            let public = Label::public(p.allocator());
-            read_rule(p, &public).is_none() && lives(threads, number)
-        }
+        Waits::Monitor(name) => !stores.monitors.is_free_for(name, thread),
+        Waits::Thread(number) => lives(threads, number),
     }
 }

@@ -8,7 +8,8 @@ use Rattle.lam_asks.specs.declared.ask.Ask.{Ask}
 use Rattle.thread_steps.specs.Threads.{Inside, Context}
 use Rattle.thread_steps.specs.Next.{given, gains, with_caps, with_inside, with_held, held_by, frame_at}
 use Rattle.thread_sights.specs.Acting.{left_over}
-use Rattle.thread_answers.specs.Preparing.{after_of, nulls, gone, undone, caps_or, held_before, held_after, thing_in}
+use Rattle.thread_sights.specs.Reading.{thing_in}
+use Rattle.thread_answers.specs.Preparing.{after_of, nulls, gone, undone, caps_or, held_before, held_after}
 use Rattle.thread_answers.specs.declared.plan.Left.{Left}
 use Rattle.thread_answers.specs.declared.plan.Going.{Going}
 use Rattle.thread_answers.specs.declared.plan.Monitor.{Monitor}

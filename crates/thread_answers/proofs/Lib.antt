@@ -1,4 +1,5 @@
 pub mod Leaving
+pub mod Keeping
 pub mod Going
 pub mod Tops
 pub mod Outermost

@@ -4,7 +4,7 @@ use Rattle.std.specs.List.{remove}
 use Rattle.capabilities.specs.declared.Caps.{Caps}
 use Rattle.lam_value.specs.declared.names.Name.{Name}
 use Rattle.lam_value.specs.declared.values.Value.{Value}
-use Rattle.lam_value.specs.declared.values.Value.TheVariants.{Nothing, Obj, Arr}
+use Rattle.lam_value.specs.declared.values.Value.TheVariants.{Nothing}
 use Rattle.lam_bytecode.specs.declared.unit.UnitKind.{UnitKind}
 use Rattle.lam_bytecode.specs.declared.unit.UnitKind.TheVariants.{Function, Region}
 use Rattle.lam_asks.specs.declared.ask.Ask.{Ask}
@@ -155,12 +155,6 @@ ending_of (End r) = Some r
 ending_of a = None
 
 -- ---- monitors
-
--- the thing whose monitor a value stands for
-abbrev pub thing_in : Value → Option Name
-thing_in (Obj n) = Some n
-thing_in (Arr n len) = Some n
-thing_in v = None
 
 abbrev pub taken_by : Value → Context → Context
 taken_by r c = with_held c (held_by r (λ n. n ∷ c.held) c.held)

@@ -1,8 +1,11 @@
 //! Threads between their ask and the answer to it.
 
-ghost use Rattle.std.specs.Prelude.{◌≡◌, ◌∷◌, List, IfOk, IfErr};
+ghost use Rattle.std.specs.Prelude.{◌≡◌, ◌∷◌, List, Some, IsTrue, IfOk, IfErr, OnOk, OnErr};
+ghost use Rattle.lam_asks.specs.Suits.{Sort, suits};
 ghost use Rattle.thread_steps.specs.Threads.{Inside, Context};
+ghost use Rattle.lam_threads.specs.Stacked.{IsThread};
 ghost use Rattle.thread_steps.specs.Next.{next_of, asks, takes};
+ghost use Rattle.thread_core.specs.Turning.{ask_of};
 ghost use Rattle.thread_answers.specs.Preparing.{result_or};
 
 use crate::doing::{do_plan, undo_plan};
@@ -11,8 +14,11 @@ use crate::planning::{ending_of, plan_answer};
 use lam_asks::{Answer, Ask, Outcome};
 use lam_bytecode::Code;
 use lam_threads::LamThread;
+use lam_value::Value;
+use std::alloc::Global;
 use std::marker::Model;
 use std::mem::replace;
+use want_of_memory::NoMemory;
 
 /// A thread between its ask and the answer to it: all memory that the answer needs is taken, and it is not done yet.
 #[derive(Drop)]
@@ -41,6 +47,21 @@ impl Model for Prepared {
 ///
 /// The thread as it was, where memory is refused.
 pub fn prepare(
+    thread: LamThread,
+    code: &Code,
+    ask: &Ask,
+    answer: Answer,
+) -> Result<Prepared, LamThread>
+    ensures before { IfOk result (λ p. p.before ≡ thread) }
+    ensures after { IfOk result (λ p. (c : Context) (rest : List Context) (i : Inside) → thread.contexts ≡ c ∷ rest → next_of code.now c ≡ asks ask.now i → p.after ≡ takes code.now thread c rest i ask.now answer) }
+    ensures kept { IfOk result (λ p. (s : Sort) → ask_of code.now thread ≡ Some ask.now → IsTrue (suits s ask.now answer) → IsThread thread → IsThread p.after) }
+    ensures err { IfErr result (λ t. t ≡ thread) }
+{
+    with_memory(thread, code, ask, answer)
+}
+
+/// Takes all memory that an answer needs.
+fn with_memory(
     thread: LamThread,
     code: &Code,
     ask: &Ask,
@@ -109,5 +130,46 @@ impl Prepared {
         drop(result);
         undo_plan(&mut thread.contexts, plan);
         thread
+    }
+}
+
+/// The allocator that a thread keeps.
+fn allocator(thread: &LamThread) -> Global {
+    *thread.contexts.allocator()
+}
+
+/// A thread stands in the place of another, which is let go.
+fn put(slot: &mut LamThread, thread: LamThread)
+    ensures { slot.new ≡ thread }
+{
+    drop(replace(slot, thread));
+}
+
+/// A thread takes the answer to its ask.
+///
+/// # Errors
+///
+/// `NoMemory` where memory is refused; the thread is then as it was.
+pub fn take_answer(
+    thread: &mut LamThread,
+    code: &Code,
+    ask: &Ask,
+    answer: Answer,
+) -> Result<(), NoMemory>
+    ensures ok { OnOk result ((c : Context) (rest : List Context) (i : Inside) → thread.old.contexts ≡ c ∷ rest → next_of code.now c ≡ asks ask.now i → thread.new ≡ takes code.now thread.old c rest i ask.now answer) }
+    ensures kept { (s : Sort) → ask_of code.now thread.old ≡ Some ask.now → IsTrue (suits s ask.now answer) → IsThread thread.old → IsThread thread.new }
+    ensures err { OnErr result (thread.new ≡ thread.old) }
+{
+    let none = LamThread::ended(allocator(thread), Outcome::Value(Value::Nothing));
+    let taken = replace(thread, none);
+    match prepare(taken, code, ask, answer) {
+        Ok(prepared) => {
+            put(thread, prepared.done());
+            Ok(())
+        }
+        Err(back) => {
+            put(thread, back);
+            Err(NoMemory)
+        }
     }
 }

@@ -3,7 +3,7 @@
 //! The machine serves an ask in its shared stores and answers it to the thread, and a refusal of memory must change
 //! neither. So [`prepare`] takes all memory that the answer needs first, and a [`Prepared`] is then done, or undone,
 //! without any: what grows was put on the thread already, and doing it only takes away. Nothing of the thread is
-//! copied.
+//! copied. [`take_answer`] does both at once.
 #![tactic(auto)]
 
 mod answering;
@@ -12,4 +12,4 @@ mod doing;
 mod plan;
 mod planning;
 
-pub use answering::{Prepared, prepare};
+pub use answering::{Prepared, prepare, take_answer};

@@ -1,7 +1,6 @@
 //! What an answer will do to a thread, and the memory for it.
 
 ghost use Rattle.std.specs.Prelude.{◌≡◌, ◌<◌, ◌≤◌, ◌∷◌, ◌++◌, [], List, length, take, drop, reverse, IfOk, OnOk, OnErr};
-ghost use Rattle.std.specs.Option.{option_copied};
 ghost use Rattle.thread_steps.specs.Ops.{region_in};
 ghost use Rattle.lam_asks.specs.declared.ask.Ask.{Ask};
 ghost use Rattle.thread_steps.specs.Threads.{Inside, Context as Plain};
@@ -9,7 +8,8 @@ ghost use Rattle.thread_steps.specs.Next.{next_of, asks, answered, done, entered
 ghost use Rattle.capabilities.specs.Changes.{joined};
 ghost use Rattle.lam_value.specs.declared.names.Name.{Name as NameOf};
 ghost use Rattle.lam_threads.specs.Seen.{phase_of};
-ghost use Rattle.thread_answers.specs.Preparing.{held_after, held_before, taken_by, given_by, thing_in, catch_place_in, after_of, nulls, without_at, caps_or, gone, undone, done_in, undone_in, ending_of};
+ghost use Rattle.thread_sights.specs.Reading.{thing_in};
+ghost use Rattle.thread_answers.specs.Preparing.{held_after, held_before, taken_by, given_by, catch_place_in, after_of, nulls, without_at, caps_or, gone, undone, done_in, undone_in, ending_of};
 
 use crate::both::both;
 use crate::plan::{Going, Left, Monitor, Plan};
@@ -20,7 +20,7 @@ use lam_bytecode::{Code, UnitKind};
 use lam_threads::{Context, Operands, Phase, filled, locals_of};
 use lam_value::{Name, Value};
 use thread_core::{Coming, next, region_in};
-use thread_sights::{Sight, same_names};
+use thread_sights::{Sight, same_names, thing_in};
 use want_of_memory::NoMemory;
 
 fn stays(c: &Context) -> Left
@@ -169,17 +169,6 @@ fn plan_rest(c: &mut Context, code: &Code) -> Result<Going, NoMemory>
         caps: None,
         monitor: Monitor::Stays,
     })
-}
-
-/// The thing whose monitor a value stands for.
-fn thing_in(r: &Value) -> Option<&Name>
-    ensures { option_copied result ≡ thing_in r.now }
-{
-    match r {
-        Value::Obj(name) => Some(name),
-        Value::Arr { name, .. } => Some(name),
-        _ => None,
-    }
 }
 
 /// A monitor was taken.

@@ -1,6 +1,7 @@
 -- What comes next, case by case.
 use Rattle.std.proofs.Common.{◌≡◌, ℕ, cond, List, [], ◌∷◌, drop, Some, None, ap, ◌∙◌, refl}
 use Rattle.std.specs.Prelude.{slice_get, slice_set}
+use Rattle.flow_labels.specs.declared.Label.{Label}
 use Rattle.lam_value.specs.declared.values.Value.{Value}
 use Rattle.lam_asks.specs.declared.fault.Fault.{Fault}
 use Rattle.lam_asks.specs.declared.ask.Ask.{Ask}
@@ -8,11 +9,12 @@ use Rattle.lam_asks.specs.declared.ask.Ask.TheVariants as ask
 use Rattle.lam_asks.specs.declared.answer.Outcome.TheVariants as outcome
 use Rattle.lam_bytecode.specs.Codes.{CodeTree}
 use Rattle.thread_steps.specs.Threads.{Frame, Inside, Phase, Bottom, Body, Catch, Context, Thread}
+use Rattle.lam_threads.specs.Stacked.{is_bottom}
 use Rattle.thread_steps.specs.Ops.{sets, returns, on_any}
 use Rattle.thread_steps.specs.Next.{Next, goes, asks, stuck, stands, is_shared, is_private, is_stuck, is_ended, raised, returned, ending, leaving, next_by, next_of, standing_in, with_inside}
 use Rattle.thread_core.specs.declared.turn.Turn.TheVariants as turn
 use Rattle.thread_core.specs.Turning.{turned, moved, turn_in, stepped_in, stepped, asked, asked_in, awaited, nobody}
-use Rattle.thread_core.specs.Moves.{raised_ask, is_bottom, with_result, caller_with}
+use Rattle.thread_core.specs.Moves.{raised_ask, with_result, caller_with}
 
 -- ---- a fault that was raised
 
@@ -31,10 +33,10 @@ raised_moved c Bottom i f = refl
 raised_moved c (Body at) i f = refl
 raised_moved c Catch i f = refl
 
-pub raised_waits : (ph : Phase) (i : Inside) (f : Fault) → awaited (asked (raised ph i f)) ≡ nobody
-raised_waits Bottom i f = refl
-raised_waits (Body at) i f = refl
-raised_waits Catch i f = refl
+pub raised_waits : (p : Label) (ph : Phase) (i : Inside) (f : Fault) → awaited p (asked (raised ph i f)) ≡ nobody
+raised_waits p Bottom i f = refl
+raised_waits p (Body at) i f = refl
+raised_waits p Catch i f = refl
 
 pub raised_left : (ph : Phase) (i j : Inside) (f : Fault) (a : Ask) → raised ph i f ≡ asks a j → j ≡ i
 raised_left Bottom i j f a e = cc
@@ -49,19 +51,19 @@ returned_frames (Body at) i j v [] a e = cc
 returned_frames Catch i j v [] a e = cc
 returned_frames ph i j v (f ∷ fs) a e = cc
 
-returned_frames_wait : (ph : Phase) (i : Inside) (v : Value) (fs : List Frame) → awaited (asked (returned ph i v fs)) ≡ nobody
-returned_frames_wait Bottom i v [] = refl
-returned_frames_wait (Body at) i v [] = refl
-returned_frames_wait Catch i v [] = refl
-returned_frames_wait ph i v (f ∷ fs) = refl
+returned_frames_wait : (p : Label) (ph : Phase) (i : Inside) (v : Value) (fs : List Frame) → awaited p (asked (returned ph i v fs)) ≡ nobody
+returned_frames_wait p Bottom i v [] = refl
+returned_frames_wait p (Body at) i v [] = refl
+returned_frames_wait p Catch i v [] = refl
+returned_frames_wait p ph i v (f ∷ fs) = refl
 
 pub returned_left : (code : CodeTree) (ph : Phase) (i j : Inside) (s : List Value) (a : Ask) → next_by code ph i (on_any s (λ v s. returns v)) ≡ asks a j → j ≡ i
 returned_left code ph i j [] a e = cc
 returned_left code ph i j (v ∷ s) a e = returned_frames ph i j v i.callers a e
 
-pub returned_waits : (code : CodeTree) (ph : Phase) (i : Inside) (s : List Value) → awaited (asked (next_by code ph i (on_any s (λ v s. returns v)))) ≡ nobody
-returned_waits code ph i [] = refl
-returned_waits code ph i (v ∷ s) = returned_frames_wait ph i v i.callers
+pub returned_waits : (p : Label) (code : CodeTree) (ph : Phase) (i : Inside) (s : List Value) → awaited p (asked (next_by code ph i (on_any s (λ v s. returns v)))) ≡ nobody
+returned_waits p code ph i [] = refl
+returned_waits p code ph i (v ∷ s) = returned_frames_wait p ph i v i.callers
 
 -- ---- a region that is left
 
@@ -70,10 +72,10 @@ leaving_left Bottom i j a e = cc
 leaving_left (Body at) i j a e = cc
 leaving_left Catch i j a e = cc
 
-pub leaving_waits : (ph : Phase) (i : Inside) → awaited (asked (leaving ph i)) ≡ nobody
-leaving_waits Bottom i = refl
-leaving_waits (Body at) i = refl
-leaving_waits Catch i = refl
+pub leaving_waits : (p : Label) (ph : Phase) (i : Inside) → awaited p (asked (leaving ph i)) ≡ nobody
+leaving_waits p Bottom i = refl
+leaving_waits p (Body at) i = refl
+leaving_waits p Catch i = refl
 
 -- ---- a local
 
@@ -81,9 +83,9 @@ pub set_left : (code : CodeTree) (ph : Phase) (i j : Inside) (s ls : List Value)
 set_left code ph i j [] ls n a e = cc
 set_left code ph i j (v ∷ s) ls n a e = cc
 
-pub set_waits : (code : CodeTree) (ph : Phase) (i : Inside) (s ls : List Value) (n : ℕ) → awaited (asked (next_by code ph i (on_any s (λ v s. sets (slice_set ls n v) s)))) ≡ nobody
-set_waits code ph i [] ls n = refl
-set_waits code ph i (v ∷ s) ls n = refl
+pub set_waits : (p : Label) (code : CodeTree) (ph : Phase) (i : Inside) (s ls : List Value) (n : ℕ) → awaited p (asked (next_by code ph i (on_any s (λ v s. sets (slice_set ls n v) s)))) ≡ nobody
+set_waits p code ph i [] ls n = refl
+set_waits p code ph i (v ∷ s) ls n = refl
 
 pub set_stands : (code : CodeTree) (ph : Phase) (i : Inside) (v : Value) (s ls : List Value) (n : ℕ) → stands (next_by code ph i (on_any (v ∷ s) (λ v s. sets (slice_set ls n v) s))) ≡ is_private
 set_stands code ph i v s ls n = refl
@@ -175,7 +177,7 @@ turned_stuck (goes i) e = cc
 turned_stuck (asks a i) e = cc
 turned_stuck stuck e = refl
 
-stands_there : (n : Next) → stands n ≡ is_ended → ⊥
+pub stands_there : (n : Next) → stands n ≡ is_ended → ⊥
 stands_there (goes i) e = cc
 stands_there (asks a i) e = cc
 stands_there stuck e = cc

@@ -1,5 +1,5 @@
 -- What the private turns of a context leave.
-use Rattle.std.specs.Prelude.{ℕ, Bool, true, false, List, [], ◌∷◌, Option, Some, None, take, drop, reverse}
+use Rattle.std.specs.Prelude.{ℕ, List, [], ◌∷◌, Option, Some, None, take, drop, reverse}
 use Rattle.lam_value.specs.declared.values.Value.{Value}
 use Rattle.lam_asks.specs.declared.fault.Fault.{Fault}
 use Rattle.lam_asks.specs.declared.ask.Ask.{Ask}
@@ -35,11 +35,6 @@ acting c f = with_inside c (record { frame = f; callers = c.inside.callers; faul
 
 abbrev pub failed : Context → Fault → Context
 failed c f = with_inside c (faulted c.inside f)
-
-abbrev pub is_bottom : Phase → Bool
-is_bottom Bottom = true
-is_bottom (Body at) = false
-is_bottom Catch = false
 
 -- the ask by which a fault that was raised is handled
 abbrev pub raised_ask : Phase → Fault → Ask

@@ -3,23 +3,26 @@
 ghost use Rattle.std.specs.Prelude.{◌≡◌, ◌<◌, ◌+◌, ◌^◌, ◌∷◌, [], Some, if◌then◌else◌, reverse, length, drop, slice_get, vec_len, vec_capacity, IfSome, IfOk, OnOk, OnErr, MatchOption};
 ghost use Rattle.lam_bytecode.specs.Codes.{CodeTree};
 ghost use Rattle.thread_steps.specs.Threads.{Inside};
+ghost use Rattle.lam_threads.specs.Stacked.{is_bottom};
 ghost use Rattle.thread_steps.specs.Next.{next_of, stands, leaving, is_shared, is_stuck};
 ghost use Rattle.lam_threads.specs.Seen.{phase_of};
 ghost use Rattle.thread_sights.specs.Acting.{ask_of};
-ghost use Rattle.thread_core.specs.Turning.{moved, standing_of, asked, awaited, awaited_by, monitor_in};
+ghost use Rattle.thread_sights.specs.Reading.{thing_in};
+ghost use Rattle.thread_core.specs.Turning.{moved, standing_of, asked, awaited, awaited_by, monitor_of, end_of};
 ghost use Rattle.thread_core.specs.Coming.{next_from};
 ghost use Rattle.thread_core.specs.Steps.{changed, stands_by, moved_by, HasNext};
-ghost use Rattle.thread_core.specs.Moves.{dropped, put, jumped, called_with, failed, raised_ask, is_bottom, with_result, caller_with, acting};
+ghost use Rattle.thread_core.specs.Moves.{dropped, put, jumped, called_with, failed, raised_ask, with_result, caller_with, acting};
 
 use crate::coming::{Coming, next};
 use crate::step::{Change, Step};
 use crate::turn::{Standing, Waits};
+use flow_labels::{Label, read_rule, same_rule};
 use lam_asks::{Ask, Fault, Outcome};
 use lam_bytecode::Code;
 use lam_threads::{Context, Frame, Operands, Phase, locals_of};
 use lam_value::{Name, Value};
 use std::mem::replace;
-use thread_sights::{Sight, Sketch, ask_from, value_from};
+use thread_sights::{Sight, Sketch, ask_from, thing_in, value_from};
 use want_of_memory::NoMemory;
 
 fn drops(c: &mut Context, takes: usize)
@@ -434,37 +437,57 @@ pub fn context_ask(c: &Context, code: &Code) -> Result<Option<Ask>, NoMemory>
     }
 }
 
-/// What an ask for the monitor of a thing waits for.
-fn monitor_in(r: &Value) -> Waits<'_>
-    ensures { awaited_by result ≡ monitor_in r.now }
+/// The monitor of a name, where its thing has the acting label.
+fn named_monitor<'a>(p: &Label, name: &'a Name) -> Waits<'a>
+    ensures { awaited_by result ≡ monitor_of p.now (Some name.now) }
 {
-    match r {
-        Value::Obj(name) => Waits::Monitor(name),
-        Value::Arr { name, .. } => Waits::Monitor(name),
-        _ => Waits::Nobody,
+    match same_rule(p, name.own()) {
+        None => Waits::Monitor(name),
+        Some(_) => Waits::Nobody,
     }
 }
 
-fn awaited_by_sketch<'a>(sketch: &Sketch<'a>) -> Waits<'a>
-    ensures { awaited_by result ≡ awaited (Some (ask_of sketch.now)) }
+/// The monitor of what a value refers to, where the thing has the acting label.
+fn monitor_of<'a>(p: &Label, r: &'a Value) -> Waits<'a>
+    ensures { awaited_by result ≡ monitor_of p.now (thing_in r.now) }
+{
+    match thing_in(r) {
+        None => Waits::Nobody,
+        Some(name) => named_monitor(p, name),
+    }
+}
+
+/// The end of a thread, where the acting label may read of it.
+fn end_of(p: &Label, thread: u32) -> Waits<'static>
+    ensures { awaited_by result ≡ end_of p.now thread }
+{
+    let public = Label::public(p.allocator());
+    match read_rule(p, &public) {
+        None => Waits::Thread(thread),
+        Some(_) => Waits::Nobody,
+    }
+}
+
+fn awaited_by_sketch<'a>(p: &Label, sketch: &Sketch<'a>) -> Waits<'a>
+    ensures { awaited_by result ≡ awaited p.now (Some (ask_of sketch.now)) }
 {
     match sketch {
-        Sketch::MonEnter { r } => monitor_in(r),
-        Sketch::Join { thread } => Waits::Thread(*thread),
+        Sketch::MonEnter { r } => monitor_of(p, r),
+        Sketch::Join { thread } => end_of(p, *thread),
         _ => Waits::Nobody,
     }
 }
 
-/// What a context's next ask may wait for.
+/// What a context's next ask waits for, where that is not free or lives.
 #[tactic(auto, using(crate::proofs::Cases::raised_waits, crate::proofs::Cases::returned_waits, crate::proofs::Cases::leaving_waits, crate::proofs::Cases::set_waits))]
 pub fn context_waits<'a>(c: &'a Context, code: &'a Code) -> Waits<'a>
-    ensures { awaited_by result ≡ awaited (asked (next_of code.now c.now)) }
+    ensures { awaited_by result ≡ awaited c.now.label (asked (next_of code.now c.now)) }
 {
     match next(c, code) {
         Coming::Nothing => Waits::Nobody,
         Coming::Handles(_) => Waits::Nobody,
         Coming::Sees(sight) => match sight {
-            Sight::Asks { ask, .. } => awaited_by_sketch(&ask),
+            Sight::Asks { ask, .. } => awaited_by_sketch(&c.label, &ask),
             Sight::Drops { .. } => Waits::Nobody,
             Sight::Puts { .. } => Waits::Nobody,
             Sight::Sets { .. } => Waits::Nobody,

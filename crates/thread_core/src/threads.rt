@@ -1,8 +1,9 @@
 //! Threads: how one stands, what it asks, and its private turns.
 
-ghost use Rattle.std.specs.Prelude.{◌≡◌, Some, None, reverse, IfOk, OnOk, OnErr};
+ghost use Rattle.std.specs.Prelude.{◌≡◌, ◌↔◌, IsTrue, Some, None, is_some, reverse, IfOk, OnOk, OnErr};
+ghost use Rattle.lam_threads.specs.Stacked.{IsThread};
 ghost use Rattle.thread_steps.specs.Next.{standing, standing_in, is_private, is_shared};
-ghost use Rattle.thread_core.specs.Turning.{turn_of, stepped, stepped_in, standing_of, ask_of, awaited, awaited_by};
+ghost use Rattle.thread_core.specs.Turning.{turn_of, stepped, stepped_in, standing_of, ask_of, awaited_of, awaited_by};
 
 use crate::stepping::{context_ask, context_stands, context_waits, go_on_in};
 use crate::turn::{Standing, Turn, Waits};
@@ -11,8 +12,15 @@ use lam_bytecode::Code;
 use lam_threads::{Context, LamThread};
 use want_of_memory::NoMemory;
 
-/// How a thread stands.
+/// How a thread stands: ended exactly where it has a result.
 pub fn standing(thread: &LamThread, code: &Code) -> Standing
+    ensures standing { standing_of result ≡ standing code.now thread.now }
+    ensures ended { IsThread thread.now → IsTrue (is_some thread.now.result) ↔ (result ≡ Standing.Ended) }
+{
+    stands(thread, code)
+}
+
+fn stands(thread: &LamThread, code: &Code) -> Standing
     ensures { standing_of result ≡ standing code.now thread.now }
 {
     match thread.top() {
@@ -21,9 +29,11 @@ pub fn standing(thread: &LamThread, code: &Code) -> Standing
     }
 }
 
-/// What a thread's next ask may wait for: the monitor that it is to take, or the end of the thread that it joins.
+/// What a thread's next ask waits for, where that is not free or lives: the monitor that it is to take, where the acting
+/// label is that of the monitor's thing, or the end of the thread that it joins, where the acting label may read what is
+/// public. It waits for nobody where it asks anything else, or where the rule fails: the answer is then a refusal.
 pub fn waits_for<'a>(thread: &'a LamThread, code: &'a Code) -> Waits<'a>
-    ensures { awaited_by result ≡ awaited (ask_of code.now thread.now) }
+    ensures { awaited_by result ≡ awaited_of code.now thread.now }
 {
     match thread.top() {
         None => Waits::Nobody,
@@ -79,6 +89,7 @@ pub fn go_on(thread: &mut LamThread, code: &Code) -> Result<Standing, NoMemory>
     ensures stands { IfOk result (λ s. standing_of s ≡ standing code.now thread.old) }
     ensures ok { OnOk result (thread.new ≡ stepped code.now thread.old) }
     ensures err { OnErr result (thread.new ≡ thread.old) }
+    ensures kept { IsThread thread.old → IsThread thread.new }
 {
     go_on_last(&mut thread.contexts, code)
 }
@@ -93,6 +104,7 @@ pub fn advance(thread: &mut LamThread, code: &Code) -> Result<Turn, NoMemory>
     ensures turn { IfOk result (λ t. t ≡ turn_of code.now thread.old) }
     ensures ok { OnOk result (thread.new ≡ stepped code.now thread.old) }
     ensures err { OnErr result (thread.new ≡ thread.old) }
+    ensures kept { IsThread thread.old → IsThread thread.new }
 {
     match go_on(thread, code)? {
         Standing::Private => Ok(Turn::Private),
@@ -111,6 +123,7 @@ pub fn private_step(thread: &mut LamThread, code: &Code) -> Result<(), NoMemory>
     requires { standing code.now thread.old ≡ is_private }
     ensures ok { OnOk result (thread.new ≡ stepped code.now thread.old) }
     ensures err { OnErr result (thread.new ≡ thread.old) }
+    ensures kept { IsThread thread.old → IsThread thread.new }
 {
     let _ = go_on(thread, code)?;
     Ok(())

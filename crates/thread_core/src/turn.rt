@@ -27,12 +27,12 @@ pub enum Standing {
     Ended,
 }
 
-/// What a thread's next ask may wait for.
+/// What a thread's next ask waits for, where that is not free or lives.
 #[derive(Clone, Copy)]
 pub enum Waits<'a> {
     Nobody,
-    /// The monitor of a thing.
+    /// The monitor of a thing with the acting label.
     Monitor(&'a Name),
-    /// The end of a thread.
+    /// The end of a thread, of which the acting label may read.
     Thread(u32),
 }

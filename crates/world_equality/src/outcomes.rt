@@ -3,8 +3,8 @@
 ghost use Rattle.std.specs.Prelude.{◌≡◌, ◌↔◌, IsTrue};
 ghost use Rattle.std.specs.Option.{option_copied};
 
+use ask_equality::same_outcome;
 use lam_asks::{Fault, Outcome};
-use lam_value::same_value;
 
 /// Whether the same fault is there, or none on either side.
 pub(crate) fn same_fault(a: Option<Fault>, b: Option<Fault>) -> bool
@@ -23,14 +23,5 @@ pub(crate) fn same_result(a: Option<&Outcome>, b: Option<&Outcome>) -> bool
             None => false,
             Some(y) => same_outcome(x, y),
         },
-    }
-}
-
-fn same_outcome(a: &Outcome, b: &Outcome) -> bool
-    ensures { IsTrue result ↔ (a.now ≡ b.now) }
-{
-    match a {
-        Outcome::Value(x) => matches!(b, Outcome::Value(y) if same_value(x, y)),
-        Outcome::Failed(x) => matches!(b, Outcome::Failed(y) if *x == *y),
     }
 }

@@ -1,7 +1,7 @@
 use Rattle.std.proofs.Common.{◌∙◌, sym, ap}
 use Rattle.thread_steps.specs.Next.{standing_in}
 use Rattle.thread_core.proofs.Tops.{first_is, first_none}
-use Rattle.thread_core.proofs.threads.standing.Goals as goal
+use Rattle.thread_core.proofs.threads.stands.Goals as goal
 
 pub returns-in-None : goal.returns-in-None
 returns-in-None c = sym (ap (standing_in c.args.code.now) (first_none c.args.thread.now.contexts (sym c.in-None.ensures)))
