@@ -12,5 +12,6 @@ mod seats;
 mod visits;
 mod workers;
 
+pub use lam_run_laws::How;
 pub use machine_run::RunParts;
 pub use running::{Finished, run_on};

@@ -6,7 +6,7 @@ ghost use Rattle.lam_worlds.specs.Valid.{IsValid};
 
 use lam_bytecode::Code;
 use lam_world::{World, let_go_code, let_go_world};
-use machine_run::{Run, RunParts};
+use machine_run::{Run, let_go_run};
 use std::alloc::Global;
 use want_of_memory::NoMemory;
 use world_equality::copy_code;
@@ -54,10 +54,4 @@ pub fn let_go_origin(origin: Origin) {
     let Origin { code, start } = origin;
     let_go_world(start);
     let_go_code(code);
-}
-
-/// Lets a run go.
-pub fn let_go_run(run: Run) {
-    let RunParts { code, start, .. } = run.into_parts();
-    let_go_origin(Origin { code, start });
 }

@@ -3,16 +3,16 @@
 ghost use Rattle.std.specs.Prelude.{◌≡◌, ◌<◌, ◌≤◌, length, IfOk};
 ghost use Rattle.lam_bytecode.specs.Codes.{IsCode};
 ghost use Rattle.lam_worlds.specs.Valid.{IsValid};
-ghost use Rattle.lam_run_laws.specs.Ends.{HasEnded};
+ghost use Rattle.lam_run_laws.specs.Ends.{HasEnded, EndsOnlySo};
 
-use crate::origins::{Origin, copied, let_go_origin, let_go_run, own_run};
+use crate::origins::{Origin, copied, let_go_origin, own_run};
 use crate::seats::{Seated, go_on};
 use crate::workers::by_workers;
 use lam_bytecode::Code;
 use lam_io::Gate;
-use lam_run_laws::How;
+use lam_run_laws::{How, runs_end_in_one_way};
 use lam_world::World;
-use machine_run::Run;
+use machine_run::{Run, let_go_run};
 use std::alloc::Global;
 use std::sync::Wait;
 use std::thread::Threads;
@@ -26,7 +26,7 @@ pub struct Finished {
 }
 
 /// The run of a code from a start by so many workers at once, with at most so many turns, and how it ended: every thread
-/// has ended, else no thread is ready, else the turns are used up.
+/// has ended, else no thread is ready, else the turns are used up. No run ends in two of these ways.
 ///
 /// The hook is asked before each turn, under the lock, with the number of turns so far and the ready threads in
 /// increasing order; its answer is taken modulo their number. After a turn it is called outside the lock. Once the workers
@@ -52,6 +52,7 @@ pub fn run_on<R: Threads + Wait + Sync, G: Gate + Sync>(
     ensures start { IfOk result (λ f. (f.run.code ≡ code) × (f.run.start ≡ start)) }
     ensures budget { IfOk result (λ f. length f.run.turns ≤ turns) }
     ensures how { IfOk result (λ f. HasEnded f.run.code f.run.world (length f.run.turns) turns f.how) }
+    ensures only { IfOk result (λ f. EndsOnlySo f.run.code f.run.world f.how) }
 {
     let origin = match copied(alloc, &code, &start) {
         Ok(origin) => origin,
@@ -85,16 +86,26 @@ fn finish<G: Gate>(alloc: Global, run: Run, turns: u64, gate: &G) -> Result<Fini
     ensures start { IfOk result (λ f. (f.run.code ≡ run.code) × (f.run.start ≡ run.start)) }
     ensures budget { IfOk result (λ f. length f.run.turns ≤ turns) }
     ensures how { IfOk result (λ f. HasEnded f.run.code f.run.world (length f.run.turns) turns f.how) }
+    ensures only { IfOk result (λ f. EndsOnlySo f.run.code f.run.world f.how) }
 {
     let mut seated = Seated::new(alloc, run)?;
     match go_on(&mut seated, turns, gate) {
-        Ok(how) => Ok(Finished {
-            run: seated.into_run(),
-            how,
-        }),
+        Ok(how) => Ok(ended_so(seated.into_run(), how, turns)),
         Err(error) => {
             let_go_run(seated.into_run());
             Err(error)
         }
     }
+}
+
+/// A run that has ended in this way, and so in no other.
+fn ended_so(run: Run, how: How, turns: u64) -> Finished
+    requires { HasEnded run.code run.world (length run.turns) turns how }
+    ensures run { result.run ≡ run }
+    ensures how { HasEnded result.run.code result.run.world (length result.run.turns) turns result.how }
+    ensures only { EndsOnlySo result.run.code result.run.world result.how }
+{
+    let _valid = run.now();
+    runs_end_in_one_way();
+    Finished { run, how }
 }

@@ -4,11 +4,10 @@ ghost use Rattle.std.specs.Prelude.{◌≡◌, ◌≤◌, length, IfOk, OnErr};
 ghost use Rattle.lam_run_laws.specs.Ends.{HasEnded};
 ghost use Rattle.thread_host.specs.Visits.{Visits};
 
-use crate::origins::let_go_run;
 use crate::visits::{Visit, take_turn};
 use lam_io::Gate;
 use lam_run_laws::How;
-use machine_run::{Run, relist, roomy_list};
+use machine_run::{Run, let_go_run, relist, roomy_list};
 use std::alloc::Global;
 use std::marker::Model;
 use want_of_memory::NoMemory;

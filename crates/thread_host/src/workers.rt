@@ -2,11 +2,10 @@
 
 ghost use Rattle.std.specs.Prelude.{◌≡◌, ◌<◌, ◌≤◌, IfOk, vec_len};
 
-use crate::origins::let_go_run;
 use crate::seats::Seated;
 use crate::visits::Visit;
 use lam_io::Gate;
-use machine_run::Run;
+use machine_run::{Run, let_go_run};
 use std::alloc::Global;
 use std::sync::{Mutex, Wait};
 use std::thread;

@@ -3,6 +3,6 @@ use Rattle.lam_run_laws.specs.Ends.{HasEnded}
 use Rattle.machine_run.specs.Runs.{Ran}
 use Rattle.thread_host.proofs.running.finish.Goals as goal
 
-pub returns-in-Ok-clause-how : goal.returns-in-Ok-clause-how
-returns-in-Ok-clause-how g c =
+pub ended_so-requires : goal.ended_so-requires
+ended_so-requires g c =
     subst (λ (r : Ran). HasEnded r.code r.world (length r.turns) c.args.turns c.in-Ok.how) (sym c.into_run.ensures) c.in-Ok.ensures.how
