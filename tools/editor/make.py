@@ -72,7 +72,7 @@ def read_words():
     typed = set(found_in("lam_parse_parts/src/types.rt", "type_kind", r"TokenKind::(\w+) => Ok\(TypeKind::\1\)"))
     reserved = [word for word, _ in kinds]
     types = [word for word, kind in kinds if kind in typed]
-    builtins = found_in("lam_builtins/src/lib.rt", "name", r'Builtin::\w+ => "(\w+)"')
+    builtins = found_in("lam_builtins/src/rows.rt", "row", r'Builtin::\w+ => called\(\s*"(\w+)"')
     escapes = found_in("lam_lexer/src/text.rt", "letter", r"'(\\?.)' => Some")
     marks, comment = read_marks()
     grouped = DECLARING | CONTROLLING | MAKING | CONSTANTS
