@@ -1,0 +1,37 @@
+//! What a caller's turn answers, and what a shared run is closed into.
+
+use lam_asks::Event;
+use machine_run::Run;
+
+/// What a caller's turn answers. A place is one ticket's use, counted from 0.
+#[derive(Drop)]
+pub enum TurnAnswer {
+    /// The ticket word has reached its last number, and no ticket was drawn.
+    Worn { drawn: u64 },
+    /// The thread took a turn at the place `seen`, which the caller's seat had not seen.
+    Stale { place: u64, seen: u64 },
+    /// The run has as many turns as it may have.
+    Full { place: u64 },
+    /// The thread is not there, has ended, is stuck or waits.
+    NotReady { place: u64 },
+    /// Memory was refused; the run is as it was.
+    NoMemory { place: u64 },
+    /// The thread took its turn, which was this event.
+    Took { place: u64, event: Event },
+}
+
+/// Why a shared run was not closed into its parts.
+#[derive(Clone, Copy, PartialEq, Eq, Debug)]
+pub enum CloseFault {
+    /// A ticket was drawn and not served: how many places are finished, and how many tickets were drawn.
+    Open { served: u64, drawn: u64 },
+    /// Memory was refused.
+    NoMemory,
+}
+
+/// A run, and what each place holds: the thread that took a turn there, or nothing.
+#[derive(Drop)]
+pub struct Closed {
+    pub run: Run,
+    pub places: Vec<Option<u32>>,
+}

@@ -1,0 +1,20 @@
+//! Seats: callers' own threads share one run.
+//!
+//! A [`SeatRun`] is a run that many callers have at once, each by a [`Seat`] of its own, on whatever threads they like.
+//! [`SeatRun::turn_as`] takes one turn for its caller. All turns stand in one book, each once, in the caller's order, and
+//! after all that its seat had seen; [`SeatRun::close`] gives the run, which is one of the given code from the given start.
+//!
+//! Whoever calls draws a ticket, and waits until it is served. A ticket's use is a *place*: it holds the thread that took
+//! a turn there, or nothing. `desk` has the atomic steps, `law` the rule that they keep, `book` what the slot keeps.
+#![tactic(auto)]
+
+mod answer;
+mod book;
+mod desk;
+mod law;
+mod places;
+mod seat;
+
+pub use answer::{CloseFault, Closed, TurnAnswer};
+pub use places::places_differ;
+pub use seat::{Seat, SeatRun};

@@ -1,0 +1,8 @@
+//! The law of places.
+
+ghost use Rattle.seat_host.specs.Laws.{PlacesDiffer};
+
+/// At every moment the places of different seats differ, and each seat's places are below the ticket word.
+pub fn places_differ()
+    ensures { PlacesDiffer }
+{}
