@@ -14,8 +14,8 @@ import sys
 import tempfile
 
 HERE = os.path.dirname(os.path.dirname(os.path.abspath(__file__)))
-CRATES = ['want_of_memory', 'lam_operators', 'lam_syntax', 'lam_lexer', 'lam_grammar', 'lam_reading',
-          'lam_parse_parts', 'lam_parse_exprs', 'lam_parse_stmts', 'lam_parser', 'lam_print']
+CRATES = ['want_of_memory', 'lam_operators', 'lam_syntax', 'lam_lexer', 'lam_grammar', 'lam_parser_tokens',
+          'lam_parser_parts', 'lam_parser_exprs', 'lam_parser_stmts', 'lam_parser', 'lam_print']
 GHOST = re.compile(r'ghost |#!?\[tactic|#\[cycle|(requires|ensures)\b.*\{')
 
 # What the crates call that Rust's standard library has not, or has with other parameters.

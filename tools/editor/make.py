@@ -69,7 +69,7 @@ def read_marks():
 def read_words():
     """Returns the words of the language by what they are."""
     kinds = found_in("lam_lexer/src/words.rt", r"of(?:_\w)+", r'"(\w+)" => Some\(TokenKind::(\w+)\)')
-    typed = set(found_in("lam_parse_parts/src/types.rt", "type_kind", r"TokenKind::(\w+) => Ok\(TypeKind::\1\)"))
+    typed = set(found_in("lam_parser_parts/src/types.rt", "type_kind", r"TokenKind::(\w+) => Ok\(TypeKind::\1\)"))
     reserved = [word for word, _ in kinds]
     types = [word for word, kind in kinds if kind in typed]
     builtins = found_in("lam_builtins/src/rows.rt", "row", r'Builtin::\w+ => called\(\s*"(\w+)"')

@@ -7,13 +7,13 @@ use Rattle.capabilities.specs.declared.Caps.{Caps}
 use Rattle.lam_asks.specs.declared.answer.What.{What}
 use Rattle.lam_asks.specs.declared.answer.What.TheVariants.{Private, Asked}
 use Rattle.lam_asks.specs.declared.answer.Event.{Event}
-use Rattle.lam_worlds.specs.Turns.{Moment}
-use Rattle.lam_worlds.specs.Views.{Entry, event, release, is_release, used_by, trace}
-use Rattle.event_texts.specs.Lines.{head_text, line_after}
-use Rattle.run_notes.specs.Notes.{content_in, released, asked, shown, refusal_of, refused, noted_at, noted_from}
-use Rattle.run_notes.specs.declared.Content.{Content}
-use Rattle.run_notes.specs.declared.Seen.{Seen}
-use Rattle.run_notes.specs.declared.Noted.{Noted}
+use Rattle.lam_machine_terms.specs.Turns.{Moment}
+use Rattle.lam_machine_terms.specs.Views.{Entry, event, release, is_release, used_by, trace}
+use Rattle.audit_log_texts.specs.Lines.{head_text, line_after}
+use Rattle.audit_log_notes.specs.Notes.{content_in, released, asked, shown, refusal_of, refused, noted_at, noted_from}
+use Rattle.audit_log_notes.specs.declared.Content.{Content}
+use Rattle.audit_log_notes.specs.declared.Seen.{Seen}
+use Rattle.audit_log_notes.specs.declared.Noted.{Noted}
 use Rattle.audit_log.specs.Log.{seen_line, seen_lines, released_line, entry_line, turn_text, refusal_note, note_line, noted_lines, moment_line, lines_from}
 use Rattle.audit_log.specs.Laws.{ViewsAreRead, AuditsAreRead}
 

@@ -2,8 +2,8 @@
 use Rattle.std.specs.Prelude.{◌≡◌, List}
 use Rattle.flow_labels.specs.TwoLists.{Text}
 use Rattle.flow_labels.specs.declared.Label.{Label}
-use Rattle.lam_worlds.specs.Turns.{Moment}
-use Rattle.run_notes.specs.Notes.{seen_by, noted_in}
+use Rattle.lam_machine_terms.specs.Turns.{Moment}
+use Rattle.audit_log_notes.specs.Notes.{seen_by, noted_in}
 use Rattle.audit_log.specs.Log.{seen_lines, view_lines, noted_lines, audit_lines}
 
 abbrev pub ViewsAreRead : Type 0

@@ -24,15 +24,15 @@ use Rattle.lam_asks.specs.declared.answer.What.{What}
 use Rattle.lam_asks.specs.declared.answer.What.TheVariants.{Asked}
 use Rattle.lam_asks.specs.declared.answer.Event.{Event}
 use Rattle.lam_asks.specs.declared.ask.Ask.TheVariants.{CopyTo, Mint, Enter, Barred}
-use Rattle.lam_worlds.specs.Turns.{Moment}
-use Rattle.lam_worlds.specs.Views.{Entry, event, release, is_release, used_by, trace}
-use Rattle.event_texts.specs.Lines.{spaced, line, thread_text, head_text, group_text, denied_text, event_line}
-use Rattle.run_notes.specs.Notes.{content_in, refusal_of}
-use Rattle.run_notes.specs.declared.Content.{Content}
-use Rattle.run_notes.specs.declared.Content.TheVariants.{Context, Thing}
-use Rattle.run_notes.specs.declared.Seen.{Seen}
-use Rattle.run_notes.specs.declared.Seen.TheVariants as seen
-use Rattle.run_notes.specs.declared.Noted.{Noted}
+use Rattle.lam_machine_terms.specs.Turns.{Moment}
+use Rattle.lam_machine_terms.specs.Views.{Entry, event, release, is_release, used_by, trace}
+use Rattle.audit_log_texts.specs.Lines.{spaced, line, thread_text, head_text, group_text, denied_text, event_line}
+use Rattle.audit_log_notes.specs.Notes.{content_in, refusal_of}
+use Rattle.audit_log_notes.specs.declared.Content.{Content}
+use Rattle.audit_log_notes.specs.declared.Content.TheVariants.{Context, Thing}
+use Rattle.audit_log_notes.specs.declared.Seen.{Seen}
+use Rattle.audit_log_notes.specs.declared.Seen.TheVariants as seen
+use Rattle.audit_log_notes.specs.declared.Noted.{Noted}
 
 -- ---- what an observer reads
 

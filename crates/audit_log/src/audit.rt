@@ -4,18 +4,18 @@ ghost use Rattle.std.specs.Prelude.{◌≡◌, ◌++◌, ◌∷◌, [], codes, I
 ghost use Rattle.flow_labels.specs.LabelText.{label_text};
 ghost use Rattle.capabilities.specs.CapsText.{caps_text};
 ghost use Rattle.lam_value.specs.Texts.{value_text};
-ghost use Rattle.event_texts.specs.Lines.{line};
+ghost use Rattle.audit_log_texts.specs.Lines.{line};
 ghost use Rattle.audit_log.specs.Log.{note_line, noted_lines, release_note, refusal_note, turn_text};
 
-use capabilities::Caps;
-use decimal_text::push_number;
-use event_texts::{
+use audit_log_notes::{Noted, refusal_of};
+use audit_log_texts::{
     push_caps_word, push_denied_word, push_head, push_label_word, push_value_word, push_word,
 };
+use capabilities::Caps;
+use decimal_text::push_number;
 use flow_labels::{Denied, Label, TagNames};
 use lam_asks::{Answer, Ask, Event, What};
 use lam_value::Value;
-use run_notes::{Noted, refusal_of};
 use std::alloc::Global;
 use want_of_memory::NoMemory;
 

@@ -3,18 +3,18 @@
 ghost use Rattle.std.specs.Prelude.{◌≡◌, ◌++◌, ◌∷◌, [], codes, decimal, IfOk, OnOk, string_bytes};
 ghost use Rattle.flow_labels.specs.LabelText.{label_text};
 ghost use Rattle.capabilities.specs.CapsText.{caps_text};
-ghost use Rattle.event_texts.specs.Lines.{group_text, spaced};
+ghost use Rattle.audit_log_texts.specs.Lines.{group_text, spaced};
 ghost use Rattle.audit_log.specs.Log.{content_text, release_line, seen_line, seen_lines};
-ghost use Rattle.run_notes.specs.declared.Content.TheVariants as Content;
+ghost use Rattle.audit_log_notes.specs.declared.Content.TheVariants as Content;
 
-use capabilities::Caps;
-use event_texts::{
+use audit_log_notes::{Content, Seen};
+use audit_log_texts::{
     push_caps_word, push_event, push_group_word, push_label_word, push_number_word, push_thread,
     push_value_word, push_word,
 };
+use capabilities::Caps;
 use flow_labels::{Label, TagNames};
 use lam_value::{Value, Values, push_values};
-use run_notes::{Content, Seen};
 use std::alloc::Global;
 use want_of_memory::NoMemory;
 

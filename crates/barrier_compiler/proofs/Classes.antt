@@ -3,7 +3,7 @@ use Rattle.std.proofs.Common.{◌≡◌, ◌^◌, ◌<◌, ◌≤◌, List, leng
 use Rattle.std.proofs.lemmas.List.{length-map}
 use Rattle.lam_value.specs.declared.shapes.Kind.{Kind}
 use Rattle.lam_builtins.specs.Limits.{most_classes}
-use Rattle.resolved_tree.specs.Tree.{ResolvedType}
+use Rattle.lam_resolve_tree.specs.Tree.{ResolvedType}
 use Rattle.lam_meaning.specs.Means.{kind_of}
 
 pub room : (all : List (List Kind)) (cs : List (List ResolvedType)) → all ≡ map (λ ts. map kind_of ts) cs → length cs ≤ most_classes → length all < 2 ^ 32

@@ -1,9 +1,9 @@
 -- Each unit has at least as many locals as it finds filled.
 use Rattle.std.proofs.Common.{◌≤◌, ℕ, List, [], ◌∷◌, ◌++◌, length, map, arith}
 use Rattle.std.proofs.lemmas.List.{length-map}
-use Rattle.resolved_tree.specs.Tree.{Statement, let_slot, if_block, while_block, return_value, throw_value, sync_block, region_block, do_value, set_local, set_field, set_element, Block, block_end, block_more, OtherBlock, no_other, other_block, ResolvedFunction, ResolvedTree}
-use Rattle.resolved_tree.specs.Slots.{DeclaresNew, BlockDeclaresNew, OtherDeclaresNew, AllDeclareNew, scope_after, SlotsDiffer}
-use Rattle.resolved_tree.specs.Regions.{count_up}
+use Rattle.lam_resolve_tree.specs.Tree.{Statement, let_slot, if_block, while_block, return_value, throw_value, sync_block, region_block, do_value, set_local, set_field, set_element, Block, block_end, block_more, OtherBlock, no_other, other_block, ResolvedFunction, ResolvedTree}
+use Rattle.lam_resolve_tree.specs.Slots.{DeclaresNew, BlockDeclaresNew, OtherDeclaresNew, AllDeclareNew, scope_after, SlotsDiffer}
+use Rattle.lam_resolve_tree.specs.Regions.{count_up}
 use Rattle.lam_bytecode.specs.Codes.{given}
 use Rattle.lam_meaning.specs.Scheme.{Draft, arg_kind, function_draft, regions_of, regions_in, regions_in_other, all_regions, drafts}
 

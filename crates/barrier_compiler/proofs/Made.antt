@@ -1,10 +1,10 @@
 -- What `emit` answers, said of the checked program.
 use Rattle.std.proofs.Common.{◌≡◌, ◌⊎◌, ℕ, Some, Result, Ok, Err, IfOk, IfErr, inl, inr, refl, sym}
 use Rattle.lam_syntax.specs.Tree.{ProgramTree}
-use Rattle.resolved_tree.specs.Tree.{ResolvedTree}
+use Rattle.lam_resolve_tree.specs.Tree.{ResolvedTree}
 use Rattle.lam_bytecode.specs.Codes.{CodeTree}
 use Rattle.lam_meaning.specs.Long.{compiled}
-use Rattle.lam_resolved.specs.Resolved.{resolved}
+use Rattle.lam_resolve_laws.specs.Resolved.{resolved}
 use Rattle.barrier_compiler.specs.declared.emitting.CompileFault.{CompileFault}
 use Rattle.barrier_compiler.specs.declared.emitting.CompileFault.TheVariants.{CodeTooLong, NoMemory}
 use Rattle.barrier_compiler.specs.Faults.{IsFaultOf}

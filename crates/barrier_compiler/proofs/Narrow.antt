@@ -11,22 +11,22 @@ use Rattle.lam_builtins.specs.Limits.{most_classes, most_functions, most_fields,
 use Rattle.lam_builtins.specs.Types.{int}
 use Rattle.lam_builtins.specs.Operators.{operand}
 use Rattle.lam_builtins.specs.Builtins.{row_by}
-use Rattle.resolved_tree.specs.Tree.{ResolvedType, ResolvedGiven, ResolvedPlace, CapSlot, Expression, number_value, text_value, bool_value, null_value, local_value, unary_of, binary_of, field_of, element_of, call_of, builtin_of, new_object, new_array, label_of, caps_of, spawn_of, Expressions, args_end, args_more, Statement, let_slot, if_block, while_block, return_value, throw_value, sync_block, region_block, do_value, set_local, set_field, set_element, Block, block_end, block_more, OtherBlock, no_other, other_block, ResolvedFunction, ResolvedTree}
-use Rattle.resolved_tree.specs.Typing.{Heads, head_of, heads_of, IsField, Use, a_local, a_monitor, Scope, with_use, local_if, locals_of, exact_places, Operates, AreTags, Gives, AreArgs, AreRest, AreTagArgs, Returning, in_region, in_function, Returns, AreCaptured, use_of, after, IsStatement, IsBlock, IsOther, AreFunctions, IsTypedTree}
-use Rattle.resolved_tree.specs.Regions as tree
-use Rattle.resolved_tree.specs.Regions.{count_up, function_regions, AreNumbered}
-use Rattle.resolved_tree.specs.Limits.{RegionsFit, BlockFits, OtherFits, AllUnitsFit, AllFieldsFit, WithinLimits}
+use Rattle.lam_resolve_tree.specs.Tree.{ResolvedType, ResolvedGiven, ResolvedPlace, CapSlot, Expression, number_value, text_value, bool_value, null_value, local_value, unary_of, binary_of, field_of, element_of, call_of, builtin_of, new_object, new_array, label_of, caps_of, spawn_of, Expressions, args_end, args_more, Statement, let_slot, if_block, while_block, return_value, throw_value, sync_block, region_block, do_value, set_local, set_field, set_element, Block, block_end, block_more, OtherBlock, no_other, other_block, ResolvedFunction, ResolvedTree}
+use Rattle.lam_resolve_tree.specs.Typing.{Heads, head_of, heads_of, IsField, Use, a_local, a_monitor, Scope, with_use, local_if, locals_of, exact_places, Operates, AreTags, Gives, AreArgs, AreRest, AreTagArgs, Returning, in_region, in_function, Returns, AreCaptured, use_of, after, IsStatement, IsBlock, IsOther, AreFunctions, IsTypedTree}
+use Rattle.lam_resolve_tree.specs.Regions as tree
+use Rattle.lam_resolve_tree.specs.Regions.{count_up, function_regions, AreNumbered}
+use Rattle.lam_resolve_tree.specs.Limits.{RegionsFit, BlockFits, OtherFits, AllUnitsFit, AllFieldsFit, WithinLimits}
 use Rattle.lam_bytecode.specs.declared.op.Op.{Op}
 use Rattle.lam_bytecode.specs.declared.op.Op.TheVariants.{Load, Store, Call, Return, ReadBarrier, WriteBarrier, GetField, PutField, NewObject, NoCaps, System, EnterMonitor, LeaveMonitor, EnterRegion, LeaveRegion, Spawn}
 use Rattle.lam_value.specs.declared.values.Value.TheVariants.{Nothing}
 use Rattle.lam_meaning.specs.Pieces.{Pieces, puts, joined, one, op, flat}
 use Rattle.lam_meaning.specs.Scheme.{between, prefix_op, sign_op, expression, expressions, signs, loads, gives_back, value_or_null, branches, statement, block, other_block_of, Draft, function_draft, region_draft, regions_of, regions_in, regions_in_other, all_regions, drafts}
-use Rattle.lam_resolved.proofs.Finding.{get_below}
-use Rattle.emit_parts.specs.Emits.{named_by, are_narrow}
-use Rattle.emit_parts.proofs.Flat.{narrow-joined}
-use Rattle.emit_units.specs.Adds.{kind_narrow, code_narrow, draft_narrow, drafts_narrow}
-use Rattle.emit_units.proofs.Joins.{narrow-append}
-use Rattle.emit_units.proofs.UnitSteps.{narrow-flat}
+use Rattle.lam_resolve_laws.proofs.Finding.{get_below}
+use Rattle.barrier_compiler_parts.specs.Emits.{named_by, are_narrow}
+use Rattle.barrier_compiler_parts.proofs.Flat.{narrow-joined}
+use Rattle.barrier_compiler_units.specs.Adds.{kind_narrow, code_narrow, draft_narrow, drafts_narrow}
+use Rattle.barrier_compiler_units.proofs.Joins.{narrow-append}
+use Rattle.barrier_compiler_units.proofs.UnitSteps.{narrow-flat}
 
 -- ---- pieces
 

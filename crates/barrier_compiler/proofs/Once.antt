@@ -1,7 +1,7 @@
 -- A program is compiled to one thing.
 use Rattle.std.proofs.Common.{◌≡◌, ℕ, Some, Result, sym, ap, ◌∙◌}
 use Rattle.lam_syntax.specs.Tree.{ProgramTree}
-use Rattle.resolved_tree.specs.Tree.{ResolvedTree}
+use Rattle.lam_resolve_tree.specs.Tree.{ResolvedTree}
 use Rattle.lam_bytecode.specs.Codes.{CodeTree}
 use Rattle.lam_meaning.specs.Long.{compiled}
 use Rattle.barrier_compiler.specs.Compiled.{IsCompiledTo}

@@ -3,19 +3,19 @@ use Rattle.std.proofs.Common.{◌≡◌, ℕ, ◌+◌, ◌*◌, ◌^◌, ◌<◌
 use Rattle.std.specs.List.{AllByRecursion}
 use Rattle.lam_value.specs.declared.values.Value.{Value}
 use Rattle.lam_value.specs.declared.shapes.Kind.{Kind}
-use Rattle.resolved_tree.specs.Tree.{ResolvedTree}
-use Rattle.resolved_tree.specs.Slots.{SlotsDiffer}
-use Rattle.resolved_tree.specs.Regions.{AreNumbered}
+use Rattle.lam_resolve_tree.specs.Tree.{ResolvedTree}
+use Rattle.lam_resolve_tree.specs.Slots.{SlotsDiffer}
+use Rattle.lam_resolve_tree.specs.Regions.{AreNumbered}
 use Rattle.lam_meaning.specs.Means.{kind_of}
 use Rattle.lam_bytecode.specs.declared.unit.CodeUnit.{CodeUnit}
 use Rattle.lam_bytecode.specs.Codes.{CodeTree, code_of, IsConstant, IsUnit, IsCode, AreCounted, region_numbers}
 use Rattle.lam_meaning.specs.Pieces.{Flat, an_op, a_constant, numbered}
 use Rattle.lam_meaning.specs.Scheme.{Draft, function_draft, all_regions, drafts, unit_of, scheme}
 use Rattle.lam_meaning.specs.Long.{long_from, first_long_unit, unless_long, compiled}
-use Rattle.emit_units.specs.declared.units.Halt.{Halt}
-use Rattle.emit_units.specs.declared.units.Halt.TheVariants.{TooLong, Wide, NoMemory}
-use Rattle.emit_units.specs.Adds.{drafts_narrow, Made, made_of, Stage, Adds_units, AddsBy, Adds}
-use Rattle.emit_units.proofs.Joins.{joins}
+use Rattle.barrier_compiler_units.specs.declared.units.Halt.{Halt}
+use Rattle.barrier_compiler_units.specs.declared.units.Halt.TheVariants.{TooLong, Wide, NoMemory}
+use Rattle.barrier_compiler_units.specs.Adds.{drafts_narrow, Made, made_of, Stage, Adds_units, AddsBy, Adds}
+use Rattle.barrier_compiler_units.proofs.Joins.{joins}
 use Rattle.barrier_compiler.proofs.Given.{AllGiven, all_given}
 use Rattle.barrier_compiler.proofs.Numbered.{are_counted}
 

@@ -1,11 +1,11 @@
 -- What a checked program is compiled to.
 use Rattle.std.specs.Prelude.{◌≡◌, ℕ, Some, Result}
 use Rattle.lam_syntax.specs.Tree.{ProgramTree}
-use Rattle.resolved_tree.specs.Tree.{ResolvedTree}
+use Rattle.lam_resolve_tree.specs.Tree.{ResolvedTree}
 use Rattle.lam_bytecode.specs.Codes.{CodeTree}
 use Rattle.lam_meaning.specs.Long.{compiled}
-use Rattle.lam_resolved.specs.Resolved.{resolved}
-use Rattle.lam_acting.specs.Acts.{ActsAsSource}
+use Rattle.lam_resolve_laws.specs.Resolved.{resolved}
+use Rattle.lam_meaning_laws.specs.Acts.{ActsAsSource}
 
 -- with its names resolved, the scheme makes this of it: its code, or the number of the first unit that is too long
 pub record IsCompiledTo (p : ProgramTree) (made : Result CodeTree ℕ) : Type 0 where

@@ -4,21 +4,21 @@
 //! number of its first unit that is too long, is the definition `compiled` of `lam_meaning`; `emit` computes it.
 
 ghost use Rattle.std.specs.Prelude.{◌≡◌, map, Ok, IfOk, IfErr};
-ghost use Rattle.resolved_tree.specs.Tree.{types_tree, classes_tree, resolved_tree};
-ghost use Rattle.resolved_tree.specs.Typing.{IsTypedTree};
-ghost use Rattle.resolved_tree.specs.Slots.{SlotsDiffer};
-ghost use Rattle.resolved_tree.specs.Limits.{WithinLimits};
-ghost use Rattle.resolved_tree.specs.Regions.{AreNumbered};
+ghost use Rattle.lam_resolve_tree.specs.Tree.{types_tree, classes_tree, resolved_tree};
+ghost use Rattle.lam_resolve_tree.specs.Typing.{IsTypedTree};
+ghost use Rattle.lam_resolve_tree.specs.Slots.{SlotsDiffer};
+ghost use Rattle.lam_resolve_tree.specs.Limits.{WithinLimits};
+ghost use Rattle.lam_resolve_tree.specs.Regions.{AreNumbered};
 ghost use Rattle.lam_bytecode.specs.Codes.{IsCode};
 ghost use Rattle.lam_meaning.specs.Means.{kind_of};
 ghost use Rattle.lam_meaning.specs.Long.{compiled};
 ghost use Rattle.barrier_compiler.specs.Faults.{IsFaultOf};
 ghost use Rattle.barrier_compiler.specs.declared.emitting.CompileFault.TheVariants.{NoMemory as no_memory};
 
-use emit_exprs::kind_of;
-use emit_units::{Halt, Units, add_function_units, add_region_units};
+use barrier_compiler_exprs::kind_of;
+use barrier_compiler_units::{Halt, Units, add_function_units, add_region_units};
 use lam_bytecode::{Code, Kinds};
-use resolved_tree::{Class, Resolved, ValueType};
+use lam_resolve_tree::{Class, Resolved, ValueType};
 use std::alloc::{AllocError, AllocFailed, Global};
 use want_of_memory::NoMemory;
 

@@ -13,10 +13,10 @@ ghost use Rattle.barrier_compiler.specs.declared.emitting.CompileFault.TheVarian
 ghost use Rattle.barrier_compiler.specs.Compiled.{IsCompiledTo, ActsAsProgram};
 
 pub use emitting::{CompileFault, emit};
-use lam_acting::compiled_code_acts_as_its_source;
 use lam_bytecode::Code;
+use lam_meaning_laws::compiled_code_acts_as_its_source;
 use lam_resolve::resolve;
-use lam_resolved::resolves;
+use lam_resolve_laws::resolves;
 use region_check::Checked;
 
 /// The code of a checked program, which is the one that the scheme gives it. A thread of that code makes the asks that

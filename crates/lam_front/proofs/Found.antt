@@ -9,10 +9,10 @@ use Rattle.lam_lexer.specs.Reading.{IsFault}
 use Rattle.lam_parser.specs.declared.ParseFault.{ParseFault}
 use Rattle.lam_parser.specs.declared.ParseFault.TheVariants as parser
 use Rattle.lam_parser.specs.Answers.{Parses}
-use Rattle.lam_kinds.specs.declared.fault.TypeFault.{TypeFault}
-use Rattle.lam_kinds.specs.declared.fault.TypeFault.TheVariants as types
-use Rattle.lam_kinds.specs.Breaks.{Break}
-use Rattle.lam_kinds.specs.Meets as meets
+use Rattle.lam_types_kinds.specs.declared.fault.TypeFault.{TypeFault}
+use Rattle.lam_types_kinds.specs.declared.fault.TypeFault.TheVariants as types
+use Rattle.lam_types_kinds.specs.Breaks.{Break}
+use Rattle.lam_types_kinds.specs.Meets as meets
 use Rattle.lam_types.specs.Program.{first_type_break}
 use Rattle.region_check.specs.declared.RegionFault.{RegionFault}
 use Rattle.region_check.specs.declared.RegionFault.TheVariants as regions

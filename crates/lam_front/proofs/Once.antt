@@ -1,9 +1,9 @@
 -- Bytes spell one program or have one first fault.
 use Rattle.std.proofs.Common.{◌≡◌, ℕ, ◌+◌, ◌<◌, ◌≤◌, inl, inr, List, [], ◌∷◌, refl, sym, ap, subst, ◌∙◌, arith, Option, Some, None}
 use Rattle.std.proofs.lemmas.Bool.{cond_below, cond_above, cases_lt}
-use Rattle.grammar_laws.specs.Texts.{capped, Continues, IsUnexpected, IsTooDeep}
-use Rattle.grammar_laws.proofs.Spelling.{moves}
-use Rattle.grammar_laws.proofs.Theorem.{value_once, unexpected_means_nothing, too_deep_means_nothing}
+use Rattle.lam_grammar_laws.specs.Texts.{capped, Continues, IsUnexpected, IsTooDeep}
+use Rattle.lam_grammar_laws.proofs.Spelling.{moves}
+use Rattle.lam_grammar_laws.proofs.Theorem.{value_once, unexpected_means_nothing, too_deep_means_nothing}
 use Rattle.lam_syntax.specs.Tree.{ProgramTree}
 use Rattle.lam_lexer.specs.declared.token.Token.{Token}
 use Rattle.lam_lexer.proofs.Laws.{lexed_once, lexed_never, fault_once}
@@ -12,7 +12,7 @@ use Rattle.lam_grammar.specs.Program.{lam, program, SpellsProgram}
 use Rattle.lam_grammar.specs.Examples.{examples}
 use Rattle.lam_grammar.proofs.Passes.{sound}
 use Rattle.lam_parser.specs.Answers.{position_at}
-use Rattle.lam_kinds.specs.Breaks.{Break}
+use Rattle.lam_types_kinds.specs.Breaks.{Break}
 use Rattle.lam_types.specs.Program.{first_type_break}
 use Rattle.region_check.specs.Breaks as region
 use Rattle.region_check.specs.Breaks.{first_region_break}

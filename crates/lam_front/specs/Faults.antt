@@ -4,9 +4,9 @@ use Rattle.lam_lexer.specs.declared.fault.LexFault.{LexFault}
 use Rattle.lam_lexer.specs.declared.fault.LexFault.TheVariants as lexer
 use Rattle.lam_parser.specs.declared.ParseFault.{ParseFault}
 use Rattle.lam_parser.specs.declared.ParseFault.TheVariants as parser
-use Rattle.lam_kinds.specs.declared.fault.TypeFault.{TypeFault}
-use Rattle.lam_kinds.specs.declared.fault.TypeFault.TheVariants as types
-use Rattle.lam_kinds.specs.Breaks.{Break, no_name, twice, arity, no_field, no_return, too_many, mismatch}
+use Rattle.lam_types_kinds.specs.declared.fault.TypeFault.{TypeFault}
+use Rattle.lam_types_kinds.specs.declared.fault.TypeFault.TheVariants as types
+use Rattle.lam_types_kinds.specs.Breaks.{Break, no_name, twice, arity, no_field, no_return, too_many, mismatch}
 use Rattle.region_check.specs.declared.RegionFault.{RegionFault}
 use Rattle.region_check.specs.declared.RegionFault.TheVariants as regions
 use Rattle.region_check.specs.Breaks as region

@@ -1,16 +1,16 @@
 -- The program that bytes spell, and the first fault of those that spell none or break a rule.
 -- The order is that of the layers: UTF-8, tokens, grammar, types, regions.
 use Rattle.std.specs.Prelude.{◌≡◌, ℕ, List, Some, None, chars, IsUtf8}
-use Rattle.grammar_laws.specs.Texts.{IsUnexpected, IsTooDeep}
+use Rattle.lam_grammar_laws.specs.Texts.{IsUnexpected, IsTooDeep}
 use Rattle.lam_syntax.specs.Tree.{ProgramTree}
 use Rattle.lam_lexer.specs.declared.token.Token.{Token}
 use Rattle.lam_lexer.specs.declared.fault.LexFault.{LexFault}
 use Rattle.lam_lexer.specs.Lexed.{Lexed, FirstFault}
 use Rattle.lam_grammar.specs.Meaning.{nothing}
 use Rattle.lam_grammar.specs.Program.{lam, program}
-use Rattle.lam_round_trip.specs.Words.{IsOf}
+use Rattle.lam_print_laws.specs.Words.{IsOf}
 use Rattle.lam_parser.specs.Answers.{position_at}
-use Rattle.lam_kinds.specs.Breaks.{Break}
+use Rattle.lam_types_kinds.specs.Breaks.{Break}
 use Rattle.lam_types.specs.Program.{first_type_break}
 use Rattle.region_check.specs.Breaks as region
 use Rattle.region_check.specs.Breaks.{first_region_break}

@@ -1,6 +1,6 @@
 -- The first tokens of each rule are those of its bodies, and no two bodies of a rule begin alike.
 use Rattle.std.proofs.Common.{◌≡◌, ℕ, true, refl}
-use Rattle.grammar_laws.proofs.Tests.{tells}
+use Rattle.lam_grammar_laws.proofs.Tests.{tells}
 use Rattle.lam_lexer.specs.declared.token.Token.{Token}
 use Rattle.lam_lexer.specs.declared.token.TokenKind.{TokenKind}
 use Rattle.lam_lexer.specs.declared.token.TokenKind.TheVariants.{Number}

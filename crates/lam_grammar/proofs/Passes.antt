@@ -1,11 +1,11 @@
 -- The table passes the tests.
 use Rattle.std.proofs.Common.{◌≡◌, ℕ, ◌<◌, Bool, true, false, cond, Option, Some, None, List, [], ◌∷◌, refl, ap, ◌∙◌, lit<}
-use Rattle.grammar_laws.specs.Grammar.{Grammar, pick, is_empty, production, free}
-use Rattle.grammar_laws.specs.Examples.{Examples, implies, ends, words, IsBelow}
-use Rattle.grammar_laws.proofs.Sound.{Sound}
-use Rattle.grammar_laws.proofs.Spelling.{implied}
-use Rattle.grammar_laws.proofs.Tests.{empty_of, passes_all, passes, emptying_of, following_of, closing_of}
-use Rattle.grammar_laws.proofs.Theorem.{free_examples, Bars, HasBars}
+use Rattle.lam_grammar_laws.specs.Grammar.{Grammar, pick, is_empty, production, free}
+use Rattle.lam_grammar_laws.specs.Examples.{Examples, implies, ends, words, IsBelow}
+use Rattle.lam_grammar_laws.proofs.Sound.{Sound}
+use Rattle.lam_grammar_laws.proofs.Spelling.{implied}
+use Rattle.lam_grammar_laws.proofs.Tests.{empty_of, passes_all, passes, emptying_of, following_of, closing_of}
+use Rattle.lam_grammar_laws.proofs.Theorem.{free_examples, Bars, HasBars}
 use Rattle.lam_lexer.specs.declared.token.Token.{Token}
 use Rattle.lam_lexer.specs.declared.token.TokenKind.{TokenKind}
 use Rattle.lam_lexer.specs.declared.token.TokenKind.TheVariants.{Number, Assign}

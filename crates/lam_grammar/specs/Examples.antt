@@ -1,7 +1,7 @@
 -- A short text of each rule, by which every text that was read so far can be finished.
 use Rattle.std.specs.Prelude.{ℕ, List, [], ◌∷◌, Bool, true, false}
-use Rattle.grammar_laws.specs.Grammar.{rule}
-use Rattle.grammar_laws.specs.Examples.{Examples}
+use Rattle.lam_grammar_laws.specs.Grammar.{rule}
+use Rattle.lam_grammar_laws.specs.Examples.{Examples}
 use Rattle.lam_lexer.specs.declared.token.Token.{Token}
 use Rattle.lam_lexer.specs.declared.token.TokenKind.{TokenKind}
 use Rattle.lam_lexer.specs.declared.token.TokenKind.TheVariants.{BraceOpen, BraceClose, ParenOpen, ParenClose, BracketOpen, BracketClose, Comma, Semicolon, Colon, Plus, Class as ClassWord, Else, Catch, Int, End}

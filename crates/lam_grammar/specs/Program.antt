@@ -1,7 +1,7 @@
 -- The grammar, and what it is for tokens to spell a program.
 use Rattle.std.specs.Prelude.{List, [], ◌∷◌}
-use Rattle.grammar_laws.specs.Grammar.{Grammar, rule}
-use Rattle.grammar_laws.specs.Texts.{limited, Spells}
+use Rattle.lam_grammar_laws.specs.Grammar.{Grammar, rule}
+use Rattle.lam_grammar_laws.specs.Texts.{limited, Spells}
 use Rattle.lam_syntax.specs.Tree.{ProgramTree}
 use Rattle.lam_lexer.specs.declared.token.Token.{Token}
 use Rattle.lam_grammar.specs.Table.{Class, Rule, Sym, items, end_of_text, bodies, begins, counts}

@@ -1,6 +1,6 @@
 -- The grammar as a table: the bodies of each rule, one line for each line of the printed grammar.
 use Rattle.std.specs.Prelude.{◌≡◌, ℕ, List, [], ◌∷◌, Bool, true, false, pos, refl}
-use Rattle.grammar_laws.specs.Grammar.{Symbol, mark, rule}
+use Rattle.lam_grammar_laws.specs.Grammar.{Symbol, mark, rule}
 use Rattle.lam_lexer.specs.declared.token.TokenKind.{TokenKind}
 use Rattle.lam_lexer.specs.declared.token.TokenKind.TheVariants.{Id, Number, Text, BraceOpen, BraceClose, ParenOpen, ParenClose, BracketOpen, BracketClose, Comma, Semicolon, Colon, Dot, Assign, Equal, NotEqual, Less, LessEqual, Greater, GreaterEqual, Plus, Minus, Star, Slash, Percent, Not, And, Or, Class as ClassWord, Fn, Let, If, Else, While, Return, Throw, Sync, Region, Catch, New, Spawn, True, False, Null, Int, Bool as BoolWord, Bytes, Tag, Label, Caps, File, Dir, Pipe, Thread, End}
 use Rattle.lam_grammar.specs.declared.Level.{Level}

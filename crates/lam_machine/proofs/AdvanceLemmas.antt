@@ -14,12 +14,12 @@ use Rattle.thread_core.specs.Turning as turning
 use Rattle.thread_core.specs.Turning.{turned, moved, turn_of, stepped_in, stepped}
 use Rattle.thread_core.specs.declared.turn.Turn.{Turn}
 use Rattle.thread_core.specs.declared.turn.Turn.TheVariants as turn
-use Rattle.lam_worlds.specs.Worlds.{World, thread_at}
-use Rattle.lam_worlds.specs.Turns.{turn_on, turn_in, step}
-use Rattle.lam_deeds.specs.declared.stores.Stores.{Stores}
-use Rattle.lam_deeds.specs.Parts.{world_of}
-use Rattle.lam_turn_parts.specs.Turned.{IsTurn, Acts}
-use Rattle.lam_turn_parts.proofs.PartLemmas.{private_parts}
+use Rattle.lam_machine_terms.specs.Worlds.{World, thread_at}
+use Rattle.lam_machine_terms.specs.Turns.{turn_on, turn_in, step}
+use Rattle.lam_machine_effects.specs.declared.stores.Stores.{Stores}
+use Rattle.lam_machine_effects.specs.Parts.{world_of}
+use Rattle.lam_machine_turns.specs.Turned.{IsTurn, Acts}
+use Rattle.lam_machine_turns.proofs.PartLemmas.{private_parts}
 use Rattle.lam_machine.specs.Asking.{label_at, AsksNext, Advances}
 use Rattle.lam_machine.proofs.AskLemmas.{acts_label, step_by}
 

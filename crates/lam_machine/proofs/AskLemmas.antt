@@ -13,19 +13,19 @@ use Rattle.lam_asks.specs.declared.answer.What.TheVariants.{Asked}
 use Rattle.lam_bytecode.specs.Codes.{CodeTree}
 use Rattle.thread_steps.specs.Threads.{Context, Thread}
 use Rattle.thread_steps.specs.Next.{Next, asks, next_of, takes}
-use Rattle.lam_worlds.specs.Worlds.{World, contexts_in, contexts_at}
-use Rattle.lam_worlds.specs.Deeds as told
-use Rattle.lam_worlds.specs.Serving.{serve}
-use Rattle.lam_worlds.specs.Turns.{is_ready, served, turn_by, turn_on, turn_in, step}
-use Rattle.lam_deeds.specs.declared.stores.Stores.{Stores}
-use Rattle.lam_deeds.specs.Parts.{world_of}
-use Rattle.lam_deeds.specs.declared.effect.Effect.{Effect}
-use Rattle.lam_deeds.specs.declared.deed.Deed.{Deed}
-use Rattle.lam_deeds.specs.Meaning.{meaning, DoesAs}
-use Rattle.lam_deeds.specs.Room.{HasRoom}
-use Rattle.lam_turn_parts.proofs.RoomLemmas.{room_row}
-use Rattle.lam_turn_parts.specs.Turned.{IsTurn, Acts, born}
-use Rattle.lam_turn_parts.proofs.PartLemmas.{asked_parts}
+use Rattle.lam_machine_terms.specs.Worlds.{World, contexts_in, contexts_at}
+use Rattle.lam_machine_terms.specs.Deeds as told
+use Rattle.lam_machine_terms.specs.Serving.{serve}
+use Rattle.lam_machine_terms.specs.Turns.{is_ready, served, turn_by, turn_on, turn_in, step}
+use Rattle.lam_machine_effects.specs.declared.stores.Stores.{Stores}
+use Rattle.lam_machine_effects.specs.Parts.{world_of}
+use Rattle.lam_machine_effects.specs.declared.effect.Effect.{Effect}
+use Rattle.lam_machine_effects.specs.declared.deed.Deed.{Deed}
+use Rattle.lam_machine_effects.specs.Meaning.{meaning, DoesAs}
+use Rattle.lam_machine_effects.specs.Room.{HasRoom}
+use Rattle.lam_machine_turns.proofs.RoomLemmas.{room_row}
+use Rattle.lam_machine_turns.specs.Turned.{IsTurn, Acts, born}
+use Rattle.lam_machine_turns.proofs.PartLemmas.{asked_parts}
 use Rattle.lam_machine.specs.Machine.{CopiesLive}
 use Rattle.lam_machine.specs.Asking.{top_label, label_at, AsksNext, IsReadiness, ReadyAsk, MayAsk, Serves, Fits, Applied, with_born, Took, TookAt}
 use Rattle.lam_machine.proofs.Seats.{HasSeat, seat_row, born_few}

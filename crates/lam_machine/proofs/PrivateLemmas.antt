@@ -10,9 +10,9 @@ use Rattle.thread_core.specs.Turning.{turned, turn_of, stepped}
 use Rattle.thread_core.specs.Turning as turning
 use Rattle.thread_core.specs.declared.turn.Turn.{Turn}
 use Rattle.thread_core.specs.declared.turn.Turn.TheVariants as turn
-use Rattle.lam_worlds.specs.Worlds.{World, thread_at}
-use Rattle.lam_deeds.specs.declared.stores.Stores.{Stores}
-use Rattle.lam_deeds.specs.Parts.{world_of}
+use Rattle.lam_machine_terms.specs.Worlds.{World, thread_at}
+use Rattle.lam_machine_effects.specs.declared.stores.Stores.{Stores}
+use Rattle.lam_machine_effects.specs.Parts.{world_of}
 use Rattle.lam_machine.specs.Asking.{Advances}
 use Rattle.lam_machine.specs.Privately.{IsPrivateStep, is_private_standing, has_private_turn}
 use Rattle.lam_machine.proofs.AdvanceLemmas.{advances, took_private, handed_out, stuck_still, ended_still}

@@ -9,15 +9,15 @@ use Rattle.lam_asks.specs.declared.ask.Ask.TheVariants as ask
 use Rattle.lam_bytecode.specs.Codes.{CodeTree}
 use Rattle.thread_steps.specs.Threads.{Context, Thread}
 use Rattle.thread_steps.specs.Next.{started}
-use Rattle.lam_worlds.specs.Worlds.{World}
-use Rattle.lam_worlds.specs.Deeds as told
-use Rattle.lam_worlds.specs.Deeds.{adds_thread, Deed, answers, unless, full}
-use Rattle.lam_worlds.specs.Serving.{serve}
-use Rattle.lam_isolation.proofs.RowLemmas.{under_by, unless_by, on_thing_by}
-use Rattle.lam_deeds.specs.declared.effect.Effect.{Effect}
-use Rattle.lam_deeds.specs.declared.effect.Effect.TheVariants.{AddsThread}
-use Rattle.lam_deeds.specs.Meaning.{meaning}
-use Rattle.lam_turn_parts.specs.Turned.{born}
+use Rattle.lam_machine_terms.specs.Worlds.{World}
+use Rattle.lam_machine_terms.specs.Deeds as told
+use Rattle.lam_machine_terms.specs.Deeds.{adds_thread, Deed, answers, unless, full}
+use Rattle.lam_machine_terms.specs.Serving.{serve}
+use Rattle.lam_machine_laws.proofs.RowLemmas.{under_by, unless_by, on_thing_by}
+use Rattle.lam_machine_effects.specs.declared.effect.Effect.{Effect}
+use Rattle.lam_machine_effects.specs.declared.effect.Effect.TheVariants.{AddsThread}
+use Rattle.lam_machine_effects.specs.Meaning.{meaning}
+use Rattle.lam_machine_turns.specs.Turned.{born}
 
 -- there is room for the thread that an effect adds, beside so many others
 abbrev pub HasSeat : ℕ → told.Effect → Type 0

@@ -11,16 +11,16 @@ use Rattle.thread_steps.specs.Threads.{Inside, Context, Thread}
 use Rattle.thread_steps.specs.Next.{next_of, asks, takes}
 use Rattle.thread_core.specs.declared.turn.Turn.{Turn}
 use Rattle.thread_core.specs.declared.turn.Turn.TheVariants as turn
-use Rattle.lam_worlds.specs.Worlds.{World, contexts_at}
-use Rattle.lam_worlds.specs.Serving.{serve}
-use Rattle.lam_worlds.specs.Turns.{is_ready, step}
-use Rattle.lam_isolation.specs.Sound.{CopiesLiving}
-use Rattle.lam_deeds.specs.declared.stores.Stores.{Stores}
-use Rattle.lam_deeds.specs.declared.effect.Effect.{Effect}
-use Rattle.lam_deeds.specs.declared.deed.Deed.{Deed}
-use Rattle.lam_deeds.specs.Meaning.{meaning, DoesAs, IsAfter}
-use Rattle.lam_deeds.specs.Room.{HasRoom}
-use Rattle.lam_turn_parts.specs.Turned.{IsTurn, Acts, born}
+use Rattle.lam_machine_terms.specs.Worlds.{World, contexts_at}
+use Rattle.lam_machine_terms.specs.Serving.{serve}
+use Rattle.lam_machine_terms.specs.Turns.{is_ready, step}
+use Rattle.lam_machine_laws.specs.Sound.{CopiesLiving}
+use Rattle.lam_machine_effects.specs.declared.stores.Stores.{Stores}
+use Rattle.lam_machine_effects.specs.declared.effect.Effect.{Effect}
+use Rattle.lam_machine_effects.specs.declared.deed.Deed.{Deed}
+use Rattle.lam_machine_effects.specs.Meaning.{meaning, DoesAs, IsAfter}
+use Rattle.lam_machine_effects.specs.Room.{HasRoom}
+use Rattle.lam_machine_turns.specs.Turned.{IsTurn, Acts, born}
 
 -- ---- the acting context
 

@@ -2,10 +2,10 @@
 use Rattle.std.specs.Prelude.{◌≡◌, ℕ, Option, Some, None}
 use Rattle.lam_asks.specs.declared.answer.Event.{Event}
 use Rattle.lam_bytecode.specs.Codes.{CodeTree}
-use Rattle.lam_worlds.specs.Worlds.{World}
-use Rattle.lam_worlds.specs.Turns.{Moment, step}
-use Rattle.lam_isolation.specs.Sound.{FindsLiving}
-use Rattle.lam_turn_parts.specs.Turned.{IsTurn}
+use Rattle.lam_machine_terms.specs.Worlds.{World}
+use Rattle.lam_machine_terms.specs.Turns.{Moment, step}
+use Rattle.lam_machine_laws.specs.Sound.{FindsLiving}
+use Rattle.lam_machine_turns.specs.Turned.{IsTurn}
 
 -- what a turn of a thread copies lives
 abbrev pub CopiesLive : CodeTree → World → ℕ → Type 0

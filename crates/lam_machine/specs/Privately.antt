@@ -5,8 +5,8 @@ use Rattle.lam_asks.specs.declared.answer.Event.{Event}
 use Rattle.lam_bytecode.specs.Codes.{CodeTree}
 use Rattle.thread_steps.specs.Threads.{Thread}
 use Rattle.thread_steps.specs.Next as next
-use Rattle.lam_worlds.specs.Worlds.{World, thread_at}
-use Rattle.lam_turn_parts.specs.Turned.{IsTurn}
+use Rattle.lam_machine_terms.specs.Worlds.{World, thread_at}
+use Rattle.lam_machine_turns.specs.Turned.{IsTurn}
 use Rattle.lam_machine.specs.Asking.{label_at}
 
 abbrev pub is_private_standing : next.Standing → Bool

@@ -5,20 +5,20 @@ ghost use Rattle.std.specs.Option.{option_copied};
 ghost use Rattle.flow_labels.specs.declared.Label.{Label};
 ghost use Rattle.lam_asks.specs.declared.answer.What.TheVariants.{Asked};
 ghost use Rattle.thread_steps.specs.Threads.{Context as Plain};
-ghost use Rattle.lam_worlds.specs.Worlds.{contexts_in};
-ghost use Rattle.lam_deeds.specs.Parts.{world_of};
-ghost use Rattle.lam_turn_parts.specs.Turned.{IsTurn};
+ghost use Rattle.lam_machine_terms.specs.Worlds.{contexts_in};
+ghost use Rattle.lam_machine_effects.specs.Parts.{world_of};
+ghost use Rattle.lam_machine_turns.specs.Turned.{IsTurn};
 ghost use Rattle.lam_machine.specs.Asking.{label_at, IsReadiness, MayAsk, Serves, Fits, Applied, with_born, Took, TookAt};
 
 use lam_asks::{Answer, Ask, Outcome};
 use lam_bytecode::Code;
-use lam_deeds::{Deed, Effect, Stores, apply};
-use lam_threads::{Context, LamThread};
+use lam_machine_effects::{Deed, Effect, Stores, apply};
+use lam_machine_world::{deed_of, is_ready};
 use lam_value::Value;
-use lam_world::{deed_of, is_ready};
 use std::alloc::Global;
 use std::mem::replace;
-use thread_answers::{Prepared, prepare};
+use thread_core_answers::{Prepared, prepare};
+use thread_core_state::{Context, LamThread};
 use want_of_memory::NoMemory;
 
 /// The acting context of a thread.

@@ -1,15 +1,15 @@
 //! Private turns, of which there is no event to tell.
 
 ghost use Rattle.std.specs.Prelude.{◌≡◌, length, IfOk, OnErr};
-ghost use Rattle.lam_deeds.specs.declared.stores.Stores.{Stores};
-ghost use Rattle.lam_deeds.specs.Parts.{world_of};
+ghost use Rattle.lam_machine_effects.specs.declared.stores.Stores.{Stores};
+ghost use Rattle.lam_machine_effects.specs.Parts.{world_of};
 ghost use Rattle.thread_core.specs.Turning.{standing_of};
 ghost use Rattle.lam_machine.specs.Privately.{IsPrivateStep, is_private_standing};
 
 use lam_bytecode::Code;
-use lam_threads::LamThread;
-use lam_world::World;
+use lam_machine_world::World;
 use thread_core::{Standing, go_on};
+use thread_core_state::LamThread;
 use want_of_memory::NoMemory;
 
 /// Takes the turn of a thread where it is private: whether it was. Else the world stays as it is, and

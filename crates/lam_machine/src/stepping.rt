@@ -2,9 +2,9 @@
 
 ghost use Rattle.std.specs.Prelude.{◌≡◌, ◌≤◌, length, slice_get, IfOk, OnErr};
 ghost use Rattle.flow_labels.specs.declared.Label.{Label as LabelOf};
-ghost use Rattle.lam_deeds.specs.declared.stores.Stores.{Stores};
-ghost use Rattle.lam_worlds.specs.Worlds.{contexts_in};
-ghost use Rattle.lam_deeds.specs.Parts.{world_of};
+ghost use Rattle.lam_machine_effects.specs.declared.stores.Stores.{Stores};
+ghost use Rattle.lam_machine_terms.specs.Worlds.{contexts_in};
+ghost use Rattle.lam_machine_effects.specs.Parts.{world_of};
 ghost use Rattle.lam_machine.specs.Machine.{CopiesLive, IsStep};
 ghost use Rattle.lam_machine.specs.Asking.{top_label, label_at, asked_event, AsksNext, Advances};
 
@@ -12,11 +12,11 @@ use crate::asking::{asks_ready, take_ask, top_of};
 use flow_labels::Label;
 use lam_asks::{Answer, Ask, Event, What, let_go};
 use lam_bytecode::Code;
-use lam_deeds::Stores;
-use lam_threads::LamThread;
-use lam_world::World;
+use lam_machine_effects::Stores;
+use lam_machine_world::World;
 use std::alloc::Global;
 use thread_core::{Turn, advance};
+use thread_core_state::LamThread;
 use want_of_memory::NoMemory;
 
 /// One turn of a thread, where it is ready: the event that it is. Else `None`, and the world stays as it is.

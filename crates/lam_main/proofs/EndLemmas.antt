@@ -1,24 +1,24 @@
 -- From the answer of a command to how the call ended.
 use Rattle.std.proofs.Common.{◌≡◌, ℕ, [], Option, None, Result, Ok, Err, IsErr, IfErr, string_bytes, refl, sym, subst, ◌∙◌}
-use Rattle.lam_run_laws.specs.declared.How.{How}
-use Rattle.lam_run_laws.specs.declared.How.TheVariants as how
+use Rattle.lam_machine_runs.specs.declared.How.{How}
+use Rattle.lam_machine_runs.specs.declared.How.TheVariants as how
 use Rattle.lam_io.specs.Outside.{Files, AllStay, Took}
 use Rattle.lam_io.specs.declared.SinkFault.{SinkFault as Failure}
-use Rattle.lam_words.specs.Words.{Text, Request}
-use Rattle.lam_plan.specs.declared.Status.{Status}
-use Rattle.lam_plan.specs.declared.Status.TheVariants.{NoMemory, ShelfFault, SinkFault}
-use Rattle.lam_plan.specs.Threads.{status_of}
-use Rattle.lam_plan.specs.Refusals.{Plan, no_word, no_world}
-use Rattle.lam_plan.specs.Answer.{outside, IsPrinted, whole, front, AsPlanned, IsPlanned, by_plan, without_memory, without_shelf}
-use Rattle.lam_plan.proofs.AnswerLemmas.{no_file_written}
-use Rattle.lam_commands.specs.declared.halt.Refusal.{Refusal}
-use Rattle.lam_commands.specs.declared.halt.Refusal.TheVariants.{Word, Script, NotUtf8, Flawed, CodeTooLong, World, Book, NotReady, Absent, TooLong}
-use Rattle.lam_commands.specs.declared.halt.Halt.{Halt}
-use Rattle.lam_commands.specs.declared.halt.Halt.TheVariants.{Refused, NoMemory as no_memory, ShelfFailed}
-use Rattle.lam_commands.specs.declared.halt.WorldBreak.{WorldBreak}
-use Rattle.lam_commands.specs.declared.halt.WorldBreak.TheVariants.{NotJson, NoMember, BadMember, NoTag, BadPath, PathTwice}
-use Rattle.lam_commands.specs.declared.report.Report.{Report}
-use Rattle.lam_commands.specs.Halts.{break_of, refuses, Reports}
+use Rattle.lam_main_words.specs.Words.{Text, Request}
+use Rattle.lam_main_plan.specs.declared.Status.{Status}
+use Rattle.lam_main_plan.specs.declared.Status.TheVariants.{NoMemory, ShelfFault, SinkFault}
+use Rattle.lam_main_plan.specs.Threads.{status_of}
+use Rattle.lam_main_plan.specs.Refusals.{Plan, no_word, no_world}
+use Rattle.lam_main_plan.specs.Answer.{outside, IsPrinted, whole, front, AsPlanned, IsPlanned, by_plan, without_memory, without_shelf}
+use Rattle.lam_main_plan.proofs.AnswerLemmas.{no_file_written}
+use Rattle.lam_main_files.specs.declared.halt.Refusal.{Refusal}
+use Rattle.lam_main_files.specs.declared.halt.Refusal.TheVariants.{Word, Script, NotUtf8, Flawed, CodeTooLong, World, Book, NotReady, Absent, TooLong}
+use Rattle.lam_main_files.specs.declared.halt.Halt.{Halt}
+use Rattle.lam_main_files.specs.declared.halt.Halt.TheVariants.{Refused, NoMemory as no_memory, ShelfFailed}
+use Rattle.lam_main_files.specs.declared.halt.WorldBreak.{WorldBreak}
+use Rattle.lam_main_files.specs.declared.halt.WorldBreak.TheVariants.{NotJson, NoMember, BadMember, NoTag, BadPath, PathTwice}
+use Rattle.lam_main_files.specs.declared.report.Report.{Report}
+use Rattle.lam_main_files.specs.Halts.{break_of, refuses, Reports}
 use Rattle.lam_main.specs.Ends.{Ends}
 use Rattle.lam_main.specs.Lines.{Prints, ended}
 

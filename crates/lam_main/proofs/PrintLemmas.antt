@@ -4,10 +4,10 @@ use Rattle.std.specs.Borrow.{Bor}
 use Rattle.std.proofs.Math.Seq.{take-append-add}
 use Rattle.std.proofs.lemmas.List.{take-append-le}
 use Rattle.lam_io.specs.Outside.{Took, TookFront}
-use Rattle.lam_words.specs.Words.{Text}
-use Rattle.lam_plan.specs.declared.Status.{Status}
-use Rattle.lam_plan.specs.Codes.{code_of}
-use Rattle.lam_plan.specs.Refusals.{line, refused}
+use Rattle.lam_main_words.specs.Words.{Text}
+use Rattle.lam_main_plan.specs.declared.Status.{Status}
+use Rattle.lam_main_plan.specs.Codes.{code_of}
+use Rattle.lam_main_plan.specs.Refusals.{line, refused}
 use Rattle.lam_main.specs.Lines.{texts, joined}
 
 took_more : (start old new : Option (List ℕ)) (a b : List ℕ) → Took start old a → Took old new b → Took start new (a ++ b)

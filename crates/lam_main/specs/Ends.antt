@@ -1,15 +1,15 @@
 -- How a call ends with the answer of its command.
 use Rattle.std.specs.Prelude.{◌≡◌, [], Option, Result, Ok, Err, string_bytes}
 use Rattle.lam_io.specs.Outside.{Took}
-use Rattle.lam_words.specs.Words.{Text}
-use Rattle.lam_plan.specs.declared.Status.{Status}
-use Rattle.lam_plan.specs.declared.Status.TheVariants.{NoMemory as ended_without_memory, ShelfFault}
-use Rattle.lam_plan.specs.Threads.{status_of}
-use Rattle.lam_plan.specs.Answer.{IsPrinted}
-use Rattle.lam_commands.specs.declared.report.Report.{Report}
-use Rattle.lam_commands.specs.declared.halt.Halt.{Halt}
-use Rattle.lam_commands.specs.declared.halt.Halt.TheVariants.{Refused, NoMemory, ShelfFailed}
-use Rattle.lam_commands.specs.Halts.{refuses}
+use Rattle.lam_main_words.specs.Words.{Text}
+use Rattle.lam_main_plan.specs.declared.Status.{Status}
+use Rattle.lam_main_plan.specs.declared.Status.TheVariants.{NoMemory as ended_without_memory, ShelfFault}
+use Rattle.lam_main_plan.specs.Threads.{status_of}
+use Rattle.lam_main_plan.specs.Answer.{IsPrinted}
+use Rattle.lam_main_files.specs.declared.report.Report.{Report}
+use Rattle.lam_main_files.specs.declared.halt.Halt.{Halt}
+use Rattle.lam_main_files.specs.declared.halt.Halt.TheVariants.{Refused, NoMemory, ShelfFailed}
+use Rattle.lam_main_files.specs.Halts.{refuses}
 
 -- its status, and what the sink took
 abbrev pub Ends : Status → Result Report Halt → Option Text → Option Text → Type 0

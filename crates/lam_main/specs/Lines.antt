@@ -3,10 +3,10 @@ use Rattle.std.specs.Prelude.{◌≡◌, List, [], ◌∷◌, ◌++◌, Option, 
 use Rattle.std.specs.Borrow.{Bor}
 use Rattle.lam_io.specs.Outside.{Took, TookFront}
 use Rattle.lam_io.specs.declared.SinkFault.{SinkFault as Failure}
-use Rattle.lam_words.specs.Words.{Text}
-use Rattle.lam_plan.specs.declared.Status.{Status}
-use Rattle.lam_plan.specs.declared.Status.TheVariants.{SinkFault}
-use Rattle.lam_plan.specs.Refusals.{Plan}
+use Rattle.lam_main_words.specs.Words.{Text}
+use Rattle.lam_main_plan.specs.declared.Status.{Status}
+use Rattle.lam_main_plan.specs.declared.Status.TheVariants.{SinkFault}
+use Rattle.lam_main_plan.specs.Refusals.{Plan}
 
 -- the texts of parts, and all of them as one
 abbrev pub texts : List (Bor Text) → List Text

@@ -1,10 +1,10 @@
 //! The tool as one call: [`lam`] takes the words of the command line, a file store, an output stream and a
 //! scheduler's hook, and gives the status that the process ends with.
 //!
-//! Its contract is the tool's. The *plan* of the words and the files (`lam_plan`) says what is printed, which file is
+//! Its contract is the tool's. The *plan* of the words and the files (`lam_main_plan`) says what is printed, which file is
 //! written and how the call ends where nothing fails; the call answers to it, unless memory runs out or the file
-//! store or the output fails, which is answered only where its count of faults rose in the call. `lam_words` tells
-//! which command is asked, `lam_commands`, `lam_replay` and `thread_commands` read the files that it names, run its threads and
+//! store or the output fails, which is answered only where its count of faults rose in the call. `lam_main_words` tells
+//! which command is asked, `lam_main_files`, `lam_main_replay` and `lam_main_threads` read the files that it names, run its threads and
 //! make its text, and `print` prints that or the line of a refusal. The program `lam` calls it with the current folder and standard output, and
 //! tests with a store and a stream in memory (`lam_io`).
 //!
@@ -17,40 +17,40 @@ mod print;
 
 ghost use Rattle.std.specs.Prelude.{◌≡◌, ◌≢◌, false, [], Ok, Err, IsErr, IfErr, map, string_bytes, IsTrue};
 ghost use Rattle.lam_io.specs.Outside.{Rose, AllStay, Took};
-ghost use Rattle.lam_words.specs.Words.{request_of, asked, InRange, help_lines, commands};
-ghost use Rattle.lam_plan.specs.Refusals.{Plan, prints, no_word};
-ghost use Rattle.lam_plan.specs.Replays.{an_observer};
-ghost use Rattle.lam_plan.specs.Plan.{IsPlanOf, IsPlan, starts_threads, written_by, PlaysIsolated, FormatIsSteady};
-ghost use Rattle.lam_plan.specs.Answer.{outside, AsPlanned, IsAnswer, IsPlanned, OthersKept};
-ghost use Rattle.call_laws.specs.Calls.{ReplaysAreIsolated, AuditsArePrinted};
-ghost use Rattle.call_laws.specs.Headline.{Headline, BreaksOff, EndsInOrder, RunsAreComplete, GeneratedRuns, MakesBreakOff};
-ghost use Rattle.call_laws.specs.Complete.{MakesAreComplete};
-ghost use Rattle.call_laws.specs.Orderly.{OrderlyCallsAreDone, OrderlyRunsEnd, MakesEnd, RefusalsAreExact};
-ghost use Rattle.call_laws.specs.Meant.{CallsRunAsMeant};
-ghost use Rattle.lam_commands.specs.Halts.{Says, Reports};
-ghost use Rattle.thread_commands.specs.Asked.{reader_of};
+ghost use Rattle.lam_main_words.specs.Words.{request_of, asked, InRange, help_lines, commands};
+ghost use Rattle.lam_main_plan.specs.Refusals.{Plan, prints, no_word};
+ghost use Rattle.lam_main_plan.specs.Replays.{an_observer};
+ghost use Rattle.lam_main_plan.specs.Plan.{IsPlanOf, IsPlan, starts_threads, written_by, PlaysIsolated, FormatIsSteady};
+ghost use Rattle.lam_main_plan.specs.Answer.{outside, AsPlanned, IsAnswer, IsPlanned, OthersKept};
+ghost use Rattle.lam_main_laws.specs.Calls.{ReplaysAreIsolated, AuditsArePrinted};
+ghost use Rattle.lam_main_laws.specs.Headline.{Headline, BreaksOff, EndsInOrder, RunsAreComplete, GeneratedRuns, MakesBreakOff};
+ghost use Rattle.lam_main_laws.specs.Complete.{MakesAreComplete};
+ghost use Rattle.lam_main_laws.specs.Orderly.{OrderlyCallsAreDone, OrderlyRunsEnd, MakesEnd, RefusalsAreExact};
+ghost use Rattle.lam_main_laws.specs.Meant.{CallsRunAsMeant};
+ghost use Rattle.lam_main_files.specs.Halts.{Says, Reports};
+ghost use Rattle.lam_main_threads.specs.Asked.{reader_of};
 ghost use Rattle.lam_main.specs.Ends.{Ends};
 ghost use Rattle.lam_main.specs.Lines.{ended};
 
 use crate::print::{print_refusal, print_text};
-use call_laws::{
+use lam_io::{Gate, Shelf, Sink, SinkFault};
+use lam_main_files::{Halt, Refusal, Report, check, code, done, format, play};
+use lam_main_laws::{
     audits_are_printed, broken_makes_are_recorded, broken_runs_are_recorded, calls_run_as_meant,
     generated_runs_are_recorded, makes_are_complete, makes_end, orderly_calls_are_done,
     orderly_runs_end, refusals_are_exact, replays_are_isolated, runs_are_complete,
     runs_are_recorded, runs_end_in_order,
 };
-use lam_commands::{Halt, Refusal, Report, check, code, done, format, play};
-use lam_io::{Gate, Shelf, Sink, SinkFault};
-pub use lam_plan::Status;
-use lam_round_trip::{
+pub use lam_main_plan::Status;
+use lam_main_threads::{Bounds, Reader, RunFiles, ThreadFiles, make, replay, run};
+pub use lam_main_words::{Command, WordFault, help_text, read_words};
+use lam_print_laws::{
     canonical_text_is_lexed, canonical_text_is_read_as_the_tree, canonical_text_is_steady,
 };
-pub use lam_words::{Command, WordFault, help_text, read_words};
 use play_run::scripts_are_isolated;
 use std::alloc::Global;
 use std::sync::Wait;
 use std::thread::Threads;
-use thread_commands::{Bounds, Reader, RunFiles, ThreadFiles, make, replay, run};
 
 /// The indices of the words that are the observer's label.
 const REPLAY_OBSERVER: u64 = 4;

@@ -3,17 +3,17 @@
 ghost use Rattle.std.specs.Prelude.{◌≡◌, ◌≤◌, ◌∷◌, [], None, OnErr, decimal};
 ghost use Rattle.lam_front.specs.declared.fault.ProgramFault.TheVariants.{At};
 ghost use Rattle.lam_io.specs.Outside.{Rose};
-ghost use Rattle.lam_plan.specs.Refusals.{refused, no_program, no_world, no_turn};
-ghost use Rattle.lam_plan.specs.Threads.{status_of};
+ghost use Rattle.lam_main_plan.specs.Refusals.{refused, no_program, no_world, no_turn};
+ghost use Rattle.lam_main_plan.specs.Threads.{status_of};
 ghost use Rattle.lam_main.specs.Lines.{texts, joined, Goes, Prints};
-ghost use Rattle.lam_commands.specs.Halts.{break_of, words_of, refuses};
+ghost use Rattle.lam_main_files.specs.Halts.{break_of, words_of, refuses};
 
 use itoa::Buffer;
-use lam_commands::{BookBreak, Refusal, WorldBreak};
 use lam_front::Flaw;
 use lam_io::{Sink, SinkFault, write_all};
-use lam_plan::Status;
-use lam_run_laws::How;
+use lam_machine_runs::How;
+use lam_main_files::{BookBreak, Refusal, WorldBreak};
+use lam_main_plan::Status;
 
 /// Prints a command's text, whose run ended so.
 pub(crate) fn print_text<O: Sink>(out: &mut O, how: How, text: &[u8]) -> Result<Status, SinkFault>

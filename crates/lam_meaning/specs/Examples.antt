@@ -13,7 +13,7 @@ use Rattle.lam_asks.specs.declared.answer.Outcome.TheVariants as outcome
 use Rattle.lam_asks.specs.declared.answer.Answer.TheVariants.{Done, Entered}
 use Rattle.lam_asks.specs.declared.ask.Ask.TheVariants as ask
 use Rattle.thread_steps.specs.Builtins.{builtin}
-use Rattle.resolved_tree.specs.Tree.{ResolvedType, Expression, number_value, text_value, local_value, binary_of, builtin_of, call_of, label_of, caps_of, args_end, args_more, let_slot, while_block, return_value, sync_block, region_block, do_value, set_local, Block, block_end, block_more, ResolvedFunction, ResolvedTree}
+use Rattle.lam_resolve_tree.specs.Tree.{ResolvedType, Expression, number_value, text_value, local_value, binary_of, builtin_of, call_of, label_of, caps_of, args_end, args_more, let_slot, while_block, return_value, sync_block, region_block, do_value, set_local, Block, block_end, block_more, ResolvedFunction, ResolvedTree}
 use Rattle.lam_meaning.specs.Trees.{on_end}
 use Rattle.lam_meaning.specs.Means.{means}
 use Rattle.lam_meaning.specs.Plays.{is_spent, how_of, asks_made}

@@ -5,7 +5,7 @@ use Rattle.lam_value.specs.declared.values.Value.{Value}
 use Rattle.lam_asks.specs.declared.answer.Answer.{Answer}
 use Rattle.lam_asks.specs.declared.ask.Ask.{Ask}
 use Rattle.lam_asks.specs.Suits.{fits}
-use Rattle.resolved_tree.specs.Tree.{ResolvedTree}
+use Rattle.lam_resolve_tree.specs.Tree.{ResolvedTree}
 use Rattle.lam_meaning.specs.Trees.{Asked, Tree, ends, spent, broken, asks}
 use Rattle.lam_meaning.specs.Means.{means}
 

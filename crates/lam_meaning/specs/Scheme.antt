@@ -17,7 +17,7 @@ use Rattle.lam_bytecode.specs.declared.unit.UnitKind.TheVariants.{Function, Regi
 use Rattle.lam_bytecode.specs.declared.unit.CodeUnit.{CodeUnit}
 use Rattle.lam_bytecode.specs.Codes.{CodeTree, code_of}
 use Rattle.lam_meaning.specs.Means.{kind_of}
-use Rattle.resolved_tree.specs.Tree.{ResolvedType, CapSlot, Expression, number_value, text_value, bool_value, null_value, local_value, unary_of, binary_of, field_of, element_of, call_of, builtin_of, new_object, new_array, label_of, caps_of, spawn_of, Expressions, args_end, args_more, Statement, let_slot, if_block, while_block, return_value, throw_value, sync_block, region_block, do_value, set_local, set_field, set_element, Block, block_end, block_more, OtherBlock, no_other, other_block, ResolvedFunction, ResolvedTree}
+use Rattle.lam_resolve_tree.specs.Tree.{ResolvedType, CapSlot, Expression, number_value, text_value, bool_value, null_value, local_value, unary_of, binary_of, field_of, element_of, call_of, builtin_of, new_object, new_array, label_of, caps_of, spawn_of, Expressions, args_end, args_more, Statement, let_slot, if_block, while_block, return_value, throw_value, sync_block, region_block, do_value, set_local, set_field, set_element, Block, block_end, block_more, OtherBlock, no_other, other_block, ResolvedFunction, ResolvedTree}
 use Rattle.lam_meaning.specs.Pieces.{Pieces, no_pieces, puts, when, either, loops, joined, one, op, size, Flat, flat, constants_in, numbered}
 
 -- ---- expressions

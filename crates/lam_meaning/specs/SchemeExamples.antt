@@ -8,7 +8,7 @@ use Rattle.lam_bytecode.specs.declared.op.Op.TheVariants.{Const, Load, Store, Ad
 use Rattle.lam_bytecode.specs.declared.unit.UnitKind.{UnitKind}
 use Rattle.lam_bytecode.specs.declared.unit.UnitKind.TheVariants.{Function, Region}
 use Rattle.lam_bytecode.specs.declared.unit.ArgKind.TheVariants as arg
-use Rattle.resolved_tree.specs.Tree.{ResolvedType, Expression, number_value, bool_value, local_value, binary_of, field_of, call_of, new_object, label_of, caps_of, args_end, args_more, let_slot, if_block, while_block, return_value, region_block, set_local, Block, block_end, block_more, other_block, ResolvedFunction, ResolvedTree}
+use Rattle.lam_resolve_tree.specs.Tree.{ResolvedType, Expression, number_value, bool_value, local_value, binary_of, field_of, call_of, new_object, label_of, caps_of, args_end, args_more, let_slot, if_block, while_block, return_value, region_block, set_local, Block, block_end, block_more, other_block, ResolvedFunction, ResolvedTree}
 use Rattle.lam_meaning.specs.Scheme.{scheme}
 
 abbrev returns : Expression → Block

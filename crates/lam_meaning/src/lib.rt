@@ -15,5 +15,5 @@
 //! They are said in two steps: first as *pieces*, code whose branches are nested and whose constants stand by value, and
 //! then laid out flat, with addresses and with each constant once. `specs/Pieces` has the pieces and their layout,
 //! `specs/Scheme` the scheme construct by construct, and `specs/SchemeExamples` listings of small programs. The compiler's
-//! contract is that its code is this one; that the code acts as its program is proved of this scheme (`lam_acting`).
+//! contract is that its code is this one; that the code acts as its program is proved of this scheme (`lam_meaning_laws`).
 #![tactic(auto)]

@@ -2,13 +2,13 @@
 use Rattle.std.proofs.Common.{◌≡◌, ℕ, ◌<◌, ◌≤◌, inl, inr, true, false, Option, None, Ok, Err, List, [], ◌∷◌, ◌++◌, length, take, slice_get, refl, ap, ◌∙◌, arith, length-append}
 use Rattle.std.proofs.lemmas.Option.{slice_get-get_or, slice_get_past}
 use Rattle.std.proofs.lemmas.List.{length-take-le}
-use Rattle.grammar_laws.specs.Grammar.{Reads, free}
-use Rattle.grammar_laws.specs.Texts.{limited, IsUnexpected, IsTooDeep}
-use Rattle.grammar_laws.specs.Stopping.{unexpected, too_deep, could, Stops}
-use Rattle.grammar_laws.proofs.Laws.{once, free_reads}
-use Rattle.grammar_laws.proofs.Spelling.{moves}
-use Rattle.grammar_laws.proofs.Completion.{at_taken, low}
-use Rattle.grammar_laws.proofs.Theorem.{could_stand, is_unexpected, is_too_deep, is_not_barred, is_barred}
+use Rattle.lam_grammar_laws.specs.Grammar.{Reads, free}
+use Rattle.lam_grammar_laws.specs.Texts.{limited, IsUnexpected, IsTooDeep}
+use Rattle.lam_grammar_laws.specs.Stopping.{unexpected, too_deep, could, Stops}
+use Rattle.lam_grammar_laws.proofs.Laws.{once, free_reads}
+use Rattle.lam_grammar_laws.proofs.Spelling.{moves}
+use Rattle.lam_grammar_laws.proofs.Completion.{at_taken, low}
+use Rattle.lam_grammar_laws.proofs.Theorem.{could_stand, is_unexpected, is_too_deep, is_not_barred, is_barred}
 use Rattle.lam_lexer.specs.declared.token.Token.{Token}
 use Rattle.lam_lexer.specs.declared.token.TokenKind.TheVariants.{End}
 use Rattle.lam_syntax.specs.declared.Program.{Program}
@@ -17,12 +17,12 @@ use Rattle.lam_grammar.specs.Meaning.{Value, nothing, word, items_value}
 use Rattle.lam_grammar.specs.Program.{lam, program}
 use Rattle.lam_grammar.specs.Examples.{of_kind, examples}
 use Rattle.lam_grammar.proofs.Passes.{sound, free_sound, bars}
-use Rattle.lam_reading.specs.declared.marks.Mark as marks
-use Rattle.lam_reading.specs.declared.breaks.Wanted.{Wanted}
-use Rattle.lam_reading.specs.declared.breaks.Wanted.TheVariants.{Item, Name, TypeName, Statement, Expression, Place, Mark}
-use Rattle.lam_reading.specs.declared.breaks.Break.TheVariants.{Unexpected, TooDeep}
-use Rattle.lam_reading.specs.Classes.{class_of, sample_of}
-use Rattle.lam_reading.specs.Reading.{Fails}
+use Rattle.lam_parser_tokens.specs.declared.marks.Mark as marks
+use Rattle.lam_parser_tokens.specs.declared.breaks.Wanted.{Wanted}
+use Rattle.lam_parser_tokens.specs.declared.breaks.Wanted.TheVariants.{Item, Name, TypeName, Statement, Expression, Place, Mark}
+use Rattle.lam_parser_tokens.specs.declared.breaks.Break.TheVariants.{Unexpected, TooDeep}
+use Rattle.lam_parser_tokens.specs.Classes.{class_of, sample_of}
+use Rattle.lam_parser_tokens.specs.Reading.{Fails}
 use Rattle.lam_parser.specs.declared.ParseFault.TheVariants as answer
 use Rattle.lam_parser.specs.Answers.{CouldBe, LacksPlace, position_at, Parses}
 

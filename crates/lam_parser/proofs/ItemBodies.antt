@@ -1,10 +1,10 @@
 -- By which body an item is read, and the items of a program.
 use Rattle.std.proofs.Common.{◌≡◌, ℕ, ◌+◌, true, false, Option, Some, None, List, [], ◌∷◌, slice_get, refl, ap, ◌∙◌}
-use Rattle.grammar_laws.specs.Grammar.{rule, production, Reads, nothing, token}
-use Rattle.grammar_laws.specs.Texts.{limited}
-use Rattle.grammar_laws.specs.Stopping.{begins_next, could, wrong, opens}
-use Rattle.grammar_laws.proofs.Bodies.{chosen, picks_past_mark}
-use Rattle.grammar_laws.proofs.Stages.{weaken, joins, joins_stop}
+use Rattle.lam_grammar_laws.specs.Grammar.{rule, production, Reads, nothing, token}
+use Rattle.lam_grammar_laws.specs.Texts.{limited}
+use Rattle.lam_grammar_laws.specs.Stopping.{begins_next, could, wrong, opens}
+use Rattle.lam_grammar_laws.proofs.Bodies.{chosen, picks_past_mark}
+use Rattle.lam_grammar_laws.proofs.Stages.{weaken, joins, joins_stop}
 use Rattle.lam_lexer.specs.declared.token.Token.{Token}
 use Rattle.lam_lexer.specs.declared.token.TokenKind.{TokenKind}
 use Rattle.lam_lexer.specs.declared.token.TokenKind.TheVariants as kind
@@ -15,14 +15,14 @@ use Rattle.lam_grammar.specs.Meaning.{Value, word, items_value, optional_type}
 use Rattle.lam_grammar.specs.Meaning as meaning
 use Rattle.lam_grammar.specs.Program.{lam, program}
 use Rattle.lam_grammar.specs.Examples.{examples}
-use Rattle.lam_reading.specs.declared.marks.Mark.TheVariants as m
-use Rattle.lam_reading.specs.declared.breaks.Break.{Break}
-use Rattle.lam_reading.specs.declared.breaks.Break.TheVariants.{Unexpected, TooDeep, NoMemory}
-use Rattle.lam_reading.specs.declared.breaks.Wanted.TheVariants.{Item}
-use Rattle.lam_reading.specs.Classes.{class_of, fits_at, sample_of}
-use Rattle.lam_reading.specs.Reading.{Gives, Fails, Taken, Absent}
-use Rattle.lam_reading.proofs.Rules.{Loop}
-use Rattle.lam_parse_parts.proofs.Steps.{front_at}
+use Rattle.lam_parser_tokens.specs.declared.marks.Mark.TheVariants as m
+use Rattle.lam_parser_tokens.specs.declared.breaks.Break.{Break}
+use Rattle.lam_parser_tokens.specs.declared.breaks.Break.TheVariants.{Unexpected, TooDeep, NoMemory}
+use Rattle.lam_parser_tokens.specs.declared.breaks.Wanted.TheVariants.{Item}
+use Rattle.lam_parser_tokens.specs.Classes.{class_of, fits_at, sample_of}
+use Rattle.lam_parser_tokens.specs.Reading.{Gives, Fails, Taken, Absent}
+use Rattle.lam_parser_tokens.proofs.Rules.{Loop}
+use Rattle.lam_parser_parts.proofs.Steps.{front_at}
 use Rattle.lam_parser.specs.Parts.{type_or_nothing}
 
 pub items_begin : (o : Option Token) → begins_next lam items o ≡ begins_next lam item o

@@ -4,10 +4,10 @@ use Rattle.std.proofs.lemmas.Option.{slice_get-get_or, slice_get_past, slice_get
 use Rattle.std.proofs.lemmas.Bool.{cases_lt}
 use Rattle.std.proofs.lemmas.List.{get_or-drop}
 use Rattle.std.proofs.Math.Seq.{take-append_seam}
-use Rattle.grammar_laws.specs.Grammar.{rule, Reads}
-use Rattle.grammar_laws.specs.Texts.{limited}
-use Rattle.grammar_laws.specs.Stopping.{begins_next}
-use Rattle.grammar_laws.proofs.Shifted.{reads_later, stops_later}
+use Rattle.lam_grammar_laws.specs.Grammar.{rule, Reads}
+use Rattle.lam_grammar_laws.specs.Texts.{limited}
+use Rattle.lam_grammar_laws.specs.Stopping.{begins_next}
+use Rattle.lam_grammar_laws.proofs.Shifted.{reads_later, stops_later}
 use Rattle.lam_lexer.specs.declared.token.Token.{Token}
 use Rattle.lam_syntax.specs.Tree.{ItemTree}
 use Rattle.lam_grammar.specs.Table.{Rule, Sym, items, item}
@@ -15,15 +15,15 @@ use Rattle.lam_grammar.specs.Meaning.{Value, word, items_value, item_value}
 use Rattle.lam_grammar.specs.Meaning as meaning
 use Rattle.lam_grammar.specs.Program.{lam, program}
 use Rattle.lam_grammar.specs.Examples.{examples}
-use Rattle.lam_reading.specs.declared.marks.Mark.TheVariants as m
-use Rattle.lam_reading.specs.declared.breaks.Break.{Break}
-use Rattle.lam_reading.specs.declared.breaks.Break.TheVariants.{Unexpected, TooDeep, NoMemory}
-use Rattle.lam_reading.specs.declared.breaks.Wanted.TheVariants.{Item}
-use Rattle.lam_reading.specs.Classes.{fits_at}
-use Rattle.lam_reading.specs.Reading.{Gives, Fails, Taken, Absent}
-use Rattle.lam_reading.proofs.Rules.{Loop, part_begun, rule_taken, rule_body_of, no_rule_body_of, loop_begins_self, loop_goes_on, loop_ends, loop_strict}
-use Rattle.lam_parse_parts.proofs.Steps.{begun_fails, loop_begun_fails, loop_as}
-use Rattle.lam_parse_parts.proofs.Sums.{with_value}
+use Rattle.lam_parser_tokens.specs.declared.marks.Mark.TheVariants as m
+use Rattle.lam_parser_tokens.specs.declared.breaks.Break.{Break}
+use Rattle.lam_parser_tokens.specs.declared.breaks.Break.TheVariants.{Unexpected, TooDeep, NoMemory}
+use Rattle.lam_parser_tokens.specs.declared.breaks.Wanted.TheVariants.{Item}
+use Rattle.lam_parser_tokens.specs.Classes.{fits_at}
+use Rattle.lam_parser_tokens.specs.Reading.{Gives, Fails, Taken, Absent}
+use Rattle.lam_parser_tokens.proofs.Rules.{Loop, part_begun, rule_taken, rule_body_of, no_rule_body_of, loop_begins_self, loop_goes_on, loop_ends, loop_strict}
+use Rattle.lam_parser_parts.proofs.Steps.{begun_fails, loop_begun_fails, loop_as}
+use Rattle.lam_parser_parts.proofs.Sums.{with_value}
 use Rattle.lam_parser.specs.Answers.{at_or, position_at}
 use Rattle.lam_parser.specs.Left.{IsLeft, IsFreed, later}
 use Rattle.lam_parser.proofs.ItemBodies.{items_begin, program_fails, item_wanted, program_read}

@@ -1,10 +1,10 @@
 -- The tokens have one answer.
 use Rattle.std.proofs.Common.{◌≡◌, ℕ, ◌+◌, ◌<◌, ◌≤◌, inl, inr, Bool, true, false, cond, nat_lt, Result, Ok, Err, List, refl, sym, ap, ◌∙◌, arith}
 use Rattle.std.proofs.lemmas.Bool.{cond_below, cases_lt}
-use Rattle.grammar_laws.specs.Texts.{capped, Continues, IsUnexpected, IsTooDeep}
-use Rattle.grammar_laws.proofs.Spelling.{moves}
-use Rattle.grammar_laws.proofs.Completion.{low, high}
-use Rattle.grammar_laws.proofs.Theorem.{value_once, unexpected_means_nothing, too_deep_means_nothing}
+use Rattle.lam_grammar_laws.specs.Texts.{capped, Continues, IsUnexpected, IsTooDeep}
+use Rattle.lam_grammar_laws.proofs.Spelling.{moves}
+use Rattle.lam_grammar_laws.proofs.Completion.{low, high}
+use Rattle.lam_grammar_laws.proofs.Theorem.{value_once, unexpected_means_nothing, too_deep_means_nothing}
 use Rattle.lam_lexer.specs.declared.token.Token.{Token}
 use Rattle.lam_syntax.specs.declared.Program.{Program}
 use Rattle.lam_syntax.specs.Tree.{ProgramTree, program_tree}

@@ -1,6 +1,6 @@
 -- With which tokens statements begin.
 use Rattle.std.proofs.Common.{◌≡◌, Option, Some, None, refl}
-use Rattle.grammar_laws.specs.Stopping.{begins_next}
+use Rattle.lam_grammar_laws.specs.Stopping.{begins_next}
 use Rattle.lam_lexer.specs.declared.token.Token.{Token}
 use Rattle.lam_grammar.specs.Table.{stmt, stmts}
 use Rattle.lam_grammar.specs.Program.{lam}

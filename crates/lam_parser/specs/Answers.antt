@@ -1,6 +1,6 @@
 -- What the parser's answer says of the tokens.
 use Rattle.std.specs.Prelude.{◌≡◌, ℕ, ◌-◌, ◌⊎◌, Bool, true, false, Option, Some, None, List, Result, Ok, Err, length, slice_get}
-use Rattle.grammar_laws.specs.Texts.{CouldStand, IsUnexpected, IsTooDeep, IsBarred}
+use Rattle.lam_grammar_laws.specs.Texts.{CouldStand, IsUnexpected, IsTooDeep, IsBarred}
 use Rattle.lam_lexer.specs.declared.token.Token.{Token}
 use Rattle.lam_lexer.specs.declared.token.TokenKind.{TokenKind}
 use Rattle.lam_syntax.specs.declared.Program.{Program}
@@ -8,9 +8,9 @@ use Rattle.lam_syntax.specs.Tree.{ProgramTree, program_tree}
 use Rattle.lam_grammar.specs.Table.{is_id, begins_expr, begins_stmt, begins_type, begins_item}
 use Rattle.lam_grammar.specs.Meaning.{nothing}
 use Rattle.lam_grammar.specs.Program.{lam, program, SpellsProgram}
-use Rattle.lam_reading.specs.declared.breaks.Wanted.{Wanted}
-use Rattle.lam_reading.specs.declared.breaks.Wanted.TheVariants.{Item, Name, TypeName, Statement, Expression, Place, Mark}
-use Rattle.lam_reading.specs.Classes.{class_of}
+use Rattle.lam_parser_tokens.specs.declared.breaks.Wanted.{Wanted}
+use Rattle.lam_parser_tokens.specs.declared.breaks.Wanted.TheVariants.{Item, Name, TypeName, Statement, Expression, Place, Mark}
+use Rattle.lam_parser_tokens.specs.Classes.{class_of}
 use Rattle.lam_parser.specs.declared.ParseFault.{ParseFault}
 use Rattle.lam_parser.specs.declared.ParseFault.TheVariants.{Unexpected, TooDeep, NoMemory}
 

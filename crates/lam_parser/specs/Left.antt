@@ -1,15 +1,15 @@
 -- What is left of the tokens while their program is read, and what is said of all of them by what is left.
 use Rattle.std.specs.Prelude.{◌≡◌, ℕ, ◌+◌, ◌<◌, ◌≤◌, List, [], ◌∷◌, Result, Ok, Err, length, slice_get}
-use Rattle.grammar_laws.specs.Grammar.{Reads}
-use Rattle.grammar_laws.specs.Texts.{limited}
+use Rattle.lam_grammar_laws.specs.Grammar.{Reads}
+use Rattle.lam_grammar_laws.specs.Texts.{limited}
 use Rattle.lam_lexer.specs.declared.token.Token.{Token}
 use Rattle.lam_syntax.specs.declared.Program.{Program}
 use Rattle.lam_syntax.specs.Tree.{program_tree}
 use Rattle.lam_grammar.specs.Meaning.{nothing, word, items_value}
 use Rattle.lam_grammar.specs.Program.{lam, program}
-use Rattle.lam_reading.specs.declared.breaks.Break.{Break}
-use Rattle.lam_reading.specs.declared.breaks.Break.TheVariants.{Unexpected, TooDeep, NoMemory}
-use Rattle.lam_reading.specs.Reading.{Fails}
+use Rattle.lam_parser_tokens.specs.declared.breaks.Break.{Break}
+use Rattle.lam_parser_tokens.specs.declared.breaks.Break.TheVariants.{Unexpected, TooDeep, NoMemory}
+use Rattle.lam_parser_tokens.specs.Reading.{Fails}
 
 -- Of all tokens those from an index on are left, and one of them at least where any is gone.
 pub record IsLeft (all left : List Token) (gone : ℕ) : Type 0 where

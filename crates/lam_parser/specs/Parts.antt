@@ -8,9 +8,9 @@ use Rattle.lam_syntax.specs.declared.Item.{Item}
 use Rattle.lam_syntax.specs.Tree.{id_tree, type_tree, stmts_tree, else_tree, item_tree}
 use Rattle.lam_grammar.specs.Table.{block, handler, else_part, result_part, item}
 use Rattle.lam_grammar.specs.Meaning.{Value, nothing, type_value, stmts_value, else_value, handler_value, item_value}
-use Rattle.lam_reading.specs.declared.breaks.Break.{Break}
-use Rattle.lam_parse_parts.specs.Variables.{ReadsPart}
-use Rattle.lam_parse_stmts.specs.declared.nodes.Handler.{Handler}
+use Rattle.lam_parser_tokens.specs.declared.breaks.Break.{Break}
+use Rattle.lam_parser_parts.specs.Variables.{ReadsPart}
+use Rattle.lam_parser_stmts.specs.declared.nodes.Handler.{Handler}
 
 abbrev pub ReadsBlock : List Token → ℕ → ℕ → Result (Vec Stmt Global × ℕ) Break → Type 0
 ReadsBlock tokens s i x = ReadsPart (Vec Stmt Global) (λ v. stmts_value (stmts_tree v.items)) tokens block s i x

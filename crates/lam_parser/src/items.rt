@@ -2,15 +2,15 @@
 
 ghost use Rattle.std.specs.Prelude.{◌≡◌, true, ◌<◌, ◌≤◌, length, slice_get, IfOk};
 ghost use Rattle.lam_grammar.specs.Table as table;
-ghost use Rattle.lam_reading.specs.Classes.{begins_at};
-ghost use Rattle.lam_reading.specs.Reading.{Taken};
+ghost use Rattle.lam_parser_tokens.specs.Classes.{begins_at};
+ghost use Rattle.lam_parser_tokens.specs.Reading.{Taken};
 ghost use Rattle.lam_parser.specs.Left.{IsFreed, ReadsProgram};
 ghost use Rattle.lam_parser.specs.Parts.{ReadsItem, ReadsResult};
 
 use crate::stmts::block;
 use lam_lexer::Token;
-use lam_parse_parts::{fields, params, take_name, typ};
-use lam_reading::{Break, Mark, Wanted, next_is, take, take_if};
+use lam_parser_parts::{fields, params, take_name, typ};
+use lam_parser_tokens::{Break, Mark, Wanted, next_is, take, take_if};
 use lam_syntax::{Class, Function, Item, Program, TypeExpr};
 use std::alloc::Global;
 

@@ -1,8 +1,8 @@
 //! From the tokens of a text to the tree of its program.
 //!
 //! `parse` is the plain descent over the grammar's rules, one small function for each: items and their parts in `items`,
-//! statements with blocks in `stmts`. What contains no block is read by `lam_parse_stmts`, expressions by
-//! `lam_parse_exprs`, types and names by `lam_parse_parts`. It looks at one token ahead, copies no tokens, and lets go of
+//! statements with blocks in `stmts`. What contains no block is read by `lam_parser_stmts`, expressions by
+//! `lam_parser_exprs`, types and names by `lam_parser_parts`. It looks at one token ahead, copies no tokens, and lets go of
 //! those of the items that it has read. Items, statements and the other lists are read by loops; blocks within blocks are
 //! read by calls within calls, at most 128 deep, since each counts in the depth sum.
 //!
@@ -13,7 +13,7 @@
 
 ghost use Rattle.std.specs.Prelude.{◌≡◌, ℕ, List, slice_get};
 ghost use Rattle.lam_grammar.specs.Program as table;
-ghost use Rattle.lam_reading.specs.Reading.{Fails};
+ghost use Rattle.lam_parser_tokens.specs.Reading.{Fails};
 ghost use Rattle.lam_parser.specs.Answers.{Parses, position_at};
 ghost use Rattle.lam_lexer.specs.declared.token.Token.{Token};
 ghost use Rattle.lam_parser.specs.Left.{IsLeft, later};
@@ -23,8 +23,8 @@ mod stmts;
 
 use items::program;
 use lam_lexer::Token;
-pub use lam_reading::Wanted;
-use lam_reading::{Break, Mark};
+pub use lam_parser_tokens::Wanted;
+use lam_parser_tokens::{Break, Mark};
 use lam_syntax::Program;
 use std::alloc::Global;
 

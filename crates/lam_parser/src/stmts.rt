@@ -1,18 +1,18 @@
 //! Statements and blocks.
 
 ghost use Rattle.std.specs.Prelude.{◌≡◌, ◌<◌, ◌≤◌, length, IfOk};
-ghost use Rattle.lam_reading.specs.Reading.{Taken};
-ghost use Rattle.lam_parse_stmts.specs.Parts.{ReadsStmt};
+ghost use Rattle.lam_parser_tokens.specs.Reading.{Taken};
+ghost use Rattle.lam_parser_stmts.specs.Parts.{ReadsStmt};
 ghost use Rattle.lam_parser.specs.Parts.{ReadsBlock, ReadsElse, ReadsHandler};
 
 use lam_lexer::Token;
-use lam_parse_exprs::parens;
-use lam_parse_parts::take_name;
-use lam_parse_stmts::{
+use lam_parser_exprs::parens;
+use lam_parser_parts::take_name;
+use lam_parser_stmts::{
     Handler, ReadStmt, captures, expression_statement, let_statement, make_if, make_region,
     make_sync, make_while, region_head, return_statement, throw_statement,
 };
-use lam_reading::{Break, Mark, Wanted, begins_statement, take, take_if};
+use lam_parser_tokens::{Break, Mark, Wanted, begins_statement, take, take_if};
 use lam_syntax::Stmt;
 use std::alloc::Global;
 

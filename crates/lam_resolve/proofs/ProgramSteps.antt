@@ -4,10 +4,10 @@ use Rattle.std.specs.Option.{IsSomeAnd}
 use Rattle.lam_syntax.specs.declared.Item.{Item}
 use Rattle.lam_syntax.specs.Tree.{FunctionTree, ClassTree, ItemTree, class_item, function_item, ProgramTree, items_tree, item_tree}
 use Rattle.lam_operators.specs.Words.{Word}
-use Rattle.resolved_tree.specs.declared.Class.{Class}
-use Rattle.resolved_tree.specs.declared.Function.{Function}
-use Rattle.resolved_tree.specs.Tree.{ResolvedType, ResolvedFunction, ResolvedTree, Block, class_tree, classes_tree, function_tree, functions_tree}
-use Rattle.lam_resolved.specs.Resolved.{then_some, Tables, Locals, State, state_as, Closed, locals_from, types_of, resolve_vars, resolve_result, resolve_stmts, function_as, resolve_function, resolve_functions, tables, resolved}
+use Rattle.lam_resolve_tree.specs.declared.Class.{Class}
+use Rattle.lam_resolve_tree.specs.declared.Function.{Function}
+use Rattle.lam_resolve_tree.specs.Tree.{ResolvedType, ResolvedFunction, ResolvedTree, Block, class_tree, classes_tree, function_tree, functions_tree}
+use Rattle.lam_resolve_laws.specs.Resolved.{then_some, Tables, Locals, State, state_as, Closed, locals_from, types_of, resolve_vars, resolve_result, resolve_stmts, function_as, resolve_function, resolve_functions, tables, resolved}
 use Rattle.lam_resolve_tables.specs.declared.kinds.Kind.{Kind}
 use Rattle.lam_resolve_tables.specs.declared.named.Named.{Named}
 use Rattle.lam_resolve_tables.specs.Tables.{fields, all_fields}

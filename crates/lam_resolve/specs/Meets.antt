@@ -2,8 +2,8 @@
 use Rattle.std.specs.Prelude.{◌≡◌, ℕ, List, ◌∷◌, ◌++◌, map, Some}
 use Rattle.lam_syntax.specs.Tree.{ItemTree, ProgramTree}
 use Rattle.lam_operators.specs.Words.{Word}
-use Rattle.resolved_tree.specs.Tree.{ResolvedType, ResolvedFunction}
-use Rattle.lam_resolved.specs.Resolved.{then_some, Tables, types_of, resolve_functions}
+use Rattle.lam_resolve_tree.specs.Tree.{ResolvedType, ResolvedFunction}
+use Rattle.lam_resolve_laws.specs.Resolved.{then_some, Tables, types_of, resolve_functions}
 
 -- for each class its fields' types
 abbrev pub types_of_all : List (List (Word × ResolvedType)) → List (List ResolvedType)

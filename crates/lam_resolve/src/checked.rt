@@ -2,19 +2,19 @@
 
 ghost use Rattle.std.specs.Prelude.{◌≡◌, IfOk, Some};
 ghost use Rattle.lam_syntax.specs.Unplaced.{unplaced};
-ghost use Rattle.resolved_tree.specs.Tree.{resolved_tree};
-ghost use Rattle.resolved_tree.specs.Typing.{IsTypedTree};
-ghost use Rattle.resolved_tree.specs.Regions.{AreNumbered};
-ghost use Rattle.resolved_tree.specs.Slots.{SlotsDiffer};
-ghost use Rattle.resolved_tree.specs.Limits.{WithinLimits};
-ghost use Rattle.lam_resolved.specs.Resolved.{resolved};
-ghost use Rattle.lam_resolved.specs.Names.{names_of, program_named};
+ghost use Rattle.lam_resolve_tree.specs.Tree.{resolved_tree};
+ghost use Rattle.lam_resolve_tree.specs.Typing.{IsTypedTree};
+ghost use Rattle.lam_resolve_tree.specs.Regions.{AreNumbered};
+ghost use Rattle.lam_resolve_tree.specs.Slots.{SlotsDiffer};
+ghost use Rattle.lam_resolve_tree.specs.Limits.{WithinLimits};
+ghost use Rattle.lam_resolve_laws.specs.Resolved.{resolved};
+ghost use Rattle.lam_resolve_laws.specs.Names.{names_of, program_named};
 ghost use Rattle.region_check.specs.Seen.{checked_tree};
 
 use crate::programs::resolve_program;
-use lam_resolved::resolves;
+use lam_resolve_laws::resolves;
+use lam_resolve_tree::Resolved;
 use region_check::Checked;
-use resolved_tree::Resolved;
 use want_of_memory::NoMemory;
 
 /// A checked program with its names resolved: the tree that `resolved` says. It is typed, its slots in scope differ,

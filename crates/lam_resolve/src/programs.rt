@@ -2,8 +2,8 @@
 
 ghost use Rattle.std.specs.Prelude.{◌≡◌, ◌∷◌, [], IfOk, IsSome, OnOk, Some};
 ghost use Rattle.lam_syntax.specs.Tree.{program_tree, items_tree, item_tree, function_tree};
-ghost use Rattle.resolved_tree.specs.Tree.{function_tree as resolved_function, functions_tree, classes_tree, resolved_tree};
-ghost use Rattle.lam_resolved.specs.Resolved.{resolve_function as function_resolved, resolve_functions as functions_resolved, resolved};
+ghost use Rattle.lam_resolve_tree.specs.Tree.{function_tree as resolved_function, functions_tree, classes_tree, resolved_tree};
+ghost use Rattle.lam_resolve_laws.specs.Resolved.{resolve_function as function_resolved, resolve_functions as functions_resolved, resolved};
 ghost use Rattle.lam_resolve_tables.specs.Tables.{tables, all_fields};
 ghost use Rattle.lam_resolve.specs.Meets.{IsAdded, types_of_all};
 
@@ -11,9 +11,9 @@ use lam_resolve_stmts::resolve_block;
 use lam_resolve_tables::kinds::{Kind, option_value_type, resolve_result};
 use lam_resolve_tables::named::Named;
 use lam_resolve_tables::tables::{Tables, field_types, resolve_vars, types_of_vars};
+use lam_resolve_tree::{Class, Function as ResolvedFunction, Resolved};
 use lam_resolve_units::units::open_unit;
 use lam_syntax::{Function, Item, Program};
-use resolved_tree::{Class, Function as ResolvedFunction, Resolved};
 use std::alloc::Global;
 use want_of_memory::NoMemory;
 

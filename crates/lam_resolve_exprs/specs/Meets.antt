@@ -1,6 +1,6 @@
 -- How the building of lists meets the definitions.
 use Rattle.std.specs.Prelude.{ℕ, zero, suc}
-use Rattle.resolved_tree.specs.Tree.{ResolvedGiven}
+use Rattle.lam_resolve_tree.specs.Tree.{ResolvedGiven}
 
 -- what the first argument gives, where argument i gives g and f was noted before it
 abbrev pub first_of : ℕ → ResolvedGiven → ResolvedGiven → ResolvedGiven

@@ -1,8 +1,8 @@
 -- What the definitions see of names in scope and of resolved expressions.
 use Rattle.std.specs.Prelude.{ℕ, Bool, map}
-use Rattle.resolved_tree.specs.Tree.{ResolvedType, ResolvedGiven, CapSlot, expr_tree, exprs_tree}
-use Rattle.resolved_tree.specs.Typing.{Head, given_by}
-use Rattle.lam_resolved.specs.Resolved.{Local as ResolvedLocal, Locals, Value as ResolvedValue, value_as, Args as ResolvedArgs, args_as, Found}
+use Rattle.lam_resolve_tree.specs.Tree.{ResolvedType, ResolvedGiven, CapSlot, expr_tree, exprs_tree}
+use Rattle.lam_resolve_tree.specs.Typing.{Head, given_by}
+use Rattle.lam_resolve_laws.specs.Resolved.{Local as ResolvedLocal, Locals, Value as ResolvedValue, value_as, Args as ResolvedArgs, args_as, Found}
 use Rattle.lam_resolve_tables.specs.declared.kinds.Kind.{Kind}
 use Rattle.lam_resolve_tables.specs.declared.kinds.Given.{Given}
 use Rattle.lam_resolve_tables.specs.declared.named.Named.{Named}

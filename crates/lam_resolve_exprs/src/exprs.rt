@@ -2,7 +2,7 @@
 
 ghost use Rattle.std.specs.Prelude.{◌≡◌, IfOk, IsSome, Some};
 ghost use Rattle.lam_syntax.specs.Tree.{expr_tree, exprs_tree, id_tree, type_tree, new_array_expr, label_expr, spawn_expr};
-ghost use Rattle.lam_resolved.specs.Resolved.{resolve, resolve_form, resolve_args as resolved_args};
+ghost use Rattle.lam_resolve_laws.specs.Resolved.{resolve, resolve_form, resolve_args as resolved_args};
 ghost use Rattle.lam_resolve_tables.specs.Kinds.{given};
 ghost use Rattle.lam_resolve_exprs.specs.Meets.{first_of};
 ghost use Rattle.lam_resolve_tables.specs.Tables.{tables};
@@ -61,9 +61,9 @@ pub fn resolve_expr(
             let place = resolve_expr(alloc, t, scope, index)?;
             element_read(alloc, array, place)
         }
-        ExprKind::Number(n) => Ok(plain_value(resolved_tree::Expr::Number(*n), Base::Int)),
+        ExprKind::Number(n) => Ok(plain_value(lam_resolve_tree::Expr::Number(*n), Base::Int)),
         ExprKind::Text(bytes) => text_value(alloc, bytes),
-        ExprKind::Bool(b) => Ok(plain_value(resolved_tree::Expr::Bool(*b), Base::Bool)),
+        ExprKind::Bool(b) => Ok(plain_value(lam_resolve_tree::Expr::Bool(*b), Base::Bool)),
         ExprKind::Null => Ok(null_value()),
         ExprKind::Name(x) => Ok(local_value(scope, x.as_str())),
         ExprKind::Call { name, args } => {

@@ -9,12 +9,12 @@ ghost use Rattle.lam_builtins.specs.Types.{a_value, a_null, bytes as bytes_type,
 ghost use Rattle.lam_builtins.specs.Operators.{operator_type as type_of_operator, unary_type};
 ghost use Rattle.lam_builtins.specs.Rows.{plain_type};
 ghost use Rattle.lam_builtins.specs.Builtins.{row_by, answered as answered_by};
-ghost use Rattle.resolved_tree.specs.Tree.{expr_tree, exprs_tree, cap_tree, caps_tree, text_value as text_tree, null_value as null_tree, local_value as local_tree, option_type_tree, new_object as new_object_tree, unary_of, builtin_of, call_of, field_of, binary_of, new_array as new_array_tree, label_of as label_tree, caps_of as caps_of_tree, spawn_of};
-ghost use Rattle.lam_resolved.specs.Resolved.{then_some, value_as, local_named as first_local, field_read as read_field, element_read as read_element, builtin_value as value_of_builtin, called as called_by, found, resolve_caps as resolved_caps};
+ghost use Rattle.lam_resolve_tree.specs.Tree.{expr_tree, exprs_tree, cap_tree, caps_tree, text_value as text_tree, null_value as null_tree, local_value as local_tree, option_type_tree, new_object as new_object_tree, unary_of, builtin_of, call_of, field_of, binary_of, new_array as new_array_tree, label_of as label_tree, caps_of as caps_of_tree, spawn_of};
+ghost use Rattle.lam_resolve_laws.specs.Resolved.{then_some, value_as, local_named as first_local, field_read as read_field, element_read as read_element, builtin_value as value_of_builtin, called as called_by, found, resolve_caps as resolved_caps};
 ghost use Rattle.lam_builtins.specs.Builtins.{builtin_named};
 ghost use Rattle.lam_resolve_tables.specs.Kinds.{base_type, kind_type, given};
 ghost use Rattle.lam_resolve_tables.specs.Tables.{tables};
-ghost use Rattle.resolved_tree.specs.Typing.{given_by as result_given};
+ghost use Rattle.lam_resolve_tree.specs.Typing.{given_by as result_given};
 ghost use Rattle.lam_resolve_exprs.specs.Values.{local, locals, value, args as seen_args, field_seen, function_seen, called_seen, cap_at};
 
 use lam_builtins::{Answers, Builtin, PlainType, operator_type, prefix_type};
@@ -25,8 +25,8 @@ use lam_resolve_tables::kinds::{
 };
 use lam_resolve_tables::named::Named;
 use lam_resolve_tables::tables::Tables;
+use lam_resolve_tree::{CapItem, Expr, ValueType};
 use lam_syntax::CapItem as WrittenCap;
-use resolved_tree::{CapItem, Expr, ValueType};
 use std::alloc::Global;
 use want_of_memory::NoMemory;
 

@@ -5,9 +5,9 @@ use Rattle.std.proofs.lemmas.List.{length-map, length-take}
 use Rattle.lam_syntax.specs.declared.Stmt.{Stmt}
 use Rattle.lam_syntax.specs.Tree.{stmt_tree, stmts_tree}
 use Rattle.lam_operators.specs.Words.{Word}
-use Rattle.resolved_tree.specs.declared.Stmt.{Stmt as Resolved}
-use Rattle.resolved_tree.specs.Tree.{Block, block_end, block_more, stmt_tree as resolved_stmt, stmts_tree as resolved_stmts}
-use Rattle.lam_resolved.specs.Resolved.{then_some, Tables, Locals, State, step_as, Closed, closed_as, resolve_stmt, resolve_stmts}
+use Rattle.lam_resolve_tree.specs.declared.Stmt.{Stmt as Resolved}
+use Rattle.lam_resolve_tree.specs.Tree.{Block, block_end, block_more, stmt_tree as resolved_stmt, stmts_tree as resolved_stmts}
+use Rattle.lam_resolve_laws.specs.Resolved.{then_some, Tables, Locals, State, step_as, Closed, closed_as, resolve_stmt, resolve_stmts}
 use Rattle.lam_resolve_exprs.specs.declared.values.Local.{Local}
 use Rattle.lam_resolve_tables.proofs.Options.{first_some, goes, one_more}
 use Rattle.lam_resolve_units.specs.Meets.{Extends}

@@ -3,8 +3,8 @@ use Rattle.std.proofs.Common.{◌≡◌, ℕ, ◌+◌, List, length, Option, Som
 use Rattle.lam_syntax.specs.Tree.{IdTree, ExprTree, StmtList, region_stmt}
 use Rattle.lam_builtins.specs.Types.{int}
 use Rattle.lam_operators.specs.Words.{Word}
-use Rattle.resolved_tree.specs.Tree.{ResolvedType, Expression, Statement, Block, region_block}
-use Rattle.lam_resolved.specs.Resolved.{then_some, Tables, Locals, State, state_as, next_slot, Value, Step, step_as, Closed, with_local, locals_from, taken_over, types_of, slots_of, resolve, enter_region, resolve_stmt_form, resolve_stmts}
+use Rattle.lam_resolve_tree.specs.Tree.{ResolvedType, Expression, Statement, Block, region_block}
+use Rattle.lam_resolve_laws.specs.Resolved.{then_some, Tables, Locals, State, state_as, next_slot, Value, Step, step_as, Closed, with_local, locals_from, taken_over, types_of, slots_of, resolve, enter_region, resolve_stmt_form, resolve_stmts}
 use Rattle.lam_resolve_tables.proofs.Options.{first_some, next_some, goes}
 use Rattle.lam_resolve_units.specs.Seen.{Inside, entered_by}
 use Rattle.lam_resolve_stmts.specs.Regions.{expr_of, Opening, opening_as, opening, Bodies, bodies_as, bodies_of, node_as}

@@ -2,8 +2,8 @@
 use Rattle.std.proofs.Common.{◌≡◌, ℕ, ◌+◌, ◌<◌, arith, List, length, Option, Some, None, IsSome, is_some, refl, sym, ap, ◌∙◌}
 use Rattle.lam_syntax.specs.Tree.{IdTree, ExprTree, StmtForm, StmtList, ElseTree, if_stmt, while_stmt, return_stmt, throw_stmt, sync_stmt, region_stmt, do_stmt, assign_stmt, else_block}
 use Rattle.lam_builtins.specs.Types.{given_type}
-use Rattle.resolved_tree.specs.Tree.{ResolvedType, Expression, Statement, Block, OtherBlock, if_block, while_block, return_value, throw_value, sync_block, do_value, other_block}
-use Rattle.lam_resolved.specs.Resolved.{then_some, Tables, Locals, State, next_slot, Value, step_as, Closed, closed_as, resolve, resolve_value, resolve_stmt_form, resolve_else, resolve_stmts, assignment}
+use Rattle.lam_resolve_tree.specs.Tree.{ResolvedType, Expression, Statement, Block, OtherBlock, if_block, while_block, return_value, throw_value, sync_block, do_value, other_block}
+use Rattle.lam_resolve_laws.specs.Resolved.{then_some, Tables, Locals, State, next_slot, Value, step_as, Closed, closed_as, resolve, resolve_value, resolve_stmt_form, resolve_else, resolve_stmts, assignment}
 use Rattle.lam_resolve_tables.proofs.Options.{first_some, next_some, goes}
 use Rattle.lam_resolve_units.specs.Parts.{assigned_tree}
 use Rattle.lam_resolve_stmts.proofs.Sizes.{form_size, else_size, stmts_size}

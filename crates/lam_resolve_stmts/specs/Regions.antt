@@ -2,8 +2,8 @@
 use Rattle.std.specs.Prelude.{ℕ, List, length, Option, Some}
 use Rattle.lam_syntax.specs.Tree.{IdTree, ExprTree, StmtForm, StmtList, region_stmt, expr_tree, ids_tree, id_tree, stmts_tree}
 use Rattle.lam_builtins.specs.Types.{int}
-use Rattle.resolved_tree.specs.Tree.{Expression, Statement, Block, region_block, expr_tree as resolved_expr, stmts_tree as resolved_stmts}
-use Rattle.lam_resolved.specs.Resolved.{then_some, Tables, Locals, State, with_local, next_slot, resolve, enter_region, resolve_stmts}
+use Rattle.lam_resolve_tree.specs.Tree.{Expression, Statement, Block, region_block, expr_tree as resolved_expr, stmts_tree as resolved_stmts}
+use Rattle.lam_resolve_laws.specs.Resolved.{then_some, Tables, Locals, State, with_local, next_slot, resolve, enter_region, resolve_stmts}
 use Rattle.lam_resolve_exprs.specs.Values.{locals}
 use Rattle.lam_resolve_units.specs.declared.parts.Head.{Head}
 use Rattle.lam_resolve_units.specs.Seen.{Inside, entered_by, state}

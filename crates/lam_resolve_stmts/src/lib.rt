@@ -4,7 +4,7 @@
 //! expressions of `lam_resolve_exprs`. What stands before a region's blocks, and the node that is made of its parts, are
 //! in `regions`, outside of that recursion.
 //!
-//! Each function requires that its part of the program resolves, and answers what `lam_resolved` says of it.
+//! Each function requires that its part of the program resolves, and answers what `lam_resolve_laws` says of it.
 #![tactic(auto)]
 
 mod regions;

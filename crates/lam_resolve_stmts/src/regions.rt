@@ -2,8 +2,8 @@
 
 ghost use Rattle.std.specs.Prelude.{◌≡◌, IfOk, IsSome, Some};
 ghost use Rattle.lam_syntax.specs.Tree.{expr_tree};
-ghost use Rattle.resolved_tree.specs.Tree.{expr_tree as resolved_expr, stmt_tree as resolved_stmt};
-ghost use Rattle.lam_resolved.specs.Resolved.{state_as, resolve as resolved_value};
+ghost use Rattle.lam_resolve_tree.specs.Tree.{expr_tree as resolved_expr, stmt_tree as resolved_stmt};
+ghost use Rattle.lam_resolve_laws.specs.Resolved.{state_as, resolve as resolved_value};
 ghost use Rattle.lam_resolve_tables.specs.Tables.{tables};
 ghost use Rattle.lam_resolve_exprs.specs.Values.{locals};
 ghost use Rattle.lam_resolve_units.specs.Seen.{state};
@@ -13,10 +13,10 @@ use lam_resolve_exprs::exprs::resolve_expr;
 use lam_resolve_exprs::values::Local;
 use lam_resolve_tables::named::Named;
 use lam_resolve_tables::tables::Tables;
+use lam_resolve_tree::{Expr as ResolvedExpr, Stmt as ResolvedStmt};
 use lam_resolve_units::parts::{Head, region_stmt};
 use lam_resolve_units::units::{State, Unit, enter};
 use lam_syntax::{Expr, Id, Stmt};
-use resolved_tree::{Expr as ResolvedExpr, Stmt as ResolvedStmt};
 use std::alloc::Global;
 use want_of_memory::NoMemory;
 

@@ -2,8 +2,8 @@
 
 ghost use Rattle.std.specs.Prelude.{◌≡◌, IfOk, IsSome, OnOk, Some};
 ghost use Rattle.lam_syntax.specs.Tree.{expr_tree, id_tree, stmt_tree, stmts_tree, else_tree, if_stmt as written_if, while_stmt as written_while, sync_stmt as written_sync};
-ghost use Rattle.resolved_tree.specs.Tree.{stmt_tree as resolved_stmt, stmts_tree as resolved_stmts, else_tree as resolved_other};
-ghost use Rattle.lam_resolved.specs.Resolved.{step_as, closed_as, resolve_stmt as stmt_resolved, resolve_stmts as stmts_resolved, resolve_stmt_form, resolve_else as else_resolved};
+ghost use Rattle.lam_resolve_tree.specs.Tree.{stmt_tree as resolved_stmt, stmts_tree as resolved_stmts, else_tree as resolved_other};
+ghost use Rattle.lam_resolve_laws.specs.Resolved.{step_as, closed_as, resolve_stmt as stmt_resolved, resolve_stmts as stmts_resolved, resolve_stmt_form, resolve_else as else_resolved};
 ghost use Rattle.lam_resolve_tables.specs.Tables.{tables};
 ghost use Rattle.lam_resolve_exprs.specs.Values.{locals};
 ghost use Rattle.lam_resolve_units.specs.Seen.{state};
@@ -16,12 +16,12 @@ use lam_resolve_exprs::values::Local;
 use lam_resolve_tables::kinds::{Base, given_kind, plain};
 use lam_resolve_tables::named::Named;
 use lam_resolve_tables::tables::Tables;
+use lam_resolve_tree::Stmt as ResolvedStmt;
 use lam_resolve_units::parts::{
     if_stmt, resolve_assign, resolve_let, resolve_value, sync_stmt, while_stmt,
 };
 use lam_resolve_units::units::{State, Unit, close, declare, new_slot};
 use lam_syntax::{Expr, Id, Stmt, StmtKind};
-use resolved_tree::Stmt as ResolvedStmt;
 use std::alloc::Global;
 use want_of_memory::NoMemory;
 

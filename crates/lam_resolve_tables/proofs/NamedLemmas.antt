@@ -7,11 +7,11 @@ use Rattle.std.specs.Map.{lookup}
 use Rattle.std.specs.Option.{option_map}
 use Rattle.std.proofs.lemmas.Slice.Eq.{bytes_eq-Decides}
 use Rattle.lam_operators.specs.Words.{Word}
-use Rattle.lam_kinds.specs.Tables.{find}
-use Rattle.lam_kinds.specs.Values.{keyed}
-use Rattle.lam_kinds.proofs.TableLemmas.{key_is, find_see, see_push, find_both}
-use Rattle.lam_kinds.specs.Meets.{or_else}
-use Rattle.lam_resolved.specs.Resolved.{Found, found_from}
+use Rattle.lam_types_kinds.specs.Tables.{find}
+use Rattle.lam_types_kinds.specs.Values.{keyed}
+use Rattle.lam_types_kinds.proofs.TableLemmas.{key_is, find_see, see_push, find_both}
+use Rattle.lam_types_kinds.specs.Meets.{or_else}
+use Rattle.lam_resolve_laws.specs.Resolved.{Found, found_from}
 use Rattle.lam_resolve_tables.specs.Named.{words, with_first, firsts_from, firsts}
 
 -- the place of a name's first entry

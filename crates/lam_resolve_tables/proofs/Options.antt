@@ -5,7 +5,7 @@ use Rattle.std.proofs.Math.Seq.{drop-cons}
 use Rattle.std.specs.Option.{option_map}
 use Rattle.std.specs.Str.{bytes_eq}
 use Rattle.lam_operators.specs.Words.{Word}
-use Rattle.lam_resolved.specs.Resolved.{then_some, Found, found_from}
+use Rattle.lam_resolve_laws.specs.Resolved.{then_some, Found, found_from}
 use Rattle.lam_resolve_tables.specs.Meets.{IsJoined}
 
 -- the first step has an answer

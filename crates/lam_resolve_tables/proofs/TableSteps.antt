@@ -5,11 +5,11 @@ use Rattle.lam_syntax.specs.declared.Var.{Var}
 use Rattle.lam_syntax.specs.declared.Item.{Item}
 use Rattle.lam_syntax.specs.Tree.{ItemTree, class_item, function_item, ClassTree, FunctionTree, ProgramTree, vars_tree, var_tree, items_tree, item_tree}
 use Rattle.lam_operators.specs.Words.{Word}
-use Rattle.resolved_tree.specs.declared.ValueType.{ValueType}
-use Rattle.resolved_tree.specs.Tree.{ResolvedType, type_tree, types_tree}
-use Rattle.resolved_tree.specs.Typing.{Head}
-use Rattle.lam_resolved.specs.Resolved.{then_some, Tables, types_of, class_names, resolve_type, resolve_result, resolve_vars, resolve_classes, resolve_head, resolve_heads, tables_by, tables}
-use Rattle.lam_kinds.specs.Values.{keyed}
+use Rattle.lam_resolve_tree.specs.declared.ValueType.{ValueType}
+use Rattle.lam_resolve_tree.specs.Tree.{ResolvedType, type_tree, types_tree}
+use Rattle.lam_resolve_tree.specs.Typing.{Head}
+use Rattle.lam_resolve_laws.specs.Resolved.{then_some, Tables, types_of, class_names, resolve_type, resolve_result, resolve_vars, resolve_classes, resolve_head, resolve_heads, tables_by, tables}
+use Rattle.lam_types_kinds.specs.Values.{keyed}
 use Rattle.lam_resolve_tables.specs.declared.kinds.Kind.{Kind}
 use Rattle.lam_resolve_tables.specs.Kinds.{kind_type}
 use Rattle.lam_resolve_tables.specs.Tables.{vars}

@@ -5,9 +5,9 @@ use Rattle.lam_syntax.specs.declared.TypeExpr.{TypeExpr}
 use Rattle.lam_syntax.specs.Tree.{TypeForm, TypeTree, class_type, array_type, type_tree}
 use Rattle.lam_operators.specs.Words.{Word}
 use Rattle.lam_builtins.specs.Types.{object, array}
-use Rattle.lam_kinds.specs.Written.{written_form}
-use Rattle.resolved_tree.specs.Tree.{ResolvedType}
-use Rattle.lam_resolved.specs.Resolved.{Found, found, numbered, resolve_type, resolve_result}
+use Rattle.lam_types_kinds.specs.Written.{written_form}
+use Rattle.lam_resolve_tree.specs.Tree.{ResolvedType}
+use Rattle.lam_resolve_laws.specs.Resolved.{Found, found, numbered, resolve_type, resolve_result}
 use Rattle.lam_resolve_tables.proofs.Sizes.{type_size, type_form_size}
 use Rattle.lam_resolve_tables.proofs.Options.{first_some, goes}
 

@@ -1,7 +1,7 @@
 -- The types of the resolver's values.
 use Rattle.std.specs.Prelude.{ℕ, zero, suc, Option, Some, None}
 use Rattle.lam_builtins.specs.Types.{int, bool, bytes, tag, label, caps, file, dir, pipe, thread, object, array, a_value, a_null, nothing}
-use Rattle.resolved_tree.specs.Tree.{ResolvedType, ResolvedGiven}
+use Rattle.lam_resolve_tree.specs.Tree.{ResolvedType, ResolvedGiven}
 use Rattle.lam_resolve_tables.specs.declared.kinds.Base.{Base}
 use Rattle.lam_resolve_tables.specs.declared.kinds.Base.TheVariants.{Int, Bool, Bytes, Tag, Label, Caps, File, Dir, Pipe, Thread, Object}
 use Rattle.lam_resolve_tables.specs.declared.kinds.Kind.{Kind}

@@ -2,8 +2,8 @@
 use Rattle.std.specs.Prelude.{ℕ, ◌+◌, if◌then◌else◌, List, [], ◌∷◌, ◌++◌, map, Option, Some, None, is_some}
 use Rattle.std.specs.Borrow.{Bor}
 use Rattle.lam_operators.specs.Words.{Word}
-use Rattle.lam_kinds.specs.Tables.{find}
-use Rattle.lam_resolved.specs.Resolved.{Found}
+use Rattle.lam_types_kinds.specs.Tables.{find}
+use Rattle.lam_resolve_laws.specs.Resolved.{Found}
 
 abbrev pub words : {V : Type 0} → List (Bor Word × V) → List Word
 words es = map (λ e. e.0.now) es

@@ -2,9 +2,9 @@
 use Rattle.std.specs.Prelude.{List, map, option_map}
 use Rattle.std.specs.Borrow.{Bor}
 use Rattle.lam_operators.specs.Words.{Word}
-use Rattle.resolved_tree.specs.Tree.{ResolvedType}
-use Rattle.resolved_tree.specs.Typing.{Head as ResolvedHead}
-use Rattle.lam_resolved.specs.Resolved.{Tables as ResolvedTables, types_of}
+use Rattle.lam_resolve_tree.specs.Tree.{ResolvedType}
+use Rattle.lam_resolve_tree.specs.Typing.{Head as ResolvedHead}
+use Rattle.lam_resolve_laws.specs.Resolved.{Tables as ResolvedTables, types_of}
 use Rattle.lam_resolve_tables.specs.declared.kinds.Kind.{Kind}
 use Rattle.lam_resolve_tables.specs.declared.named.Named.{Named}
 use Rattle.lam_resolve_tables.specs.declared.tables.Head.{Head}

@@ -3,14 +3,14 @@
 ghost use Rattle.std.specs.Prelude.{◌≡◌, IfOk, IsSome, Some, option_map};
 ghost use Rattle.lam_syntax.specs.Tree.{type_tree as written_tree, option_type_tree as written_option};
 ghost use Rattle.lam_builtins.specs.Types.{array, given_type};
-ghost use Rattle.resolved_tree.specs.Tree.{type_tree, option_type_tree};
-ghost use Rattle.lam_resolved.specs.Resolved.{resolve_type as resolved_type, resolve_result as resolved_result};
+ghost use Rattle.lam_resolve_tree.specs.Tree.{type_tree, option_type_tree};
+ghost use Rattle.lam_resolve_laws.specs.Resolved.{resolve_type as resolved_type, resolve_result as resolved_result};
 ghost use Rattle.lam_resolve_tables.specs.Entries.{entries_of};
 ghost use Rattle.lam_resolve_tables.specs.Kinds.{base_type, kind_type, given, class_given, element_given};
 
 use crate::named::Named;
+use lam_resolve_tree::ValueType;
 use lam_syntax::{TypeExpr, TypeKind};
-use resolved_tree::ValueType;
 use std::alloc::Global;
 use want_of_memory::NoMemory;
 

@@ -4,7 +4,7 @@
 //! `named` has such lists, `lookup` their look-up, and `tables` those of a program, made once. `kinds` has types
 //! without a tree, so that what an expression gives is a value to copy.
 //!
-//! What a type, a class or a function's head resolves to is defined in `lam_resolved`. Each function here that may have
+//! What a type, a class or a function's head resolves to is defined in `lam_resolve_laws`. Each function here that may have
 //! no answer requires that there is one, which holds in a checked program, and answers it or `NoMemory`.
 #![tactic(auto)]
 

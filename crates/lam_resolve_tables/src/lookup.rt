@@ -2,10 +2,10 @@
 
 ghost use Rattle.std.specs.Prelude.{◌≡◌, ◌++◌, ◌∷◌, [], List, OnErr, OnOk, length, take};
 ghost use Rattle.lam_operators.specs.Words.{Word};
-ghost use Rattle.lam_kinds.specs.Values.{keyed};
+ghost use Rattle.lam_types_kinds.specs.Values.{keyed};
 ghost use Rattle.lam_resolve_tables.specs.Named.{firsts, with_first, seen_found};
 ghost use Rattle.lam_resolve_tables.specs.Entries.{entries_of, shorter};
-ghost use Rattle.lam_resolved.specs.Resolved.{found};
+ghost use Rattle.lam_resolve_laws.specs.Resolved.{found};
 
 use crate::named::Named;
 use indexmap::IndexMap;

@@ -1,7 +1,7 @@
 //! Named values.
 
 ghost use Rattle.std.specs.Prelude.{◌≡◌};
-ghost use Rattle.lam_kinds.specs.Values.{keyed};
+ghost use Rattle.lam_types_kinds.specs.Values.{keyed};
 ghost use Rattle.lam_resolve_tables.specs.Named.{words, firsts};
 
 use indexmap::IndexMap;

@@ -2,16 +2,16 @@
 
 ghost use Rattle.std.specs.Prelude.{◌≡◌, ◌++◌, ◌∷◌, [], IfOk, IsSome, OnOk, Some};
 ghost use Rattle.lam_syntax.specs.Tree.{items_tree, item_tree, vars_tree, function_tree};
-ghost use Rattle.lam_resolved.specs.Resolved.{class_names as names_of_classes, resolve_vars as resolved_vars, resolve_classes as resolved_classes, resolve_head as resolved_head, resolve_heads as resolved_heads, tables as tables_of, types_of};
-ghost use Rattle.resolved_tree.specs.Tree.{types_tree};
+ghost use Rattle.lam_resolve_laws.specs.Resolved.{class_names as names_of_classes, resolve_vars as resolved_vars, resolve_classes as resolved_classes, resolve_head as resolved_head, resolve_heads as resolved_heads, tables as tables_of, types_of};
+ghost use Rattle.lam_resolve_tree.specs.Tree.{types_tree};
 ghost use Rattle.lam_resolve_tables.specs.Entries.{entries_of};
 ghost use Rattle.lam_resolve_tables.specs.Meets.{IsJoined};
 ghost use Rattle.lam_resolve_tables.specs.Tables.{vars as seen_vars, fields as seen_fields, all_fields, head as seen_head, heads as seen_heads, tables as seen_tables};
 
 use crate::kinds::{Kind, resolve_result, resolve_type, value_type};
 use crate::named::Named;
+use lam_resolve_tree::ValueType;
 use lam_syntax::{Function, Item, Var};
-use resolved_tree::ValueType;
 use std::alloc::Global;
 use want_of_memory::NoMemory;
 

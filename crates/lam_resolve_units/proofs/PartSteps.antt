@@ -5,8 +5,8 @@ use Rattle.std.specs.Prelude.{nat_lt, if◌then◌else◌}
 use Rattle.lam_builtins.specs.Limits.{most_regions}
 use Rattle.lam_syntax.specs.Tree.{IdTree, ExprTree, VarTree, let_stmt}
 use Rattle.lam_operators.specs.Words.{Word}
-use Rattle.resolved_tree.specs.Tree.{ResolvedType, Statement, let_slot}
-use Rattle.lam_resolved.specs.Resolved.{then_some, Tables, Locals, State, Value, step_as, with_local, next_slot, resolve, resolve_type, resolve_value, resolve_captures, enter_region, resolve_stmt_form, assignment, state_as, slots_of, taken_over, locals_from, types_of}
+use Rattle.lam_resolve_tree.specs.Tree.{ResolvedType, Statement, let_slot}
+use Rattle.lam_resolve_laws.specs.Resolved.{then_some, Tables, Locals, State, Value, step_as, with_local, next_slot, resolve, resolve_type, resolve_value, resolve_captures, enter_region, resolve_stmt_form, assignment, state_as, slots_of, taken_over, locals_from, types_of}
 use Rattle.lam_resolve_tables.proofs.Options.{first_some, next_some, goes}
 use Rattle.lam_resolve_units.specs.Seen.{Inside, entered_by}
 use Rattle.lam_resolve_units.specs.Parts.{assigned_tree}

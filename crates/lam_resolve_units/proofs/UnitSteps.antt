@@ -3,9 +3,9 @@ use Rattle.std.proofs.Common.{◌≡◌, ℕ, suc, ◌+◌, ◌<◌, List, [], �
 use Rattle.lam_syntax.specs.declared.Id.{Id}
 use Rattle.lam_syntax.specs.Tree.{id_tree, ids_tree}
 use Rattle.lam_operators.specs.Words.{Word}
-use Rattle.resolved_tree.specs.declared.ValueType.{ValueType}
-use Rattle.resolved_tree.specs.Tree.{types_tree}
-use Rattle.lam_resolved.specs.Resolved.{then_some, Locals, locals_from, local_named, resolve_captures}
+use Rattle.lam_resolve_tree.specs.declared.ValueType.{ValueType}
+use Rattle.lam_resolve_tree.specs.Tree.{types_tree}
+use Rattle.lam_resolve_laws.specs.Resolved.{then_some, Locals, locals_from, local_named, resolve_captures}
 use Rattle.lam_resolve_tables.specs.declared.kinds.Kind.{Kind}
 use Rattle.lam_resolve_exprs.specs.declared.values.Local.{Local}
 use Rattle.lam_resolve_tables.specs.Kinds.{kind_type}

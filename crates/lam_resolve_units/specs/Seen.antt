@@ -2,8 +2,8 @@
 use Rattle.std.specs.Prelude.{ℕ, ◌+◌, List, map}
 use Rattle.std.specs.Borrow.{Bor}
 use Rattle.lam_operators.specs.Words.{Word}
-use Rattle.resolved_tree.specs.Tree.{types_tree}
-use Rattle.lam_resolved.specs.Resolved.{Locals, State as ResolvedState, state_as, slots_of, taken_over, locals_from, types_of}
+use Rattle.lam_resolve_tree.specs.Tree.{types_tree}
+use Rattle.lam_resolve_laws.specs.Resolved.{Locals, State as ResolvedState, state_as, slots_of, taken_over, locals_from, types_of}
 use Rattle.lam_resolve_exprs.specs.declared.values.Local.{Local}
 use Rattle.lam_resolve_exprs.specs.Values.{local, locals}
 use Rattle.lam_resolve_units.specs.declared.units.State.{State}

@@ -2,8 +2,8 @@
 
 ghost use Rattle.std.specs.Prelude.{◌≡◌, IfOk, IsSome, OnOk, Some};
 ghost use Rattle.lam_syntax.specs.Tree.{expr_tree as written_tree, option_expr_tree as written_option, var_tree, let_stmt};
-ghost use Rattle.resolved_tree.specs.Tree.{expr_tree, option_expr_tree, stmt_tree, stmts_tree, types_tree, else_tree, if_block, while_block, sync_block, region_block};
-ghost use Rattle.lam_resolved.specs.Resolved.{resolve_stmt_form, resolve_value as resolved_value, assignment as assigned, step_as};
+ghost use Rattle.lam_resolve_tree.specs.Tree.{expr_tree, option_expr_tree, stmt_tree, stmts_tree, types_tree, else_tree, if_block, while_block, sync_block, region_block};
+ghost use Rattle.lam_resolve_laws.specs.Resolved.{resolve_stmt_form, resolve_value as resolved_value, assignment as assigned, step_as};
 ghost use Rattle.lam_resolve_tables.specs.Tables.{tables};
 ghost use Rattle.lam_resolve_exprs.specs.Values.{locals};
 ghost use Rattle.lam_resolve_units.specs.Seen.{state};
@@ -16,8 +16,8 @@ use lam_resolve_exprs::values::Local;
 use lam_resolve_tables::kinds::resolve_type;
 use lam_resolve_tables::named::Named;
 use lam_resolve_tables::tables::Tables;
+use lam_resolve_tree::{Expr as ResolvedExpr, Stmt as ResolvedStmt, ValueType};
 use lam_syntax::{Expr, Var};
-use resolved_tree::{Expr as ResolvedExpr, Stmt as ResolvedStmt, ValueType};
 use std::alloc::Global;
 use want_of_memory::NoMemory;
 

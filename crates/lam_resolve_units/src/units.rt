@@ -2,7 +2,7 @@
 
 ghost use Rattle.std.specs.Prelude.{◌≡◌, ◌+◌, IfOk, IsSome, OnOk, Some, length, take};
 ghost use Rattle.lam_syntax.specs.Tree.{ids_tree, id_tree};
-ghost use Rattle.lam_resolved.specs.Resolved.{then_some, with_local, locals_from, local_named as first_local, next_slot, state_as, types_of, resolve_captures as resolved_captures, enter_region, slots_of as slots_of_locals, taken_over as taken};
+ghost use Rattle.lam_resolve_laws.specs.Resolved.{then_some, with_local, locals_from, local_named as first_local, next_slot, state_as, types_of, resolve_captures as resolved_captures, enter_region, slots_of as slots_of_locals, taken_over as taken};
 ghost use Rattle.lam_resolve_tables.specs.Kinds.{kind_type};
 ghost use Rattle.lam_resolve_tables.specs.Tables.{vars as seen_vars};
 ghost use Rattle.lam_resolve_exprs.specs.Values.{local, locals};
@@ -12,8 +12,8 @@ use lam_resolve_exprs::values::{Local, local_named};
 use lam_resolve_tables::kinds::{Kind, value_type};
 use lam_resolve_tables::named::Named;
 use lam_resolve_tables::tables::types_of_vars;
+use lam_resolve_tree::ValueType;
 use lam_syntax::Id;
-use resolved_tree::ValueType;
 use std::alloc::Global;
 use want_of_memory::NoMemory;
 

@@ -3,14 +3,14 @@ use Rattle.std.proofs.Common.{◌≡◌, ℕ, List, Option, Result, Ok, Err, OnO
 use Rattle.lam_syntax.specs.Tree.{ExprTree, StmtForm, StmtList, ElseTree, no_else, else_block, IdTree, while_stmt, sync_stmt, if_stmt, region_stmt, return_stmt, do_stmt, assign_stmt}
 use Rattle.lam_operators.specs.Words.{Word}
 use Rattle.lam_builtins.specs.Types.{ValueType, Given}
-use Rattle.first_breaks.specs.Verdicts.{Fine, then_on}
-use Rattle.lam_kinds.specs.Breaks.{Verdict}
-use Rattle.lam_kinds.specs.Tables.{Decls}
-use Rattle.lam_kinds.specs.Values.{Breaks, names}
-use Rattle.lam_kinds.specs.declared.types.TypeRef.{TypeRef}
-use Rattle.lam_kinds.specs.declared.fault.TypeFault.{TypeFault}
-use Rattle.lam_kinds.proofs.Steps.{stops, goes_on}
-use Rattle.lam_exprs.specs.Exprs.{at_of, given_of}
+use Rattle.lam_types_breaks.specs.Verdicts.{Fine, then_on}
+use Rattle.lam_types_kinds.specs.Breaks.{Verdict}
+use Rattle.lam_types_kinds.specs.Tables.{Decls}
+use Rattle.lam_types_kinds.specs.Values.{Breaks, names}
+use Rattle.lam_types_kinds.specs.declared.types.TypeRef.{TypeRef}
+use Rattle.lam_types_kinds.specs.declared.fault.TypeFault.{TypeFault}
+use Rattle.lam_types_kinds.proofs.Steps.{stops, goes_on}
+use Rattle.lam_types_exprs.specs.Exprs.{at_of, given_of}
 use Rattle.lam_types.specs.declared.stmts.Counts.{Counts}
 use Rattle.lam_types.specs.Parts.{guarded, synced, opened, caught}
 use Rattle.lam_types.specs.Stmts.{State, form_checked, else_checked, block_checked, back_in, returned, assigned, is_place, place_type}

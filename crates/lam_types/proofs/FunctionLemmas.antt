@@ -4,13 +4,13 @@ use Rattle.lam_syntax.specs.declared.Var.{Var}
 use Rattle.lam_syntax.specs.Tree.{FunctionTree, VarTree, vars_tree}
 use Rattle.lam_operators.specs.Words.{Word}
 use Rattle.lam_builtins.specs.Types.{ValueType}
-use Rattle.first_breaks.specs.Verdicts.{Fine, then_on}
-use Rattle.lam_kinds.specs.Breaks.{Verdict}
-use Rattle.lam_kinds.specs.Tables.{Names, Decls, vars_known}
-use Rattle.lam_kinds.specs.Values.{Breaks, names}
-use Rattle.lam_kinds.specs.declared.types.TypeRef.{TypeRef}
-use Rattle.lam_kinds.specs.declared.fault.TypeFault.{TypeFault}
-use Rattle.lam_kinds.proofs.Steps.{stops}
+use Rattle.lam_types_breaks.specs.Verdicts.{Fine, then_on}
+use Rattle.lam_types_kinds.specs.Breaks.{Verdict}
+use Rattle.lam_types_kinds.specs.Tables.{Names, Decls, vars_known}
+use Rattle.lam_types_kinds.specs.Values.{Breaks, names}
+use Rattle.lam_types_kinds.specs.declared.types.TypeRef.{TypeRef}
+use Rattle.lam_types_kinds.specs.declared.fault.TypeFault.{TypeFault}
+use Rattle.lam_types_kinds.proofs.Steps.{stops}
 use Rattle.lam_types.specs.declared.stmts.Counts.{Counts}
 use Rattle.lam_types.specs.Stmts.{block_checked}
 use Rattle.lam_types.specs.Program.{function_checked, returns, result_known, result_type, at_head}

@@ -4,13 +4,13 @@ use Rattle.std.proofs.lemmas.Bool.Decides.{nat_tests}
 use Rattle.lam_syntax.specs.Tree.{IdTree, ExprTree, stmt_node, StmtForm, let_stmt, if_stmt, while_stmt, return_stmt, throw_stmt, sync_stmt, region_stmt, do_stmt, assign_stmt, StmtList, no_stmts, stmts, ElseTree, no_else, else_block}
 use Rattle.lam_operators.specs.Words.{Word}
 use Rattle.lam_builtins.specs.Types.{ValueType, int, bool, label, caps, Given, a_value, a_null, nothing, given_type, Place, exactly, any_object}
-use Rattle.lam_kinds.specs.Written.{written}
-use Rattle.first_breaks.specs.Verdicts.{Fine, Stop, then_on}
-use Rattle.lam_kinds.specs.Breaks.{Break, too_many, Verdict, mismatch_of}
-use Rattle.lam_kinds.specs.Tables.{Names, Decls, find, fresh, twice_if, room, named_if, type_known}
-use Rattle.lam_exprs.specs.Exprs.{at_of, placed, given_of}
-use Rattle.lam_exprs.specs.Judgement.{IsGiven}
-use Rattle.lam_exprs.proofs.Law.{on, then_back, fine_is, named_fine, named_back, declared_fine, declared_back, given_fine, given_back, fits_fine, fits_back}
+use Rattle.lam_types_kinds.specs.Written.{written}
+use Rattle.lam_types_breaks.specs.Verdicts.{Fine, Stop, then_on}
+use Rattle.lam_types_kinds.specs.Breaks.{Break, too_many, Verdict, mismatch_of}
+use Rattle.lam_types_kinds.specs.Tables.{Names, Decls, find, fresh, twice_if, room, named_if, type_known}
+use Rattle.lam_types_exprs.specs.Exprs.{at_of, placed, given_of}
+use Rattle.lam_types_exprs.specs.Judgement.{IsGiven}
+use Rattle.lam_types_exprs.proofs.Law.{on, then_back, fine_is, named_fine, named_back, declared_fine, declared_back, given_fine, given_back, fits_fine, fits_back}
 use Rattle.lam_types.specs.declared.stmts.Counts.{Counts}
 use Rattle.lam_types.specs.Stmts.{stands, one_slot, one_region, back_in, with_local, new_local, capture, captured, returned, is_place, place_type, assigned, State, head_checked, closed, form_checked, else_checked, stmts_checked}
 use Rattle.lam_types.specs.Judgement.{slots_in, slots_or, slots_of, regions_in, regions_or, regions_of, IsNew, Stands, Returns, AllInScope, after, IsStmt, IsElse, IsBlock}

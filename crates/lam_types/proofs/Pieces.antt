@@ -4,15 +4,15 @@ use Rattle.lam_syntax.specs.declared.Stmt.{Stmt}
 use Rattle.lam_syntax.specs.Tree.{IdTree, ExprTree, stmts_tree}
 use Rattle.lam_operators.specs.Words.{Word}
 use Rattle.lam_builtins.specs.Types.{ValueType, given_type}
-use Rattle.first_breaks.specs.Verdicts.{Fine, Stop, then_on}
-use Rattle.lam_kinds.specs.Breaks.{Verdict, mismatch_of}
-use Rattle.lam_kinds.specs.Tables.{Names, Decls, find, fresh, twice_if}
-use Rattle.lam_kinds.specs.Values.{Breaks, names, keyed, value_type}
-use Rattle.lam_kinds.specs.declared.types.TypeRef.{TypeRef}
-use Rattle.lam_kinds.specs.declared.fault.TypeFault.{TypeFault}
-use Rattle.lam_kinds.proofs.Steps.{stops}
-use Rattle.lam_kinds.proofs.TableLemmas.{has_see}
-use Rattle.lam_exprs.specs.Exprs.{at_of, given_of}
+use Rattle.lam_types_breaks.specs.Verdicts.{Fine, Stop, then_on}
+use Rattle.lam_types_kinds.specs.Breaks.{Verdict, mismatch_of}
+use Rattle.lam_types_kinds.specs.Tables.{Names, Decls, find, fresh, twice_if}
+use Rattle.lam_types_kinds.specs.Values.{Breaks, names, keyed, value_type}
+use Rattle.lam_types_kinds.specs.declared.types.TypeRef.{TypeRef}
+use Rattle.lam_types_kinds.specs.declared.fault.TypeFault.{TypeFault}
+use Rattle.lam_types_kinds.proofs.Steps.{stops}
+use Rattle.lam_types_kinds.proofs.TableLemmas.{has_see}
+use Rattle.lam_types_exprs.specs.Exprs.{at_of, given_of}
 use Rattle.lam_types.specs.declared.stmts.Counts.{Counts}
 use Rattle.lam_types.specs.Stmts.{State, one_slot, new_local, returned, stmts_checked, block_checked, closed}
 use Rattle.lam_types.specs.Meets.{Counted}

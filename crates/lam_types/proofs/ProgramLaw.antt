@@ -2,12 +2,12 @@
 use Rattle.std.proofs.Common.{◌≡◌, ℕ, ◌+◌, ◌<◌, ◌≤◌, Bool, true, false, cond, not, ◌&&◌, List, [], ◌∷◌, ◌++◌, length, Option, Some, None, is_some, refl, sym, ap, ◌∙◌, arith, append_assoc}
 use Rattle.lam_syntax.specs.Tree.{IdTree, TypeTree, VarTree, ClassTree, FunctionTree, class_item, function_item, ProgramTree, StmtList}
 use Rattle.lam_operators.specs.Words.{Word}
-use Rattle.first_breaks.specs.Verdicts.{Fine, Stop, then_on, first_break}
-use Rattle.lam_kinds.specs.Breaks.{no_return, Verdict}
+use Rattle.lam_types_breaks.specs.Verdicts.{Fine, Stop, then_on, first_break}
+use Rattle.lam_types_kinds.specs.Breaks.{no_return, Verdict}
 use Rattle.lam_builtins.specs.Builtins.{Signature, builtin_named}
-use Rattle.lam_kinds.specs.Tables.{Names, Decls, typed_name, typed_names, fresh, room, twice_if, new_name, with_class, class_table, function_name, with_function, function_table, tables_of, with_var, vars_known, type_known, with_fields, fields_of, signature_of, declared, declared_classes, declared_functions}
-use Rattle.lam_kinds.proofs.TableLemmas.{field_new}
-use Rattle.lam_exprs.proofs.Law.{on, then_back, fine_is, declared_fine, declared_back}
+use Rattle.lam_types_kinds.specs.Tables.{Names, Decls, typed_name, typed_names, fresh, room, twice_if, new_name, with_class, class_table, function_name, with_function, function_table, tables_of, with_var, vars_known, type_known, with_fields, fields_of, signature_of, declared, declared_classes, declared_functions}
+use Rattle.lam_types_kinds.proofs.TableLemmas.{field_new}
+use Rattle.lam_types_exprs.proofs.Law.{on, then_back, fine_is, declared_fine, declared_back}
 use Rattle.lam_types.specs.declared.stmts.Counts.{Counts}
 use Rattle.lam_types.specs.Endings.{ends}
 use Rattle.lam_types.specs.Stmts.{block_checked, stmts_checked}

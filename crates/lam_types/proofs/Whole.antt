@@ -2,13 +2,13 @@
 use Rattle.std.proofs.Common.{◌≡◌, ℕ, List, Option, Some, None, is_none, IsTrue, Err, refl, sym, ap, subst}
 use Rattle.lam_syntax.specs.declared.Item.{Item}
 use Rattle.lam_syntax.specs.Tree.{ProgramTree, items_tree}
-use Rattle.first_breaks.specs.Verdicts.{Fine, Stop, first_break}
-use Rattle.lam_kinds.specs.Breaks.{Break, Verdict}
-use Rattle.lam_kinds.specs.Values.{Breaks}
-use Rattle.lam_kinds.specs.declared.fault.TypeFault.{TypeFault}
+use Rattle.lam_types_breaks.specs.Verdicts.{Fine, Stop, first_break}
+use Rattle.lam_types_kinds.specs.Breaks.{Break, Verdict}
+use Rattle.lam_types_kinds.specs.Values.{Breaks}
+use Rattle.lam_types_kinds.specs.declared.fault.TypeFault.{TypeFault}
 use Rattle.lam_types.specs.Program.{program_checked, first_type_break}
 use Rattle.lam_types.specs.Judgement.{IsTyped}
-use Rattle.lam_kinds.specs.Meets.{IsFirst, HasNoBreak}
+use Rattle.lam_types_kinds.specs.Meets.{IsFirst, HasNoBreak}
 use Rattle.lam_types.proofs.ProgramLaw.{typed_has_none, none_is_typed}
 
 none_of : (o : Option Break) → IsTrue (is_none o) → o ≡ None

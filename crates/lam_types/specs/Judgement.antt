@@ -4,10 +4,10 @@ use Rattle.lam_syntax.specs.Tree.{IdTree, TypeTree, VarTree, FunctionTree, ItemT
 use Rattle.lam_operators.specs.Words.{Word}
 use Rattle.lam_builtins.specs.Limits.{most_classes, most_functions, most_fields, most_params, most_slots, most_regions}
 use Rattle.lam_builtins.specs.Types.{ValueType, int, bool, label, caps, Given, a_value, Place, exactly, any_object}
-use Rattle.lam_kinds.specs.Written.{written}
+use Rattle.lam_types_kinds.specs.Written.{written}
 use Rattle.lam_builtins.specs.Builtins.{builtin_named}
-use Rattle.lam_kinds.specs.Tables.{Names, Decls, find, typed_names, declared}
-use Rattle.lam_exprs.specs.Judgement.{IsDeclared, Fits, IsGiven}
+use Rattle.lam_types_kinds.specs.Tables.{Names, Decls, find, typed_names, declared}
+use Rattle.lam_types_exprs.specs.Judgement.{IsDeclared, Fits, IsGiven}
 use Rattle.lam_types.specs.Endings.{ends}
 use Rattle.lam_types.specs.Stmts.{with_local, is_place}
 use Rattle.lam_types.specs.Program.{result_type}

@@ -1,10 +1,10 @@
 -- How the code meets the definitions.
 use Rattle.std.specs.Prelude.{◌≡◌, ℕ, Result, Ok, Err}
-use Rattle.first_breaks.specs.Verdicts.{Fine}
-use Rattle.lam_kinds.specs.Breaks.{Verdict}
-use Rattle.lam_kinds.specs.Tables.{Names}
-use Rattle.lam_kinds.specs.Values.{Breaks}
-use Rattle.lam_kinds.specs.declared.fault.TypeFault.{TypeFault}
+use Rattle.lam_types_breaks.specs.Verdicts.{Fine}
+use Rattle.lam_types_kinds.specs.Breaks.{Verdict}
+use Rattle.lam_types_kinds.specs.Tables.{Names}
+use Rattle.lam_types_kinds.specs.Values.{Breaks}
+use Rattle.lam_types_kinds.specs.declared.fault.TypeFault.{TypeFault}
 use Rattle.lam_types.specs.declared.stmts.Counts.{Counts}
 use Rattle.lam_types.specs.Stmts.{State}
 

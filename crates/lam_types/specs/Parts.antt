@@ -1,10 +1,10 @@
 -- Parts of statements for which the checker has a function of its own. The rules of the language do not speak of them.
 use Rattle.std.specs.Prelude.{ℕ, List, Option}
-use Rattle.first_breaks.specs.Verdicts.{then_on}
+use Rattle.lam_types_breaks.specs.Verdicts.{then_on}
 use Rattle.lam_syntax.specs.Tree.{IdTree, ExprTree, StmtList}
 use Rattle.lam_builtins.specs.Types.{ValueType, int, bool, exactly, any_object}
-use Rattle.lam_kinds.specs.Breaks.{Verdict}
-use Rattle.lam_kinds.specs.Tables.{Names, Decls}
+use Rattle.lam_types_kinds.specs.Breaks.{Verdict}
+use Rattle.lam_types_kinds.specs.Tables.{Names, Decls}
 use Rattle.lam_types.specs.declared.stmts.Counts.{Counts}
 use Rattle.lam_types.specs.Stmts.{stands, one_slot, new_local, with_local, head_checked, block_checked}
 

@@ -8,10 +8,10 @@ use Rattle.std.specs.Prelude.{ℕ, ◌&&◌, not, if◌then◌else◌, is_some, 
 use Rattle.lam_syntax.specs.Tree.{TypeTree, ClassTree, FunctionTree, ItemTree, class_item, function_item, ProgramTree}
 use Rattle.lam_builtins.specs.Limits.{most_fields, most_params}
 use Rattle.lam_builtins.specs.Types.{ValueType}
-use Rattle.lam_kinds.specs.Written.{written}
-use Rattle.first_breaks.specs.Verdicts.{Fine, Stop, then_on, first_break}
-use Rattle.lam_kinds.specs.Breaks.{Break, no_return, Verdict}
-use Rattle.lam_kinds.specs.Tables.{Decls, type_known, vars_known, tables_of}
+use Rattle.lam_types_kinds.specs.Written.{written}
+use Rattle.lam_types_breaks.specs.Verdicts.{Fine, Stop, then_on, first_break}
+use Rattle.lam_types_kinds.specs.Breaks.{Break, no_return, Verdict}
+use Rattle.lam_types_kinds.specs.Tables.{Decls, type_known, vars_known, tables_of}
 use Rattle.lam_types.specs.declared.stmts.Counts.{Counts}
 use Rattle.lam_types.specs.Endings.{ends}
 use Rattle.lam_types.specs.Stmts.{block_checked}

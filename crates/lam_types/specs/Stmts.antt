@@ -4,11 +4,11 @@ use Rattle.lam_syntax.specs.Tree.{IdTree, VarTree, ExprTree, expr_node, field_ex
 use Rattle.lam_operators.specs.Words.{Word}
 use Rattle.lam_builtins.specs.Limits.{most_slots, most_regions}
 use Rattle.lam_builtins.specs.Types.{ValueType, int, bool, label, caps, Given, given_type, Place, exactly, any_object}
-use Rattle.lam_kinds.specs.Written.{written}
-use Rattle.first_breaks.specs.Verdicts.{Fine, Stop, then_on}
-use Rattle.lam_kinds.specs.Breaks.{Verdict, mismatch_of}
-use Rattle.lam_kinds.specs.Tables.{Names, Decls, find, fresh, room, named_if, type_known}
-use Rattle.lam_exprs.specs.Exprs.{at_of, placed, given_of}
+use Rattle.lam_types_kinds.specs.Written.{written}
+use Rattle.lam_types_breaks.specs.Verdicts.{Fine, Stop, then_on}
+use Rattle.lam_types_kinds.specs.Breaks.{Verdict, mismatch_of}
+use Rattle.lam_types_kinds.specs.Tables.{Names, Decls, find, fresh, room, named_if, type_known}
+use Rattle.lam_types_exprs.specs.Exprs.{at_of, placed, given_of}
 use Rattle.lam_types.specs.declared.stmts.Counts.{Counts}
 
 -- an expression stands at a place

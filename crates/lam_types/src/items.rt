@@ -2,22 +2,22 @@
 
 ghost use Rattle.std.specs.Prelude.{◌≡◌, IfOk, IfErr, OnOk, None};
 ghost use Rattle.lam_syntax.specs.Tree.{program_tree, items_tree, item_tree, class_tree, function_tree, option_type_tree};
-ghost use Rattle.lam_kinds.specs.Values.{decls, option_type, Passes};
+ghost use Rattle.lam_types_kinds.specs.Values.{decls, option_type, Passes};
 ghost use Rattle.lam_types.specs.Program.{result_type, result_known, returns, class_checked, function_checked, item_checked, items_checked, program_checked, first_type_break};
 ghost use Rattle.lam_types.specs.Judgement.{IsTyped};
 ghost use Rattle.lam_types.specs.Seen.{tree_of};
 ghost use Rattle.lam_types.specs.Meets.{CountedRegions};
-ghost use Rattle.lam_kinds.specs.Meets.{IsFirst, HasNoBreak};
+ghost use Rattle.lam_types_kinds.specs.Meets.{IsFirst, HasNoBreak};
 
 use crate::endings::block_ends;
 use crate::stmts::{Counts, check_block};
 use crate::typed::Typed;
 use indexmap::IndexMap;
 use lam_builtins::{MOST_FIELDS, MOST_PARAMS};
-use lam_kinds::tables::{known_type, known_vars};
-use lam_kinds::types::type_ref;
-use lam_kinds::{Known, TypeFault, TypeRef};
 use lam_syntax::{Class, Function, Item, Program, TypeExpr};
+use lam_types_kinds::tables::{known_type, known_vars};
+use lam_types_kinds::types::type_ref;
+use lam_types_kinds::{Known, TypeFault, TypeRef};
 use std::alloc::Global;
 
 fn check_class<'a>(alloc: Global, known: &Known<'a>, c: &'a Class) -> Result<(), TypeFault>

@@ -5,7 +5,7 @@
 //! says which programs are typed, with one rule for each form of the grammar, and no positions and no order. `check`
 //! joins the two: it answers Ok exactly where the program is typed, and else the first break.
 //!
-//! The crate stands on `lam_exprs`, which types expressions, and on `lam_kinds`, which has the types and the tables.
+//! The crate stands on `lam_types_exprs`, which types expressions, and on `lam_types_kinds`, which has the types and the tables.
 //! Names in scope are a table that a block cuts back at its end, so a look-up takes constant time.
 #![tactic(auto)]
 
@@ -15,6 +15,6 @@ mod stmts;
 mod typed;
 
 pub use items::check;
-pub use lam_kinds::TypeFault;
+pub use lam_types_kinds::TypeFault;
 pub use stmts::Counts;
 pub use typed::Typed;

@@ -3,22 +3,22 @@
 ghost use Rattle.std.specs.Prelude.{◌≡◌, OnOk, IfErr, None};
 ghost use Rattle.lam_syntax.specs.Tree.{expr_tree, id_tree, ids_tree, option_expr_tree, stmt_tree, stmts_tree, var_tree};
 ghost use Rattle.lam_builtins.specs.Types.{exactly, int};
-ghost use Rattle.first_breaks.specs.Verdicts.{Fine, then_on};
-ghost use Rattle.lam_kinds.specs.Tables.{find};
-ghost use Rattle.lam_kinds.specs.Values.{decls, names, value_type, option_type, given, place, Passes, Extends};
-ghost use Rattle.lam_exprs.specs.Exprs.{at_of, given_of};
+ghost use Rattle.lam_types_breaks.specs.Verdicts.{Fine, then_on};
+ghost use Rattle.lam_types_kinds.specs.Tables.{find};
+ghost use Rattle.lam_types_kinds.specs.Values.{decls, names, value_type, option_type, given, place, Passes, Extends};
+ghost use Rattle.lam_types_exprs.specs.Exprs.{at_of, given_of};
 ghost use Rattle.lam_types.specs.Stmts.{stands, one_slot, one_region, with_local, new_local, capture, captured, returned, is_place as is_a_place, place_type, assigned, let_checked, head_checked, stmt_checked, stmts_checked, block_checked};
 ghost use Rattle.lam_types.specs.Parts.{guarded, synced, opened, caught};
 ghost use Rattle.lam_types.specs.Meets.{Counted, Steps};
-ghost use Rattle.lam_kinds.specs.declared.fault.TypeFault.TheVariants.{NoMemory as no_memory};
+ghost use Rattle.lam_types_kinds.specs.declared.fault.TypeFault.TheVariants.{NoMemory as no_memory};
 
 use lam_builtins::{MOST_REGIONS, MOST_SLOTS};
-use lam_exprs::{check_at, check_expr};
-use lam_kinds::fault::mismatch;
-use lam_kinds::tables::{add_name, find_name, fresh_name, known_type};
-use lam_kinds::types::{got_type, type_ref};
-use lam_kinds::{Got, Known, Names, TypeFault, TypeRef, Want};
 use lam_syntax::{Expr, ExprKind, Id, Stmt, StmtKind, Var};
+use lam_types_exprs::{check_at, check_expr};
+use lam_types_kinds::fault::mismatch;
+use lam_types_kinds::tables::{add_name, find_name, fresh_name, known_type};
+use lam_types_kinds::types::{got_type, type_ref};
+use lam_types_kinds::{Got, Known, Names, TypeFault, TypeRef, Want};
 use std::alloc::Global;
 
 /// The slots of the unit and the regions of the program, so far.

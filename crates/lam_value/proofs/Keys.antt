@@ -7,8 +7,8 @@ use Rattle.std.specs.FinMap.{IsAntisymmetric, nat_cmp-IsAntisymmetric}
 use Rattle.lam_value.specs.declared.names.Name.{Name}
 use Rattle.lam_value.specs.Names.{label_cmp, name_cmp}
 pub use Rattle.lam_value.specs.Names.{name_eq}
-use Rattle.home_counters.proofs.Keys.{then_parts}
-pub use Rattle.home_counters.proofs.Keys.{label_exact, home_exact, label_total, home_total, label_ties, home_ties}
+use Rattle.lam_value_homes.proofs.Keys.{then_parts}
+pub use Rattle.lam_value_homes.proofs.Keys.{label_exact, home_exact, label_total, home_total, label_ties, home_ties}
 
 -- ---- what ties is equal
 pub name_exact : IsAntisymmetric name_cmp

@@ -1,6 +1,6 @@
 pub mod CountLemmas
 pub mod Keys
-pub use Rattle.home_counters.proofs.Listings
-pub use Rattle.home_counters.proofs.Maps
-pub use Rattle.home_counters.proofs.Rows
-pub use Rattle.home_counters.proofs.SameLemmas
+pub use Rattle.lam_value_homes.proofs.Listings
+pub use Rattle.lam_value_homes.proofs.Maps
+pub use Rattle.lam_value_homes.proofs.Rows
+pub use Rattle.lam_value_homes.proofs.SameLemmas

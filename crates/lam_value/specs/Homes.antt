@@ -3,7 +3,7 @@ use Rattle.std.specs.Prelude.{ℕ, ◌<◌, IsTrue}
 use Rattle.std.specs.FinMap.{FinMap, contains_key}
 use Rattle.lam_value.specs.declared.names.Name.{Name}
 use Rattle.lam_value.specs.Names.{name_cmp}
-pub use Rattle.home_counters.specs.Homes.{Home, coded_home, home_of, home_cmp, Counts, coded_counts, count_in, counted, raised, AreWithin, IsAboveZero, AreSeenAlike, label_eq, home_eq, IsListing, homes_in, home_in, AreHomes}
+pub use Rattle.lam_value_homes.specs.Homes.{Home, coded_home, home_of, home_cmp, Counts, coded_counts, count_in, counted, raised, AreWithin, IsAboveZero, AreSeenAlike, label_eq, home_eq, IsListing, homes_in, home_in, AreHomes}
 
 -- the name of a home's thing with a number
 abbrev pub name_of : Home → ℕ → Name

@@ -3,6 +3,6 @@ pub mod NameParts
 pub mod Names
 pub mod Shapes
 pub mod Texts
-pub use Rattle.home_counters.specs.TwoLists
-pub use Rattle.home_counters.specs.Alike
-pub use Rattle.home_counters.specs.Maps
+pub use Rattle.lam_value_homes.specs.TwoLists
+pub use Rattle.lam_value_homes.specs.Alike
+pub use Rattle.lam_value_homes.specs.Maps

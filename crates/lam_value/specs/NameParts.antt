@@ -4,10 +4,10 @@ use Rattle.std.specs.Prelude.{ℕ, ◌≡◌, List, ◌++◌, fold, refl}
 use Rattle.std.specs.Coded.{Coded, code_by, coded×, coded_ℕ}
 use Rattle.std.specs.Hash.{slice, u64}
 use Rattle.std.specs.Hash.FoldHasher.{initial, write, finish}
-use Rattle.home_counters.specs.Tags.{tags_of}
-use Rattle.home_counters.specs.declared.Label.{Label}
-pub use Rattle.home_counters.specs.Labels.{coded_label}
-pub use Rattle.home_counters.specs.Homes.{Home, coded_home}
+use Rattle.lam_value_homes.specs.Tags.{tags_of}
+use Rattle.lam_value_homes.specs.declared.Label.{Label}
+pub use Rattle.lam_value_homes.specs.Labels.{coded_label}
+pub use Rattle.lam_value_homes.specs.Homes.{Home, coded_home}
 
 pub record NameParts : Type 0 where
   pub maker : Label

@@ -5,8 +5,8 @@ use Rattle.std.specs.Ordering.{nat_cmp, ordering_then}
 use Rattle.std.specs.declared.cmp.Ordering.{Ordering}
 use Rattle.lam_value.specs.declared.names.Name.{Name}
 use Rattle.lam_value.specs.NameParts.{coded_parts}
-use Rattle.home_counters.specs.Homes.{label_eq}
-pub use Rattle.home_counters.specs.Labels.{tags_cmp, label_cmp}
+use Rattle.lam_value_homes.specs.Homes.{label_eq}
+pub use Rattle.lam_value_homes.specs.Labels.{tags_cmp, label_cmp}
 
 -- the maker's label, then the own label, then the number
 abbrev pub name_cmp : Name → Name → Ordering

@@ -5,9 +5,9 @@
 -- is `arr<{}/{}|{}/{}|0>[2]`; thread 7 is `t7`; tag 4 is `#4`; plus {0} alone is `+{a}-{}`.
 use Rattle.std.specs.Prelude.{◌≡◌, ℕ, ◌+◌, ◌-◌, ◌/◌, ◌%◌, true, false, nat_eq, nat_le, nat_lt, ◌||◌, ◌&&◌, if◌then◌else◌, List, [], ◌∷◌, ◌++◌, codes, decimal, refl}
 use Rattle.std.specs.Fmt.{signed_decimal}
-use Rattle.home_counters.specs.TwoLists.{Text, tag_text, sets_text}
-use Rattle.home_counters.specs.LabelText.{label_text}
-use Rattle.home_counters.specs.declared.Form.TheVariants.{Caps as caps_form}
+use Rattle.lam_value_homes.specs.TwoLists.{Text, tag_text, sets_text}
+use Rattle.lam_value_homes.specs.LabelText.{label_text}
+use Rattle.lam_value_homes.specs.declared.Form.TheVariants.{Caps as caps_form}
 use Rattle.lam_value.specs.declared.names.Name.{Name}
 use Rattle.lam_value.specs.declared.values.Value.{Value}
 use Rattle.lam_value.specs.declared.values.Value.TheVariants.{Int, Bool as Truth, Bytes, Nothing, Obj, Arr, File, Dir, Pipe, Thread, Tag, Lab, CapV}

@@ -2,7 +2,7 @@
 
 ghost use Rattle.std.specs.Prelude.{◌≡◌, ℕ, List, IsTrue, ◌↔◌, IfOk};
 
-use home_counters::NoMemory;
+use lam_value_homes::NoMemory;
 use std::alloc::Global;
 use std::marker::Model;
 

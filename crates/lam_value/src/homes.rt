@@ -8,13 +8,13 @@ ghost use Rattle.std.specs.Ordering.{on, eq_of_both};
 ghost use Rattle.std.specs.Hash as fed;
 ghost use Rattle.std.specs.HashMap.{get as at_key};
 ghost use Rattle.std.specs.Option.{option_copied};
-ghost use Rattle.home_counters.specs.Tags.{tags_of};
-ghost use Rattle.home_counters.specs.Alike.{second};
+ghost use Rattle.lam_value_homes.specs.Tags.{tags_of};
+ghost use Rattle.lam_value_homes.specs.Alike.{second};
 ghost use Rattle.lam_value.specs.NameParts.{home_writes, home_input, folded};
 ghost use Rattle.lam_value.specs.Homes.{label_eq, home_eq};
 
-use home_counters::{Label, Labelled, NoMemory};
 use indexmap::IndexMap;
+use lam_value_homes::{Label, Labelled, NoMemory};
 use std::hash::{FoldHasher, Hash, Hasher};
 use std::marker::Model;
 

@@ -9,7 +9,7 @@
 //! - `byte_text` and `values` have the values; `shapes` what a new thing looks like.
 //! - `text` prints values.
 //!
-//! Things are numbered by `home_counters`, which this crate passes on: the counters of homes, and equality of maps.
+//! Things are numbered by `lam_value_homes`, which this crate passes on: the counters of homes, and equality of maps.
 //!
 //! Contracts see all of these as plain data: equal values are equal in every respect.
 
@@ -25,10 +25,10 @@ mod values;
 
 pub use byte_text::ByteText;
 pub use decimal_text::push_number;
-pub use home_counters::{
+pub use homes::{Home, at_home};
+pub use lam_value_homes::{
     Counters, Denied, HomeCounts, Label, Labelled, Same, TagNames, Whole, same_maps,
 };
-pub use homes::{Home, at_home};
 pub use names::Name;
 pub use same_lists::same_values;
 pub use shapes::{Kind, Shape};

@@ -6,14 +6,14 @@ ghost use Rattle.std.specs.Cmp.{partial_order_from_own_ties};
 ghost use Rattle.std.specs.Cmp.Rules.{comparing, hashing};
 ghost use Rattle.std.specs.Cmp.Lexicographic.{pointwise, slice_cmp};
 ghost use Rattle.std.specs.Ordering.{on, eq_of_both, then_cmp, nat_cmp, as_partial_cmp};
-ghost use Rattle.home_counters.specs.Tags.{tags_of};
-ghost use Rattle.home_counters.specs.Alike.{middle};
+ghost use Rattle.lam_value_homes.specs.Tags.{tags_of};
+ghost use Rattle.lam_value_homes.specs.Alike.{middle};
 ghost use Rattle.lam_value.specs.NameParts.{name_input, same_input};
 ghost use Rattle.lam_value.specs.Names.{name_cmp};
 ghost use Rattle.lam_value.specs.Homes.{home_of, label_eq};
 
 use crate::homes::{Home, copied_labels};
-use home_counters::{Label, Labelled, NoMemory, same};
+use lam_value_homes::{Label, Labelled, NoMemory, same};
 use std::alloc::Global;
 use std::cmp::Ordering;
 use std::hash::{Hash, Hasher};

@@ -4,7 +4,7 @@ ghost use Rattle.std.specs.Prelude.{◌≡◌, IfOk};
 ghost use Rattle.lam_value.specs.Shapes.{zero_of, slots_of};
 
 use crate::values::{Value, Values};
-use home_counters::NoMemory;
+use lam_value_homes::NoMemory;
 use std::alloc::Global;
 
 /// What the elements of an array are.

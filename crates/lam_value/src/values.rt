@@ -5,7 +5,7 @@ ghost use Rattle.std.specs.Option.{option_copied};
 
 use crate::byte_text::ByteText;
 use crate::names::Name;
-use home_counters::{Label, NoMemory, TagId, TagSet, same};
+use lam_value_homes::{Label, NoMemory, TagId, TagSet, same};
 use std::alloc::Global;
 use std::marker::Model;
 use std::mem::replace;

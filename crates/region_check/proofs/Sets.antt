@@ -11,7 +11,7 @@ use Rattle.lam_syntax.specs.declared.CapItem.{CapItem}
 use Rattle.lam_syntax.specs.declared.Expr.{Expr}
 use Rattle.lam_syntax.specs.Tree.{ids_tree, id_tree, caps_tree, cap_tree, exprs_tree, expr_tree}
 use Rattle.lam_operators.specs.Words.{Word}
-use Rattle.first_breaks.specs.Verdicts.{Fine, then_on}
+use Rattle.lam_types_breaks.specs.Verdicts.{Fine, then_on}
 use Rattle.region_check.specs.Breaks.{Verdict, has, with_name, read_checked, caps_checked, capture_checked, captures_checked, expr_checked, exprs_checked}
 use Rattle.region_check.specs.Values.{texts, Breaks, Extends}
 use Rattle.region_check.specs.declared.RegionFault.{RegionFault}

@@ -1,10 +1,10 @@
 -- A place more in the book.
 use Rattle.std.proofs.Common.{◌≡◌, ℕ, suc, ◌+◌, ◌<◌, ◌≤◌, ◌==◌, List, [], ◌∷◌, ◌++◌, length, Some, None, Option, cond, refl, sym, ap, ◌∙◌, subst, arith, length-append}
-use Rattle.lam_worlds.specs.Worlds.{World}
-use Rattle.lam_worlds.specs.Turns.{replay, ready}
+use Rattle.lam_machine_terms.specs.Worlds.{World}
+use Rattle.lam_machine_terms.specs.Turns.{replay, ready}
 use Rattle.lam_asks.specs.declared.answer.Event.{Event}
-use Rattle.lam_turn_parts.specs.Turned.{IsTurn}
-use Rattle.machine_run.specs.Runs.{Ran, IsWhole}
+use Rattle.lam_machine_turns.specs.Turned.{IsTurn}
+use Rattle.thread_host_run.specs.Runs.{Ran, IsWhole}
 use Rattle.seat_host.specs.declared.answer.TurnAnswer.{TurnAnswer}
 use Rattle.seat_host.specs.declared.answer.TurnAnswer.TheVariants.{Worn, Stale, Full, NotReady, NoMemory, Took}
 use Rattle.seat_host.specs.Places.{shared, turns_in, world_at, spread, last_of}

@@ -1,9 +1,9 @@
 -- What a caller's turn answers, and what its place then holds.
 use Rattle.std.specs.Prelude.{◌≡◌, ℕ, ◌<◌, ◌≤◌, List, true, false, length, Option, Some, None, IfSome}
 use Rattle.lam_asks.specs.declared.answer.Event.{Event}
-use Rattle.lam_worlds.specs.Worlds.{World}
-use Rattle.lam_worlds.specs.Turns.{ready}
-use Rattle.lam_turn_parts.specs.Turned.{IsTurn}
+use Rattle.lam_machine_terms.specs.Worlds.{World}
+use Rattle.lam_machine_terms.specs.Turns.{ready}
+use Rattle.lam_machine_turns.specs.Turned.{IsTurn}
 use Rattle.seat_host.specs.Places.{Shared, turns_in, world_at, last_of}
 use Rattle.seat_host.specs.declared.answer.TurnAnswer.{TurnAnswer}
 use Rattle.seat_host.specs.declared.answer.TurnAnswer.TheVariants.{Worn, Stale, Full, NotReady, NoMemory, Took}

@@ -1,9 +1,9 @@
 -- What the slot keeps: a run, the places that hold its turns, and the last place of each thread.
 use Rattle.std.specs.Prelude.{◌≡◌, ℕ, ◌+◌, ◌<◌, ◌≤◌, ◌++◌, ◌==◌, List, [], ◌∷◌, cond, true, false, length, Option, Some, None, slice_index_or}
 use Rattle.lam_asks.specs.declared.answer.Event.{Event}
-use Rattle.lam_worlds.specs.Turns.{ready}
-use Rattle.lam_turn_parts.specs.Turned.{IsTurn}
-use Rattle.machine_run.specs.Runs.{Ran, with_turn}
+use Rattle.lam_machine_terms.specs.Turns.{ready}
+use Rattle.lam_machine_turns.specs.Turned.{IsTurn}
+use Rattle.thread_host_run.specs.Runs.{Ran, with_turn}
 use Rattle.seat_host.specs.Places.{turns_in, spread, last_of}
 use Rattle.seat_host.specs.Answers.{IsFresh}
 use Rattle.seat_host.specs.declared.answer.TurnAnswer.{TurnAnswer}

@@ -9,7 +9,7 @@ use Rattle.lam_bytecode.specs.Codes.{code_of}
 use Rattle.labelled_heap.specs.Things.{no_things}
 use Rattle.labelled_files.specs.Trees.{root_alone}
 use Rattle.labelled_pipes.specs.Queues.{no_pipes}
-use Rattle.lam_worlds.specs.Worlds.{World}
+use Rattle.lam_machine_terms.specs.Worlds.{World}
 use Rattle.std.specs.FinMap as map
 use Rattle.seat_host.specs.Places.{Shared, shared}
 use Rattle.seat_host.specs.declared.law.View.{View}

@@ -2,9 +2,9 @@
 use Rattle.std.specs.Prelude.{ℕ, zero, suc, ◌+◌, ◌==◌, List, [], ◌∷◌, cond, length, Option, Some, None, refl}
 use Rattle.std.specs.Coded.{Coded, code_by, coded×, coded_ℕ, coded_list, coded_option}
 use Rattle.lam_bytecode.specs.Codes.{CodeTree, coded_code}
-use Rattle.lam_worlds.specs.Worlds.{World}
-use Rattle.lam_worlds.specs.Turns.{replay}
-use Rattle.lam_world.specs.Coding.{coded_world}
+use Rattle.lam_machine_terms.specs.Worlds.{World}
+use Rattle.lam_machine_terms.specs.Turns.{replay}
+use Rattle.lam_machine_world.specs.Coding.{coded_world}
 
 -- the turns that places hold, in order
 abbrev pub turns_in : List (Option ℕ) → List ℕ

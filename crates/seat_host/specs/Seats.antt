@@ -8,14 +8,14 @@ use Rattle.atomic_table.specs.Table.{Me}
 use Rattle.atomic_table.specs.Seated.{TableId, table_id_coded}
 use Rattle.std.specs.Coded.{Coded, code_by, coded×, coded_ℕ, coded_list, coded_option}
 use Rattle.lam_bytecode.specs.Codes.{CodeTree, coded_code}
-use Rattle.lam_worlds.specs.Worlds.{World}
-use Rattle.lam_world.specs.Coding.{coded_world}
+use Rattle.lam_machine_terms.specs.Worlds.{World}
+use Rattle.lam_machine_world.specs.Coding.{coded_world}
 use Rattle.seat_host.specs.declared.law.View.{View}
 use Rattle.seat_host.specs.declared.answer.TurnAnswer.{TurnAnswer}
 use Rattle.seat_host.specs.declared.answer.TurnAnswer.TheVariants.{Worn, Stale, Full, NotReady, NoMemory, Took}
 use Rattle.seat_host.specs.Places.{Shared, shared, turns_in}
 use Rattle.seat_host.specs.Answers.{holding, Comes}
-use Rattle.machine_run.specs.Runs.{Ran}
+use Rattle.thread_host_run.specs.Runs.{Ran}
 use Rattle.seat_host.specs.Law.{looked, ticketed, served, longer, merged}
 
 -- no ticket is open, and no slot is out

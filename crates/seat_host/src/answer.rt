@@ -1,7 +1,7 @@
 //! What a caller's turn answers, and what a shared run is closed into.
 
 use lam_asks::Event;
-use machine_run::Run;
+use thread_host_run::Run;
 
 /// What a caller's turn answers. A place is one ticket's use, counted from 0.
 #[derive(Drop)]

@@ -2,17 +2,17 @@
 
 ghost use Rattle.std.specs.Prelude.{◌≡◌, ℕ, ◌+◌, ◌<◌, ◌^◌, ◌++◌, [], ◌∷◌, length, true, Some, slice_set, IfOk, IfErr, OnOk};
 ghost use Rattle.std.specs.Prelude.{drop};
-ghost use Rattle.lam_worlds.specs.Turns.{ready};
-ghost use Rattle.machine_run.specs.Runs.{IsWhole};
+ghost use Rattle.lam_machine_terms.specs.Turns.{ready};
+ghost use Rattle.thread_host_run.specs.Runs.{IsWhole};
 ghost use Rattle.seat_host.specs.Places.{shared, turns_in, spread};
 ghost use Rattle.seat_host.specs.Books.{last_in, SaysSame, MayTry, Tries, Enters, first_at, passed};
 ghost use Rattle.seat_host.specs.declared.answer.CloseFault.TheVariants.{NoMemory as OutOfMemory};
 ghost use Rattle.seat_host.specs.Answers.{holding, Comes};
 
 use crate::answer::{CloseFault, Closed, TurnAnswer};
-use machine_run::{Run, TURN_LIMIT};
 use std::alloc::Global;
 use std::marker::Model;
+use thread_host_run::{Run, TURN_LIMIT};
 use want_of_memory::NoMemory;
 
 /// A run and its places. A place that holds nothing takes no memory.

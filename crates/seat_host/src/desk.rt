@@ -3,8 +3,8 @@
 ghost use Rattle.std.specs.Prelude.{◌≡◌, ℕ, ◌+◌, ◌<◌, ◌≤◌, ◌++◌, [], ◌∷◌, length, true, false, IfOk, IfErr};
 ghost use mathlib.Core.List.{IsPrefix};
 ghost use Rattle.lam_bytecode.specs.Codes.{IsCode};
-ghost use Rattle.lam_worlds.specs.Valid.{IsValid};
-ghost use Rattle.machine_run.specs.Runs.{opened};
+ghost use Rattle.lam_machine_terms.specs.Valid.{IsValid};
+ghost use Rattle.thread_host_run.specs.Runs.{opened};
 ghost use Rattle.seat_host.specs.Places.{shared};
 ghost use Rattle.seat_host.specs.Answers.{holding, Comes};
 ghost use Rattle.seat_host.specs.Law.{newcomer, fresh, learned, joined};
@@ -15,13 +15,13 @@ use crate::book::Book;
 use crate::law::{Draw, Finish, Fork, Given, Glue, Law, Learn, Look, Serve, View};
 use atomic_table::{Refused, Seat, Table};
 use lam_bytecode::Code;
-use lam_world::{World, let_go_code, let_go_world};
-use machine_run::Run;
+use lam_machine_equal::copy_code;
+use lam_machine_world::{World, let_go_code, let_go_world};
 use std::alloc::Global;
 use std::sync::Wait;
 use std::thread;
+use thread_host_run::Run;
 use want_of_memory::NoMemory;
-use world_equality::copy_code;
 
 /// The ticket word, the serving word, and the slot with the book.
 #[derive(Drop)]

@@ -2,7 +2,7 @@
 use crate::book::Book;
 use atomic_table::{Join, Play, Split, TableRule};
 use lam_bytecode::Code;
-use lam_world::World;
+use lam_machine_world::World;
 use std::collections::LinkedList;
 
 /// What a table is told once: the code and the start of its run.

@@ -3,13 +3,13 @@
 ghost use Rattle.std.specs.Prelude.{◌≡◌, ◌<◌, ◌^◌, length, IfOk, IfErr};
 ghost use mathlib.Core.List.{IsPrefix};
 ghost use Rattle.lam_bytecode.specs.Codes.{IsCode};
-ghost use Rattle.lam_worlds.specs.Valid.{IsValid};
+ghost use Rattle.lam_machine_terms.specs.Valid.{IsValid};
 ghost use Rattle.seat_host.specs.Seats.{new_seat, without_calls, both_seats, TookTurn, Closes, StaysOpen, seen_after};
 
 use crate::answer::{CloseFault, Closed, TurnAnswer};
 use crate::desk::{Desk, Pass};
 use lam_bytecode::Code;
-use lam_world::World;
+use lam_machine_world::World;
 use std::alloc::Global;
 use std::marker::Model;
 use std::sync::Wait;

@@ -9,7 +9,7 @@ use Rattle.lam_asks.specs.declared.ask.Ask.TheVariants as ask
 use Rattle.lam_asks.specs.declared.answer.Outcome.TheVariants as outcome
 use Rattle.lam_bytecode.specs.Codes.{CodeTree}
 use Rattle.thread_steps.specs.Threads.{Frame, Inside, Phase, Bottom, Body, Catch, Context, Thread}
-use Rattle.lam_threads.specs.Stacked.{is_bottom}
+use Rattle.thread_core_state.specs.Stacked.{is_bottom}
 use Rattle.thread_steps.specs.Ops.{sets, returns, on_any}
 use Rattle.thread_steps.specs.Next.{Next, goes, asks, stuck, stands, is_shared, is_private, is_stuck, is_ended, raised, returned, ending, leaving, next_by, next_of, standing_in, with_inside}
 use Rattle.thread_core.specs.declared.turn.Turn.TheVariants as turn

@@ -4,7 +4,7 @@ use Rattle.std.specs.Prelude.{IsTrue, ◌↔◌}
 use Rattle.lam_asks.specs.declared.answer.Outcome.{Outcome}
 use Rattle.lam_bytecode.specs.Codes.{CodeTree}
 use Rattle.thread_steps.specs.Threads.{Context, Thread}
-use Rattle.lam_threads.specs.Stacked.{is_bottom, has_contexts, AreStacked, IsThread}
+use Rattle.thread_core_state.specs.Stacked.{is_bottom, has_contexts, AreStacked, IsThread}
 use Rattle.thread_steps.specs.Next.{Next, goes, asks, stuck, next_of, standing_in, standing, is_ended}
 use Rattle.thread_core.specs.declared.turn.Standing.{Standing}
 use Rattle.thread_core.specs.declared.turn.Standing.TheVariants as written

@@ -3,7 +3,7 @@ use Rattle.std.specs.Prelude.{◌≡◌, ◌+◌, ◌<◌, ◌^◌, None}
 use Rattle.lam_bytecode.specs.Codes.{CodeTree}
 use Rattle.thread_steps.specs.Threads.{Context}
 use Rattle.thread_steps.specs.Next.{Next, stuck, raised, next_by}
-use Rattle.thread_sights.specs.Acting.{did_of}
+use Rattle.thread_core_effects.specs.Acting.{did_of}
 use Rattle.thread_core.specs.declared.coming.Coming.{Coming}
 use Rattle.thread_core.specs.declared.coming.Coming.TheVariants as coming
 

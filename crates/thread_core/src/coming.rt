@@ -6,9 +6,9 @@ ghost use Rattle.thread_core.specs.Coming.{next_from, HasPlace};
 
 use lam_asks::Fault;
 use lam_bytecode::{Code, Op};
-use lam_threads::Context;
-use thread_ops::see;
-use thread_sights::Sight;
+use thread_core_effects::Sight;
+use thread_core_ops::see;
+use thread_core_state::Context;
 
 /// What comes next of a context.
 #[derive(Clone, Copy)]

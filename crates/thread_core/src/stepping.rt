@@ -3,11 +3,11 @@
 ghost use Rattle.std.specs.Prelude.{◌≡◌, ◌<◌, ◌+◌, ◌^◌, ◌∷◌, [], Some, if◌then◌else◌, reverse, length, drop, slice_get, vec_len, vec_capacity, IfSome, IfOk, OnOk, OnErr, MatchOption};
 ghost use Rattle.lam_bytecode.specs.Codes.{CodeTree};
 ghost use Rattle.thread_steps.specs.Threads.{Inside};
-ghost use Rattle.lam_threads.specs.Stacked.{is_bottom};
+ghost use Rattle.thread_core_state.specs.Stacked.{is_bottom};
 ghost use Rattle.thread_steps.specs.Next.{next_of, stands, leaving, is_shared, is_stuck};
-ghost use Rattle.lam_threads.specs.Seen.{phase_of};
-ghost use Rattle.thread_sights.specs.Acting.{ask_of};
-ghost use Rattle.thread_sights.specs.Reading.{thing_in};
+ghost use Rattle.thread_core_state.specs.Seen.{phase_of};
+ghost use Rattle.thread_core_effects.specs.Acting.{ask_of};
+ghost use Rattle.thread_core_effects.specs.Reading.{thing_in};
 ghost use Rattle.thread_core.specs.Turning.{moved, standing_of, asked, awaited, awaited_by, monitor_of, end_of};
 ghost use Rattle.thread_core.specs.Coming.{next_from};
 ghost use Rattle.thread_core.specs.Steps.{changed, stands_by, moved_by, HasNext};
@@ -19,10 +19,10 @@ use crate::turn::{Standing, Waits};
 use flow_labels::{Label, read_rule, same_rule};
 use lam_asks::{Ask, Fault, Outcome};
 use lam_bytecode::Code;
-use lam_threads::{Context, Frame, Operands, Phase, locals_of};
 use lam_value::{Name, Value};
 use std::mem::replace;
-use thread_sights::{Sight, Sketch, ask_from, thing_in, value_from};
+use thread_core_effects::{Sight, Sketch, ask_from, thing_in, value_from};
+use thread_core_state::{Context, Frame, Operands, Phase, locals_of};
 use want_of_memory::NoMemory;
 
 fn drops(c: &mut Context, takes: usize)

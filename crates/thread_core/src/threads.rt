@@ -1,7 +1,7 @@
 //! Threads: how one stands, what it asks, and its private turns.
 
 ghost use Rattle.std.specs.Prelude.{◌≡◌, ◌↔◌, IsTrue, Some, None, is_some, reverse, IfOk, OnOk, OnErr};
-ghost use Rattle.lam_threads.specs.Stacked.{IsThread};
+ghost use Rattle.thread_core_state.specs.Stacked.{IsThread};
 ghost use Rattle.thread_steps.specs.Next.{standing, standing_in, is_private, is_shared};
 ghost use Rattle.thread_core.specs.Turning.{turn_of, stepped, stepped_in, standing_of, ask_of, awaited_of, awaited_by};
 
@@ -9,7 +9,7 @@ use crate::stepping::{context_ask, context_stands, context_waits, go_on_in};
 use crate::turn::{Standing, Turn, Waits};
 use lam_asks::Ask;
 use lam_bytecode::Code;
-use lam_threads::{Context, LamThread};
+use thread_core_state::{Context, LamThread};
 use want_of_memory::NoMemory;
 
 /// How a thread stands: ended exactly where it has a result.

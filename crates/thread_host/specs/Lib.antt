@@ -1,2 +1,2 @@
 pub mod Visits
-pub use Rattle.machine_run.specs.Runs
+pub use Rattle.thread_host_run.specs.Runs

@@ -1,9 +1,9 @@
 -- What a worker does to a run in one visit under the lock.
 use Rattle.std.specs.Prelude.{◌≡◌, ◌<◌, ◌≤◌, ℕ, true, length}
-use Rattle.lam_worlds.specs.Turns as turns
-use Rattle.lam_run_laws.specs.declared.How.{How}
-use Rattle.lam_run_laws.specs.Ends.{SomeReady, HasEnded}
-use Rattle.machine_run.specs.Runs.{Ran, with_turn}
+use Rattle.lam_machine_terms.specs.Turns as turns
+use Rattle.lam_machine_runs.specs.declared.How.{How}
+use Rattle.lam_machine_runs.specs.Ends.{SomeReady, HasEnded}
+use Rattle.thread_host_run.specs.Runs.{Ran, with_turn}
 use Rattle.thread_host.specs.declared.visits.Visit.{Visit}
 use Rattle.thread_host.specs.declared.visits.Visit.TheVariants.{Took, Ended}
 

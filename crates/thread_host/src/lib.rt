@@ -12,6 +12,6 @@ mod seats;
 mod visits;
 mod workers;
 
-pub use lam_run_laws::How;
-pub use machine_run::RunParts;
+pub use lam_machine_runs::How;
 pub use running::{Finished, run_on};
+pub use thread_host_run::RunParts;

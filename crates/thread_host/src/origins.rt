@@ -2,14 +2,14 @@
 
 ghost use Rattle.std.specs.Prelude.{◌≡◌, ◌≤◌, length, IfOk};
 ghost use Rattle.lam_bytecode.specs.Codes.{IsCode};
-ghost use Rattle.lam_worlds.specs.Valid.{IsValid};
+ghost use Rattle.lam_machine_terms.specs.Valid.{IsValid};
 
 use lam_bytecode::Code;
-use lam_world::{World, let_go_code, let_go_world};
-use machine_run::{Run, let_go_run};
+use lam_machine_equal::copy_code;
+use lam_machine_world::{World, let_go_code, let_go_world};
 use std::alloc::Global;
+use thread_host_run::{Run, let_go_run};
 use want_of_memory::NoMemory;
-use world_equality::copy_code;
 
 /// A code and the world that a run of it starts in.
 #[derive(Drop)]

@@ -2,20 +2,20 @@
 
 ghost use Rattle.std.specs.Prelude.{◌≡◌, ◌<◌, ◌≤◌, length, IfOk};
 ghost use Rattle.lam_bytecode.specs.Codes.{IsCode};
-ghost use Rattle.lam_worlds.specs.Valid.{IsValid};
-ghost use Rattle.lam_run_laws.specs.Ends.{HasEnded, EndsOnlySo};
+ghost use Rattle.lam_machine_terms.specs.Valid.{IsValid};
+ghost use Rattle.lam_machine_runs.specs.Ends.{HasEnded, EndsOnlySo};
 
 use crate::origins::{Origin, copied, let_go_origin, own_run};
 use crate::seats::{Seated, go_on};
 use crate::workers::by_workers;
 use lam_bytecode::Code;
 use lam_io::Gate;
-use lam_run_laws::{How, runs_end_in_one_way};
-use lam_world::World;
-use machine_run::{Run, let_go_run};
+use lam_machine_runs::{How, runs_end_in_one_way};
+use lam_machine_world::World;
 use std::alloc::Global;
 use std::sync::Wait;
 use std::thread::Threads;
+use thread_host_run::{Run, let_go_run};
 use want_of_memory::NoMemory;
 
 /// A run, and how it ended.

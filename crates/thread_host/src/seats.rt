@@ -1,15 +1,15 @@
 //! A run that is ready to be driven: with it goes the list of its ready threads.
 
 ghost use Rattle.std.specs.Prelude.{◌≡◌, ◌≤◌, length, IfOk, OnErr};
-ghost use Rattle.lam_run_laws.specs.Ends.{HasEnded};
+ghost use Rattle.lam_machine_runs.specs.Ends.{HasEnded};
 ghost use Rattle.thread_host.specs.Visits.{Visits};
 
 use crate::visits::{Visit, take_turn};
 use lam_io::Gate;
-use lam_run_laws::How;
-use machine_run::{Run, let_go_run, relist, roomy_list};
+use lam_machine_runs::How;
 use std::alloc::Global;
 use std::marker::Model;
+use thread_host_run::{Run, let_go_run, relist, roomy_list};
 use want_of_memory::NoMemory;
 
 /// A run with the list of its ready threads, in increasing order, which each turn keeps. Contracts see the run.
@@ -21,8 +21,8 @@ pub struct Seated {
 
 impl Model for Seated {
     ghost use Rattle.std.specs.Prelude.{◌≡◌, ◌≤◌, vec_capacity};
-    ghost use Rattle.machine_run.specs.Runs.{Ran, coded_run};
-    ghost use Rattle.machine_run.specs.ReadyLists.{ready_threads};
+    ghost use Rattle.thread_host_run.specs.Runs.{Ran, coded_run};
+    ghost use Rattle.thread_host_run.specs.ReadyLists.{ready_threads};
 
     ghost Value = { Ran };
 

@@ -1,13 +1,13 @@
 //! One visit of a run: a turn of a ready thread, or that the run has ended.
 
 ghost use Rattle.std.specs.Prelude.{◌≡◌, ◌<◌, ◌≤◌, true, length, IfOk, OnErr, MatchOption, vec_capacity};
-ghost use Rattle.lam_worlds.specs.Turns as turns;
-ghost use Rattle.machine_run.specs.ReadyLists.{ready_threads};
+ghost use Rattle.lam_machine_terms.specs.Turns as turns;
+ghost use Rattle.thread_host_run.specs.ReadyLists.{ready_threads};
 ghost use Rattle.thread_host.specs.Visits.{GoesOn, EndsAs, Visits};
 
 use lam_io::Gate;
-use lam_run_laws::How;
-use machine_run::{Run, turn_listed};
+use lam_machine_runs::How;
+use thread_host_run::{Run, turn_listed};
 use want_of_memory::NoMemory;
 
 /// What one visit did.

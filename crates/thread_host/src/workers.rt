@@ -5,11 +5,11 @@ ghost use Rattle.std.specs.Prelude.{◌≡◌, ◌<◌, ◌≤◌, IfOk, vec_len
 use crate::seats::Seated;
 use crate::visits::Visit;
 use lam_io::Gate;
-use machine_run::{Run, let_go_run};
 use std::alloc::Global;
 use std::sync::{Mutex, Wait};
 use std::thread;
 use std::thread::Threads;
+use thread_host_run::{Run, let_go_run};
 use want_of_memory::NoMemory;
 
 /// A worker: its number, and whether it met want of memory.

@@ -3,10 +3,10 @@ use Rattle.std.proofs.Common.{◌≡◌, ℕ, ◌+◌, Bool, true, false, cond, 
 use Rattle.std.specs.List.{count_by}
 use Rattle.std.proofs.lemmas.List.Sums.{sum_by-append}
 use Rattle.flow_labels.specs.declared.Label.{Label}
-use Rattle.lam_worlds.specs.Turns.{Moment}
-use Rattle.lam_worlds.specs.Views.{is_release}
-use Rattle.lam_run.specs.Told.{product_label, IsToldBy}
-use Rattle.run_notes.specs.Sums.{is_said, is_refused, said, releases, refused, sums}
+use Rattle.lam_machine_terms.specs.Turns.{Moment}
+use Rattle.lam_machine_terms.specs.Views.{is_release}
+use Rattle.lam_machine_replay.specs.Told.{product_label, IsToldBy}
+use Rattle.audit_log_notes.specs.Sums.{is_said, is_refused, said, releases, refused, sums}
 use Rattle.turns_noted.specs.Counted.{goes_below, tells_release, counted, with_turn}
 
 one_more : (n : ℕ) (so : Bool) → n + (0 + cond so 1 0) ≡ counted n so

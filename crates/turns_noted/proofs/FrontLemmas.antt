@@ -7,17 +7,17 @@ use Rattle.std.proofs.lemmas.List.{take_more, take_all, take-append-drop, length
 use Rattle.std.proofs.lemmas.List.Sums.{count_by-le-length}
 use Rattle.lam_asks.specs.declared.answer.Event.{Event}
 use Rattle.lam_bytecode.specs.Codes.{CodeTree, IsCode}
-use Rattle.lam_worlds.specs.Worlds.{World}
-use Rattle.lam_worlds.specs.Turns.{Moment, step, and_then, moments, replay, IsRun}
-use Rattle.lam_worlds.specs.Views.{is_release}
-use Rattle.lam_worlds.specs.Valid.{IsValid}
-use Rattle.lam_run_laws.proofs.RunLemmas.{joined_runs, stopped_runs}
-use Rattle.lam_run.specs.Turned.{IsTurn}
-use Rattle.lam_valid_steps.proofs.WholeLemmas.{stay_valid}
-use Rattle.lam_run_laws.specs.Stops.{stopped_at}
-use Rattle.lam_run.specs.Told.{ProductsAreTold}
-use Rattle.run_notes.specs.declared.Sums.{Sums}
-use Rattle.run_notes.specs.Sums.{is_said, is_refused, sums}
+use Rattle.lam_machine_terms.specs.Worlds.{World}
+use Rattle.lam_machine_terms.specs.Turns.{Moment, step, and_then, moments, replay, IsRun}
+use Rattle.lam_machine_terms.specs.Views.{is_release}
+use Rattle.lam_machine_terms.specs.Valid.{IsValid}
+use Rattle.lam_machine_runs.proofs.RunLemmas.{joined_runs, stopped_runs}
+use Rattle.lam_machine_replay.specs.Turned.{IsTurn}
+use Rattle.lam_machine_valid.proofs.WholeLemmas.{stay_valid}
+use Rattle.lam_machine_runs.specs.Stops.{stopped_at}
+use Rattle.lam_machine_replay.specs.Told.{ProductsAreTold}
+use Rattle.audit_log_notes.specs.declared.Sums.{Sums}
+use Rattle.audit_log_notes.specs.Sums.{is_said, is_refused, sums}
 use Rattle.turns_noted.specs.Counted.{with_turn, AreBelow, CountsTurn}
 use Rattle.turns_noted.proofs.CountLemmas.{sums_more}
 

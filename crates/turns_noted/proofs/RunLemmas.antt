@@ -3,16 +3,16 @@ use Rattle.std.proofs.Common.{◌≡◌, ℕ, ◌+◌, ◌<◌, Bool, true, List
 use Rattle.std.specs.Option.{option_to_list}
 use Rattle.lam_asks.specs.declared.answer.Event.{Event}
 use Rattle.lam_bytecode.specs.Codes.{CodeTree}
-use Rattle.lam_worlds.specs.Worlds.{World}
-use Rattle.lam_worlds.specs.Turns.{Moment, moments}
-use Rattle.lam_run.specs.Turned.{IsTurn}
-use Rattle.run_notes.specs.Notes.{noted_from}
-use Rattle.run_notes.specs.declared.Noted.{Noted}
-use Rattle.lam_run.specs.Turns.{Takes}
+use Rattle.lam_machine_terms.specs.Worlds.{World}
+use Rattle.lam_machine_terms.specs.Turns.{Moment, moments}
+use Rattle.lam_machine_replay.specs.Turned.{IsTurn}
+use Rattle.audit_log_notes.specs.Notes.{noted_from}
+use Rattle.audit_log_notes.specs.declared.Noted.{Noted}
+use Rattle.lam_machine_replay.specs.Turns.{Takes}
 use Rattle.turns_noted.specs.Turns.{noted_of}
-use Rattle.lam_run.proofs.ProductLemmas.{products_told}
+use Rattle.lam_machine_replay.proofs.ProductLemmas.{products_told}
 use Rattle.turns_noted.proofs.TurnLemmas.{noted_one}
-use Rattle.lam_run.proofs.RunLemmas.{at_hand, moments_next, goes}
+use Rattle.lam_machine_replay.proofs.RunLemmas.{at_hand, moments_next, goes}
 
 noted_next : (code : CodeTree) (turns : List ℕ) (n t : ℕ) (w : World) (e : Event) (after : World) (noted more all : List Noted) → drop n turns ≡ t ∷ drop (n + 1) turns → IsTurn code t w e after → more ≡ noted ++ option_to_list (noted_of n e) → noted ++ noted_from n (moments code (drop n turns) w) ≡ all → more ++ noted_from (n + 1) (moments code (drop (n + 1) turns) after) ≡ all
 noted_next code turns n t w e after noted more all at turn new old =

@@ -8,11 +8,11 @@ use Rattle.flow_labels.specs.Flow.{flows}
 use Rattle.capabilities.specs.declared.Caps.{Caps}
 use Rattle.capabilities.specs.Changes.{used}
 use Rattle.lam_asks.specs.declared.answer.Event.{Event}
-use Rattle.lam_worlds.specs.Turns.{Moment}
-use Rattle.lam_worlds.specs.Views.{used_by}
-use Rattle.run_notes.specs.Notes.{refusal_of, refused, noted_at}
-use Rattle.run_notes.specs.declared.Noted.{Noted}
-use Rattle.lam_run.specs.Told.{product_label, IsToldBy}
+use Rattle.lam_machine_terms.specs.Turns.{Moment}
+use Rattle.lam_machine_terms.specs.Views.{used_by}
+use Rattle.audit_log_notes.specs.Notes.{refusal_of, refused, noted_at}
+use Rattle.audit_log_notes.specs.declared.Noted.{Noted}
+use Rattle.lam_machine_replay.specs.Told.{product_label, IsToldBy}
 use Rattle.turns_noted.specs.Turns.{taken_by, note, noted_of}
 
 refused_listed : (k : ℕ) (e : Event) (d : Option Denied) → refused k e d ≡ option_to_list (note k e None d)

@@ -1,9 +1,9 @@
 -- A private turn counts for nothing.
 use Rattle.std.proofs.Common.{◌≡◌, ℕ, Bool, true, false, subst, refl}
 use Rattle.lam_bytecode.specs.Codes.{CodeTree}
-use Rattle.lam_worlds.specs.Worlds.{World}
-use Rattle.lam_run.specs.Privately.{IsPrivateStep, private_event}
-use Rattle.run_notes.specs.declared.Sums.{Sums}
+use Rattle.lam_machine_terms.specs.Worlds.{World}
+use Rattle.lam_machine_replay.specs.Privately.{IsPrivateStep, private_event}
+use Rattle.audit_log_notes.specs.declared.Sums.{Sums}
 use Rattle.turns_noted.specs.Counted.{CountsTurn}
 
 pub nothing_counted : (code : CodeTree) (t : ℕ) (w after : World) (sums : Sums) → IsPrivateStep code t w true after → CountsTurn code t w sums true after sums

@@ -4,12 +4,12 @@ use Rattle.flow_labels.specs.declared.Label.{Label}
 use Rattle.flow_labels.specs.Flow.{flows}
 use Rattle.lam_asks.specs.declared.answer.Event.{Event}
 use Rattle.lam_bytecode.specs.Codes.{CodeTree}
-use Rattle.lam_worlds.specs.Worlds.{World}
-use Rattle.lam_worlds.specs.Turns.{step}
-use Rattle.lam_run.specs.Turned.{IsTurn}
-use Rattle.lam_run.specs.Told.{product_label}
-use Rattle.run_notes.specs.declared.Sums.{Sums}
-use Rattle.run_notes.specs.Sums.{is_said, is_refused}
+use Rattle.lam_machine_terms.specs.Worlds.{World}
+use Rattle.lam_machine_terms.specs.Turns.{step}
+use Rattle.lam_machine_replay.specs.Turned.{IsTurn}
+use Rattle.lam_machine_replay.specs.Told.{product_label}
+use Rattle.audit_log_notes.specs.declared.Sums.{Sums}
+use Rattle.audit_log_notes.specs.Sums.{is_said, is_refused}
 
 -- what has this label, if something was made, is not above the acting label
 abbrev pub goes_below : Label → Option Label → Bool

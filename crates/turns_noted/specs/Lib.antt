@@ -1,4 +1,4 @@
 pub mod Turns
 pub mod Counted
-pub use Rattle.lam_run.specs.Stops
-pub use Rattle.lam_run.specs.declared.fault.RunFault
+pub use Rattle.lam_machine_replay.specs.Stops
+pub use Rattle.lam_machine_replay.specs.declared.fault.RunFault

@@ -6,9 +6,9 @@ use Rattle.flow_labels.specs.Flow.{flows}
 use Rattle.capabilities.specs.declared.Caps.{Caps}
 use Rattle.capabilities.specs.Changes.{used}
 use Rattle.lam_asks.specs.declared.answer.Event.{Event}
-use Rattle.run_notes.specs.Notes.{refusal_of}
-use Rattle.run_notes.specs.declared.Noted.{Noted}
-use Rattle.lam_run.specs.Told.{product_label}
+use Rattle.audit_log_notes.specs.Notes.{refusal_of}
+use Rattle.audit_log_notes.specs.declared.Noted.{Noted}
+use Rattle.lam_machine_replay.specs.Told.{product_label}
 
 abbrev pub taken_by : Label → Option Label → Option Caps
 taken_by p None = None

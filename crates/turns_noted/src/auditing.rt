@@ -3,22 +3,22 @@
 ghost use Rattle.std.specs.Prelude.{◌≡◌, ◌++◌, None, IfOk, OnOk, IfErr};
 ghost use Rattle.std.specs.Option.{option_to_list};
 ghost use Rattle.lam_bytecode.specs.Codes.{IsCode};
-ghost use Rattle.lam_worlds.specs.Turns.{moments};
-ghost use Rattle.lam_worlds.specs.Valid.{IsValid};
-ghost use Rattle.run_notes.specs.Notes.{noted_in, refusal_of};
-ghost use Rattle.lam_run.specs.Machine.{CopiesLive};
-ghost use Rattle.lam_run_laws.specs.Stops.{stopped_at};
-ghost use Rattle.lam_run.specs.Stops.{IsStop};
-ghost use Rattle.lam_run.specs.Turns.{Takes};
+ghost use Rattle.lam_machine_terms.specs.Turns.{moments};
+ghost use Rattle.lam_machine_terms.specs.Valid.{IsValid};
+ghost use Rattle.audit_log_notes.specs.Notes.{noted_in, refusal_of};
+ghost use Rattle.lam_machine_replay.specs.Machine.{CopiesLive};
+ghost use Rattle.lam_machine_runs.specs.Stops.{stopped_at};
+ghost use Rattle.lam_machine_replay.specs.Stops.{IsStop};
+ghost use Rattle.lam_machine_replay.specs.Turns.{Takes};
 ghost use Rattle.turns_noted.specs.Turns.{taken, note, noted_of};
 
+use audit_log_notes::{Noted, refusal_of};
 use capabilities::Caps;
 use flow_labels::flows;
 use lam_asks::{Event, let_go_event};
 use lam_bytecode::Code;
-use lam_run::{RunFault, World, product_label, step, step_privately};
-use lam_world::let_go_world;
-use run_notes::{Noted, refusal_of};
+use lam_machine_replay::{RunFault, World, product_label, step, step_privately};
+use lam_machine_world::let_go_world;
 use std::alloc::Global;
 use want_of_memory::NoMemory;
 

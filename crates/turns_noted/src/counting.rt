@@ -2,20 +2,22 @@
 
 ghost use Rattle.std.specs.Prelude.{◌≡◌, ◌-◌, ◌^◌, None, IfOk, OnOk, IfErr};
 ghost use Rattle.lam_bytecode.specs.Codes.{IsCode};
-ghost use Rattle.lam_worlds.specs.Turns.{moments};
-ghost use Rattle.lam_worlds.specs.Valid.{IsValid};
-ghost use Rattle.lam_run.specs.Machine.{CopiesLive};
-ghost use Rattle.lam_run_laws.specs.Stops.{stopped_at};
-ghost use Rattle.lam_run.specs.Stops.{IsStop};
-ghost use Rattle.run_notes.specs.Sums.{sums};
+ghost use Rattle.lam_machine_terms.specs.Turns.{moments};
+ghost use Rattle.lam_machine_terms.specs.Valid.{IsValid};
+ghost use Rattle.lam_machine_replay.specs.Machine.{CopiesLive};
+ghost use Rattle.lam_machine_runs.specs.Stops.{stopped_at};
+ghost use Rattle.lam_machine_replay.specs.Stops.{IsStop};
+ghost use Rattle.audit_log_notes.specs.Sums.{sums};
 ghost use Rattle.turns_noted.specs.Counted.{AreBelow, CountsTurn};
 
 use crate::events::with_turn;
+use audit_log_notes::Sums;
 use lam_asks::let_go_event;
 use lam_bytecode::Code;
-use lam_run::{RunFault, World, copies_are_living, products_are_told, step, step_privately};
-use lam_world::let_go_world;
-use run_notes::Sums;
+use lam_machine_replay::{
+    RunFault, World, copies_are_living, products_are_told, step, step_privately,
+};
+use lam_machine_world::let_go_world;
 use std::alloc::Global;
 use want_of_memory::NoMemory;
 

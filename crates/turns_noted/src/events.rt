@@ -3,13 +3,13 @@
 ghost use Rattle.std.specs.Prelude.{◌≡◌, ◌-◌, ◌^◌, ◌<◌};
 ghost use Rattle.lam_value.specs.declared.values.Value.{Value as Plain};
 ghost use Rattle.lam_asks.specs.declared.answer.Answer.TheVariants.{Entered, Val};
-ghost use Rattle.lam_run.specs.Told.{label_by};
-ghost use Rattle.run_notes.specs.Sums.{is_done, says, is_said, is_refused};
+ghost use Rattle.lam_machine_replay.specs.Told.{label_by};
+ghost use Rattle.audit_log_notes.specs.Sums.{is_done, says, is_said, is_refused};
 ghost use Rattle.turns_noted.specs.Counted.{goes_below, tells_release, counted, with_turn, AreBelow};
 
+use audit_log_notes::{Sums, refusal_of};
 use flow_labels::{Label, flows};
 use lam_asks::{Answer, Ask, Event, What};
-use run_notes::{Sums, refusal_of};
 
 /// The sums with one turn more.
 pub(crate) fn with_turn(sums: &Sums, event: &Event) -> Sums

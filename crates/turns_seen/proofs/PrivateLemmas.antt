@@ -3,12 +3,12 @@ use Rattle.std.proofs.Common.{◌≡◌, ℕ, Bool, true, false, List, Option, N
 use Rattle.flow_labels.specs.declared.Label.{Label}
 use Rattle.flow_labels.specs.Flow.{seen}
 use Rattle.lam_bytecode.specs.Codes.{CodeTree}
-use Rattle.lam_worlds.specs.Worlds.{World}
-use Rattle.lam_run.specs.Privately.{IsPrivateStep, private_event}
-use Rattle.run_notes.specs.declared.Seen.{Seen}
-use Rattle.lam_run.specs.Turns.{Takes}
+use Rattle.lam_machine_terms.specs.Worlds.{World}
+use Rattle.lam_machine_replay.specs.Privately.{IsPrivateStep, private_event}
+use Rattle.audit_log_notes.specs.declared.Seen.{Seen}
+use Rattle.lam_machine_replay.specs.Turns.{Takes}
 use Rattle.turns_seen.specs.Turns.{seen_of}
-use Rattle.lam_run.proofs.PrivateLemmas.{kept}
+use Rattle.lam_machine_replay.proofs.PrivateLemmas.{kept}
 
 -- whoever looks
 by_seen : {X : Type 0} (b : Bool) (o : Option X) → cond b o o ≡ o

@@ -4,16 +4,16 @@ use Rattle.std.specs.Option.{option_to_list}
 use Rattle.flow_labels.specs.declared.Label.{Label}
 use Rattle.lam_asks.specs.declared.answer.Event.{Event}
 use Rattle.lam_bytecode.specs.Codes.{CodeTree}
-use Rattle.lam_worlds.specs.Worlds.{World}
-use Rattle.lam_worlds.specs.Turns.{Moment, moments}
-use Rattle.lam_run.specs.Turned.{IsTurn}
-use Rattle.run_notes.specs.Notes.{seen_by}
-use Rattle.run_notes.specs.declared.Seen.{Seen}
-use Rattle.lam_run.specs.Turns.{Takes}
+use Rattle.lam_machine_terms.specs.Worlds.{World}
+use Rattle.lam_machine_terms.specs.Turns.{Moment, moments}
+use Rattle.lam_machine_replay.specs.Turned.{IsTurn}
+use Rattle.audit_log_notes.specs.Notes.{seen_by}
+use Rattle.audit_log_notes.specs.declared.Seen.{Seen}
+use Rattle.lam_machine_replay.specs.Turns.{Takes}
 use Rattle.turns_seen.specs.Turns.{seen_of}
-use Rattle.lam_run.proofs.ProductLemmas.{products_told}
+use Rattle.lam_machine_replay.proofs.ProductLemmas.{products_told}
 use Rattle.turns_seen.proofs.TurnLemmas.{seen_one, seen_by-append}
-use Rattle.lam_run.proofs.RunLemmas.{at_hand, moments_next, goes}
+use Rattle.lam_machine_replay.proofs.RunLemmas.{at_hand, moments_next, goes}
 
 seen_next : (code : CodeTree) (o : Label) (turns : List ℕ) (n t : ℕ) (w : World) (e : Event) (after : World) (seen more all : List Seen) → drop n turns ≡ t ∷ drop (n + 1) turns → IsTurn code t w e after → more ≡ seen ++ option_to_list (seen_of o e after) → seen ++ seen_by o (moments code (drop n turns) w) ≡ all → more ++ seen_by o (moments code (drop (n + 1) turns) after) ≡ all
 seen_next code o turns n t w e after seen more all at turn new old =

@@ -15,14 +15,14 @@ use Rattle.lam_asks.specs.declared.answer.What.{What}
 use Rattle.lam_asks.specs.declared.answer.What.TheVariants.{Private, Asked}
 use Rattle.lam_asks.specs.declared.answer.Event.{Event}
 use Rattle.lam_bytecode.specs.Codes.{CodeTree}
-use Rattle.lam_worlds.specs.Turns.{Moment}
-use Rattle.lam_worlds.specs.Views.{event, release, is_release, shows, release_of, used_by, is_noted, noted, entry_of, trace}
-use Rattle.lam_isolation.proofs.DownLemmas.{two_release}
-use Rattle.run_notes.specs.Notes.{released, asked, shown, seen_by}
-use Rattle.run_notes.specs.declared.Content.{Content}
-use Rattle.run_notes.specs.declared.Seen.{Seen}
-use Rattle.run_notes.specs.declared.Seen.TheVariants as seen_as
-use Rattle.lam_run.specs.Told.{product_label, product, IsProduct, IsToldBy}
+use Rattle.lam_machine_terms.specs.Turns.{Moment}
+use Rattle.lam_machine_terms.specs.Views.{event, release, is_release, shows, release_of, used_by, is_noted, noted, entry_of, trace}
+use Rattle.lam_machine_laws.proofs.DownLemmas.{two_release}
+use Rattle.audit_log_notes.specs.Notes.{released, asked, shown, seen_by}
+use Rattle.audit_log_notes.specs.declared.Content.{Content}
+use Rattle.audit_log_notes.specs.declared.Seen.{Seen}
+use Rattle.audit_log_notes.specs.declared.Seen.TheVariants as seen_as
+use Rattle.lam_machine_replay.specs.Told.{product_label, product, IsProduct, IsToldBy}
 use Rattle.turns_seen.specs.Turns.{is_private, own_turn, told, past_by, past, seen_of}
 
 own_listed : (e : Event) (what : What) → asked e what ++ [] ≡ option_to_list (cond (is_private what) None (Some (seen_as.Event e)))

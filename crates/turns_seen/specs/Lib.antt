@@ -1,3 +1,3 @@
 pub mod Turns
-pub use Rattle.lam_run.specs.Stops
-pub use Rattle.lam_run.specs.declared.fault.RunFault
+pub use Rattle.lam_machine_replay.specs.Stops
+pub use Rattle.lam_machine_replay.specs.declared.fault.RunFault

@@ -7,11 +7,11 @@ use Rattle.capabilities.specs.Changes.{used}
 use Rattle.lam_asks.specs.declared.answer.What.{What}
 use Rattle.lam_asks.specs.declared.answer.What.TheVariants.{Private, Asked}
 use Rattle.lam_asks.specs.declared.answer.Event.{Event}
-use Rattle.lam_worlds.specs.Worlds.{World}
-use Rattle.run_notes.specs.declared.Content.{Content}
-use Rattle.run_notes.specs.declared.Seen.{Seen}
-use Rattle.run_notes.specs.declared.Seen.TheVariants as seen_as
-use Rattle.lam_run.specs.Told.{product_label, product}
+use Rattle.lam_machine_terms.specs.Worlds.{World}
+use Rattle.audit_log_notes.specs.declared.Content.{Content}
+use Rattle.audit_log_notes.specs.declared.Seen.{Seen}
+use Rattle.audit_log_notes.specs.declared.Seen.TheVariants as seen_as
+use Rattle.lam_machine_replay.specs.Told.{product_label, product}
 
 abbrev pub is_private : What → Bool
 is_private Private = true

@@ -9,10 +9,10 @@ use Rattle.serde_json.specs.declared.value.Value.{Value as Json}
 use Rattle.flow_labels.specs.TwoLists.{Text}
 use Rattle.lam_value.specs.declared.names.Name.{Name}
 use Rattle.lam_value.specs.declared.values.Value.{Value}
-use Rattle.world_terms.specs.Breaks.{BadMember, Reading}
-use Rattle.world_terms.specs.Entries.{if_there, the_only}
-use Rattle.world_stores_reading.specs.Seen.{members}
-use Rattle.world_stores_reading.proofs.MemberLemmas.{get_members}
+use Rattle.world_doc_terms.specs.Breaks.{BadMember, Reading}
+use Rattle.world_doc_terms.specs.Entries.{if_there, the_only}
+use Rattle.world_doc_stores.specs.Seen.{members}
+use Rattle.world_doc_stores.proofs.MemberLemmas.{get_members}
 use Rattle.world_doc.specs.Found.{read_as, one_more, IsFound}
 use Rattle.world_doc.specs.declared.args.ContentKind.{ContentKind}
 use Rattle.world_doc.specs.declared.args.Contents.{Contents}

@@ -5,7 +5,7 @@ use Rattle.std.proofs.lemmas.Bool.Decides.{nat_tests}
 use Rattle.indexmap.specs.IndexMap.{insert_entry}
 use Rattle.lam_value.specs.Homes.{Home, name_of, count_in}
 use Rattle.labelled_pipes.specs.Queues.{Queues, with_pipe}
-use Rattle.world_terms.specs.Breaks.{BadMember, ◌>>=◌, only_if, present, formed, member_as}
+use Rattle.world_doc_terms.specs.Breaks.{BadMember, ◌>>=◌, only_if, present, formed, member_as}
 use Rattle.std.specs.Map.{lookup}
 use Rattle.std.specs.Option.{option_and_then}
 use Rattle.serde_json.specs.Data.{Data, Members}
@@ -13,9 +13,9 @@ use Rattle.serde_json.specs.Find.{get_member, as_str}
 use Rattle.lam_value.specs.declared.names.Name.{Name}
 use Rattle.flow_labels.specs.TwoLists.{Text}
 use Rattle.labelled_files.specs.Entries.{text_eq}
-use Rattle.world_terms.specs.Stores.{Pipes, pipe_called, new_name, with_called}
+use Rattle.world_doc_terms.specs.Stores.{Pipes, pipe_called, new_name, with_called}
 use Rattle.world_doc.specs.Called.{called_of, pipes_of}
-use Rattle.world_stores_reading.proofs.MemberOn.{member_on}
+use Rattle.world_doc_stores.proofs.MemberOn.{member_on}
 
 abbrev pub key_is : Text → Bor Text → Bool
 key_is text = λ k. text_eq text k.now

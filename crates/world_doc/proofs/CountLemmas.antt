@@ -12,13 +12,13 @@ use Rattle.flow_labels.specs.TwoLists.{Text}
 use Rattle.lam_value.specs.declared.names.Name.{Name}
 use Rattle.lam_bytecode.specs.Codes.{CodeTree}
 use Rattle.lam_bytecode.specs.declared.unit.ArgKind.{ArgKind}
-use Rattle.world_terms.specs.Breaks.{BadMember, Reading, ◌>>=◌, only_if, formed, member_as}
-use Rattle.world_terms.specs.Entries.{arguments, args_in, threads_of, threads_in}
-use Rattle.world_stores_reading.specs.declared.fault.WorldFault.{WorldFault}
-use Rattle.world_stores_reading.specs.Meaning.{Fails}
-use Rattle.world_stores_reading.proofs.Steps.{fails_here}
-use Rattle.world_stores_reading.proofs.ListLemmas.{items_count}
-use Rattle.world_stores_reading.proofs.MemberOn.{member_on, member_off}
+use Rattle.world_doc_terms.specs.Breaks.{BadMember, Reading, ◌>>=◌, only_if, formed, member_as}
+use Rattle.world_doc_terms.specs.Entries.{arguments, args_in, threads_of, threads_in}
+use Rattle.world_doc_stores.specs.declared.fault.WorldFault.{WorldFault}
+use Rattle.world_doc_stores.specs.Meaning.{Fails}
+use Rattle.world_doc_stores.proofs.Steps.{fails_here}
+use Rattle.world_doc_stores.proofs.ListLemmas.{items_count}
+use Rattle.world_doc_stores.proofs.MemberOn.{member_on, member_off}
 
 -- a list that is as long as it may be
 module _ (name : Text) (test : ℕ → Bool) (ms : Members) where

@@ -12,13 +12,13 @@ use Rattle.lam_value.specs.declared.values.Value.{Value}
 use Rattle.lam_bytecode.specs.Codes.{CodeTree}
 use Rattle.lam_bytecode.specs.declared.unit.ArgKind.{ArgKind}
 use Rattle.thread_steps.specs.Threads.{Thread}
-use Rattle.world_terms.specs.Breaks.{Reading, formed, ◌>>=◌}
-use Rattle.world_terms.specs.Entries.{argument, fitting, arguments, thread_in, threads_of}
+use Rattle.world_doc_terms.specs.Breaks.{Reading, formed, ◌>>=◌}
+use Rattle.world_doc_terms.specs.Entries.{argument, fitting, arguments, thread_in, threads_of}
 use Rattle.world_doc.specs.Found.{thread_of, argument_of}
-use Rattle.world_stores_reading.specs.declared.fault.WorldFault.{WorldFault}
-use Rattle.world_stores_reading.specs.Meaning.{Fails}
-use Rattle.world_stores_reading.proofs.Steps.{bind_assoc, fails_same, onto, then_later, onto_more, onto_fails}
-use Rattle.world_stores_reading.proofs.ListLemmas.{items_more}
+use Rattle.world_doc_stores.specs.declared.fault.WorldFault.{WorldFault}
+use Rattle.world_doc_stores.specs.Meaning.{Fails}
+use Rattle.world_doc_stores.proofs.Steps.{bind_assoc, fails_same, onto, then_later, onto_more, onto_fails}
+use Rattle.world_doc_stores.proofs.ListLemmas.{items_more}
 
 -- ---- threads
 

@@ -5,12 +5,12 @@ use Rattle.serde_json.specs.Find.{as_object}
 use Rattle.serde_json.specs.View.{view, items_view}
 use Rattle.serde_json.specs.declared.value.Value.{Value as Json}
 use Rattle.flow_labels.specs.TwoLists.{Text}
-use Rattle.world_terms.specs.Breaks.{Reading, formed, ◌>>=◌}
-use Rattle.world_terms.specs.Stores.{Pipes, with_pipe_item, with_pipes}
-use Rattle.world_stores_reading.specs.declared.fault.WorldFault.{WorldFault}
-use Rattle.world_stores_reading.specs.Meaning.{Fails}
-use Rattle.world_stores_reading.proofs.Steps.{bind_assoc, fails_same, fails_here}
-use Rattle.world_stores_reading.proofs.ListLemmas.{items_more}
+use Rattle.world_doc_terms.specs.Breaks.{Reading, formed, ◌>>=◌}
+use Rattle.world_doc_terms.specs.Stores.{Pipes, with_pipe_item, with_pipes}
+use Rattle.world_doc_stores.specs.declared.fault.WorldFault.{WorldFault}
+use Rattle.world_doc_stores.specs.Meaning.{Fails}
+use Rattle.world_doc_stores.proofs.Steps.{bind_assoc, fails_same, fails_here}
+use Rattle.world_doc_stores.proofs.ListLemmas.{items_more}
 use Rattle.world_doc.specs.Called.{pipe_in}
 
 module _ (names : List Text) where

@@ -5,11 +5,11 @@ use Rattle.std.proofs.lemmas.Str.{IsUtf8-from_is_utf8, is_utf8-from_IsUtf8}
 use Rattle.serde_json.specs.Data.{Data}
 use Rattle.serde_json.specs.Read.{read}
 use Rattle.lam_bytecode.specs.Codes.{CodeTree}
-use Rattle.world_terms.specs.Breaks.{NotJson, ◌>>=◌}
-use Rattle.world_terms.specs.Start.{start_of, world_of, world_or}
-use Rattle.world_stores_reading.specs.declared.fault.WorldFault.{WorldFault}
-use Rattle.world_stores_reading.specs.Meaning.{Fails}
-use Rattle.world_stores_reading.proofs.Steps.{fails_here, fails_same}
+use Rattle.world_doc_terms.specs.Breaks.{NotJson, ◌>>=◌}
+use Rattle.world_doc_terms.specs.Start.{start_of, world_of, world_or}
+use Rattle.world_doc_stores.specs.declared.fault.WorldFault.{WorldFault}
+use Rattle.world_doc_stores.specs.Meaning.{Fails}
+use Rattle.world_doc_stores.proofs.Steps.{fails_here, fails_same}
 use Rattle.world_doc.specs.Document.{document_or}
 
 not_utf8 : (bs : List ℕ) (b : Bool) → is_utf8 bs ≡ b → (IsUtf8 bs → ⊥) → b ≡ false

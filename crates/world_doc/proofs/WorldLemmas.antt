@@ -11,18 +11,18 @@ use Rattle.labelled_heap.specs.Things.{no_things}
 use Rattle.labelled_files.specs.Trees.{Tree}
 use Rattle.labelled_pipes.specs.Queues.{Queues}
 use Rattle.lam_bytecode.specs.Codes.{CodeTree}
-use Rattle.lam_worlds.specs.Worlds.{World}
-use Rattle.lam_deeds.specs.declared.stores.Stores.{Stores}
-use Rattle.lam_deeds.specs.Parts.{first_stores}
-use Rattle.world_terms.specs.Breaks.{Reading, ◌>>=◌, formed}
-use Rattle.world_terms.specs.Tags.{tags_in}
-use Rattle.world_terms.specs.Stores.{Pipes, tree_in, pipes_in}
-use Rattle.world_terms.specs.Entries.{threads_in}
-use Rattle.world_terms.specs.Start.{version_in, world_in, world_of}
-use Rattle.world_stores_reading.specs.declared.fault.WorldFault.{WorldFault}
-use Rattle.world_stores_reading.specs.Meaning.{Fails, GivesOnto}
-use Rattle.world_stores_reading.proofs.Steps.{fails_here, fails_same}
-use Rattle.world_stores_reading.specs.Contents.{tree_onto}
+use Rattle.lam_machine_terms.specs.Worlds.{World}
+use Rattle.lam_machine_effects.specs.declared.stores.Stores.{Stores}
+use Rattle.lam_machine_effects.specs.Parts.{first_stores}
+use Rattle.world_doc_terms.specs.Breaks.{Reading, ◌>>=◌, formed}
+use Rattle.world_doc_terms.specs.Tags.{tags_in}
+use Rattle.world_doc_terms.specs.Stores.{Pipes, tree_in, pipes_in}
+use Rattle.world_doc_terms.specs.Entries.{threads_in}
+use Rattle.world_doc_terms.specs.Start.{version_in, world_in, world_of}
+use Rattle.world_doc_stores.specs.declared.fault.WorldFault.{WorldFault}
+use Rattle.world_doc_stores.specs.Meaning.{Fails, GivesOnto}
+use Rattle.world_doc_stores.proofs.Steps.{fails_here, fails_same}
+use Rattle.world_doc_stores.specs.Contents.{tree_onto}
 use Rattle.world_doc.specs.Called.{called_of, pipes_of, pipes_onto}
 use Rattle.world_doc.specs.Document.{filled, with_threads, world_onto, after_tags}
 

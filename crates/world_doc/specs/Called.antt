@@ -6,8 +6,8 @@ use Rattle.labelled_pipes.specs.Queues.{Queues}
 use Rattle.flow_labels.specs.TwoLists.{Text}
 use Rattle.serde_json.specs.Data.{Data, Members}
 use Rattle.serde_json.specs.Find.{as_array, as_object}
-use Rattle.world_terms.specs.Breaks.{Reading, ◌>>=◌, formed, member_as}
-use Rattle.world_terms.specs.Stores.{Pipes, with_pipe_item, with_pipes}
+use Rattle.world_doc_terms.specs.Breaks.{Reading, ◌>>=◌, formed, member_as}
+use Rattle.world_doc_terms.specs.Stores.{Pipes, with_pipe_item, with_pipes}
 
 abbrev pub called_of : List (Bor Text × Name) → List (Text × Name)
 called_of es = map (λ e. (e.0.now, e.1)) es

@@ -4,12 +4,12 @@ use Rattle.serde_json.specs.Data.{Data, Members}
 use Rattle.flow_labels.specs.TwoLists.{Text}
 use Rattle.lam_value.specs.declared.names.Name.{Name}
 use Rattle.lam_bytecode.specs.Codes.{CodeTree}
-use Rattle.lam_worlds.specs.Worlds.{World}
-use Rattle.lam_deeds.specs.declared.stores.Stores.{Stores}
-use Rattle.lam_deeds.specs.Parts.{first_stores, world_of}
-use Rattle.world_terms.specs.Breaks.{NotJson, Reading, ◌>>=◌}
-use Rattle.world_terms.specs.Entries.{threads_in}
-use Rattle.world_stores_reading.specs.Contents.{tree_onto}
+use Rattle.lam_machine_terms.specs.Worlds.{World}
+use Rattle.lam_machine_effects.specs.declared.stores.Stores.{Stores}
+use Rattle.lam_machine_effects.specs.Parts.{first_stores, world_of}
+use Rattle.world_doc_terms.specs.Breaks.{NotJson, Reading, ◌>>=◌}
+use Rattle.world_doc_terms.specs.Entries.{threads_in}
+use Rattle.world_doc_stores.specs.Contents.{tree_onto}
 use Rattle.world_doc.specs.Called.{pipes_onto}
 
 -- a document that was read

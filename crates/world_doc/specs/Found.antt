@@ -8,9 +8,9 @@ use Rattle.serde_json.specs.declared.value.Value.{Value as Json}
 use Rattle.flow_labels.specs.TwoLists.{Text}
 use Rattle.lam_value.specs.declared.names.Name.{Name}
 use Rattle.lam_value.specs.declared.values.Value.{Value}
-use Rattle.world_terms.specs.Breaks.{Reading, ◌>>=◌, formed}
-use Rattle.world_terms.specs.Entries as entries
-use Rattle.world_terms.specs.Entries.{int_of, bool_of, text_of, tag_value, pipe_of, argument, fitting, thread_in}
+use Rattle.world_doc_terms.specs.Breaks.{Reading, ◌>>=◌, formed}
+use Rattle.world_doc_terms.specs.Entries as entries
+use Rattle.world_doc_terms.specs.Entries.{int_of, bool_of, text_of, tag_value, pipe_of, argument, fitting, thread_in}
 use Rattle.lam_bytecode.specs.Codes.{CodeTree}
 use Rattle.lam_bytecode.specs.declared.unit.ArgKind.{ArgKind}
 use Rattle.thread_steps.specs.Threads.{Thread}

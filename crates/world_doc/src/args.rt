@@ -6,10 +6,10 @@ ghost use Rattle.serde_json.specs.Find.{get_member};
 ghost use Rattle.flow_labels.specs.TwoLists.{Text};
 ghost use Rattle.lam_value.specs.declared.names.Name.{Name};
 ghost use Rattle.lam_value.specs.declared.values.Value.{Value};
-ghost use Rattle.world_terms.specs.Breaks.{Reading};
-ghost use Rattle.world_terms.specs.Entries.{int_of, bool_of, text_of, tag_value, pipe_of, if_there, contents, argument, fits, arguments, args_in};
-ghost use Rattle.world_stores_reading.specs.Meaning.{Gives};
-ghost use Rattle.world_stores_reading.specs.Seen.{members};
+ghost use Rattle.world_doc_terms.specs.Breaks.{Reading};
+ghost use Rattle.world_doc_terms.specs.Entries.{int_of, bool_of, text_of, tag_value, pipe_of, if_there, contents, argument, fits, arguments, args_in};
+ghost use Rattle.world_doc_stores.specs.Meaning.{Gives};
+ghost use Rattle.world_doc_stores.specs.Seen.{members};
 ghost use Rattle.world_doc.specs.Called.{called_of};
 ghost use Rattle.world_doc.specs.Found.{read_as, one_more, IsFound, argument_of};
 
@@ -19,7 +19,7 @@ use lam_bytecode::ArgKind;
 use lam_value::{ByteText, Value, Values};
 use serde_json::Value as Json;
 use std::alloc::Global;
-use world_stores_reading::{WorldFault, array_member, bad_member, object, read_tag};
+use world_doc_stores::{WorldFault, array_member, bad_member, object, read_tag};
 
 /// The number of bytes that a value may have.
 const TEXT_LIMIT: usize = 65_536;

@@ -2,9 +2,9 @@
 
 ghost use Rattle.serde_json.specs.View.{view};
 ghost use Rattle.serde_json.specs.Read.{read};
-ghost use Rattle.world_terms.specs.Start.{version_in, world_of, world_or, start_of};
-ghost use Rattle.world_stores_reading.specs.Meaning.{Gives, GivesOnto};
-ghost use Rattle.world_stores_reading.specs.Seen.{members};
+ghost use Rattle.world_doc_terms.specs.Start.{version_in, world_of, world_or, start_of};
+ghost use Rattle.world_doc_stores.specs.Meaning.{Gives, GivesOnto};
+ghost use Rattle.world_doc_stores.specs.Seen.{members};
 ghost use Rattle.world_doc.specs.Called.{called_of};
 ghost use Rattle.world_doc.specs.Document.{document_or, filled, with_threads, world_onto, after_tags};
 
@@ -13,13 +13,13 @@ use crate::threads::read_threads;
 use flow_labels::TagNames;
 use indexmap::IndexMap;
 use lam_bytecode::Code;
-use lam_deeds::Stores;
-use lam_world::{World, let_go_stores};
+use lam_machine_effects::Stores;
+use lam_machine_world::{World, let_go_stores};
 use serde_json::Value;
 use serde_json::error::Category;
 use std::alloc::Global;
 use std::str;
-use world_stores_reading::{WorldFault, bad_member, member, object, read_tags, read_tree};
+use world_doc_stores::{WorldFault, bad_member, member, object, read_tags, read_tree};
 
 fn read_version(alloc: Global, document: &Value) -> Result<(), WorldFault>
     ensures { Gives (λ _. 1) result (version_in (members (view document.now))) }

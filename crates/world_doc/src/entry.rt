@@ -3,16 +3,16 @@
 ghost use Rattle.std.specs.Prelude.{◌≡◌, codes, option_map, option_and_then};
 ghost use Rattle.serde_json.specs.View.{view};
 ghost use Rattle.serde_json.specs.Find.{as_str};
-ghost use Rattle.world_terms.specs.Breaks.{member_as};
-ghost use Rattle.world_terms.specs.Entries.{entry_named};
-ghost use Rattle.world_stores_reading.specs.Meaning.{Gives};
-ghost use Rattle.world_stores_reading.specs.Seen.{members};
+ghost use Rattle.world_doc_terms.specs.Breaks.{member_as};
+ghost use Rattle.world_doc_terms.specs.Entries.{entry_named};
+ghost use Rattle.world_doc_stores.specs.Meaning.{Gives};
+ghost use Rattle.world_doc_stores.specs.Seen.{members};
 ghost use Rattle.world_doc.specs.Found.{entry_seen};
 
 use lam_bytecode::{ArgKind, Code, UnitKind};
 use serde_json::Value;
 use std::alloc::Global;
-use world_stores_reading::{WorldFault, bad_member, str_member};
+use world_doc_stores::{WorldFault, bad_member, str_member};
 
 /// A function whose result is a number: its unit, and what it takes.
 #[derive(Clone, Copy)]

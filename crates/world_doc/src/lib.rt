@@ -2,11 +2,11 @@
 //!
 //! [`start`] is the whole reading: the bytes are UTF-8 and a JSON text, and its members are `version`, `tags`, `tree`,
 //! `pipes` and `threads`, looked at in this order. What is said by tags is read, and the files are made, by
-//! `world_stores_reading`.
+//! `world_doc_stores`.
 //!
 //! Each thread runs a function of the code whose result is a number, with an argument of its kind for each parameter,
 //! and with capabilities. The threads are answered as they just started, or their first break, exactly as the definition
-//! `threads_in` of `world_terms` reads them.
+//! `threads_in` of `world_doc_terms` reads them.
 //!
 //! - `document` has the whole reading.
 //! - `pipes` makes the pipes, with a table of what the document calls them: they are looked up in constant time.
@@ -14,7 +14,7 @@
 //! - `args` has the arguments: of several contents that may be there, exactly one is.
 //! - `threads` has the threads.
 //!
-//! The answer is the world that the definition `start_of` of `world_terms` reads, or its break, as a [`WorldFault`]: the
+//! The answer is the world that the definition `start_of` of `world_doc_terms` reads, or its break, as a [`WorldFault`]: the
 //! first of the document. Only want of memory is tied to nothing.
 #![tactic(auto)]
 
@@ -25,4 +25,4 @@ mod pipes;
 mod threads;
 
 pub use document::start;
-pub use world_stores_reading::WorldFault;
+pub use world_doc_stores::WorldFault;

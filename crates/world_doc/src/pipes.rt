@@ -3,10 +3,10 @@
 ghost use Rattle.std.specs.Prelude.{◌≡◌, codes, None, option_copied};
 ghost use Rattle.lam_value.specs.Homes.{home_of};
 ghost use Rattle.serde_json.specs.View.{view, items_view};
-ghost use Rattle.world_terms.specs.Breaks.{member_as};
-ghost use Rattle.world_terms.specs.Stores.{pipe_called, new_name, with_called, with_pipes};
-ghost use Rattle.world_stores_reading.specs.Meaning.{Gives, GivesOnto};
-ghost use Rattle.world_stores_reading.specs.Seen.{members};
+ghost use Rattle.world_doc_terms.specs.Breaks.{member_as};
+ghost use Rattle.world_doc_terms.specs.Stores.{pipe_called, new_name, with_called, with_pipes};
+ghost use Rattle.world_doc_stores.specs.Meaning.{Gives, GivesOnto};
+ghost use Rattle.world_doc_stores.specs.Seen.{members};
 ghost use Rattle.world_doc.specs.Called.{called_of, pipes_of, pipe_in, pipes_onto};
 
 use flow_labels::{Label, TagNames};
@@ -15,7 +15,7 @@ use labelled_pipes::{HOME_LIMIT, Pipes};
 use lam_value::Name;
 use serde_json::Value;
 use std::alloc::Global;
-use world_stores_reading::{WorldFault, array_member, bad_member, object, read_label, str_member};
+use world_doc_stores::{WorldFault, array_member, bad_member, object, read_label, str_member};
 
 /// What a document calls its pipes, in their order.
 pub type PipeNames<'a> = IndexMap<&'a str, Name>;

@@ -2,9 +2,9 @@
 
 ghost use Rattle.std.specs.Prelude.{◌≡◌, ◌≤◌, ◌&&◌, nat_lt, nat_le, length, IfOk};
 ghost use Rattle.serde_json.specs.View.{view, items_view};
-ghost use Rattle.world_terms.specs.Entries.{threads_of, threads_in};
-ghost use Rattle.world_stores_reading.specs.Meaning.{Gives};
-ghost use Rattle.world_stores_reading.specs.Seen.{members};
+ghost use Rattle.world_doc_terms.specs.Entries.{threads_of, threads_in};
+ghost use Rattle.world_doc_stores.specs.Meaning.{Gives};
+ghost use Rattle.world_doc_stores.specs.Seen.{members};
 ghost use Rattle.world_doc.specs.Called.{called_of};
 ghost use Rattle.world_doc.specs.Found.{thread_of};
 
@@ -13,10 +13,10 @@ use crate::entry::read_entry;
 use crate::pipes::PipeNames;
 use flow_labels::TagNames;
 use lam_bytecode::Code;
-use lam_threads::LamThread;
 use serde_json::Value;
 use std::alloc::Global;
-use world_stores_reading::{WorldFault, array_member, bad_member, object, read_caps};
+use thread_core_state::LamThread;
+use world_doc_stores::{WorldFault, array_member, bad_member, object, read_caps};
 
 /// The number of threads that a document may have.
 const THREAD_LIMIT: usize = 64;

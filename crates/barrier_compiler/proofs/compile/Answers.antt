@@ -1,4 +1,4 @@
-use Rattle.resolved_tree.specs.Tree.{resolved_tree}
+use Rattle.lam_resolve_tree.specs.Tree.{resolved_tree}
 use Rattle.region_check.specs.Seen.{checked_tree}
 use Rattle.barrier_compiler.proofs.Made.{made_ok, made_err}
 use Rattle.barrier_compiler.proofs.Acts.{acts_of}

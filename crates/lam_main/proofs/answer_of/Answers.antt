@@ -1,13 +1,13 @@
 use Rattle.std.proofs.Common.{◌≡◌, ℕ, Result, Err, map, string_bytes, refl, sym, subst}
-use Rattle.lam_words.specs.Words.{Request, request_of}
-use Rattle.lam_plan.specs.Answer.{OthersKept}
-use Rattle.lam_plan.specs.Plan.{IsPlanOf, written_by}
-use Rattle.lam_plan.proofs.AnswerLemmas.{stay_kept}
-use Rattle.lam_commands.specs.declared.report.Report.{Report}
-use Rattle.lam_commands.specs.declared.halt.Halt.{Halt}
-use Rattle.lam_commands.specs.declared.halt.Halt.TheVariants.{Refused, NoMemory}
-use Rattle.lam_commands.specs.declared.halt.Refusal.TheVariants.{Word}
-use Rattle.lam_commands.specs.Halts.{Reports}
+use Rattle.lam_main_words.specs.Words.{Request, request_of}
+use Rattle.lam_main_plan.specs.Answer.{OthersKept}
+use Rattle.lam_main_plan.specs.Plan.{IsPlanOf, written_by}
+use Rattle.lam_main_plan.proofs.AnswerLemmas.{stay_kept}
+use Rattle.lam_main_files.specs.declared.report.Report.{Report}
+use Rattle.lam_main_files.specs.declared.halt.Halt.{Halt}
+use Rattle.lam_main_files.specs.declared.halt.Halt.TheVariants.{Refused, NoMemory}
+use Rattle.lam_main_files.specs.declared.halt.Refusal.TheVariants.{Word}
+use Rattle.lam_main_files.specs.Halts.{Reports}
 use Rattle.lam_main.proofs.WordLemmas.{none_named}
 use Rattle.lam_main.proofs.answer_of.Goals as goal
 

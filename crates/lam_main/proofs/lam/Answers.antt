@@ -1,10 +1,10 @@
 use Rattle.std.proofs.Common.{map, string_bytes, ap}
-use Rattle.lam_words.specs.Words.{request_of}
-use Rattle.lam_plan.specs.Answer.{outside}
-use Rattle.lam_plan.specs.Plan.{IsPlan}
-use Rattle.lam_plan.proofs.AnswerLemmas.{answers_to, all_stay, status_of}
-use Rattle.lam_plan.proofs.PlanLemmas.{plans_are_one}
-use Rattle.lam_plan.proofs.FormatLemmas.{steady_of}
+use Rattle.lam_main_words.specs.Words.{request_of}
+use Rattle.lam_main_plan.specs.Answer.{outside}
+use Rattle.lam_main_plan.specs.Plan.{IsPlan}
+use Rattle.lam_main_plan.proofs.AnswerLemmas.{answers_to, all_stay, status_of}
+use Rattle.lam_main_plan.proofs.PlanLemmas.{plans_are_one}
+use Rattle.lam_main_plan.proofs.FormatLemmas.{steady_of}
 use Rattle.lam_main.proofs.EndLemmas.{planned_of, silent_memory, silent_shelf, shelf_failed_as, memory_ended_as, words_first}
 use Rattle.lam_main.proofs.lam.Goals as goal
 

@@ -1,6 +1,6 @@
 use Rattle.std.proofs.Common.{subst, slice_get, ◌+◌, ◌∙◌}
 use Rattle.lam_grammar.specs.Program.{program}
-use Rattle.lam_reading.specs.Reading.{Fails}
+use Rattle.lam_parser_tokens.specs.Reading.{Fails}
 use Rattle.lam_parser.specs.Left.{later}
 use Rattle.lam_parser.proofs.Faults.{unexpected_answer, too_deep_answer}
 use Rattle.lam_parser.proofs.Left.{position_left}

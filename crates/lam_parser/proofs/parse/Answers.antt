@@ -1,5 +1,5 @@
 use Rattle.std.proofs.Common.{◌+◌, ◌∙◌, arith}
-use Rattle.lam_reading.specs.declared.marks.Mark.TheVariants.{End}
+use Rattle.lam_parser_tokens.specs.declared.marks.Mark.TheVariants.{End}
 use Rattle.lam_parser.proofs.Faults.{past_answer, whole_answer}
 use Rattle.lam_parser.proofs.Left.{position_left}
 use Rattle.lam_parser.proofs.parse.Goals as goal

@@ -1,5 +1,5 @@
 use Rattle.std.proofs.Common.{◌≡◌, ◌++◌, drop, map}
-use Rattle.resolved_tree.specs.Tree.{classes_tree}
+use Rattle.lam_resolve_tree.specs.Tree.{classes_tree}
 use Rattle.lam_meaning.specs.Means.{kind_of}
 use Rattle.barrier_compiler.proofs.emitting.classes_of.Given as goal
 

@@ -1,5 +1,5 @@
 use Rattle.std.proofs.Common.{◌∙◌, ap, sym, subst, Ok, Err}
-use Rattle.resolved_tree.specs.Tree.{classes_tree, resolved_tree}
+use Rattle.lam_resolve_tree.specs.Tree.{classes_tree, resolved_tree}
 use Rattle.lam_bytecode.specs.Codes.{IsCode}
 use Rattle.barrier_compiler.proofs.Whole.{all_added, is_code, is_compiled, long_answer, never_wide}
 use Rattle.barrier_compiler.proofs.Classes.{room}

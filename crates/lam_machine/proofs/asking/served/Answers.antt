@@ -1,4 +1,4 @@
-use Rattle.lam_deeds.specs.Parts.{world_of}
+use Rattle.lam_machine_effects.specs.Parts.{world_of}
 use Rattle.lam_machine.proofs.AskLemmas.{serves_some}
 use Rattle.lam_machine.proofs.asking.served.Goals as goal
 

@@ -1,8 +1,8 @@
 use Rattle.std.proofs.Common.{◌≡◌, List, Some, sym, subst}
 use Rattle.std.specs.Prelude.{slice_get}
 use Rattle.thread_steps.specs.Threads.{Context, Thread}
-use Rattle.lam_worlds.specs.Worlds.{contexts_in}
-use Rattle.lam_deeds.specs.Parts.{world_of}
+use Rattle.lam_machine_terms.specs.Worlds.{contexts_in}
+use Rattle.lam_machine_effects.specs.Parts.{world_of}
 use Rattle.lam_machine.specs.Asking.{Serves}
 use Rattle.lam_machine.proofs.AskLemmas.{top_there, is_there, fits, few_after, taken}
 use Rattle.lam_machine.proofs.asking.take_ask.Goals as goal

@@ -1,6 +1,6 @@
 use Rattle.std.proofs.Common.{List, true, false, refl, subst}
 use Rattle.thread_steps.specs.Threads.{Thread}
-use Rattle.lam_deeds.specs.Parts.{world_of}
+use Rattle.lam_machine_effects.specs.Parts.{world_of}
 use Rattle.lam_machine.specs.Asking.{IsReadiness}
 use Rattle.lam_machine.proofs.AskLemmas.{waits_still, may_ask_now}
 use Rattle.lam_machine.proofs.stepping.answer_ask.Goals as goal

@@ -1,6 +1,6 @@
 use Rattle.std.proofs.Common.{Option, subst}
 use Rattle.lam_asks.specs.declared.answer.Answer.{Answer}
-use Rattle.lam_deeds.specs.Parts.{world_of}
+use Rattle.lam_machine_effects.specs.Parts.{world_of}
 use Rattle.lam_machine.specs.Machine.{IsStep}
 use Rattle.lam_machine.specs.Asking.{asked_event}
 use Rattle.lam_machine.proofs.stepping.step_asking.Goals as goal

@@ -1,8 +1,8 @@
 use Rattle.std.proofs.Common.{◌≡◌, ◌∙◌, List, sym, ap, subst, IfOk, OnErr}
 use Rattle.std.specs.Prelude.{slice_get}
 use Rattle.thread_steps.specs.Threads.{Thread}
-use Rattle.lam_worlds.specs.Worlds.{World, contexts_in}
-use Rattle.lam_deeds.specs.Parts.{world_of}
+use Rattle.lam_machine_terms.specs.Worlds.{World, contexts_in}
+use Rattle.lam_machine_effects.specs.Parts.{world_of}
 use Rattle.lam_machine.specs.Machine.{CopiesLive, IsStep}
 use Rattle.lam_machine.specs.Asking.{top_label, AsksNext}
 use Rattle.lam_machine.proofs.AdvanceLemmas.{took_private, handed_out, stuck_still, ended_still}

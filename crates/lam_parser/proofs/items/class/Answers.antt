@@ -3,8 +3,8 @@ use Rattle.std.proofs.lemmas.Result.{err_from_is_err_and}
 use Rattle.lam_syntax.specs.Tree.{vars_tree, class_item}
 use Rattle.lam_grammar.specs.Table.{item}
 use Rattle.lam_grammar.specs.Meaning.{item_value}
-use Rattle.lam_reading.specs.Reading.{Gives}
-use Rattle.lam_reading.proofs.Rules.{begun, mark_taken, maybe_taken, rule_read, mark_fails, rule_fails, present, body_of}
+use Rattle.lam_parser_tokens.specs.Reading.{Gives}
+use Rattle.lam_parser_tokens.proofs.Rules.{begun, mark_taken, maybe_taken, rule_read, mark_fails, rule_fails, present, body_of}
 use Rattle.lam_parser.proofs.items.class.Goals as goal
 
 pub returns-in_err-name-clause-reads : goal.returns-in_err-name-clause-reads

@@ -3,8 +3,8 @@ use Rattle.std.proofs.lemmas.Result.{err_from_is_err_and}
 use Rattle.lam_syntax.specs.Tree.{vars_tree, stmts_tree, option_type_tree, function_item}
 use Rattle.lam_grammar.specs.Table.{item}
 use Rattle.lam_grammar.specs.Meaning.{id_of, item_value}
-use Rattle.lam_reading.specs.Reading.{Gives}
-use Rattle.lam_reading.proofs.Rules.{begun, mark_taken, rule_taken, maybe_taken, rule_read, mark_fails, rule_fails}
+use Rattle.lam_parser_tokens.specs.Reading.{Gives}
+use Rattle.lam_parser_tokens.proofs.Rules.{begun, mark_taken, rule_taken, maybe_taken, rule_read, mark_fails, rule_fails}
 use Rattle.lam_parser.proofs.ItemBodies.{function_body, no_class, result_type}
 use Rattle.lam_parser.proofs.items.function.Goals as goal
 

@@ -1,8 +1,8 @@
 use Rattle.std.proofs.Common.{slice_get, refl}
 use Rattle.std.proofs.lemmas.Result.{err_from_is_err_and}
 use Rattle.lam_grammar.specs.Table.{item}
-use Rattle.lam_reading.proofs.Rules.{begun}
-use Rattle.lam_parse_parts.proofs.Steps.{next_fails}
+use Rattle.lam_parser_tokens.proofs.Rules.{begun}
+use Rattle.lam_parser_parts.proofs.Steps.{next_fails}
 use Rattle.lam_parser.proofs.ItemBodies.{function_body, function_front}
 use Rattle.lam_parser.proofs.items.item.Goals as goal
 

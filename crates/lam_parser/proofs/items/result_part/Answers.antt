@@ -1,7 +1,7 @@
 use Rattle.std.proofs.Common.{slice_get, refl}
 use Rattle.std.proofs.lemmas.Result.{err_from_is_err_and}
 use Rattle.lam_grammar.specs.Table.{result_part}
-use Rattle.lam_reading.proofs.Rules.{rule_taken, rule_read, rule_fails, present, body_of, no_body_of, opened, left_out}
+use Rattle.lam_parser_tokens.proofs.Rules.{rule_taken, rule_read, rule_fails, present, body_of, no_body_of, opened, left_out}
 use Rattle.lam_parser.proofs.items.result_part.Goals as goal
 
 pub returns-in_default-clause-reads : goal.returns-in_default-clause-reads

@@ -3,13 +3,13 @@ use Rattle.std.proofs.lemmas.Result.{err_from_is_err_and}
 use Rattle.lam_syntax.specs.Tree.{expr_tree, stmts_tree, no_stmts}
 use Rattle.lam_grammar.specs.Table.{stmt, stmts, block, else_part, handler}
 use Rattle.lam_grammar.specs.Meaning.{stmts_value, handler_value}
-use Rattle.lam_reading.specs.Reading.{Gives}
-use Rattle.lam_reading.proofs.Rules.{begun, part_begun, mark_taken, rule_taken, maybe_taken, rule_read, mark_fails, rule_fails, present, body_of, no_body_of, rule_body_of, no_rule_body_of, opened, left_out, loop_goes_on, loop_ends}
-use Rattle.lam_parse_parts.proofs.Steps.{begun_fails, loop_begun_fails, loop_as}
+use Rattle.lam_parser_tokens.specs.Reading.{Gives}
+use Rattle.lam_parser_tokens.proofs.Rules.{begun, part_begun, mark_taken, rule_taken, maybe_taken, rule_read, mark_fails, rule_fails, present, body_of, no_body_of, rule_body_of, no_rule_body_of, opened, left_out, loop_goes_on, loop_ends}
+use Rattle.lam_parser_parts.proofs.Steps.{begun_fails, loop_begun_fails, loop_as}
 use Rattle.lam_parser.proofs.Lists.{stmts_more, stmts_whole}
 use Rattle.lam_parser.proofs.Starts.{stmts_begin}
-use Rattle.lam_parse_stmts.proofs.StmtBodies.{if_body, while_body, while_means, sync_body, sync_means, region_body}
-use Rattle.lam_parse_parts.proofs.Sums.{with_sum}
+use Rattle.lam_parser_stmts.proofs.StmtBodies.{if_body, while_body, while_means, sync_body, sync_means, region_body}
+use Rattle.lam_parser_parts.proofs.Sums.{with_sum}
 use Rattle.lam_parser.proofs.Blocks.{statement_wanted}
 use Rattle.lam_parser.proofs.stmts.+statement.Goals as goal
 

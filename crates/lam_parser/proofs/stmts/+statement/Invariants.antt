@@ -3,7 +3,7 @@ use Rattle.lam_syntax.specs.Tree.{StmtList}
 use Rattle.lam_grammar.specs.Table.{stmt, stmts}
 use Rattle.lam_grammar.specs.Meaning.{stmts_value}
 use Rattle.lam_grammar.specs.Examples.{examples}
-use Rattle.lam_reading.proofs.Rules.{Loop}
+use Rattle.lam_parser_tokens.proofs.Rules.{Loop}
 use Rattle.lam_parser.proofs.Lists.{stmts_before}
 use Rattle.lam_parser.proofs.stmts.+statement.Given as goal
 

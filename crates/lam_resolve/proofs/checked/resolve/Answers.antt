@@ -1,12 +1,12 @@
 use Rattle.std.proofs.Common.{◌≡◌, ap, ◌∙◌, is_some}
 use Rattle.lam_syntax.specs.Unplaced.{unplaced}
-use Rattle.resolved_tree.specs.Tree.{resolved_tree}
-use Rattle.resolved_tree.specs.Typing.{IsTypedTree}
-use Rattle.resolved_tree.specs.Regions.{AreNumbered}
-use Rattle.resolved_tree.specs.Slots.{SlotsDiffer}
-use Rattle.resolved_tree.specs.Limits.{WithinLimits}
-use Rattle.lam_resolved.specs.Resolved.{resolved}
-use Rattle.lam_resolved.specs.Names.{names_of, program_named}
+use Rattle.lam_resolve_tree.specs.Tree.{resolved_tree}
+use Rattle.lam_resolve_tree.specs.Typing.{IsTypedTree}
+use Rattle.lam_resolve_tree.specs.Regions.{AreNumbered}
+use Rattle.lam_resolve_tree.specs.Slots.{SlotsDiffer}
+use Rattle.lam_resolve_tree.specs.Limits.{WithinLimits}
+use Rattle.lam_resolve_laws.specs.Resolved.{resolved}
+use Rattle.lam_resolve_laws.specs.Names.{names_of, program_named}
 use Rattle.lam_resolve_tables.proofs.Options.{if_ok}
 use Rattle.lam_resolve.proofs.ProgramSteps.{holds_of}
 use Rattle.region_check.specs.Seen.{checked_tree}

@@ -1,6 +1,6 @@
 use Rattle.std.proofs.Common.{ap, ◌∙◌}
 use Rattle.lam_syntax.specs.Tree.{item_tree, function_tree, class_tree}
-use Rattle.resolved_tree.specs.Tree.{functions_tree, function_tree as resolved_function}
+use Rattle.lam_resolve_tree.specs.Tree.{functions_tree, function_tree as resolved_function}
 use Rattle.lam_resolve_tables.specs.Tables.{tables}
 use Rattle.lam_resolve.proofs.ProgramSteps.{function_needs, class_added, function_added, functions_push}
 use Rattle.lam_resolve.proofs.programs.add_function.Goals as goal

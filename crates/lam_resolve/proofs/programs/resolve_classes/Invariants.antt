@@ -1,5 +1,5 @@
 use Rattle.std.proofs.Common.{◌≡◌, ◌++◌, drop}
-use Rattle.resolved_tree.specs.Tree.{classes_tree}
+use Rattle.lam_resolve_tree.specs.Tree.{classes_tree}
 use Rattle.lam_resolve_tables.specs.Tables.{all_fields}
 use Rattle.lam_resolve.specs.Meets.{types_of_all}
 use Rattle.lam_resolve.proofs.programs.resolve_classes.Given as goal

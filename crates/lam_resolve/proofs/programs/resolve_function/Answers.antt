@@ -2,8 +2,8 @@ use Rattle.std.proofs.Common.{ap, ◌∙◌, is_some}
 use Rattle.std.specs.Option.{option_map}
 use Rattle.std.specs.Prelude.{string_bytes}
 use Rattle.lam_syntax.specs.Tree.{function_tree, vars_tree}
-use Rattle.resolved_tree.specs.Tree.{stmts_tree as resolved_stmts, types_tree, option_type_tree}
-use Rattle.lam_resolved.specs.Resolved.{resolve_vars, closed_as, locals_from, state_as, types_of}
+use Rattle.lam_resolve_tree.specs.Tree.{stmts_tree as resolved_stmts, types_tree, option_type_tree}
+use Rattle.lam_resolve_laws.specs.Resolved.{resolve_vars, closed_as, locals_from, state_as, types_of}
 use Rattle.lam_resolve_tables.specs.Entries.{entries_of}
 use Rattle.lam_resolve_tables.specs.Kinds.{kind_type}
 use Rattle.lam_resolve_tables.specs.Tables.{tables, vars}

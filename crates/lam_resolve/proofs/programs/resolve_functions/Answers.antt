@@ -1,8 +1,8 @@
 use Rattle.std.proofs.Common.{ap}
 use Rattle.std.proofs.lemmas.List.{drop_all}
 use Rattle.lam_syntax.specs.Tree.{items_tree}
-use Rattle.resolved_tree.specs.Tree.{functions_tree}
-use Rattle.lam_resolved.specs.Resolved.{resolve_functions}
+use Rattle.lam_resolve_tree.specs.Tree.{functions_tree}
+use Rattle.lam_resolve_laws.specs.Resolved.{resolve_functions}
 use Rattle.lam_resolve_tables.specs.Tables.{tables}
 use Rattle.lam_resolve_tables.proofs.Options.{collected_first, collected_last}
 use Rattle.lam_resolve.proofs.ProgramSteps.{items_need, items_next}

@@ -1,7 +1,7 @@
 use Rattle.std.proofs.Common.{drop}
 use Rattle.lam_syntax.specs.Tree.{items_tree}
-use Rattle.resolved_tree.specs.Tree.{functions_tree}
-use Rattle.lam_resolved.specs.Resolved.{resolve_functions}
+use Rattle.lam_resolve_tree.specs.Tree.{functions_tree}
+use Rattle.lam_resolve_laws.specs.Resolved.{resolve_functions}
 use Rattle.lam_resolve_tables.specs.Tables.{tables}
 use Rattle.lam_resolve_tables.proofs.Options.{Collected}
 use Rattle.lam_resolve.proofs.programs.resolve_functions.Given as goal

@@ -1,7 +1,7 @@
 use Rattle.std.proofs.Common.{ap, sym, ◌∙◌, is_some}
 use Rattle.lam_syntax.specs.Tree.{items_tree, program_tree}
-use Rattle.resolved_tree.specs.Tree.{functions_tree, classes_tree}
-use Rattle.lam_resolved.specs.Resolved.{tables as tables_of, resolve_functions}
+use Rattle.lam_resolve_tree.specs.Tree.{functions_tree, classes_tree}
+use Rattle.lam_resolve_laws.specs.Resolved.{tables as tables_of, resolve_functions}
 use Rattle.lam_resolve_tables.specs.Tables.{tables, all_fields}
 use Rattle.lam_resolve.specs.Meets.{types_of_all}
 use Rattle.lam_resolve.proofs.ProgramSteps.{program_tables, program_functions, program_done}

@@ -1,6 +1,6 @@
 use Rattle.std.proofs.Common.{Some, ap, sym, ◌∙◌}
 use Rattle.std.specs.Option.{option_map}
-use Rattle.resolved_tree.specs.Tree.{expr_tree}
+use Rattle.lam_resolve_tree.specs.Tree.{expr_tree}
 use Rattle.lam_resolve_tables.specs.Kinds.{given}
 use Rattle.lam_resolve_tables.specs.Tables.{tables}
 use Rattle.lam_resolve_exprs.specs.Values.{field_seen}

@@ -1,6 +1,6 @@
 use Rattle.std.proofs.Common.{ap}
 use Rattle.lam_syntax.specs.Tree.{expr_tree}
-use Rattle.resolved_tree.specs.Tree.{expr_tree as resolved_expr}
+use Rattle.lam_resolve_tree.specs.Tree.{expr_tree as resolved_expr}
 use Rattle.lam_resolve_tables.specs.Tables.{tables}
 use Rattle.lam_resolve_exprs.specs.Values.{locals, value}
 use Rattle.lam_resolve_stmts.proofs.RegionArms.{expr_done}

@@ -1,7 +1,7 @@
 use Rattle.std.proofs.Common.{ap, ◌∙◌, Some, is_some}
 use Rattle.lam_syntax.specs.Tree.{expr_tree, ids_tree}
-use Rattle.resolved_tree.specs.Tree.{expr_tree as resolved_expr}
-use Rattle.lam_resolved.specs.Resolved.{then_some, enter_region}
+use Rattle.lam_resolve_tree.specs.Tree.{expr_tree as resolved_expr}
+use Rattle.lam_resolve_laws.specs.Resolved.{then_some, enter_region}
 use Rattle.lam_resolve_tables.specs.Tables.{tables}
 use Rattle.lam_resolve_exprs.specs.Values.{locals}
 use Rattle.lam_resolve_units.specs.Seen.{entered, entered_by}

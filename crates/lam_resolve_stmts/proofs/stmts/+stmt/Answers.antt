@@ -8,8 +8,8 @@ use Rattle.lam_syntax.specs.declared.StmtKind.{StmtKind}
 use Rattle.lam_syntax.specs.declared.StmtKind.TheVariants.{Region}
 use Rattle.lam_syntax.specs.Tree.{if_stmt, while_stmt, sync_stmt, region_stmt, expr_tree, option_expr_tree, stmt_form, stmts_tree, else_tree, ids_tree, id_tree}
 use Rattle.lam_syntax.proofs.Rows.{if_row, while_row, sync_row, region_row}
-use Rattle.resolved_tree.specs.Tree.{stmt_tree as resolved_stmt, stmts_tree as resolved_stmts, else_tree as resolved_other, option_expr_tree as resolved_option}
-use Rattle.lam_resolved.specs.Resolved.{closed_as, resolve_stmt_form, resolve_stmts}
+use Rattle.lam_resolve_tree.specs.Tree.{stmt_tree as resolved_stmt, stmts_tree as resolved_stmts, else_tree as resolved_other, option_expr_tree as resolved_option}
+use Rattle.lam_resolve_laws.specs.Resolved.{closed_as, resolve_stmt_form, resolve_stmts}
 use Rattle.lam_resolve_tables.specs.Kinds.{kind_type}
 use Rattle.lam_resolve_tables.specs.Tables.{tables}
 use Rattle.lam_resolve_exprs.specs.Values.{locals, value}

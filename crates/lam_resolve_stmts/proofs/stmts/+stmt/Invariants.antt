@@ -1,7 +1,7 @@
 use Rattle.lam_syntax.specs.Tree.{expr_tree, stmt_tree, stmts_tree, else_tree, if_stmt, while_stmt, sync_stmt}
 use Rattle.lam_resolve_stmts.proofs.Sizes.{stmt_size, form_size, stmts_size, else_size}
 use Rattle.std.proofs.Common.{◌+◌, drop}
-use Rattle.lam_resolved.specs.Resolved.{resolve_stmts}
+use Rattle.lam_resolve_laws.specs.Resolved.{resolve_stmts}
 use Rattle.lam_resolve_tables.specs.Tables.{tables}
 use Rattle.lam_resolve_exprs.specs.Values.{locals}
 use Rattle.lam_resolve_units.specs.Seen.{state}

@@ -1,6 +1,6 @@
 use Rattle.std.proofs.Common.{rules, ◌<◌, IsSome, sym, ap, ◌∙◌}
 use Rattle.lam_syntax.specs.Tree.{type_form, type_tree}
-use Rattle.lam_resolved.specs.Resolved.{resolve_type}
+use Rattle.lam_resolve_laws.specs.Resolved.{resolve_type}
 use Rattle.lam_resolve_tables.specs.Entries.{entries_of}
 use Rattle.lam_resolve_tables.specs.Kinds.{kind_type}
 use Rattle.lam_resolve_tables.specs.Named.{seen_found}

@@ -1,5 +1,5 @@
 use Rattle.std.proofs.Common.{◌≡◌}
-use Rattle.resolved_tree.specs.Tree.{type_tree}
+use Rattle.lam_resolve_tree.specs.Tree.{type_tree}
 use Rattle.lam_resolve_tables.specs.Kinds.{base_type, arrays_of}
 use Rattle.lam_resolve_tables.proofs.kinds.value_type.Given as goal
 

@@ -1,6 +1,6 @@
 use Rattle.std.proofs.Common.{ap, ◌∙◌, ◌++◌, ◌∷◌, [], is_some}
 use Rattle.lam_syntax.specs.Tree.{vars_tree, item_tree, class_tree, function_tree}
-use Rattle.lam_resolved.specs.Resolved.{resolve_vars}
+use Rattle.lam_resolve_laws.specs.Resolved.{resolve_vars}
 use Rattle.lam_resolve_tables.specs.Entries.{entries_of}
 use Rattle.lam_resolve_tables.specs.Tables.{vars, fields, all_fields}
 use Rattle.lam_resolve_tables.proofs.Options.{map_push}

@@ -1,5 +1,5 @@
 use Rattle.std.proofs.Common.{ap, sym, ◌∙◌}
-use Rattle.lam_resolved.specs.Resolved.{types_of}
+use Rattle.lam_resolve_laws.specs.Resolved.{types_of}
 use Rattle.lam_resolve_tables.specs.Tables.{vars}
 use Rattle.lam_resolve_tables.proofs.Options.{if_ok}
 use Rattle.lam_resolve_tables.proofs.TableSteps.{fields_vars}

@@ -1,7 +1,7 @@
 use Rattle.std.proofs.Common.{ap, sym, ◌∙◌, is_some, map}
 use Rattle.std.proofs.lemmas.List.{drop_all}
 use Rattle.lam_syntax.specs.Tree.{items_tree}
-use Rattle.lam_resolved.specs.Resolved.{resolve_heads}
+use Rattle.lam_resolve_laws.specs.Resolved.{resolve_heads}
 use Rattle.lam_resolve_tables.specs.Entries.{entries_of}
 use Rattle.lam_resolve_tables.proofs.Options.{collected_first, collected_some, collected_more, collected_last, first_some}
 use Rattle.lam_resolve_tables.proofs.TableSteps.{heads_step}

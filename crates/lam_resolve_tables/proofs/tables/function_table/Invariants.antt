@@ -1,6 +1,6 @@
 use Rattle.std.proofs.Common.{drop}
 use Rattle.lam_syntax.specs.Tree.{items_tree}
-use Rattle.lam_resolved.specs.Resolved.{resolve_heads}
+use Rattle.lam_resolve_laws.specs.Resolved.{resolve_heads}
 use Rattle.lam_resolve_tables.specs.Entries.{entries_of}
 use Rattle.lam_resolve_tables.specs.Tables.{heads}
 use Rattle.lam_resolve_tables.proofs.Options.{Collected}

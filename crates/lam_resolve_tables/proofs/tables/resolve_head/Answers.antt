@@ -1,7 +1,7 @@
 use Rattle.std.proofs.Common.{ap, ◌∙◌, is_some}
 use Rattle.std.specs.Option.{option_map}
 use Rattle.lam_syntax.specs.Tree.{vars_tree, function_tree}
-use Rattle.lam_resolved.specs.Resolved.{resolve_vars}
+use Rattle.lam_resolve_laws.specs.Resolved.{resolve_vars}
 use Rattle.lam_resolve_tables.specs.Entries.{entries_of}
 use Rattle.lam_resolve_tables.specs.Kinds.{kind_type}
 use Rattle.lam_resolve_tables.specs.Tables.{vars}

@@ -1,8 +1,8 @@
 use Rattle.std.proofs.Common.{ap, sym, ◌∙◌, ◌++◌, ◌∷◌, [], is_some}
 use Rattle.std.proofs.lemmas.List.{drop_all}
 use Rattle.lam_syntax.specs.Tree.{vars_tree, var_tree}
-use Rattle.lam_kinds.proofs.TableLemmas.{see_push}
-use Rattle.lam_resolved.specs.Resolved.{resolve_vars}
+use Rattle.lam_types_kinds.proofs.TableLemmas.{see_push}
+use Rattle.lam_resolve_laws.specs.Resolved.{resolve_vars}
 use Rattle.lam_resolve_tables.specs.Entries.{entries_of}
 use Rattle.lam_resolve_tables.specs.Kinds.{kind_type}
 use Rattle.lam_resolve_tables.specs.Tables.{vars}

@@ -1,6 +1,6 @@
 use Rattle.std.proofs.Common.{◌≡◌, ◌++◌, drop}
-use Rattle.resolved_tree.specs.Tree.{types_tree}
-use Rattle.lam_resolved.specs.Resolved.{types_of}
+use Rattle.lam_resolve_tree.specs.Tree.{types_tree}
+use Rattle.lam_resolve_laws.specs.Resolved.{types_of}
 use Rattle.lam_resolve_tables.specs.Tables.{vars}
 use Rattle.lam_resolve_tables.proofs.tables.types_of_vars.Given as goal
 

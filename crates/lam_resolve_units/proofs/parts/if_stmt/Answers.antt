@@ -1,4 +1,4 @@
-use Rattle.resolved_tree.proofs.Rows.{if_row}
+use Rattle.lam_resolve_tree.proofs.Rows.{if_row}
 use Rattle.lam_resolve_units.proofs.parts.if_stmt.Goals as goal
 
 pub returns : goal.returns

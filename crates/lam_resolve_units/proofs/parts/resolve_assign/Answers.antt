@@ -1,7 +1,7 @@
 use Rattle.lam_syntax.specs.Tree.{expr_tree}
 use Rattle.lam_resolve_tables.specs.Tables.{tables}
 use Rattle.lam_resolve_exprs.specs.Values.{locals, value}
-use Rattle.resolved_tree.specs.Tree.{stmt_tree}
+use Rattle.lam_resolve_tree.specs.Tree.{stmt_tree}
 use Rattle.lam_resolve_units.proofs.PartSteps.{assign_place, assign_value, assign_needs, assign_done}
 use Rattle.lam_resolve_units.proofs.parts.resolve_assign.Goals as goal
 

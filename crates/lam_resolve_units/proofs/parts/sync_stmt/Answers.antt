@@ -1,4 +1,4 @@
-use Rattle.resolved_tree.proofs.Rows.{sync_row}
+use Rattle.lam_resolve_tree.proofs.Rows.{sync_row}
 use Rattle.lam_resolve_units.proofs.parts.sync_stmt.Goals as goal
 
 pub returns : goal.returns

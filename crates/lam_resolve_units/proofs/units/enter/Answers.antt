@@ -1,6 +1,6 @@
 use Rattle.std.proofs.Common.{◌+◌, ap, sym, ◌∙◌, is_some, Some, refl}
 use Rattle.lam_syntax.specs.Tree.{ids_tree}
-use Rattle.lam_resolved.specs.Resolved.{then_some, resolve_captures, slots_of, taken_over, locals_from, state_as, types_of}
+use Rattle.lam_resolve_laws.specs.Resolved.{then_some, resolve_captures, slots_of, taken_over, locals_from, state_as, types_of}
 use Rattle.lam_resolve_tables.specs.Tables.{vars}
 use Rattle.lam_resolve_exprs.specs.Values.{locals}
 use Rattle.lam_resolve_units.specs.Seen.{state, captured, entered_by}

@@ -1,5 +1,5 @@
 use Rattle.std.proofs.Common.{◌≡◌, ◌++◌, drop}
-use Rattle.lam_resolved.specs.Resolved.{locals_from}
+use Rattle.lam_resolve_laws.specs.Resolved.{locals_from}
 use Rattle.lam_resolve_tables.specs.Tables.{vars}
 use Rattle.lam_resolve_exprs.specs.Values.{locals}
 use Rattle.lam_resolve_units.proofs.units.first_locals.Given as goal

@@ -1,6 +1,6 @@
 use Rattle.std.proofs.Common.{ap, sym, ◌∙◌, ◌++◌, ◌∷◌, []}
-use Rattle.resolved_tree.specs.Tree.{types_tree}
-use Rattle.lam_resolved.specs.Resolved.{state_as}
+use Rattle.lam_resolve_tree.specs.Tree.{types_tree}
+use Rattle.lam_resolve_laws.specs.Resolved.{state_as}
 use Rattle.lam_resolve_tables.proofs.TableSteps.{types_push}
 use Rattle.lam_resolve_units.proofs.UnitSteps.{length_types}
 use Rattle.lam_resolve_units.proofs.units.new_slot.Goals as goal

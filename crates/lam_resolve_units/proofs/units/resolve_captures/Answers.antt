@@ -1,7 +1,7 @@
 use Rattle.std.proofs.Common.{ap, sym, ◌∙◌, ◌++◌, ◌∷◌, [], is_some}
 use Rattle.std.proofs.lemmas.List.{drop_all}
 use Rattle.lam_syntax.specs.Tree.{ids_tree, id_tree}
-use Rattle.lam_resolved.specs.Resolved.{resolve_captures}
+use Rattle.lam_resolve_laws.specs.Resolved.{resolve_captures}
 use Rattle.lam_resolve_exprs.specs.Values.{locals, local}
 use Rattle.lam_resolve_tables.proofs.Options.{collected_first, collected_some, collected_one, collected_last, first_some, map_push}
 use Rattle.lam_resolve_units.specs.Seen.{captured}

@@ -1,6 +1,6 @@
 use Rattle.std.proofs.Common.{drop}
 use Rattle.lam_syntax.specs.Tree.{ids_tree}
-use Rattle.lam_resolved.specs.Resolved.{resolve_captures}
+use Rattle.lam_resolve_laws.specs.Resolved.{resolve_captures}
 use Rattle.lam_resolve_exprs.specs.Values.{locals}
 use Rattle.lam_resolve_tables.proofs.Options.{Collected}
 use Rattle.lam_resolve_units.specs.Seen.{captured}

@@ -1,5 +1,5 @@
 use Rattle.std.proofs.Common.{◌≡◌, ◌++◌, drop}
-use Rattle.lam_resolved.specs.Resolved.{slots_of}
+use Rattle.lam_resolve_laws.specs.Resolved.{slots_of}
 use Rattle.lam_resolve_units.specs.Seen.{captured}
 use Rattle.lam_resolve_units.proofs.units.slots_of.Given as goal
 

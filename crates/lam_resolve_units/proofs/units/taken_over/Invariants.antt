@@ -1,5 +1,5 @@
 use Rattle.std.proofs.Common.{◌≡◌, ◌++◌, drop}
-use Rattle.lam_resolved.specs.Resolved.{taken_over}
+use Rattle.lam_resolve_laws.specs.Resolved.{taken_over}
 use Rattle.lam_resolve_tables.specs.Tables.{vars}
 use Rattle.lam_resolve_units.specs.Seen.{captured}
 use Rattle.lam_resolve_units.proofs.units.taken_over.Given as goal

@@ -1,7 +1,7 @@
 use Rattle.std.proofs.Common.{◌≤◌, length, refl, arith}
 use Rattle.std.proofs.lemmas.Result.{err_from_is_err_and}
 use Rattle.lam_syntax.specs.Tree.{function_tree}
-use Rattle.lam_kinds.specs.Values.{decls, names, option_type}
+use Rattle.lam_types_kinds.specs.Values.{decls, names, option_type}
 use Rattle.lam_types.proofs.FunctionLemmas.{few, head_stop, body_stop, body_fine}
 use Rattle.lam_types.proofs.items.check_function.Goals as goal
 

@@ -1,6 +1,6 @@
 use Rattle.std.proofs.Common.{◌≡◌, drop}
 use Rattle.lam_syntax.specs.Tree.{items_tree}
-use Rattle.lam_kinds.specs.Values.{decls}
+use Rattle.lam_types_kinds.specs.Values.{decls}
 use Rattle.lam_types.specs.Program.{items_checked}
 use Rattle.lam_types.proofs.items.check_items.Given as goal
 

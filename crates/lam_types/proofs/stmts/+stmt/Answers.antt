@@ -7,7 +7,7 @@ use Rattle.lam_syntax.specs.declared.StmtKind.{StmtKind}
 use Rattle.lam_syntax.specs.declared.StmtKind.TheVariants.{Region}
 use Rattle.lam_syntax.proofs.Rows.{while_row, sync_row, if_row, region_row}
 use Rattle.lam_syntax.specs.Tree.{stmt_form, if_stmt, region_stmt, return_stmt, throw_stmt, do_stmt, assign_stmt, expr_tree, option_expr_tree, stmts_tree, else_tree, ids_tree, id_tree}
-use Rattle.lam_kinds.specs.Values.{decls, names, option_type}
+use Rattle.lam_types_kinds.specs.Values.{decls, names, option_type}
 use Rattle.lam_types.proofs.Arms
 use Rattle.lam_types.proofs.Pieces.{block_stop, block_done}
 use Rattle.lam_types.proofs.stmts.+stmt.Goals as goal

@@ -1,6 +1,6 @@
 use Rattle.std.proofs.Common.{◌≡◌, drop}
 use Rattle.lam_syntax.specs.Tree.{stmts_tree}
-use Rattle.lam_kinds.specs.Values.{decls, names, option_type, Extends}
+use Rattle.lam_types_kinds.specs.Values.{decls, names, option_type, Extends}
 use Rattle.lam_types.specs.Stmts.{stmts_checked}
 use Rattle.lam_types.proofs.stmts.+stmt.Given as goal
 

@@ -1,7 +1,7 @@
 use Rattle.std.proofs.Common.{refl, None}
 use Rattle.std.proofs.lemmas.Result.{err_from_is_err_and}
 use Rattle.lam_syntax.specs.Tree.{expr_tree}
-use Rattle.lam_kinds.specs.Values.{decls, option_type, given}
+use Rattle.lam_types_kinds.specs.Values.{decls, option_type, given}
 use Rattle.lam_types.proofs.Arms
 use Rattle.lam_types.proofs.stmts.check_assign.Goals as goal
 

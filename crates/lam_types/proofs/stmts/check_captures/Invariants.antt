@@ -1,6 +1,6 @@
 use Rattle.std.proofs.Common.{◌≡◌, drop}
 use Rattle.lam_syntax.specs.Tree.{ids_tree}
-use Rattle.lam_kinds.specs.Values.{names}
+use Rattle.lam_types_kinds.specs.Values.{names}
 use Rattle.lam_types.specs.Stmts.{captured}
 use Rattle.lam_types.proofs.stmts.check_captures.Given as goal
 

@@ -1,7 +1,7 @@
 use Rattle.std.proofs.Common.{ap}
 use Rattle.std.proofs.lemmas.Result.{err_from_is_err_and}
 use Rattle.lam_syntax.specs.Tree.{expr_tree, option_expr_tree}
-use Rattle.lam_kinds.specs.Values.{decls, names, option_type}
+use Rattle.lam_types_kinds.specs.Values.{decls, names, option_type}
 use Rattle.lam_types.proofs.Pieces.{return_stop}
 use Rattle.lam_types.proofs.stmts.check_returned.Goals as goal
 

@@ -1,8 +1,8 @@
 use Rattle.std.proofs.lemmas.Result.{err_from_is_err_and}
 use Rattle.lam_syntax.specs.Tree.{expr_tree}
-use Rattle.lam_kinds.specs.Values.{decls, names, place}
-use Rattle.lam_kinds.proofs.Steps.{stops}
-use Rattle.lam_exprs.specs.Exprs.{at_of, placed, given_of}
+use Rattle.lam_types_kinds.specs.Values.{decls, names, place}
+use Rattle.lam_types_kinds.proofs.Steps.{stops}
+use Rattle.lam_types_exprs.specs.Exprs.{at_of, placed, given_of}
 use Rattle.lam_types.specs.Stmts.{stands}
 use Rattle.lam_types.proofs.stmts.check_stands.Goals as goal
 

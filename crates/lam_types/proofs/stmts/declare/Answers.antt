@@ -1,9 +1,9 @@
 use Rattle.std.proofs.Common.{◌≡◌, Option, None, Some, refl, sym, ap, ◌∙◌}
 use Rattle.std.specs.Map.{lookup}
 use Rattle.std.specs.Option.{option_map}
-use Rattle.lam_kinds.specs.Values.{value_type}
-use Rattle.lam_kinds.specs.declared.types.TypeRef.{TypeRef}
-use Rattle.lam_kinds.proofs.TableLemmas.{find_see, key_is}
+use Rattle.lam_types_kinds.specs.Values.{value_type}
+use Rattle.lam_types_kinds.specs.declared.types.TypeRef.{TypeRef}
+use Rattle.lam_types_kinds.proofs.TableLemmas.{find_see, key_is}
 use Rattle.lam_types.proofs.stmts.declare.Goals as goal
 
 none_map : {V A : Type 0} (see : V → A) (o : Option V) → option_map see o ≡ None → o ≡ None

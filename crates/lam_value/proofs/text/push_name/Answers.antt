@@ -1,6 +1,6 @@
 use Rattle.std.proofs.Common.{◌≡◌, ℕ, List, [], ◌∷◌, ◌++◌, append_assoc, ap, ◌∙◌, lit<, string_bytes, decimal}
-use Rattle.home_counters.specs.LabelText.{label_text}
-use Rattle.home_counters.proofs.Maps.{on_ok_so}
+use Rattle.lam_value_homes.specs.LabelText.{label_text}
+use Rattle.lam_value_homes.proofs.Maps.{on_ok_so}
 use Rattle.lam_value.proofs.text.push_name.Goals as goal
 
 parts : (old word maker own n : List ℕ) → (((((((old ++ word) ++ 60 ∷ []) ++ maker) ++ 124 ∷ []) ++ own) ++ 124 ∷ []) ++ n) ++ 62 ∷ [] ≡ old ++ (word ++ 60 ∷ (maker ++ 124 ∷ (own ++ 124 ∷ (n ++ 62 ∷ []))))

@@ -1,6 +1,6 @@
 use Rattle.std.proofs.Common.{◌≡◌, [], ◌∷◌, List, refl, ap, sym, ◌∙◌, subst}
 use Rattle.atomic_table.specs.Table.{opening}
-use Rattle.machine_run.specs.Runs.{Ran}
+use Rattle.thread_host_run.specs.Runs.{Ran}
 use Rattle.seat_host.specs.Places.{Shared, shared}
 use Rattle.seat_host.specs.declared.law.Given.{Given}
 use Rattle.seat_host.specs.Law.{Keeps, newcomer}

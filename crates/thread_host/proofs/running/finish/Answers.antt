@@ -1,6 +1,6 @@
 use Rattle.std.proofs.Common.{length, sym, subst}
-use Rattle.lam_run_laws.specs.Ends.{HasEnded}
-use Rattle.machine_run.specs.Runs.{Ran}
+use Rattle.lam_machine_runs.specs.Ends.{HasEnded}
+use Rattle.thread_host_run.specs.Runs.{Ran}
 use Rattle.thread_host.proofs.running.finish.Goals as goal
 
 pub ended_so-requires : goal.ended_so-requires

@@ -1,6 +1,6 @@
 use Rattle.std.proofs.Common.{sym, subst}
 use Rattle.lam_bytecode.specs.Codes.{IsCode}
-use Rattle.lam_worlds.specs.Valid.{IsValid}
+use Rattle.lam_machine_terms.specs.Valid.{IsValid}
 use Rattle.thread_host.proofs.running.run_on.Goals as goal
 
 pub own_run-requires-clause-code : goal.own_run-requires-clause-code

@@ -1,5 +1,5 @@
 use Rattle.std.proofs.Common.{rules, ◌≡◌, ◌<◌, length}
-use Rattle.machine_run.proofs.ListedReady.{some_ready, none_ready}
+use Rattle.thread_host_run.proofs.ListedReady.{some_ready, none_ready}
 use Rattle.thread_host.proofs.visits.how_it_stands.Goals as goal
 
 pub returns-in-Some : goal.returns-in-Some

@@ -1,5 +1,5 @@
 use Rattle.std.proofs.Common.{◌<◌, ◌%◌, length, arith}
-use Rattle.machine_run.proofs.ListedReady.{listed_ready}
+use Rattle.thread_host_run.proofs.ListedReady.{listed_ready}
 use Rattle.thread_host.proofs.visits.picked.Goals as goal
 
 pub returns : goal.returns

@@ -1,5 +1,5 @@
 use Rattle.std.proofs.Common.{◌∙◌}
-use Rattle.machine_run.proofs.ListedReady.{some_listed}
+use Rattle.thread_host_run.proofs.ListedReady.{some_listed}
 use Rattle.thread_host.proofs.visits.take_turn.Goals as goal
 
 pub picked-thread-requires-clause-some : goal.picked-thread-requires-clause-some

@@ -1,5 +1,5 @@
 use Rattle.std.proofs.Common.{subst}
-use Rattle.lam_run.specs.Machine.{IsStep}
+use Rattle.lam_machine_replay.specs.Machine.{IsStep}
 use Rattle.turns_noted.proofs.auditing.audit_step.Goals as goal
 
 pub returns-in_ok-push_noted-in-Some : goal.returns-in_ok-push_noted-in-Some

@@ -1,6 +1,6 @@
 use Rattle.turns_noted.specs.Turns.{noted_of}
-use Rattle.lam_run.proofs.LivingLemmas.{copies_live}
-use Rattle.lam_run.proofs.RunLemmas.{none_left, taken_stops, taken_left}
+use Rattle.lam_machine_replay.proofs.LivingLemmas.{copies_live}
+use Rattle.lam_machine_replay.proofs.RunLemmas.{none_left, taken_stops, taken_left}
 use Rattle.turns_noted.proofs.RunLemmas.{taken_noted}
 use Rattle.turns_noted.proofs.auditing.audit_turns.Goals as goal
 

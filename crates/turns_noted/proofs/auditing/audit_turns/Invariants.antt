@@ -1,7 +1,7 @@
 use Rattle.std.proofs.Common.{◌≡◌, ◌++◌, drop}
-use Rattle.lam_worlds.specs.Turns.{moments}
-use Rattle.run_notes.specs.Notes.{noted_in, noted_from}
-use Rattle.lam_run.proofs.RunLemmas.{Left}
+use Rattle.lam_machine_terms.specs.Turns.{moments}
+use Rattle.audit_log_notes.specs.Notes.{noted_in, noted_from}
+use Rattle.lam_machine_replay.proofs.RunLemmas.{Left}
 use Rattle.turns_noted.proofs.auditing.audit_turns.Given as goal
 
 abbrev pub invariant-loop-turn : goal.invariant-loop-turn

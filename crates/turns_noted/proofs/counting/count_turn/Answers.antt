@@ -1,6 +1,6 @@
 use Rattle.std.proofs.Common.{subst, sym}
-use Rattle.lam_worlds.specs.Worlds.{World}
-use Rattle.lam_run.specs.Machine.{CopiesLive}
+use Rattle.lam_machine_terms.specs.Worlds.{World}
+use Rattle.lam_machine_replay.specs.Machine.{CopiesLive}
 use Rattle.turns_noted.proofs.UncountedLemmas.{was_not}
 use Rattle.turns_noted.proofs.counting.count_turn.Goals as goal
 

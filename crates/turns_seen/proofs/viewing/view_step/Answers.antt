@@ -1,5 +1,5 @@
 use Rattle.std.proofs.Common.{subst}
-use Rattle.lam_run.specs.Machine.{IsStep}
+use Rattle.lam_machine_replay.specs.Machine.{IsStep}
 use Rattle.turns_seen.proofs.viewing.view_step.Goals as goal
 
 pub returns-in_ok-push_seen-in-Some : goal.returns-in_ok-push_seen-in-Some

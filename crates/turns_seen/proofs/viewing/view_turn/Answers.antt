@@ -1,7 +1,7 @@
 use Rattle.std.proofs.Common.{subst, sym}
-use Rattle.lam_worlds.specs.Worlds.{World}
-use Rattle.lam_run.specs.Machine.{CopiesLive}
-use Rattle.lam_run.proofs.PrivateLemmas.{was_not}
+use Rattle.lam_machine_terms.specs.Worlds.{World}
+use Rattle.lam_machine_replay.specs.Machine.{CopiesLive}
+use Rattle.lam_machine_replay.proofs.PrivateLemmas.{was_not}
 use Rattle.turns_seen.proofs.viewing.view_turn.Goals as goal
 
 pub view_step-requires : goal.view_step-requires

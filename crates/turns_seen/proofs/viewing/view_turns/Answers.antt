@@ -1,6 +1,6 @@
 use Rattle.turns_seen.specs.Turns.{seen_of}
-use Rattle.lam_run.proofs.LivingLemmas.{copies_live}
-use Rattle.lam_run.proofs.RunLemmas.{none_left, taken_stops, taken_left}
+use Rattle.lam_machine_replay.proofs.LivingLemmas.{copies_live}
+use Rattle.lam_machine_replay.proofs.RunLemmas.{none_left, taken_stops, taken_left}
 use Rattle.turns_seen.proofs.RunLemmas.{taken_seen}
 use Rattle.turns_seen.proofs.viewing.view_turns.Goals as goal
 

@@ -1,7 +1,7 @@
 use Rattle.std.proofs.Common.{◌≡◌, ◌++◌, drop}
-use Rattle.lam_worlds.specs.Turns.{moments}
-use Rattle.run_notes.specs.Notes.{seen_by}
-use Rattle.lam_run.proofs.RunLemmas.{Left}
+use Rattle.lam_machine_terms.specs.Turns.{moments}
+use Rattle.audit_log_notes.specs.Notes.{seen_by}
+use Rattle.lam_machine_replay.proofs.RunLemmas.{Left}
 use Rattle.turns_seen.proofs.viewing.view_turns.Given as goal
 
 abbrev pub invariant-loop-turn : goal.invariant-loop-turn

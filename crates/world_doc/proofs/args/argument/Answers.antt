@@ -1,8 +1,8 @@
 use Rattle.std.proofs.Common.{sym}
 use Rattle.serde_json.specs.View.{view}
-use Rattle.world_terms.specs.Entries.{argument, contents}
-use Rattle.world_stores_reading.specs.Seen.{members}
-use Rattle.world_stores_reading.proofs.Steps.{gives_same}
+use Rattle.world_doc_terms.specs.Entries.{argument, contents}
+use Rattle.world_doc_stores.specs.Seen.{members}
+use Rattle.world_doc_stores.proofs.Steps.{gives_same}
 use Rattle.world_doc.specs.Called.{called_of}
 use Rattle.world_doc.specs.Found.{read_as}
 use Rattle.world_doc.proofs.ArgLemmas.{one_is}

@@ -1,8 +1,8 @@
 use Rattle.std.proofs.Common.{◌+◌, drop, refl, sym, ap, ◌∙◌}
 use Rattle.std.proofs.lemmas.Result.{err_from_is_err_and}
 use Rattle.serde_json.specs.View.{items_view}
-use Rattle.world_terms.specs.Entries.{arguments}
-use Rattle.world_stores_reading.proofs.Steps.{onto}
+use Rattle.world_doc_terms.specs.Entries.{arguments}
+use Rattle.world_doc_stores.proofs.Steps.{onto}
 use Rattle.world_doc.specs.Called.{called_of}
 use Rattle.world_doc.proofs.ListLemmas.{arguments_more, arguments_stop}
 use Rattle.world_doc.proofs.args.arguments.Goals as goal

@@ -1,6 +1,6 @@
 use Rattle.serde_json.specs.View.{view}
-use Rattle.world_stores_reading.specs.Seen.{members}
-use Rattle.world_stores_reading.proofs.Steps.{gives_same}
+use Rattle.world_doc_stores.specs.Seen.{members}
+use Rattle.world_doc_stores.proofs.Steps.{gives_same}
 use Rattle.world_doc.specs.Called.{called_of}
 use Rattle.world_doc.specs.Document.{world_onto, after_tags}
 use Rattle.world_doc.proofs.WorldLemmas.{from_first}

@@ -1,6 +1,6 @@
 use Rattle.std.proofs.lemmas.Result.{err_from_is_err_and}
 use Rattle.serde_json.specs.View.{view}
-use Rattle.world_stores_reading.specs.Seen.{members}
+use Rattle.world_doc_stores.specs.Seen.{members}
 use Rattle.world_doc.specs.Called.{called_of}
 use Rattle.world_doc.proofs.WorldLemmas.{not_filled, filled_by}
 use Rattle.world_doc.proofs.document.fill.Goals as goal

@@ -1,8 +1,8 @@
 use Rattle.std.proofs.lemmas.Result.{err_from_is_err_and}
 use Rattle.serde_json.specs.View.{view}
-use Rattle.world_terms.specs.Start.{world_of}
-use Rattle.world_stores_reading.specs.Seen.{members}
-use Rattle.world_stores_reading.proofs.Steps.{gives_same}
+use Rattle.world_doc_terms.specs.Start.{world_of}
+use Rattle.world_doc_stores.specs.Seen.{members}
+use Rattle.world_doc_stores.proofs.Steps.{gives_same}
 use Rattle.world_doc.specs.Document.{after_tags}
 use Rattle.world_doc.proofs.WorldLemmas.{no_version, no_tags, of_tags}
 use Rattle.world_doc.proofs.document.read_world.Goals as goal

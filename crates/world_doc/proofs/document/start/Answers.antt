@@ -1,6 +1,6 @@
 use Rattle.serde_json.specs.Read.{read}
-use Rattle.world_terms.specs.Start.{start_of, world_or}
-use Rattle.world_stores_reading.proofs.Steps.{gives_same}
+use Rattle.world_doc_terms.specs.Start.{start_of, world_or}
+use Rattle.world_doc_stores.proofs.Steps.{gives_same}
 use Rattle.world_doc.proofs.StartLemmas.{no_text, a_text}
 use Rattle.world_doc.proofs.document.start.Goals as goal
 

@@ -1,8 +1,8 @@
 use Rattle.std.proofs.lemmas.Result.{err_from_is_err_and}
 use Rattle.serde_json.specs.View.{view}
 use Rattle.serde_json.specs.Read.{read}
-use Rattle.world_terms.specs.Start.{world_of, world_or}
-use Rattle.world_stores_reading.proofs.Steps.{gives_same}
+use Rattle.world_doc_terms.specs.Start.{world_of, world_or}
+use Rattle.world_doc_stores.proofs.Steps.{gives_same}
 use Rattle.world_doc.proofs.StartLemmas.{no_document, of_document}
 use Rattle.world_doc.proofs.document.start_text.Goals as goal
 

@@ -1,9 +1,9 @@
 use Rattle.std.proofs.Common.{Ok}
 use Rattle.serde_json.specs.View.{view}
-use Rattle.lam_deeds.specs.Parts.{world_of}
-use Rattle.world_terms.specs.Entries.{threads_in}
-use Rattle.world_stores_reading.specs.Seen.{members}
-use Rattle.world_stores_reading.proofs.Steps.{fails_here}
+use Rattle.lam_machine_effects.specs.Parts.{world_of}
+use Rattle.world_doc_terms.specs.Entries.{threads_in}
+use Rattle.world_doc_stores.specs.Seen.{members}
+use Rattle.world_doc_stores.proofs.Steps.{fails_here}
 use Rattle.world_doc.specs.Called.{called_of}
 use Rattle.world_doc.proofs.document.with_threads.Goals as goal
 

@@ -1,6 +1,6 @@
 use Rattle.serde_json.specs.View.{view}
-use Rattle.world_stores_reading.specs.Seen.{members}
-use Rattle.world_stores_reading.proofs.Steps.{gives_same}
+use Rattle.world_doc_stores.specs.Seen.{members}
+use Rattle.world_doc_stores.proofs.Steps.{gives_same}
 use Rattle.world_doc.specs.Called.{called_of}
 use Rattle.world_doc.specs.Document.{with_threads, world_onto}
 use Rattle.world_doc.proofs.WorldLemmas.{not_onto, onto}

@@ -3,11 +3,11 @@ use Rattle.std.specs.Prelude.{codes}
 use Rattle.std.proofs.lemmas.Result.{err_from_is_err_and}
 use Rattle.serde_json.specs.View.{view}
 use Rattle.serde_json.specs.Find.{as_str}
-use Rattle.world_terms.specs.Breaks.{formed}
-use Rattle.world_terms.specs.Entries.{entry_named}
-use Rattle.world_stores_reading.specs.Seen.{members}
-use Rattle.world_stores_reading.proofs.Steps.{says_fails}
-use Rattle.world_stores_reading.proofs.MemberOn.{member_on, member_off}
+use Rattle.world_doc_terms.specs.Breaks.{formed}
+use Rattle.world_doc_terms.specs.Entries.{entry_named}
+use Rattle.world_doc_stores.specs.Seen.{members}
+use Rattle.world_doc_stores.proofs.Steps.{says_fails}
+use Rattle.world_doc_stores.proofs.MemberOn.{member_on, member_off}
 use Rattle.world_doc.proofs.entry.read_entry.Goals as goal
 
 pub returns-in_err-name : goal.returns-in_err-name

@@ -1,6 +1,6 @@
 use Rattle.serde_json.specs.View.{view}
-use Rattle.world_stores_reading.specs.Seen.{members}
-use Rattle.world_stores_reading.proofs.Steps.{says_fails}
+use Rattle.world_doc_stores.specs.Seen.{members}
+use Rattle.world_doc_stores.proofs.Steps.{says_fails}
 use Rattle.world_doc.proofs.CalledLemmas.{name_taken, name_new}
 use Rattle.world_doc.proofs.pipes.new_name.Goals as goal
 

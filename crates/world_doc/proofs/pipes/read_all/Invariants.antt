@@ -1,6 +1,6 @@
 use Rattle.std.proofs.Common.{◌≡◌, drop}
 use Rattle.serde_json.specs.View.{items_view}
-use Rattle.world_terms.specs.Stores.{with_pipes}
+use Rattle.world_doc_terms.specs.Stores.{with_pipes}
 use Rattle.world_doc.specs.Called.{pipes_of}
 use Rattle.world_doc.proofs.pipes.read_all.Given as goal
 

@@ -2,8 +2,8 @@ use Rattle.std.proofs.Common.{◌+◌, length, drop, ap, sym, ◌∙◌}
 use Rattle.std.proofs.lemmas.List.{length-append}
 use Rattle.std.proofs.lemmas.Result.{err_from_is_err_and}
 use Rattle.serde_json.specs.View.{items_view}
-use Rattle.world_terms.specs.Entries.{threads_of}
-use Rattle.world_stores_reading.proofs.Steps.{onto, onto_nil}
+use Rattle.world_doc_terms.specs.Entries.{threads_of}
+use Rattle.world_doc_stores.proofs.Steps.{onto, onto_nil}
 use Rattle.world_doc.specs.Called.{called_of}
 use Rattle.world_doc.proofs.ListLemmas.{threads_more, threads_stop}
 use Rattle.world_doc.proofs.threads.read_all.Goals as goal

@@ -1,7 +1,7 @@
 use Rattle.std.proofs.Common.{◌≡◌, drop, length}
 use Rattle.serde_json.specs.View.{items_view}
-use Rattle.world_terms.specs.Entries.{threads_of}
-use Rattle.world_stores_reading.proofs.Steps.{onto}
+use Rattle.world_doc_terms.specs.Entries.{threads_of}
+use Rattle.world_doc_stores.proofs.Steps.{onto}
 use Rattle.world_doc.specs.Called.{called_of}
 use Rattle.world_doc.proofs.threads.read_all.Given as goal
 

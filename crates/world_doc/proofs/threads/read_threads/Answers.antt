@@ -1,8 +1,8 @@
 use Rattle.std.proofs.Common.{sym}
 use Rattle.serde_json.specs.View.{view, items_view}
-use Rattle.world_terms.specs.Entries.{threads_of, threads_in}
-use Rattle.world_stores_reading.specs.Seen.{members}
-use Rattle.world_stores_reading.proofs.Steps.{says_fails, gives_same}
+use Rattle.world_doc_terms.specs.Entries.{threads_of, threads_in}
+use Rattle.world_doc_stores.specs.Seen.{members}
+use Rattle.world_doc_stores.proofs.Steps.{says_fails, gives_same}
 use Rattle.world_doc.specs.Called.{called_of}
 use Rattle.world_doc.proofs.CountLemmas.{threads_counted, threads_other}
 use Rattle.world_doc.proofs.threads.read_threads.Goals as goal

@@ -1,6 +1,6 @@
 use Rattle.std.proofs.Common.{rules, ◌≡◌, true, is_ok, if◌then◌else◌, ap, ◌∙◌, ◌++◌, ◌∷◌, []}
-use Rattle.lam_kinds.specs.Values.{keyed}
-use Rattle.lam_kinds.proofs.TableLemmas.{see_push}
+use Rattle.lam_types_kinds.specs.Values.{keyed}
+use Rattle.lam_types_kinds.proofs.TableLemmas.{see_push}
 use Rattle.lam_resolve_tables.specs.Named.{with_first}
 use Rattle.lam_resolve_tables.proofs.NamedLemmas.{index_push}
 use Rattle.lam_resolve_tables.proofs.named.Named.push.Goals as goal

@@ -1,5 +1,0 @@
-use Rattle.call_laws.proofs.ToldLemmas.{releases_told}
-use Rattle.call_laws.proofs.audits.releases_are_told.Goals as goal
-
-pub returns : goal.returns
-returns c = releases_told

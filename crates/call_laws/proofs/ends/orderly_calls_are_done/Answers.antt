@@ -1,5 +1,0 @@
-use Rattle.call_laws.proofs.Orderly.{orderly_done}
-use Rattle.call_laws.proofs.ends.orderly_calls_are_done.Goals as goal
-
-pub returns : goal.returns
-returns c = orderly_done c.runs_stop.ensures c.plans_are_one.ensures

@@ -1,5 +1,0 @@
-use Rattle.call_laws.proofs.Plans.{makes_planned}
-use Rattle.call_laws.proofs.makes.makes_are_complete.Goals as goal
-
-pub returns : goal.returns
-returns c = makes_planned

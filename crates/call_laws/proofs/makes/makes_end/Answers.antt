@@ -1,5 +1,0 @@
-use Rattle.call_laws.proofs.Orderly.{makes_end}
-use Rattle.call_laws.proofs.makes.makes_end.Goals as goal
-
-pub returns : goal.returns
-returns c = makes_end c.makes_are_complete.ensures

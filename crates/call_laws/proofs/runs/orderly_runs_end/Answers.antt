@@ -1,5 +1,0 @@
-use Rattle.call_laws.proofs.Orderly.{runs_end}
-use Rattle.call_laws.proofs.runs.orderly_runs_end.Goals as goal
-
-pub returns : goal.returns
-returns c = runs_end c.runs_are_complete.ensures

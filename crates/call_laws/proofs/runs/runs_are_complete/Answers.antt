@@ -1,5 +1,0 @@
-use Rattle.call_laws.proofs.CallLemmas.{runs_planned}
-use Rattle.call_laws.proofs.runs.runs_are_complete.Goals as goal
-
-pub returns : goal.returns
-returns c = runs_planned

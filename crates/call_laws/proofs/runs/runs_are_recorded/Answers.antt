@@ -1,5 +1,0 @@
-use Rattle.call_laws.proofs.CallLemmas.{recorded}
-use Rattle.call_laws.proofs.runs.runs_are_recorded.Goals as goal
-
-pub returns : goal.returns
-returns c = recorded c.runs_are_isolated.ensures.isolated c.worlds_stay_well_labelled.ensures.valid c.texts_start.ensures

@@ -1,5 +1,0 @@
-use Rattle.call_laws.proofs.CallLemmas.{ends_in_order}
-use Rattle.call_laws.proofs.runs.runs_end_in_order.Goals as goal
-
-pub returns : goal.returns
-returns c = ends_in_order

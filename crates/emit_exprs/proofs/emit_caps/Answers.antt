@@ -1,5 +1,0 @@
-use Rattle.emit_parts.proofs.Joins.{joins}
-use Rattle.emit_exprs.proofs.emit_caps.Goals as goal
-
-pub returns : goal.returns
-returns c = joins c.push.ensures c.emit_signs.ensures

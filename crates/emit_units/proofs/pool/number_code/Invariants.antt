@@ -1,7 +1,0 @@
-use Rattle.std.proofs.Common.{map, take}
-use Rattle.emit_parts.specs.Views.{flat_view}
-use Rattle.emit_units.proofs.Numbers.{Numbers}
-use Rattle.emit_units.proofs.pool.number_code.Given as goal
-
-abbrev pub invariant-loop-one : goal.invariant-loop-one
-invariant-loop-one l = Numbers l.initial.pool l.pool (map flat_view (take l.one-index l.code)) l.ops.items

@@ -1,5 +1,0 @@
-use Rattle.lam_acting.proofs.Acting.{code_acts}
-use Rattle.lam_acting.proofs.compiled_code_acts_as_its_source.Goals as goal
-
-pub returns : goal.returns
-returns c = code_acts

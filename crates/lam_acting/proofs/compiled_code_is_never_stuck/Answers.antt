@@ -1,5 +1,0 @@
-use Rattle.lam_acting.proofs.Acting.{code_never_stuck}
-use Rattle.lam_acting.proofs.compiled_code_is_never_stuck.Goals as goal
-
-pub returns : goal.returns
-returns c = code_never_stuck

@@ -1,5 +1,0 @@
-use Rattle.lam_acting.proofs.Threads.{nested_means}
-use Rattle.lam_acting.proofs.nested_code_means_its_source.Goals as goal
-
-pub returns : goal.returns
-returns c = nested_means

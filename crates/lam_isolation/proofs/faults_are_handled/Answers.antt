@@ -1,5 +1,0 @@
-use Rattle.lam_isolation.proofs.FaultLemmas.{faults_handled}
-use Rattle.lam_isolation.proofs.faults_are_handled.Goals as goal
-
-pub returns : goal.returns
-returns c = faults_handled

@@ -1,5 +1,0 @@
-use Rattle.lam_isolation.proofs.RefusalLemmas.{change_nothing}
-use Rattle.lam_isolation.proofs.refusals_change_nothing.Goals as goal
-
-pub returns : goal.returns
-returns c = change_nothing

@@ -1,5 +1,0 @@
-use Rattle.lam_isolation.proofs.WholeLemmas.{isolated, steady}
-use Rattle.lam_isolation.proofs.runs_are_isolated.Goals as goal
-
-pub returns : goal.returns
-returns c = record { isolated = isolated; steady = steady }

@@ -1,0 +1,205 @@
+-- Each effect that there is room for keeps the stores sound, and each ask has only such effects.
+use Rattle.std.proofs.Common.{◌≡◌, ℕ, ◌+◌, ◌<◌, ◌≤◌, Bool, true, false, List, [], ◌∷◌, ◌++◌, Option, Some, None, length, refl, sym, subst, arith, length-append}
+use Rattle.std.specs.Prelude.{IsTrue, is_some, unwrap_or, nat_lt, cond, slice_set}
+use Rattle.std.proofs.lemmas.Bool.Decides.{nat_tests}
+use Rattle.std.specs.FinMap.{get, insert, contains_key}
+use Rattle.lam_value.specs.declared.names.Name.{Name}
+use Rattle.lam_value.specs.declared.values.Value.{Value}
+use Rattle.lam_value.specs.declared.values.Value.TheVariants.{Obj, Arr}
+use Rattle.lam_value.specs.Homes.{Home, name_of, count_in, counted}
+use Rattle.labelled_heap.specs.declared.heap.Sort.{Sort}
+use Rattle.labelled_heap.specs.Things as heap
+use Rattle.labelled_heap.specs.Things.{Things, sorted_as, with_copy}
+use Rattle.labelled_heap.proofs.ThingLemmas.{sound_thing, sound_slot}
+use Rattle.monitor_core.specs.Held as monitors
+use Rattle.monitor_core.specs.Held.{Held, takings, left, dropped}
+use Rattle.monitor_core.proofs.HeldLemmas.{entered_sound, left_sound}
+use Rattle.labelled_files.specs.Trees as files
+use Rattle.labelled_files.specs.Trees.{Tree, first_fault, root_alone}
+use Rattle.labelled_files.specs.declared.files.FileFault.{FileFault}
+use Rattle.labelled_files.proofs.MakeLemmas.{fine, new, room, free}
+use Rattle.labelled_files.proofs.SoundLemmas.{sound_file, sound_dir, sound_bytes, sound_without}
+use Rattle.labelled_pipes.specs.Queues as pipes
+use Rattle.labelled_pipes.specs.Queues.{Queues}
+use Rattle.labelled_pipes.proofs.QueueLemmas.{sound_pipe, sound_changed}
+use Rattle.lam_asks.specs.declared.fault.Fault.{Fault}
+use Rattle.lam_asks.specs.declared.ask.Ask.{Ask}
+use Rattle.lam_asks.specs.declared.ask.Ask.TheVariants as ask
+use Rattle.lam_bytecode.specs.Codes.{CodeTree}
+use Rattle.thread_steps.specs.Threads.{Context, Thread}
+use Rattle.thread_steps.specs.Next.{Next, goes, asks, stuck, next_of, started, takes}
+use Rattle.lam_machine_terms.specs.Worlds.{World, with_thread}
+use Rattle.lam_machine_terms.specs.Deeds.{Effect, nothing, takes_tag, sets_slot, adds_thing, adds_copy, takes_monitor, gives_back, drops, adds_file, adds_dir, removes, appends, cuts, adds_pipe, sends, receives, adds_thread, effect_of, Deed, answers, unless, full}
+use Rattle.lam_asks.specs.declared.answer.Answer.TheVariants.{Failed}
+use Rattle.lam_machine_terms.specs.Serving.{file_faults, serve}
+use Rattle.lam_machine_terms.specs.Turns.{is_ready, Moment, goes_on, served, turn_by}
+use Rattle.lam_machine_laws.proofs.ThreadLemmas.{some_inj, length-set}
+use Rattle.lam_machine_laws.proofs.RowLemmas.{RefersTo, under_by, on_thing_by}
+use Rattle.lam_machine_laws.proofs.TurnLemmas.{acts, only}
+use Rattle.lam_machine_laws.specs.Sound.{IsSoundWorld, ThingLives, CopiesLiving, FindsLiving, StaysSound}
+
+-- ---- room
+
+abbrev HasRoom : World → Effect → Type 0
+HasRoom w takes_tag = w.next_tag < 65536
+HasRoom w (adds_thing home sort xs) = count_in w.heap.counts home < 1048576
+HasRoom w (adds_copy n home) = (count_in w.heap.counts home < 1048576) × IsTrue (contains_key w.heap.slots n)
+HasRoom w (takes_monitor n) = takings w.monitors n < 1048576
+HasRoom w (adds_file d text home) = first_fault w.files d text home ≡ None
+HasRoom w (adds_dir d text home) = first_fault w.files d text home ≡ None
+HasRoom w (adds_pipe home) = count_in w.pipes.counts home < 4096
+HasRoom w (adds_thread unit args caps) = length w.threads < 4096
+HasRoom w e = Unit {0}
+
+abbrev Room : World → Deed → Type 0
+Room w d = HasRoom w d.effect
+
+lt_true : (a b : ℕ) → nat_lt a b ≡ true → a < b
+lt_true a b e = grind (arith, nat_tests)
+
+by_test : {X : Type 0} (b : Bool) (f : X) → cond b None (Some f) ≡ None → b ≡ true
+by_test true f e = refl
+by_test false f e = absurd cc
+
+pub not_full : (n limit : ℕ) (f : Fault) → full n limit f ≡ None → n < limit
+not_full n limit f e = lt_true n limit (by_test (nat_lt n limit) f e)
+
+pub no_fault : (x : Option FileFault) → file_faults x ≡ None → x ≡ None
+no_fault None e = refl
+no_fault (Some f) e = absurd cc
+
+pub unless_room : (P : Deed → Type 0) (x : Option Fault) (d : Deed) → (x ≡ None → P d) → ((f : Fault) → P (answers (Failed f))) → P (unless x d)
+unfolding unless
+unless_room P None d h r = h refl
+unless_room P (Some f) d h r = r f
+
+pub living : (w : World) (r : Value) (n : Name) → RefersTo r n → ThingLives w r → IsTrue (contains_key w.heap.slots n)
+living w (Obj m) n e h = subst (λ k. IsTrue (contains_key w.heap.slots k)) e h
+living w (Arr m len) n e h = subst (λ k. IsTrue (contains_key w.heap.slots k)) e h
+living w v n e h = absurd e
+
+module _ (w : World) (c : Context) where
+  room_row : (a : Ask) → CopiesLiving w a → Room w (serve w c a)
+  room_row (ask.Read r at) h = on_thing_by (Room w) r _ (λ n e. under_by (Room w) _ _ (λ t. tt) (λ x. tt)) (λ f. tt)
+  room_row (ask.Write r at v) h = on_thing_by (Room w) r _ (λ n e. under_by (Room w) _ _ (λ t. tt) (λ x. tt)) (λ f. tt)
+  room_row (ask.New shape) h = unless_room (Room w) _ _ (λ e. not_full _ _ _ e) (λ f. tt)
+  room_row (ask.CopyTo r l) h =
+      on_thing_by (Room w) r _ (λ n e. under_by (Room w) _ _ (λ t. unless_room (Room w) _ _ (λ g. let k = not_full _ _ _ g in (k, living w r n e h)) (λ f. tt)) (λ x. tt)) (λ f. tt)
+  room_row ask.Mint h = under_by (Room w) _ _ (λ t. unless_room (Room w) _ _ (λ e. not_full _ _ _ e) (λ f. tt)) (λ x. tt)
+  room_row (ask.Enter l k region args) h = under_by (Room w) _ _ (λ t. unless_room (Room w) _ _ (λ e. tt) (λ f. tt)) (λ x. tt)
+  room_row ask.Leave h = tt
+  room_row (ask.Barred denied) h = tt
+  room_row (ask.Caught f) h = tt
+  room_row (ask.Suppressed f) h = tt
+  room_row (ask.End out) h = tt
+  room_row (ask.MonEnter r) h = on_thing_by (Room w) r _ (λ n e. under_by (Room w) _ _ (λ t. unless_room (Room w) _ _ (λ g. not_full _ _ _ g) (λ f. tt)) (λ x. tt)) (λ f. tt)
+  room_row (ask.MonLeave r) h = on_thing_by (Room w) r _ (λ n e. tt) (λ f. tt)
+  room_row (ask.MakeFile d text l) h = under_by (Room w) _ _ (λ t. unless_room (Room w) _ _ (λ e. no_fault _ e) (λ f. tt)) (λ x. tt)
+  room_row (ask.MakeDir d text l) h = under_by (Room w) _ _ (λ t. unless_room (Room w) _ _ (λ e. no_fault _ e) (λ f. tt)) (λ x. tt)
+  room_row (ask.OpenFile d text) h = under_by (Room w) _ _ (λ t. tt) (λ x. tt)
+  room_row (ask.OpenDir d text) h = under_by (Room w) _ _ (λ t. tt) (λ x. tt)
+  room_row (ask.Remove d text) h = under_by (Room w) _ _ (λ t. unless_room (Room w) _ _ (λ e. tt) (λ f. tt)) (λ x. tt)
+  room_row (ask.FileRead f at n) h = under_by (Room w) _ _ (λ t. tt) (λ x. tt)
+  room_row (ask.FileLength f) h = under_by (Room w) _ _ (λ t. tt) (λ x. tt)
+  room_row (ask.Append f bytes) h = under_by (Room w) _ _ (λ t. tt) (λ x. tt)
+  room_row (ask.Cut f len) h = under_by (Room w) _ _ (λ t. tt) (λ x. tt)
+  room_row (ask.MakePipe l) h = under_by (Room w) _ _ (λ t. unless_room (Room w) _ _ (λ e. not_full _ _ _ e) (λ f. tt)) (λ x. tt)
+  room_row (ask.Send p bytes) h = under_by (Room w) _ _ (λ t. tt) (λ x. tt)
+  room_row (ask.SendCaps p caps) h = under_by (Room w) _ _ (λ t. tt) (λ x. tt)
+  room_row (ask.Receive p) h = under_by (Room w) _ _ (λ t. tt) (λ x. tt)
+  room_row (ask.ReceiveCaps p) h = under_by (Room w) _ _ (λ t. tt) (λ x. tt)
+  room_row (ask.Spawn unit args caps) h = under_by (Room w) _ _ (λ t. unless_room (Room w) _ _ (λ e. not_full _ _ _ e) (λ f. tt)) (λ x. tt)
+  room_row (ask.Join t) h = under_by (Room w) _ _ (λ e. tt) (λ x. tt)
+  room_row (ask.Say bytes) h = tt
+
+-- ---- stores
+
+copy_by : Things → Home → Option (List Value) → Option Sort → Things
+copy_by h home x y =
+    record {
+      slots = insert h.slots (name_of home (count_in h.counts home)) (unwrap_or x []);
+      sorts = sorted_as y h.sorts (name_of home (count_in h.counts home));
+      counts = counted h.counts home;
+    }
+
+sound_copy : (h : Things) (n : Name) (home : Home) → heap.IsSound h → count_in h.counts home < 1048576 → IsTrue (contains_key h.slots n) → heap.IsSound (with_copy h n home)
+unfolding copy_by
+sound_copy h n home sound room_left lives = go (get h.slots n) (get h.sorts n) lives (sound.sorted n)
+  where
+    go : (x : Option (List Value)) (y : Option Sort) → is_some x ≡ true → is_some y ≡ is_some x → heap.IsSound (copy_by h home x y)
+    go None y l e = absurd cc
+    go (Some xs) None l e = absurd cc
+    go (Some xs) (Some s) l e = sound_thing h home s xs sound room_left
+
+dropped_sound : (m : Held) (ns : List Name) (t : ℕ) → monitors.IsSound m → monitors.IsSound (dropped m ns t)
+dropped_sound m [] t s = s
+dropped_sound m (n ∷ ns) t s = dropped_sound (left m n t) ns t (left_sound m n t s)
+
+with_heap : (w : World) (h : Things) → IsSoundWorld w → heap.IsSound h → IsSoundWorld (record w { heap = h })
+with_heap w h s k = record { stores = record { heap = k; monitors = s.stores.monitors; files = s.stores.files; root = s.stores.root; pipes = s.stores.pipes }; tags = s.tags; threads = s.threads }
+
+with_held : (w : World) (m : Held) → IsSoundWorld w → monitors.IsSound m → IsSoundWorld (record w { monitors = m })
+with_held w m s k = record { stores = record { heap = s.stores.heap; monitors = k; files = s.stores.files; root = s.stores.root; pipes = s.stores.pipes }; tags = s.tags; threads = s.threads }
+
+with_tree : (w : World) (t : Tree) → IsSoundWorld w → files.IsSound t → t.root ≡ root_alone.root → IsSoundWorld (record w { files = t })
+with_tree w t s k r = record { stores = record { heap = s.stores.heap; monitors = s.stores.monitors; files = k; root = r; pipes = s.stores.pipes }; tags = s.tags; threads = s.threads }
+
+with_lines : (w : World) (q : Queues) → IsSoundWorld w → pipes.IsSound q → IsSoundWorld (record w { pipes = q })
+with_lines w q s k = record { stores = record { heap = s.stores.heap; monitors = s.stores.monitors; files = s.stores.files; root = s.stores.root; pipes = k }; tags = s.tags; threads = s.threads }
+
+with_list : (w : World) (ths : List Thread) → IsSoundWorld w → length ths ≤ 4096 → IsSoundWorld (record w { threads = ths })
+with_list w ths s k = record { stores = record { heap = s.stores.heap; monitors = s.stores.monitors; files = s.stores.files; root = s.stores.root; pipes = s.stores.pipes }; tags = s.tags; threads = k }
+
+with_next : (w : World) (n : ℕ) → IsSoundWorld w → n ≤ 65536 → IsSoundWorld (record w { next_tag = n })
+with_next w n s k = record { stores = record { heap = s.stores.heap; monitors = s.stores.monitors; files = s.stores.files; root = s.stores.root; pipes = s.stores.pipes }; tags = k; threads = s.threads }
+
+one_longer : (ths : List Thread) (a : Thread) → length ths < 4096 → length (ths ++ a ∷ []) ≤ 4096
+one_longer ths a h = let e : length (ths ++ a ∷ []) ≡ length ths + 1 = length-append ths (a ∷ []) in omega arith
+
+effect_sound : (code : CodeTree) (t : ℕ) (e : Effect) (w : World) → HasRoom w e → IsSoundWorld w → IsSoundWorld (effect_of code t e w)
+effect_sound code t nothing w h s = s
+effect_sound code t takes_tag w h s = with_next w (w.next_tag + 1) s (omega arith)
+effect_sound code t (sets_slot n at v) w h s = with_heap w _ s (sound_slot w.heap n at v s.stores.heap)
+effect_sound code t (adds_thing home sort xs) w h s = with_heap w _ s (sound_thing w.heap home sort xs s.stores.heap h)
+effect_sound code t (adds_copy n home) w h s = with_heap w _ s (sound_copy w.heap n home s.stores.heap h.0 h.1)
+effect_sound code t (takes_monitor n) w h s = with_held w _ s (entered_sound w.monitors n t s.stores.monitors h)
+effect_sound code t (gives_back n) w h s = with_held w _ s (left_sound w.monitors n t s.stores.monitors)
+effect_sound code t (drops ns) w h s = with_held w _ s (dropped_sound w.monitors ns t s.stores.monitors)
+effect_sound code t (adds_file d text home) w h s =
+    let f = s.stores.files in let k = count_in w.files.counts home in
+    with_tree w _ s (sound_file w.files f d text home (fine w.files d text k h) (new w.files d text k h) (room w.files d text k h f) (free w.files d text k h (f.within home))) s.stores.root
+effect_sound code t (adds_dir d text home) w h s =
+    let f = s.stores.files in let k = count_in w.files.counts home in
+    with_tree w _ s (sound_dir w.files f d text home (fine w.files d text k h) (new w.files d text k h) (room w.files d text k h f) (free w.files d text k h (f.within home))) s.stores.root
+effect_sound code t (removes d text) w h s = with_tree w _ s (sound_without w.files s.stores.files d text) s.stores.root
+effect_sound code t (appends f bytes) w h s = with_tree w _ s (sound_bytes w.files s.stores.files f _) s.stores.root
+effect_sound code t (cuts f len) w h s = with_tree w _ s (sound_bytes w.files s.stores.files f _) s.stores.root
+effect_sound code t (adds_pipe home) w h s = with_lines w _ s (sound_pipe w.pipes home s.stores.pipes h)
+effect_sound code t (sends p m) w h s = with_lines w _ s (sound_changed (get w.pipes.waiting p) w.pipes p _ refl s.stores.pipes)
+effect_sound code t (receives p k) w h s = with_lines w _ s (sound_changed (get w.pipes.waiting p) w.pipes p _ refl s.stores.pipes)
+effect_sound code t (adds_thread unit args caps) w h s = with_list w _ s (one_longer w.threads (started code unit args caps) h)
+
+-- ---- turns
+
+thread_sound : (w : World) (t : ℕ) (to : Thread) → IsSoundWorld w → IsSoundWorld (with_thread w t to)
+thread_sound w t to s = with_list w (slice_set w.threads t to) s (subst (λ n. n ≤ 4096) (sym (length-set t w.threads to)) s.threads)
+
+-- there is as much room after the acting thread took its answer
+room_moved : (w : World) (t : ℕ) (to : Thread) (e : Effect) → HasRoom w e → HasRoom (with_thread w t to) e
+room_moved w t to (adds_thread unit args caps) h = subst (λ n. n < 4096) (sym (length-set t w.threads to)) h
+room_moved w t to e h = h
+
+sound_next : (code : CodeTree) (w : World) (t : ℕ) (th : Thread) (c : Context) (rest : List Context) (nx : Next) (m : Moment) → IsSoundWorld w → turn_by code w t th c rest nx ≡ Some m → FindsLiving w m.event.what → IsSoundWorld m.world
+sound_next code w t th c rest (goes i) m s h =
+    subst (λ (n : Moment). FindsLiving w n.event.what → IsSoundWorld n.world) (some_inj (goes_on w t th c rest i) m h) (λ f. thread_sound w t _ s)
+sound_next code w t th c rest (asks a i) m s h =
+    let d = serve w c a in
+    let to = takes code th c rest i a d.answer in
+    subst (λ (n : Moment). FindsLiving w n.event.what → IsSoundWorld n.world) (only (is_ready w t c a) (served code w t th c rest a i d) m h).1
+    (λ f. effect_sound code t d.effect (with_thread w t to) (room_moved w t to d.effect (room_row w c a f)) (thread_sound w t to s))
+sound_next code w t th c rest stuck m s h = absurd cc
+
+pub stay_sound : (code : CodeTree) → StaysSound code
+stay_sound code w t m s h f =
+    let a = acts code w t m h in
+    sound_next code w t a.thread a.top a.rest (next_of code a.top) m s a.gives f

@@ -1,0 +1,5 @@
+use Rattle.lam_machine_replay.proofs.LivingLemmas.{copies_live}
+use Rattle.lam_machine_replay.proofs.copies_are_living.Goals as goal
+
+pub returns : goal.returns
+returns c = copies_live

@@ -1,0 +1,84 @@
+-- A row that reads some parts of a world and of a context serves its ask in each world and context with these parts.
+use Rattle.std.proofs.Common.{◌≡◌, ℕ, List, length, Option, Result, Ok, Err, IfOk, sym, ap, subst, ◌∙◌}
+use Rattle.want_of_memory.specs.declared.NoMemory.{NoMemory}
+use Rattle.flow_labels.specs.declared.Label.{Label}
+use Rattle.capabilities.specs.declared.Caps.{Caps}
+use Rattle.lam_asks.specs.declared.answer.Outcome.{Outcome}
+use Rattle.lam_value.specs.declared.names.Name.{Name}
+use Rattle.lam_asks.specs.declared.ask.Ask.{Ask}
+use Rattle.lam_asks.specs.declared.ask.Ask.TheVariants.{Join}
+use Rattle.thread_steps.specs.Threads.{Context}
+use Rattle.lam_machine_terms.specs.Worlds.{World, result_at}
+use Rattle.lam_machine_terms.specs.Deeds.{drops, does}
+use Rattle.lam_machine_terms.specs.Serving.{serve}
+use Rattle.lam_machine_effects.specs.declared.stores.Stores.{Stores}
+use Rattle.lam_machine_effects.specs.declared.deed.Deed.{Deed}
+use Rattle.lam_machine_effects.specs.Meaning.{DoesAs}
+use Rattle.lam_machine_rows.specs.Acting.{Acting}
+use Rattle.lam_machine_rows.specs.Rows.{Serves, with_tags, with_heap, with_monitors, with_files, with_pipes, at_label, acting_by, at_depth}
+use Rattle.lam_machine_rows.specs.Serves.{ReadsWorld}
+
+-- what is promised of all rows
+abbrev pub ServesAll : Ask → Stores → ℕ → Option Outcome → Acting → Deed → Type 0
+ServesAll a s n o who d = (w : World) (c : Context) → ReadsWorld w c a s n o who → DoesAs d (serve w c a)
+
+-- an ask that is another one is served alike
+pub moved : (a b : Ask) (s : Stores) (n : ℕ) (o : Option Outcome) (who : Acting) (d : Deed) → b ≡ a → ServesAll a s n o who d → ServesAll b s n o who d
+moved a b s n o who d e serves = subst (λ x. ServesAll x s n o who d) (sym e) serves
+
+pub moved_ok : (a b : Ask) (s : Stores) (n : ℕ) (o : Option Outcome) (who : Acting) (r : Result Deed NoMemory) → b ≡ a → IfOk r (ServesAll a s n o who) → IfOk r (ServesAll b s n o who)
+moved_ok a b s n o who r e serves = subst (λ x. IfOk r (ServesAll x s n o who)) (sym e) serves
+
+module _ (a : Ask) (s : Stores) (n : ℕ) (o : Option Outcome) (who : Acting) where
+  -- a world and a context have these parts
+  abbrev pub Has : (World → World) → (Context → Context) → Type 0
+  Has world context = (w : World) (c : Context) → ReadsWorld w c a s n o who → (world w ≡ w) × (context c ≡ c)
+
+  pub one : (world : World → World) (context : Context → Context) (d : Deed) → Has world context → Serves world context a d → ServesAll a s n o who d
+  one world context d has serves w c h =
+      let p = has w c h in
+      subst (λ k. DoesAs d (serve w k a)) p.1 (subst (λ v. DoesAs d (serve v (context c) a)) p.0 (serves w c))
+
+  pub each : (world : World → World) (context : Context → Context) (r : Result Deed NoMemory) → Has world context → IfOk r (Serves world context a) → IfOk r (ServesAll a s n o who)
+  each world context (Ok d) has serves = one world context d has serves
+  each world context (Err e) has serves = tt
+
+  module _ (w : World) (c : Context) (h : ReadsWorld w c a s n o who) where
+    pub tags_is : with_tags s.tags w ≡ w
+    tags_is = ap (λ (t : Stores). with_tags t.tags w) (sym h.stores)
+
+    pub heap_is : with_heap s.heap w ≡ w
+    heap_is = ap (λ (t : Stores). with_heap t.heap w) (sym h.stores)
+
+    pub monitors_is : with_monitors s.monitors w ≡ w
+    monitors_is = ap (λ (t : Stores). with_monitors t.monitors w) (sym h.stores)
+
+    pub files_is : with_files s.files w ≡ w
+    files_is = ap (λ (t : Stores). with_files t.files w) (sym h.stores)
+
+    pub pipes_is : with_pipes s.pipes w ≡ w
+    pipes_is = ap (λ (t : Stores). with_pipes t.pipes w) (sym h.stores)
+
+    pub label_is : (p : Label) → p ≡ who.label → at_label p c ≡ c
+    label_is p e = ap (λ l. at_label l c) e ∙ ap (λ (x : Acting). at_label x.label c) (sym h.acting)
+
+    pub caps_is : (p : Label) (k : Caps) → p ≡ who.label → k ≡ who.caps → acting_by p k c ≡ c
+    caps_is p k e f = (λ i. acting_by (e i) (f i) c) ∙ ap (λ (x : Acting). acting_by x.label x.caps c) (sym h.acting)
+
+    pub depth_is : (p : Label) (k : Caps) (depth : ℕ) → p ≡ who.label → k ≡ who.caps → depth ≡ who.depth → at_depth p k depth c ≡ c
+    depth_is p k depth e f g = (λ i. at_depth (e i) (f i) (g i) c) ∙ ap (λ (x : Acting). at_depth x.label x.caps x.depth c) (sym h.acting)
+
+  -- a row that gives back the monitors of the context
+  pub released : (ns : List Name) (r : Result Deed NoMemory) → ns ≡ who.held → IfOk r (λ d. DoesAs d (does (drops ns))) → IfOk r (λ d. (w : World) (c : Context) → ReadsWorld w c a s n o who → DoesAs d (does (drops c.held)))
+  released ns (Ok d) e h = λ w c k. subst (λ ms. DoesAs d (does (drops ms))) (e ∙ ap (λ (x : Acting). x.held) (sym k.acting)) h
+  released ns (Err e) f h = tt
+
+  -- a row that reads how many threads there are
+  pub among : (p : Label) (k : Caps) (r : Result Deed NoMemory) → p ≡ who.label → k ≡ who.caps → IfOk r (λ d. (w : World) (c : Context) → length w.threads ≡ n → DoesAs d (serve w (acting_by p k c) a)) → IfOk r (ServesAll a s n o who)
+  among p k (Ok d) e f serves = λ w c h. subst (λ x. DoesAs d (serve w x a)) (caps_is w c h p k e f) (serves w c h.threads)
+  among p k (Err x) e f serves = tt
+
+-- a row that reads how a thread ended
+pub joining : (t : ℕ) (s : Stores) (n : ℕ) (o : Option Outcome) (who : Acting) (p : Label) (r : Result Deed NoMemory) → p ≡ who.label → IfOk r (λ d. (w : World) (c : Context) (u : ℕ) → result_at w u ≡ o → DoesAs d (serve w (at_label p c) (Join u))) → IfOk r (ServesAll (Join t) s n o who)
+joining t s n o who p (Ok d) e serves = λ w c h. subst (λ x. DoesAs d (serve w x (Join t))) (label_is (Join t) s n o who w c h p e) (serves w c t h.ended)
+joining t s n o who p (Err x) e serves = tt

@@ -1,0 +1,28 @@
+//! The reference monitor: what each ask is served by.
+//!
+//! [`serve`] has a row for each ask: its tests in their order, its fault, its effect and its answer. It reads the
+//! stores and the acting context, and changes nothing; `lam_machine_effects` applies the effect. A rule is tested by
+//! `flow_labels` and `capabilities`, and the first that fails is the answer.
+//!
+//! - `rules` has the tests of more than one rule.
+//! - `things`, `files`, `pipes` and `contexts` have the rows of the asks about each.
+//! - `deeds` makes their deeds where memory may be refused to an effect.
+//! - `rows` leads each ask to its row.
+//! - `waiting` says which ask waits, and which may be made.
+//!
+//! `specs/Serves` says what is read, and `lam_machine_terms` what is served.
+#![tactic(auto)]
+
+mod acting;
+mod contexts;
+mod deeds;
+mod files;
+mod pipes;
+mod rows;
+mod rules;
+mod things;
+mod waiting;
+
+pub use acting::Acting;
+pub use rows::serve;
+pub use waiting::is_ready;

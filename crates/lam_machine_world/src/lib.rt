@@ -1,0 +1,16 @@
+//! Worlds of the machine: the stores, and the threads.
+//!
+//! A [`World`] is seen as the plain record of `lam_machine_terms`. [`deed_of`] is the serving of an ask in a world by the
+//! context that makes it: it reads how many threads there are and how another one ended, and leaves the rest to
+//! `lam_machine_rows`. It takes the parts of a world, so that a turn can go on to change them.
+//!
+//! `letting_go` lets worlds, stores and codes go.
+#![tactic(auto)]
+
+mod letting_go;
+mod reading;
+mod world;
+
+pub use letting_go::{let_go_code, let_go_stores, let_go_world};
+pub use reading::{acting, deed_of, is_ready, lives, result_of};
+pub use world::{THREAD_LIMIT, World};

@@ -1,0 +1,115 @@
+-- What a command answers after it read its file, or did not.
+use Rattle.std.proofs.Common.{◌≡◌, ◌⊎◌, inl, inr, ℕ, Option, None, Result, Ok, Err, String, string_bytes, refl, sym, ap, subst, ◌∙◌}
+use Rattle.std.specs.declared.alloc.Global.{Global}
+use Rattle.std.specs.Prelude.{Vec}
+use Rattle.lam_io.specs.Outside.{Files, AllStay}
+use Rattle.lam_front.specs.declared.fault.ProgramFault.{ProgramFault}
+use Rattle.lam_front.specs.declared.fault.ProgramFault.TheVariants.{NotUtf8, At, NoMemory as no_memory_of_it}
+use Rattle.lam_front.specs.Programs.{IsMisspelt, IsFine, IsBroken}
+use Rattle.lam_syntax.specs.Tree.{ProgramTree}
+use Rattle.lam_bytecode.specs.Codes.{CodeTree}
+use Rattle.lam_main_plan.specs.Compiled.{IsCompiledTo}
+use Rattle.barrier_compiler.specs.declared.emitting.CompileFault.{CompileFault}
+use Rattle.barrier_compiler.specs.declared.emitting.CompileFault.TheVariants.{CodeTooLong as too_long_code, NoMemory as no_memory_for_code}
+use Rattle.lam_main_words.specs.Words.{Text}
+use Rattle.lam_main_plan.specs.Refusals.{Plan, prints}
+use Rattle.lam_main_plan.specs.Reading.{HasFile, WithFile, of_file, Never, program_limit, IsCompiled, Compiles, fine, broken}
+use Rattle.lam_main_plan.specs.Plan.{Formats, misspelt}
+use Rattle.lam_main_plan.proofs.ReadLemmas.{program_then, no_program_then}
+use Rattle.lam_main_files.specs.declared.halt.Halt.{Halt}
+use Rattle.lam_main_files.specs.declared.halt.Halt.TheVariants.{Refused, NoMemory, ShelfFailed}
+use Rattle.lam_main_files.specs.Halts.{refuses, halt_of, halt_of_code, Finds, Says, Gives, done, Reports, IsRead}
+
+-- ---- answers
+
+-- what is planned stays so where more is planned
+pub says_map : (P Q : Plan → Type 0) → ((p : Plan) → P p → Q p) → (answer : Result (String Global) Halt) → Says answer P → Says answer Q
+says_map P Q f (Ok text) h = f (prints (string_bytes text)) h
+says_map P Q f (Err (Refused refusal)) h = f (refuses refusal) h
+says_map P Q f (Err NoMemory) h = tt
+says_map P Q f (Err ShelfFailed) h = tt
+
+-- what is not found is refused as planned
+pub not_found : {X : Type 0} (IsIt : X → Type 0) (P Q : Plan → Type 0) → ((p : Plan) → P p → Q p) → (halt : Halt) → Finds {X = X} (Err halt) IsIt P → Says (Err halt) Q
+not_found IsIt P Q f (Refused refusal) h = f (refuses refusal) h
+not_found IsIt P Q f NoMemory h = tt
+not_found IsIt P Q f ShelfFailed h = tt
+
+-- no file is written
+pub gives_of : (P : Plan → Type 0) (old new : Files) (answer : Result (String Global) Halt) → AllStay old new → Says answer P → Gives answer P old new
+gives_of P old new (Ok text) stay h = (None, h, stay)
+gives_of P old new (Err (Refused refusal)) stay h = (h, stay)
+gives_of P old new (Err NoMemory) stay h = tt
+gives_of P old new (Err ShelfFailed) stay h = tt
+
+-- a command that starts no thread reports its text
+pub reports_done : (P : Plan → Type 0) (old new : Files) (answer : Result (String Global) Halt) → Gives answer P old new → Reports (done answer) P old new
+reports_done P old new (Ok text) h = h
+reports_done P old new (Err (Refused refusal)) h = h
+reports_done P old new (Err NoMemory) h = tt
+reports_done P old new (Err ShelfFailed) h = tt
+
+-- ---- files
+
+module _ (found : Option Text) (name : Text) (limit : ℕ) where
+  pub from_file : (IsOf : Text → Plan → Type 0) (old new : Files) (bytes : Vec ℕ Global) (answer : Result (String Global) Halt) → IsRead (Ok bytes) found name limit → AllStay old new → Says answer (IsOf bytes.items) → Gives answer (WithFile found name limit IsOf) old new
+  from_file IsOf old new bytes answer read stay says = gives_of (WithFile found name limit IsOf) old new answer stay (says_map (IsOf bytes.items) (WithFile found name limit IsOf) (λ p h. of_file (record { bytes = bytes.items; there = read.0; short = read.1; follows = h })) answer says)
+
+  -- what is found in the bytes of a file
+  pub found_in_file : {X : Type 0} (IsIt : X → Text → Type 0) (IsNone : Text → Plan → Type 0) (bytes : Vec ℕ Global) (answer : Result X Halt) → IsRead (Ok bytes) found name limit → Finds answer (λ x. IsIt x bytes.items) (IsNone bytes.items) → Finds answer (λ x. HasFile found limit (IsIt x)) (WithFile found name limit IsNone)
+  found_in_file IsIt IsNone bytes (Ok x) read finds = record { bytes = bytes.items; there = read.0; short = read.1; follows = finds }
+  found_in_file IsIt IsNone bytes (Err (Refused refusal)) read finds = of_file (record { bytes = bytes.items; there = read.0; short = read.1; follows = finds })
+  found_in_file IsIt IsNone bytes (Err NoMemory) read finds = tt
+  found_in_file IsIt IsNone bytes (Err ShelfFailed) read finds = tt
+
+-- ---- programs
+
+says_of : (IsPlan : Plan → Type 0) (f : ProgramFault) (halt : Halt) → halt ≡ halt_of f → Says (Err (halt_of f)) IsPlan → Says (Err halt) IsPlan
+says_of IsPlan f halt is says = subst (λ (h : Halt). Says (Err h) IsPlan) (sym is) says
+
+without_memory : (IsPlan : Plan → Type 0) (f : ProgramFault) → f ≡ no_memory_of_it → Says (Err (halt_of f)) IsPlan
+without_memory IsPlan f e = subst (λ (g : ProgramFault). Says (Err (halt_of g)) IsPlan) (sym e) tt
+
+misspelt_says : (bytes : Text) (f : ProgramFault) → IsMisspelt bytes f → Says (Err (halt_of f)) (Formats bytes)
+misspelt_says bytes NotUtf8 m = misspelt NotUtf8 m refl
+misspelt_says bytes (At flaw at) m = misspelt (At flaw at) m refl
+misspelt_says bytes no_memory_of_it m = tt
+
+broken_says : (bytes : Text) (f : ProgramFault) → IsBroken bytes f → Says (Err (halt_of f)) (Compiles Never bytes)
+broken_says bytes NotUtf8 m = broken NotUtf8 m refl
+broken_says bytes (At flaw at) m = broken (At flaw at) m refl
+broken_says bytes no_memory_of_it m = tt
+
+pub not_formatted : (bytes : Text) (f : ProgramFault) (halt : Halt) → (f ≡ no_memory_of_it) ⊎ IsMisspelt bytes f → halt ≡ halt_of f → Says (Err halt) (Formats bytes)
+not_formatted bytes f halt h is = says_of (Formats bytes) f halt is (elim h [ inl e ↦ without_memory (Formats bytes) f e | inr m ↦ misspelt_says bytes f m ])
+
+-- a refusal is one whatever is looked for
+found_none : {X : Type 0} (IsIt : X → Type 0) (P : Plan → Type 0) (halt : Halt) → Says (Err halt) P → Finds {X = X} (Err halt) IsIt P
+found_none IsIt P (Refused refusal) h = h
+found_none IsIt P NoMemory h = tt
+found_none IsIt P ShelfFailed h = tt
+
+module _ (bytes : Text) where
+  abbrev IsCode : CodeTree → Type 0
+  IsCode tree = IsCompiled bytes (Ok tree)
+
+  pub not_checked : (f : ProgramFault) (halt : Halt) → (f ≡ no_memory_of_it) ⊎ IsBroken bytes f → halt ≡ halt_of f → Finds (Err halt) IsCode (Compiles Never bytes)
+  not_checked f halt h is = found_none IsCode (Compiles Never bytes) halt (says_of (Compiles Never bytes) f halt is (elim h [ inl e ↦ without_memory (Compiles Never bytes) f e | inr m ↦ broken_says bytes f m ]))
+
+  pub not_compiled : (p : ProgramTree) (f : CompileFault) (halt : Halt) → IsFine bytes p → (f ≡ no_memory_for_code) ⊎ ((unit : ℕ) × (f ≡ too_long_code unit) × IsCompiledTo p (Err unit)) → halt ≡ halt_of_code f → Finds (Err halt) IsCode (Compiles Never bytes)
+  not_compiled p f halt is_fine h is =
+      found_none IsCode (Compiles Never bytes) halt
+      (elim h [
+        | inl e ↦ subst (λ (x : Halt). Says (Err x) (Compiles Never bytes)) (sym (is ∙ ap halt_of_code e)) tt
+        | inr m ↦ subst (λ (x : Halt). Says (Err x) (Compiles Never bytes)) (sym (is ∙ ap halt_of_code m.1)) (fine (Err m.0) (record { program = p; fine = is_fine; makes = m.2 }) refl)
+      ])
+
+-- ---- the code of a file
+
+module _ (found : Option Text) (name : Text) (IsOf : CodeTree → Plan → Type 0) (old new : Files) where
+  -- a text of the code
+  pub by_code_found : (tree : CodeTree) (answer : Result (String Global) Halt) → HasFile found program_limit (λ bytes. IsCompiled bytes (Ok tree)) → AllStay old new → Says answer (IsOf tree) → Gives answer (WithFile found name program_limit (Compiles IsOf)) old new
+  by_code_found tree answer h stay says = gives_of (WithFile found name program_limit (Compiles IsOf)) old new answer stay (says_map (IsOf tree) (WithFile found name program_limit (Compiles IsOf)) (λ p k. program_then found name IsOf p tree h k) answer says)
+
+  pub by_no_code_found : (halt : Halt) → Finds {X = CodeTree} (Err halt) (λ tree. HasFile found program_limit (λ bytes. IsCompiled bytes (Ok tree))) (WithFile found name program_limit (Compiles Never)) → AllStay old new → Gives (Err halt) (WithFile found name program_limit (Compiles IsOf)) old new
+  by_no_code_found halt h stay = gives_of (WithFile found name program_limit (Compiles IsOf)) old new (Err halt) stay (not_found (λ tree. HasFile found program_limit (λ bytes. IsCompiled bytes (Ok tree))) (WithFile found name program_limit (Compiles Never)) (WithFile found name program_limit (Compiles IsOf)) (λ p k. no_program_then found name IsOf p k) halt h)

@@ -1,0 +1,18 @@
+//! The commands on one file: [`play`], [`format`], [`check`] and [`code`], and what every command shares.
+//!
+//! A command reads the files that the words name and makes its text, or halts: what it reads is refused, memory ran out,
+//! or the file store failed. A [`Refusal`] is known by the line that is printed for it. What a command answers is what
+//! its plan says (`lam_main_plan`), in one relation for all commands (`specs/Halts.antt`).
+#![tactic(auto)]
+
+mod files;
+mod halt;
+mod program;
+mod report;
+mod script;
+
+pub use files::read_file;
+pub use halt::{BookBreak, Halt, Refusal, WorldBreak};
+pub use program::{check, code, compiled, format, read_code};
+pub use report::{Report, done};
+pub use script::play;

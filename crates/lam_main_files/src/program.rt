@@ -1,0 +1,135 @@
+//! The commands on a program alone, `format`, `check` and `code`, and the code of a program in a file.
+
+ghost use Rattle.std.specs.Prelude.{◌≡◌, ◌≢◌, ◌≤◌, ◌⊎◌, ℕ, Ok, Err, IsTrue, IfOk, IfErr, string_bytes};
+ghost use Rattle.lam_io.specs.Outside.{Rose, AllStay};
+ghost use Rattle.lam_syntax.specs.Tree.{program_tree};
+ghost use Rattle.lam_print.specs.Canon.{canon};
+ghost use Rattle.region_check.specs.Seen.{checked_tree};
+ghost use Rattle.lam_bytecode.specs.Codes.{IsCode};
+ghost use Rattle.barrier_compiler.specs.Compiled.{IsCompiledTo};
+ghost use Rattle.barrier_compiler.specs.declared.emitting.CompileFault.TheVariants.{CodeTooLong, NoMemory as no_memory};
+ghost use Rattle.lam_main_plan.specs.Reading.{HasFile, WithFile, Never, IsCompiled, Compiles, program_limit};
+ghost use Rattle.lam_main_plan.specs.Plan.{Formats, Checks, Lists};
+ghost use Rattle.lam_main_files.specs.Halts.{Says, Finds, Gives};
+
+use crate::files::read_file;
+use crate::halt::Halt;
+use lam_bytecode::{Code, listing};
+use lam_front::{check_program, read_program};
+use lam_io::Shelf;
+use lam_main_plan::{CompileFault, compile};
+use lam_print::print;
+use lam_syntax::Program;
+use region_check::Checked;
+use std::alloc::Global;
+use std::mem::forget;
+use want_of_memory::NoMemory;
+
+/// The most bytes of a program.
+const PROGRAM_LIMIT: u64 = 1_048_576;
+
+/// The canonical text of the program in a file.
+///
+/// # Errors
+///
+/// A refusal where the file can't be read, or with the first fault of its bytes.
+pub fn format<H: Shelf>(alloc: Global, shelf: &mut H, program: String) -> Result<String, Halt>
+    ensures gives { IsTrue (H.tells shelf.old) → Gives result (WithFile (H.files shelf.old (string_bytes program)) (string_bytes program) program_limit Formats) (H.files shelf.old) (H.files shelf.new) }
+    ensures stay { IsTrue (H.tells shelf.old) → AllStay (H.files shelf.old) (H.files shelf.new) }
+    ensures failed { IfErr result (λ halt. halt ≡ Halt.ShelfFailed → Rose (H.faults shelf.old) (H.faults shelf.new)) }
+{
+    let bytes = read_file(alloc, shelf, program, PROGRAM_LIMIT)?;
+    format_bytes(alloc, bytes.as_slice())
+}
+
+/// `ok`, where the program in a file keeps the type rules and the region rules.
+///
+/// # Errors
+///
+/// As [`read_code`].
+pub fn check<H: Shelf>(alloc: Global, shelf: &mut H, program: String) -> Result<String, Halt>
+    ensures gives { IsTrue (H.tells shelf.old) → Gives result (WithFile (H.files shelf.old (string_bytes program)) (string_bytes program) program_limit Checks) (H.files shelf.old) (H.files shelf.new) }
+    ensures stay { IsTrue (H.tells shelf.old) → AllStay (H.files shelf.old) (H.files shelf.new) }
+    ensures failed { IfErr result (λ halt. halt ≡ Halt.ShelfFailed → Rose (H.faults shelf.old) (H.faults shelf.new)) }
+{
+    match read_code(alloc, shelf, program) {
+        Ok(_code) => Ok(String::from_str(alloc, "ok\n")?),
+        Err(halt) => Err(halt),
+    }
+}
+
+/// The listing of the code of the program in a file.
+///
+/// # Errors
+///
+/// As [`read_code`].
+pub fn code<H: Shelf>(alloc: Global, shelf: &mut H, program: String) -> Result<String, Halt>
+    ensures gives { IsTrue (H.tells shelf.old) → Gives result (WithFile (H.files shelf.old (string_bytes program)) (string_bytes program) program_limit Lists) (H.files shelf.old) (H.files shelf.new) }
+    ensures stay { IsTrue (H.tells shelf.old) → AllStay (H.files shelf.old) (H.files shelf.new) }
+    ensures failed { IfErr result (λ halt. halt ≡ Halt.ShelfFailed → Rose (H.faults shelf.old) (H.faults shelf.new)) }
+{
+    match read_code(alloc, shelf, program) {
+        Ok(code) => Ok(listing(alloc, &code)?),
+        Err(halt) => Err(halt),
+    }
+}
+
+/// The code of the program in a file.
+///
+/// # Errors
+///
+/// A refusal where the file can't be read, with the first fault of its bytes, or with its first unit that is too long.
+pub fn read_code<H: Shelf>(alloc: Global, shelf: &mut H, program: String) -> Result<Code, Halt>
+    ensures finds { IsTrue (H.tells shelf.old) → Finds result (λ code. HasFile (H.files shelf.old (string_bytes program)) program_limit (λ bytes. IsCompiled bytes (Ok code))) (WithFile (H.files shelf.old (string_bytes program)) (string_bytes program) program_limit (Compiles Never)) }
+    ensures sound { IfOk result (λ code. IsCode code) }
+    ensures stay { IsTrue (H.tells shelf.old) → AllStay (H.files shelf.old) (H.files shelf.new) }
+    ensures tells_on { IsTrue (H.tells shelf.old) → IsTrue (H.tells shelf.new) }
+    ensures later { H.faults shelf.old ≤ H.faults shelf.new }
+    ensures refused { H.refusals shelf.new ≡ H.refusals shelf.old }
+    ensures failed { IfErr result (λ halt. halt ≡ Halt.ShelfFailed → Rose (H.faults shelf.old) (H.faults shelf.new)) }
+{
+    let bytes = read_file(alloc, shelf, program, PROGRAM_LIMIT)?;
+    compiled(alloc, bytes.as_slice())
+}
+
+fn format_bytes(alloc: Global, bytes: &[u8]) -> Result<String, Halt>
+    ensures says { Says result (Formats bytes.now) }
+    ensures no_fault { IfErr result (λ halt. halt ≢ Halt.ShelfFailed) }
+{
+    let program = read_program(alloc, bytes)?;
+    Ok(text_of(program)?)
+}
+
+/// The canonical text of a program, whose tree is left to the end of the call's process, which prints one text.
+fn text_of(program: Program) -> Result<String, NoMemory>
+    ensures { IfOk result (λ text. string_bytes text ≡ canon (program_tree program)) }
+{
+    let text = print(&program);
+    forget(program);
+    text
+}
+
+/// The code of the program that the bytes spell.
+///
+/// # Errors
+///
+/// A refusal with the first fault of the bytes, or with the first unit that is too long; `NoMemory`.
+pub fn compiled(alloc: Global, bytes: &[u8]) -> Result<Code, Halt>
+    ensures finds { Finds result (λ code. IsCompiled bytes.now (Ok code)) (Compiles Never bytes.now) }
+    ensures sound { IfOk result (λ code. IsCode code) }
+    ensures no_fault { IfErr result (λ halt. halt ≢ Halt.ShelfFailed) }
+{
+    let checked = check_program(alloc, bytes)?;
+    Ok(code_of(checked)?)
+}
+
+/// The code of a checked program, whose tree is left to the end of the call's process.
+fn code_of(checked: Checked) -> Result<Code, CompileFault>
+    ensures ok { IfOk result (λ code. IsCompiledTo (checked_tree checked) (Ok code)) }
+    ensures sound { IfOk result (λ code. IsCode code) }
+    ensures long { IfErr result (λ f. (f ≡ no_memory) ⊎ ((unit : ℕ) × (f ≡ CodeTooLong unit) × IsCompiledTo (checked_tree checked) (Err unit))) }
+{
+    let code = compile(&checked);
+    forget(checked);
+    code
+}

@@ -1,0 +1,52 @@
+-- The code of a checked program keeps what every code keeps.
+use Rattle.std.proofs.Common.{◌≡◌, ◌≤◌, ℕ, ◌+◌, List, [], ◌∷◌, length, map, Option, Some, None, Ok, refl, subst, arith, length-append}
+use Rattle.std.proofs.lemmas.List.{length-map}
+use Rattle.std.specs.List.{AllByRecursion}
+use Rattle.lam_value.specs.declared.values.Value.{Value}
+use Rattle.lam_resolve_tree.specs.Tree.{ResolvedTree}
+use Rattle.lam_resolve_tree.specs.Slots.{SlotsDiffer}
+use Rattle.lam_resolve_tree.specs.Regions.{AreNumbered}
+use Rattle.lam_meaning.specs.Means.{kind_of}
+use Rattle.lam_bytecode.specs.Codes.{CodeTree, IsUnit, IsCode}
+use Rattle.lam_meaning.specs.Pieces.{Flat, an_op, a_constant, numbered}
+use Rattle.lam_meaning.specs.Scheme.{Draft, function_draft, all_regions, drafts, all_constants, unit_of, scheme}
+use Rattle.lam_meaning.specs.Long.{long_from, first_long_unit, unless_long, compiled}
+use Rattle.barrier_compiler.proofs.Given.{AllGiven, all_given}
+use Rattle.barrier_compiler.proofs.Numbered.{are_counted}
+use Rattle.lam_main_laws.proofs.Counts.{IsSmall}
+use Rattle.lam_main_laws.proofs.Constants.{of_program, in_units, short_first, few_in_all}
+
+length-numbered : (vs : List Value) (fs : List Flat) → length (numbered vs fs) ≡ length fs
+length-numbered vs [] = refl
+length-numbered vs (an_op o ∷ fs) = omega (arith, length-numbered vs fs)
+length-numbered vs (a_constant v ∷ fs) = omega (arith, length-numbered vs fs)
+
+each_unit : (vs : List Value) (n : ℕ) (ds : List Draft) → AllGiven ds → long_from n ds ≡ None → AllByRecursion IsUnit (map (unit_of vs) ds)
+each_unit vs n [] g h = tt
+each_unit vs n (d ∷ ds) g h =
+    let s = short_first n d ds h in
+    (record { locals = g.0; ops = omega (arith, s.0, length-numbered vs d.code) }, each_unit vs (n + 1) ds g.1 s.1)
+
+module _ (r : ResolvedTree) (is : IsSmall r) (slots : SlotsDiffer r) (regions : AreNumbered r) where
+  few_units : length (drafts r) ≤ 5120
+  few_units = let f = is.functions in let g = is.regions in omega (arith, length-append (map function_draft r.functions) (all_regions r.functions), length-map r.functions function_draft, f, g)
+
+  scheme_is : first_long_unit r ≡ None → IsCode (scheme r)
+  unfolding scheme first_long_unit
+  scheme_is e =
+      let vs = all_constants [] (drafts r) in
+      record {
+        units = omega (arith, few_units, length-map (drafts r) (unit_of vs));
+        constants = omega (arith, few_units, few_in_all (drafts r) 0 [] e);
+        classes = let c = is.classes in omega (arith, c, length-map r.classes (λ ts. map kind_of ts));
+        each_unit = each_unit vs 0 (drafts r) (all_given r slots) e;
+        each_constant = in_units (drafts r) [] tt (of_program r);
+        regions = are_counted r vs regions;
+      }
+
+  pub is_code : (code : CodeTree) → compiled r ≡ Ok code → IsCode code
+  is_code code e = by (first_long_unit r) refl e
+    where
+      by : (o : Option ℕ) → first_long_unit r ≡ o → unless_long o (scheme r) ≡ Ok code → IsCode code
+      by None s e = let same : scheme r ≡ code = cc in subst IsCode same (scheme_is s)
+      by (Some n) s e = absurd cc

@@ -1,0 +1,32 @@
+//! The laws of calls: what the text and the files of a call tell, in proofs alone.
+//!
+//! What a call does of its plan is the contract of the tool; `lam_main_plan` says what is planned. Here that is joined to the
+//! laws of the machine, of documents and of the source. All but those of `audits` are clauses of `lam`.
+//!
+//! - `runs`: **the headline**. What `run` printed is what its observer sees of the run that the written book records, and
+//!   any other run of the code that it cannot tell apart looks the same to it (`specs/Headline`, with the like of `make`).
+//! - `makes`: every call of `make` is in order (`specs/Complete`).
+//! - `ends`: a call whose words and files are in order is done, and refusals come exactly where they are planned
+//!   (`specs/Orderly`).
+//! - `replays`: two calls of `replay` whose starts their observer cannot tell apart print the same, and `audit` prints
+//!   each release past any observer (`specs/Calls`).
+//! - `audits`: what is kept of a run for observers and auditors is whole (`specs/Whole`).
+//! - `meant`: the runs of all these calls mean what their source means (`specs/Meant`).
+#![tactic(auto)]
+
+mod audits;
+mod ends;
+mod makes;
+mod meant;
+mod replays;
+mod runs;
+
+pub use audits::{audits_are_whole, releases_are_told};
+pub use ends::{orderly_calls_are_done, refusals_are_exact};
+pub use makes::{broken_makes_are_recorded, makes_are_complete, makes_end};
+pub use meant::calls_run_as_meant;
+pub use replays::{audits_are_printed, replays_are_isolated};
+pub use runs::{
+    broken_runs_are_recorded, generated_runs_are_recorded, orderly_runs_end, runs_are_complete,
+    runs_are_recorded, runs_end_in_order,
+};

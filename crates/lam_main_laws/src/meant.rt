@@ -1,0 +1,24 @@
+//! The runs that `replay`, `audit` and `run` are asked for mean what their source means.
+//!
+//! Where the files of such a call hold a program that keeps the type rules and the region rules, with its code, and a
+//! document with a start, then in each state of each run no thread is stuck, and each thread asks what its source means
+//! (`world_doc_laws`). Its asks are the first ones of its function in the source, with the arguments and capabilities
+//! that it was started with, as many units as it made turns, and the answers that stand in the run. Those of the source
+//! with n units are in turn the first ones of its own, once it has made (n + 1) * (T + 2R + 1) turns or has ended: T is
+//! the number of the code's operations, R that of its regions.
+
+ghost use Rattle.std.specs.Prelude.{List};
+ghost use Rattle.lam_io.specs.Outside.{Files};
+ghost use Rattle.lam_main_words.specs.Words.{Text};
+ghost use Rattle.lam_main_laws.specs.Meant.{CallsRunAsMeant};
+
+use world_doc_laws::runs_of_documents_mean;
+
+/// A law: where words ask for runs of a program from a document's start, the program has its names resolved, and every
+/// run of its code from there means what that source means. This speaks of every list of turns: of those of a book up to
+/// the first that is not ready, and of those that threads take.
+pub fn calls_run_as_meant()
+    ensures { (ws : List Text) (files : Files) → CallsRunAsMeant ws files }
+{
+    runs_of_documents_mean();
+}

@@ -1,0 +1,161 @@
+-- Words and files have at most one plan.
+use Rattle.std.proofs.Common.{◌≡◌, ◌<◌, ◌≤◌, ℕ, true, false, List, length, Option, Some, None, Result, Ok, Err, codes, refl, sym, ap, subst, ◌∙◌, arith}
+use Rattle.lam_io.specs.Outside.{Files}
+use Rattle.lam_print.specs.Canon.{canon}
+use Rattle.lam_front.proofs.Once.{one_spelt, spelt_or_misspelt, one_misspelt, fine_or_broken, one_broken}
+use Rattle.lam_syntax.specs.Tree.{ProgramTree}
+use Rattle.barrier_compiler.specs.Compiled.{IsCompiledTo}
+use Rattle.barrier_compiler.proofs.Once.{one_compiled}
+use Rattle.lam_bytecode.specs.Codes.{CodeTree}
+use Rattle.lam_bytecode.specs.Listing.{listing_text}
+use Rattle.lam_machine_terms.specs.Worlds.{World}
+use Rattle.lam_machine_terms.specs.Turns.{Moment}
+use Rattle.lam_machine_runs.specs.declared.How.{How}
+use Rattle.lam_machine_runs.specs.declared.How.TheVariants as how
+use Rattle.lam_make.specs.Made.{program_text, world_text}
+use Rattle.audit_log_notes.specs.Sums.{summary_lines}
+use Rattle.world_doc_terms.specs.Breaks.{Reading}
+use Rattle.world_doc_terms.specs.Start.{start_of}
+use Rattle.lam_front.specs.Programs.{IsFine}
+use Rattle.lam_main_words.specs.Words.{Text, Request, play, check, format, code, replay, run, audit, make, help, request_of}
+use Rattle.lam_main_plan.specs.Refusals.{Plan, prints, no_program}
+use Rattle.lam_main_plan.specs.Reading.{IsUnread, HasFile, WithFile, unread, of_file, script_limit, program_limit, world_limit, book_limit, IsCompiled, ByCode, Compiles, fine, broken}
+use Rattle.lam_main_plan.specs.Replays.{Reader, an_observer, an_auditor, RunFiles, read_by, IsOfBook, ByReader, ByWorld, Replays, Starts, Runs}
+use Rattle.lam_main_plan.specs.Threads.{status_of, IsOfThreads, ThreadFiles, TakesTurns, StartsThreads, RunsThreads, made_budget, Makes}
+use Rattle.lam_main_plan.specs.Plan.{Plays, Formats, canonical, misspelt, Checks, Lists, IsPlanOf, starts_threads, PlansAreOne, IsRefused, RefusalsAreOne}
+
+pub one_bytes : {bs cs : Text} → Some bs ≡ Some cs → bs ≡ cs
+one_bytes e = cc
+
+none_there : {bs : Text} → ◌≡◌ {A = Option Text} None (Some bs) → ⊥
+none_there e = cc
+
+longer : (bs cs : Text) (limit : ℕ) → Some bs ≡ Some cs → limit < length bs → length cs ≤ limit → ⊥
+longer bs cs limit e h k = let l : length bs ≡ length cs = ap length (one_bytes e) in omega (arith, h, k, l)
+
+pub unread_or_of_file : (found : Option Text) (name : Text) (limit : ℕ) (IsOf : Text → Plan → Type 0) (p q : Plan) → IsUnread found name limit p → HasFile found limit (λ bytes. IsOf bytes q) → ⊥
+unread_or_of_file None name limit IsOf p q h k = none_there k.there
+unread_or_of_file (Some bytes) name limit IsOf p q h k = longer bytes k.bytes limit k.there h.0 k.short
+
+one_fine : (bytes : Text) (p q : ProgramTree) → IsFine bytes p → IsFine bytes q → p ≡ q
+one_fine bytes p q h k = one_spelt bytes p q h.spelt k.spelt
+
+pub one_made : (bytes : Text) (m n : Result CodeTree ℕ) → IsCompiled bytes m → IsCompiled bytes n → m ≡ n
+one_made bytes m n h k = one_compiled k.program m n (subst (λ p. IsCompiledTo p m) (one_fine bytes h.program k.program h.fine k.fine) h.makes) k.makes
+
+-- ---- two plans of one thing that is read are one, where what follows them is
+
+module _ (p q : Plan) where
+  one_equal : (it : Plan) → p ≡ it → q ≡ it → p ≡ q
+  one_equal it h k = h ∙ sym k
+
+  one_unread : (found : Option Text) (name : Text) (limit : ℕ) → IsUnread found name limit p → IsUnread found name limit q → p ≡ q
+  one_unread None name limit h k = h ∙ sym k
+  one_unread (Some bytes) name limit h k = h.1 ∙ sym k.1
+
+  one_of_file : (found : Option Text) (limit : ℕ) (IsOf : Text → Plan → Type 0) → ((bytes : Text) → IsOf bytes p → IsOf bytes q → p ≡ q) → HasFile found limit (λ bytes. IsOf bytes p) → HasFile found limit (λ bytes. IsOf bytes q) → p ≡ q
+  one_of_file found limit IsOf one h k = one k.bytes (subst (λ (bs : Text). IsOf bs p) (one_bytes (sym h.there ∙ k.there)) h.follows) k.follows
+
+  one_with_file : (found : Option Text) (name : Text) (limit : ℕ) (IsOf : Text → Plan → Type 0) → ((bytes : Text) → IsOf bytes p → IsOf bytes q → p ≡ q) → WithFile found name limit IsOf p → WithFile found name limit IsOf q → p ≡ q
+  one_with_file found name limit IsOf one (unread h) (unread k) = one_unread found name limit h k
+  one_with_file found name limit IsOf one (unread h) (of_file k) = absurd (unread_or_of_file found name limit IsOf p q h k)
+  one_with_file found name limit IsOf one (of_file h) (unread k) = absurd (unread_or_of_file found name limit IsOf q p k h)
+  one_with_file found name limit IsOf one (of_file h) (of_file k) = one_of_file found limit IsOf one h k
+
+  one_plays : (observer bytes : Text) → Plays observer bytes p → Plays observer bytes q → p ≡ q
+  one_plays observer bytes h k = h ∙ sym k
+
+  one_formats : (bytes : Text) → Formats bytes p → Formats bytes q → p ≡ q
+  one_formats bytes (canonical t s e) (canonical u r d) = e ∙ ap (λ x. prints (canon x)) (one_spelt bytes t u s r) ∙ sym d
+  one_formats bytes (canonical t s e) (misspelt f m d) = absurd (spelt_or_misspelt bytes t f s m)
+  one_formats bytes (misspelt f m e) (canonical t s d) = absurd (spelt_or_misspelt bytes t f s m)
+  one_formats bytes (misspelt f m e) (misspelt g n d) = e ∙ ap no_program (one_misspelt bytes f g m n) ∙ sym d
+
+  one_by_code : (IsOf : CodeTree → Plan → Type 0) → ((tree : CodeTree) → IsOf tree p → IsOf tree q → p ≡ q) → (made : Result CodeTree ℕ) → ByCode IsOf made p → ByCode IsOf made q → p ≡ q
+  one_by_code IsOf one (Ok tree) h k = one tree h k
+  one_by_code IsOf one (Err unit) h k = h ∙ sym k
+
+  one_compiles : (IsOf : CodeTree → Plan → Type 0) → ((tree : CodeTree) → IsOf tree p → IsOf tree q → p ≡ q) → (bytes : Text) → Compiles IsOf bytes p → Compiles IsOf bytes q → p ≡ q
+  one_compiles IsOf one bytes (fine m c h) (fine n d k) = one_by_code IsOf one m h (subst (λ (x : Result CodeTree ℕ). ByCode IsOf x q) (sym (one_made bytes m n c d)) k)
+  one_compiles IsOf one bytes (fine m c h) (broken f b k) = absurd (fine_or_broken bytes c.program f c.fine b)
+  one_compiles IsOf one bytes (broken f b h) (fine m c k) = absurd (fine_or_broken bytes c.program f c.fine b)
+  one_compiles IsOf one bytes (broken f b h) (broken g d k) = h ∙ ap no_program (one_broken bytes f g b d) ∙ sym k
+
+  one_by_reader : (IsOf : (List Moment → Text) → Plan → Type 0) → ((shown : List Moment → Text) → IsOf shown p → IsOf shown q → p ≡ q) → (shown : Result (List Moment → Text) ℕ) → ByReader IsOf shown p → ByReader IsOf shown q → p ≡ q
+  one_by_reader IsOf one (Ok shown) h k = one shown h k
+  one_by_reader IsOf one (Err index) h k = h ∙ sym k
+
+  one_by_world : (IsOf : World → Plan → Type 0) → ((start : World) → IsOf start p → IsOf start q → p ≡ q) → (read : Reading World) → ByWorld IsOf read p → ByWorld IsOf read q → p ≡ q
+  one_by_world IsOf one (Ok start) h k = one start h k
+  one_by_world IsOf one (Err breach) h k = h ∙ sym k
+
+  -- ---- the run of a book
+
+  module _ (files : Files) where
+    one_of_book : (book : Text) (tree : CodeTree) (start : World) (shown : List Moment → Text) → WithFile (files book) book book_limit (IsOfBook tree start shown) p → WithFile (files book) book book_limit (IsOfBook tree start shown) q → p ≡ q
+    one_of_book book tree start shown h k = one_with_file (files book) book book_limit (IsOfBook tree start shown) (λ bytes l m. l ∙ sym m) h k
+
+    one_replays : (book : Text) (reader : Reader) (tree : CodeTree) (start : World) → Replays files book reader tree start p → Replays files book reader tree start q → p ≡ q
+    one_replays book reader tree start h k = one_by_reader (λ shown. WithFile (files book) book book_limit (IsOfBook tree start shown)) (one_of_book book tree start) (read_by reader start.names) h k
+
+    one_starts : (asked : RunFiles) (reader : Reader) (tree : CodeTree) → Starts files asked reader tree p → Starts files asked reader tree q → p ≡ q
+    one_starts asked reader tree h k =
+        one_with_file (files asked.world) asked.world world_limit (λ bytes. ByWorld (Replays files asked.book reader tree) (start_of bytes tree))
+        (λ bytes. one_by_world (Replays files asked.book reader tree) (one_replays asked.book reader tree) (start_of bytes tree)) h k
+
+    one_runs : (asked : RunFiles) (reader : Reader) (bytes : Text) → Runs files asked reader bytes p → Runs files asked reader bytes q → p ≡ q
+    one_runs asked reader bytes h k = one_compiles (Starts files asked reader) (one_starts asked reader) bytes h k
+
+  -- ---- a run whose turns threads take
+
+  -- plans of runs of one code from one start are one
+  abbrev RunsAreOne : Type 0
+  RunsAreOne = (tree : CodeTree) (start : World) (out : Text) (budget : ℕ) (shown : List Moment → Text) → IsOfThreads tree start out budget shown p → IsOfThreads tree start out budget shown q → p ≡ q
+
+  module _ (files : Files) (one : RunsAreOne) where
+    one_takes : (out : Text) (budget : ℕ) (reader : Reader) (tree : CodeTree) (start : World) → TakesTurns out budget reader tree start p → TakesTurns out budget reader tree start q → p ≡ q
+    one_takes out budget reader tree start h k = one_by_reader (IsOfThreads tree start out budget) (one tree start out budget) (read_by reader start.names) h k
+
+    one_threads : (asked : ThreadFiles) (budget : ℕ) (reader : Reader) (tree : CodeTree) → StartsThreads files asked budget reader tree p → StartsThreads files asked budget reader tree q → p ≡ q
+    one_threads asked budget reader tree h k =
+        one_with_file (files asked.world) asked.world world_limit (λ bytes. ByWorld (TakesTurns asked.out budget reader tree) (start_of bytes tree))
+        (λ bytes. one_by_world (TakesTurns asked.out budget reader tree) (one_takes asked.out budget reader tree) (start_of bytes tree)) h k
+
+    one_run : (asked : ThreadFiles) (budget : ℕ) (reader : Reader) (bytes : Text) → RunsThreads files asked budget reader bytes p → RunsThreads files asked budget reader bytes q → p ≡ q
+    one_run asked budget reader bytes h k = one_compiles (StartsThreads files asked budget reader) (one_threads asked budget reader) bytes h k
+
+    one_makes : (seed threads : ℕ) (out : Text) → Makes seed threads out p → Makes seed threads out q → p ≡ q
+    one_makes seed threads out h k =
+        let OfStart : CodeTree → World → Plan → Type 0 = λ tree start. IsOfThreads tree start out made_budget (summary_lines seed threads) in
+        one_compiles (λ tree. ByWorld (OfStart tree) (start_of (world_text seed threads) tree))
+        (λ tree. one_by_world (OfStart tree) (λ start. one tree start out made_budget (summary_lines seed threads)) (start_of (world_text seed threads) tree)) program_text h k
+
+  -- ---- every command
+
+  one_plan_of : (r : Result Request ℕ) (files : Files) → (starts_threads r ≡ true → RunsAreOne) → IsPlanOf r files p → IsPlanOf r files q → p ≡ q
+  one_plan_of (Err index) files one h k = h ∙ sym k
+  one_plan_of (Ok (play file observer)) files one h k = one_with_file (files file) file script_limit (Plays observer) (one_plays observer) h k
+  one_plan_of (Ok (check file)) files one h k = one_with_file (files file) file program_limit Checks (one_compiles (λ tree p. p ≡ prints (codes "ok\n")) (λ tree. one_equal (prints (codes "ok\n")))) h k
+  one_plan_of (Ok (format file)) files one h k = one_with_file (files file) file program_limit Formats one_formats h k
+  one_plan_of (Ok (code file)) files one h k = one_with_file (files file) file program_limit Lists (one_compiles (λ tree p. p ≡ prints (listing_text tree)) (λ tree. one_equal (prints (listing_text tree)))) h k
+  one_plan_of (Ok (replay program world book label)) files one h k = one_with_file (files program) program program_limit (Runs files (record { world = world; book = book }) (an_observer 4 label)) (one_runs files (record { world = world; book = book }) (an_observer 4 label)) h k
+  one_plan_of (Ok (run program world label out workers budget)) files one h k = one_with_file (files program) program program_limit (RunsThreads files (record { world = world; out = out }) budget (an_observer 3 label)) (one_run files (one refl) (record { world = world; out = out }) budget (an_observer 3 label)) h k
+  one_plan_of (Ok (audit program world book)) files one h k = one_with_file (files program) program program_limit (Runs files (record { world = world; book = book }) an_auditor) (one_runs files (record { world = world; book = book }) an_auditor) h k
+  one_plan_of (Ok (make seed threads out)) files one h k = one_makes files (one refl) seed threads out h k
+  one_plan_of (Ok help) files one h k = h ∙ sym k
+
+pub plans_are_one : PlansAreOne
+plans_are_one ws files p q none h k = one_plan_of p q (request_of ws) files (λ some. absurd (let clash : false ≡ true = sym none ∙ some in cc)) h k
+
+-- ---- a refusal
+
+no_end : (ended : How) → IsRefused (status_of ended) → ⊥
+no_end how.Done refused = refused
+no_end how.AllWait refused = refused
+no_end how.Budget refused = refused
+
+no_run : (tree : CodeTree) (start : World) (out : Text) (budget : ℕ) (shown : List Moment → Text) (p : Plan) → IsRefused p.status → IsOfThreads tree start out budget shown p → ⊥
+no_run tree start out budget shown p refused h = no_end h.ended (subst (λ (it : Plan). IsRefused it.status) h.is refused)
+
+pub refusals_are_one : RefusalsAreOne
+refusals_are_one ws files p q refused h k = one_plan_of p q (request_of ws) files (λ some tree start out budget shown l m. absurd (no_run tree start out budget shown p refused l)) h k

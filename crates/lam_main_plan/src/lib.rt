@@ -1,0 +1,72 @@
+//! What a call of the tool does: the *plan* of its words and the files, in definitions, and how a call may answer to it.
+//!
+//! A [`Status`] is how a call ends. A plan (`specs/Plan.antt`) is a status, the text that is printed and the file that is
+//! written, if any; it is said command by command, in the order in which files are read, and a new command adds a case.
+//! What a call may make of its plan (`specs/Answer.antt`) is one relation for all commands: the output or the file
+//! store may fail, and memory may run out.
+#![tactic(auto)]
+
+ghost use Rattle.std.specs.Prelude.{◌≡◌, ◌≤◌};
+ghost use Rattle.lam_main_plan.specs.Codes.{code_of};
+ghost use Rattle.lam_main_plan.specs.Plan.{PlansAreOne, RefusalsAreOne};
+
+pub use barrier_compiler::{CompileFault, compile};
+
+/// How a call ended.
+#[derive(Clone, Copy, Debug, PartialEq, Eq)]
+pub enum Status {
+    /// The command's text was printed.
+    Done,
+    /// Memory ran out; nothing was printed.
+    NoMemory,
+    /// The words are in no form, or name an unknown tag.
+    Words,
+    /// The script is broken, or the program has a fault.
+    Program,
+    /// The document of a world is refused.
+    World,
+    /// The book of a schedule is refused, or one of its turns is of a thread that is not ready.
+    Book,
+    /// A file is not there, or is too long.
+    Missing,
+    /// The file store failed; nothing was printed.
+    ShelfFault,
+    /// The output failed, after a front of what the call prints.
+    SinkFault,
+    /// A run took all its turns, and some thread is ready.
+    Budget,
+    /// A run's living threads all wait.
+    AllWait,
+}
+
+impl Status {
+    /// The number that the process ends with.
+    pub fn code(&self) -> u8
+        ensures value { result ≡ code_of self.now }
+        ensures small { result ≤ 10 }
+    {
+        match self {
+            Status::Done => 0,
+            Status::NoMemory => 1,
+            Status::Words => 2,
+            Status::Program => 3,
+            Status::World => 4,
+            Status::Book => 5,
+            Status::Missing => 6,
+            Status::ShelfFault => 7,
+            Status::SinkFault => 8,
+            Status::Budget => 9,
+            Status::AllWait => 10,
+        }
+    }
+}
+
+/// Words that start no thread, and files, have at most one plan.
+pub fn plans_are_one()
+    ensures { PlansAreOne }
+{}
+
+/// Where a refusal is planned of words and files, it is their one plan, also where threads would be started.
+pub fn refusals_are_one()
+    ensures { RefusalsAreOne }
+{}

@@ -1,0 +1,6 @@
+use Rattle.std.proofs.Common.{ap}
+use Rattle.lam_main_plan.specs.Replays.{view_by}
+use Rattle.lam_main_replay.proofs.eye.observer.Goals as goal
+
+pub returns-in-Ok-clause-finds : goal.returns-in-Ok-clause-finds
+returns-in-Ok-clause-finds c = ap (view_by c.args.index c.args.names.now) c.in-Ok.ensures

@@ -1,0 +1,82 @@
+//! The start of a run: the world of a document.
+
+ghost use Rattle.std.specs.Prelude.{◌≡◌, ◌≢◌, ◌≤◌, Ok, IsTrue, IfOk, IfErr, string_bytes};
+ghost use Rattle.lam_io.specs.Outside.{Rose, AllStay};
+ghost use Rattle.lam_machine_terms.specs.Valid.{IsValid};
+ghost use Rattle.world_doc_terms.specs.Start.{start_of};
+ghost use Rattle.lam_main_plan.specs.Reading.{HasFile, WithFile, world_limit};
+ghost use Rattle.lam_main_plan.specs.Replays.{NoStart};
+ghost use Rattle.lam_main_files.specs.Halts.{Finds};
+ghost use Rattle.lam_main_replay.specs.Asked.{halt_of_world};
+
+use lam_bytecode::Code;
+use lam_io::Shelf;
+use lam_main_files::{Halt, Refusal, WorldBreak, read_file};
+use std::alloc::Global;
+use turns_seen::World;
+use world_doc::start;
+use world_doc_laws::texts_start;
+use world_doc_stores::WorldFault;
+
+/// The most bytes of the document of a world.
+const WORLD_LIMIT: u64 = 16_777_216;
+
+/// The world of the document in a file, from which a code starts. It is a valid one.
+///
+/// # Errors
+///
+/// A refusal where the file can't be read, or with the first break of the document; `NoMemory`; `ShelfFailed` only where
+/// the shelf counted a fault.
+pub fn read_start<H: Shelf>(
+    alloc: Global,
+    shelf: &mut H,
+    code: &Code,
+    world: String,
+) -> Result<World, Halt>
+    ensures finds { IsTrue (H.tells shelf.old) → Finds result (λ start. HasFile (H.files shelf.old (string_bytes world)) world_limit (λ bytes. start_of bytes code.now ≡ Ok start)) (WithFile (H.files shelf.old (string_bytes world)) (string_bytes world) world_limit (NoStart code.now)) }
+    ensures valid { IfOk result IsValid }
+    ensures stay { IsTrue (H.tells shelf.old) → AllStay (H.files shelf.old) (H.files shelf.new) }
+    ensures tells_on { IsTrue (H.tells shelf.old) → IsTrue (H.tells shelf.new) }
+    ensures later { H.faults shelf.old ≤ H.faults shelf.new }
+    ensures refused { H.refusals shelf.new ≡ H.refusals shelf.old }
+    ensures failed { IfErr result (λ halt. halt ≡ Halt.ShelfFailed → Rose (H.faults shelf.old) (H.faults shelf.new)) }
+{
+    let bytes = read_file(alloc, shelf, world, WORLD_LIMIT)?;
+    start_in(alloc, code, bytes.as_slice())
+}
+
+/// The world of the document in a file's bytes. It is a valid one.
+///
+/// # Errors
+///
+/// A refusal with the first break of the document; `NoMemory`.
+pub fn start_in(alloc: Global, code: &Code, bytes: &[u8]) -> Result<World, Halt>
+    ensures finds { Finds result (λ start. start_of bytes.now code.now ≡ Ok start) (NoStart code.now bytes.now) }
+    ensures valid { IfOk result IsValid }
+    ensures no_fault { IfErr result (λ halt. halt ≢ Halt.ShelfFailed) }
+{
+    texts_start();
+    match start(alloc, bytes, code) {
+        Ok(start) => Ok(start),
+        Err(fault) => Err(world_halt(fault)),
+    }
+}
+
+/// What a fault of a document halts with.
+fn world_halt(fault: WorldFault) -> Halt
+    ensures { result ≡ halt_of_world fault }
+{
+    match fault {
+        WorldFault::NotJson => Halt::Refused(Refusal::World(WorldBreak::NotJson)),
+        WorldFault::NoMember { name } => Halt::Refused(Refusal::World(WorldBreak::NoMember(name))),
+        WorldFault::BadMember { name } => Halt::Refused(Refusal::World(WorldBreak::BadMember(
+            name,
+        ))),
+        WorldFault::NoTag { name } => Halt::Refused(Refusal::World(WorldBreak::NoTag(name))),
+        WorldFault::BadPath { index } => Halt::Refused(Refusal::World(WorldBreak::BadPath(index))),
+        WorldFault::PathTwice { index } => Halt::Refused(Refusal::World(WorldBreak::PathTwice(
+            index,
+        ))),
+        WorldFault::NoMemory => Halt::NoMemory,
+    }
+}

@@ -1,0 +1,144 @@
+//! The commands `replay` and `audit`: what is shown of a run that three files describe.
+//!
+//! The files are read one after another, and the first refusal ends the call: the program, which is compiled
+//! (`lam_main_files`); the document of the world that the run starts from (`world_doc`); then the observer's label, whose
+//! tags that world names; and the book, which says whose turn comes when (`turn_book`). The turns are taken on the machine,
+//! and what is seen of them (`turns_seen`), or noted (`turns_noted`), is printed (`audit_log`). What a call answers is what the
+//! plan of these files says (`lam_main_plan`). The command `run` reads its files by the same calls.
+#![tactic(auto)]
+
+mod document;
+mod eye;
+mod run_text;
+
+ghost use Rattle.std.specs.Prelude.{◌≡◌, IsTrue, IfErr, string_bytes};
+ghost use Rattle.lam_io.specs.Outside.{Rose, AllStay};
+ghost use Rattle.lam_bytecode.specs.Codes.{IsCode};
+ghost use Rattle.lam_machine_terms.specs.Valid.{IsValid};
+ghost use Rattle.lam_main_plan.specs.Reading.{WithFile, program_limit, book_limit};
+ghost use Rattle.lam_main_plan.specs.Replays.{IsOfBook, Replays, Starts, Runs};
+ghost use Rattle.lam_main_files.specs.Halts.{Says, Gives};
+ghost use Rattle.lam_main_replay.specs.Asked.{files_of, reader_of, lines_for};
+
+pub use crate::document::{read_start, start_in};
+pub use crate::eye::{Eye, Viewer, viewer_of};
+use crate::run_text::shown;
+pub use crate::run_text::shown_turns;
+use lam_bytecode::Code;
+use lam_io::Shelf;
+pub use lam_machine_world::let_go_world;
+use lam_main_files::{Halt, read_code, read_file};
+use std::alloc::Global;
+use turns_seen::World;
+
+/// The most bytes of a book.
+const BOOK_LIMIT: u64 = 16_777_216;
+
+/// Who reads of a run.
+#[derive(Drop)]
+pub enum Reader {
+    /// An observer at the label of a text, which is the word of this index.
+    Observer { index: u64, label: String },
+    /// An auditor.
+    Auditor,
+}
+
+/// The files of a run, but for its program.
+#[derive(Drop)]
+pub struct RunFiles {
+    /// The document of the world that it starts from.
+    pub world: String,
+    /// Its book.
+    pub book: String,
+}
+
+/// What a reader is shown of the run of a program, from the world of a document, in the order of a book.
+///
+/// # Errors
+///
+/// A refusal, in the order of reading: of the program, of the document, of the observer's label where it names an unknown
+/// tag, of the book, and of the first of its turns whose thread is not ready. `NoMemory`; `ShelfFailed` only where the
+/// shelf counted a fault.
+pub fn replay<H: Shelf>(
+    alloc: Global,
+    shelf: &mut H,
+    program: String,
+    files: RunFiles,
+    reader: &Reader,
+) -> Result<String, Halt>
+    ensures gives { IsTrue (H.tells shelf.old) → Gives result (WithFile (H.files shelf.old (string_bytes program)) (string_bytes program) program_limit (Runs (H.files shelf.old) (files_of files) (reader_of reader.now))) (H.files shelf.old) (H.files shelf.new) }
+    ensures stay { IsTrue (H.tells shelf.old) → AllStay (H.files shelf.old) (H.files shelf.new) }
+    ensures failed { IfErr result (λ halt. halt ≡ Halt.ShelfFailed → Rose (H.faults shelf.old) (H.faults shelf.new)) }
+{
+    match read_code(alloc, shelf, program) {
+        Ok(code) => replay_code(alloc, shelf, &code, files, reader),
+        Err(halt) => Err(halt),
+    }
+}
+
+/// What a reader is shown of the run of a code.
+fn replay_code<H: Shelf>(
+    alloc: Global,
+    shelf: &mut H,
+    code: &Code,
+    files: RunFiles,
+    reader: &Reader,
+) -> Result<String, Halt>
+    requires { IsCode code.now }
+    ensures says { IsTrue (H.tells shelf.old) → Says result (Starts (H.files shelf.old) (files_of files) (reader_of reader.now) code.now) }
+    ensures stay { IsTrue (H.tells shelf.old) → AllStay (H.files shelf.old) (H.files shelf.new) }
+    ensures failed { IfErr result (λ halt. halt ≡ Halt.ShelfFailed → Rose (H.faults shelf.old) (H.faults shelf.new)) }
+{
+    match read_start(alloc, shelf, code, files.world) {
+        Ok(start) => replay_from(alloc, shelf, code, start, files.book, reader),
+        Err(halt) => Err(halt),
+    }
+}
+
+/// What a reader is shown of the run of a code from a world.
+fn replay_from<H: Shelf>(
+    alloc: Global,
+    shelf: &mut H,
+    code: &Code,
+    start: World,
+    book: String,
+    reader: &Reader,
+) -> Result<String, Halt>
+    requires code { IsCode code.now }
+    requires valid { IsValid start }
+    ensures says { IsTrue (H.tells shelf.old) → Says result (Replays (H.files shelf.old) (string_bytes book) (reader_of reader.now) code.now start) }
+    ensures stay { IsTrue (H.tells shelf.old) → AllStay (H.files shelf.old) (H.files shelf.new) }
+    ensures failed { IfErr result (λ halt. halt ≡ Halt.ShelfFailed → Rose (H.faults shelf.old) (H.faults shelf.new)) }
+{
+    match viewer_of(reader, start.stores()) {
+        Ok(viewer) => replay_book(alloc, shelf, code, start, book, &viewer),
+        Err(halt) => {
+            let_go_world(start);
+            Err(halt)
+        }
+    }
+}
+
+/// What a reader is shown of the run of a code from a world, in the order of the book in a file.
+fn replay_book<H: Shelf>(
+    alloc: Global,
+    shelf: &mut H,
+    code: &Code,
+    start: World,
+    book: String,
+    viewer: &Viewer,
+) -> Result<String, Halt>
+    requires code { IsCode code.now }
+    requires valid { IsValid start }
+    ensures says { IsTrue (H.tells shelf.old) → Says result (WithFile (H.files shelf.old (string_bytes book)) (string_bytes book) book_limit (IsOfBook code.now start (lines_for viewer.now.eye viewer.now.names))) }
+    ensures stay { IsTrue (H.tells shelf.old) → AllStay (H.files shelf.old) (H.files shelf.new) }
+    ensures failed { IfErr result (λ halt. halt ≡ Halt.ShelfFailed → Rose (H.faults shelf.old) (H.faults shelf.new)) }
+{
+    match read_file(alloc, shelf, book, BOOK_LIMIT) {
+        Ok(bytes) => shown(alloc, code, start, bytes.as_slice(), viewer),
+        Err(halt) => {
+            let_go_world(start);
+            Err(halt)
+        }
+    }
+}

@@ -1,0 +1,189 @@
+//! The turns of a book, and the text of their run.
+
+ghost use Rattle.std.specs.Prelude.{◌≡◌, ◌≢◌, None, IfOk, OnOk, IfErr, string_bytes};
+ghost use Rattle.lam_bytecode.specs.Codes.{IsCode};
+ghost use Rattle.lam_machine_terms.specs.Turns.{moments};
+ghost use Rattle.lam_machine_terms.specs.Valid.{IsValid};
+ghost use Rattle.audit_log_notes.specs.Notes.{seen_by, noted_in};
+ghost use Rattle.lam_machine_runs.specs.Stops.{stopped_at};
+ghost use Rattle.audit_log.specs.Log.{seen_lines, view_lines, noted_lines, audit_lines};
+ghost use Rattle.lam_main_plan.specs.Replays.{IsOfBook, IsOfTurns};
+ghost use Rattle.lam_main_files.specs.Halts.{Says};
+ghost use Rattle.lam_main_replay.specs.Asked.{lines_for, halt_of_book, halt_of_run, HaltsAt};
+
+use crate::eye::{Eye, Viewer};
+use audit_log::{audit_text, audits_are_read, view_text, views_are_read};
+use audit_log_notes::{Noted, Seen};
+use flow_labels::{Label, TagNames};
+use lam_bytecode::Code;
+use lam_machine_world::let_go_world;
+use lam_main_files::{BookBreak, Halt, Refusal};
+use std::alloc::Global;
+use std::mem::forget;
+use turn_book::{BookFault, read_book};
+use turns_noted::noted_in;
+use turns_seen::{RunFault, World, seen_by};
+
+/// What the reader is shown of the run of a book, by its bytes.
+pub(crate) fn shown(
+    alloc: Global,
+    code: &Code,
+    start: World,
+    bytes: &[u8],
+    viewer: &Viewer,
+) -> Result<String, Halt>
+    requires code { IsCode code.now }
+    requires valid { IsValid start }
+    ensures says { Says result (IsOfBook code.now start (lines_for viewer.now.eye viewer.now.names) bytes.now) }
+    ensures no_fault { IfErr result (λ halt. halt ≢ Halt.ShelfFailed) }
+{
+    match read_book(alloc, bytes) {
+        Ok(turns) => shown_turns(alloc, code, start, turns.as_slice(), viewer),
+        Err(fault) => {
+            let_go_world(start);
+            Err(book_halt(fault))
+        }
+    }
+}
+
+/// What the reader is shown of turns.
+///
+/// # Errors
+///
+/// A refusal with the first turn whose thread is not ready; `NoMemory`.
+pub fn shown_turns(
+    alloc: Global,
+    code: &Code,
+    start: World,
+    turns: &[u32],
+    viewer: &Viewer,
+) -> Result<String, Halt>
+    requires code { IsCode code.now }
+    requires valid { IsValid start }
+    ensures says { Says result (IsOfTurns code.now start (lines_for viewer.now.eye viewer.now.names) turns.now) }
+    ensures no_fault { IfErr result (λ halt. halt ≢ Halt.ShelfFailed) }
+{
+    match &viewer.eye {
+        Eye::Observer(label) => view(alloc, code, start, turns, &viewer.names, label),
+        Eye::Auditor => audit(alloc, code, start, turns, &viewer.names),
+    }
+}
+
+/// What an observer sees of turns.
+fn view(
+    alloc: Global,
+    code: &Code,
+    start: World,
+    turns: &[u32],
+    names: &TagNames,
+    label: &Label,
+) -> Result<String, Halt>
+    requires code { IsCode code.now }
+    requires valid { IsValid start }
+    ensures says { Says result (IsOfTurns code.now start (view_lines names.now label.now) turns.now) }
+    ensures no_fault { IfErr result (λ halt. halt ≢ Halt.ShelfFailed) }
+{
+    views_are_read();
+    match seen_in(alloc, code, start, turns, label) {
+        Ok(seen) => seen_text(alloc, seen, names),
+        Err(halt) => Err(halt),
+    }
+}
+
+/// What an auditor notes of turns.
+fn audit(
+    alloc: Global,
+    code: &Code,
+    start: World,
+    turns: &[u32],
+    names: &TagNames,
+) -> Result<String, Halt>
+    requires code { IsCode code.now }
+    requires valid { IsValid start }
+    ensures says { Says result (IsOfTurns code.now start (audit_lines names.now) turns.now) }
+    ensures no_fault { IfErr result (λ halt. halt ≢ Halt.ShelfFailed) }
+{
+    audits_are_read();
+    match notes_of(alloc, code, start, turns) {
+        Ok(noted) => noted_text(alloc, noted, names),
+        Err(halt) => Err(halt),
+    }
+}
+
+/// What an observer sees of turns, which are a run.
+fn seen_in(
+    alloc: Global,
+    code: &Code,
+    start: World,
+    turns: &[u32],
+    label: &Label,
+) -> Result<Vec<Seen>, Halt>
+    requires code { IsCode code.now }
+    requires valid { IsValid start }
+    ensures ok { IfOk result (λ s. s.items ≡ seen_by label.now (moments code.now turns.now start)) }
+    ensures run { OnOk result (stopped_at code.now turns.now start ≡ None) }
+    ensures stops { IfErr result (λ halt. HaltsAt halt (stopped_at code.now turns.now start)) }
+{
+    seen_by(alloc, code, start, turns, label).map_err(run_halt)
+}
+
+/// What an auditor notes of turns, which are a run.
+fn notes_of(alloc: Global, code: &Code, start: World, turns: &[u32]) -> Result<Vec<Noted>, Halt>
+    requires code { IsCode code.now }
+    requires valid { IsValid start }
+    ensures ok { IfOk result (λ n. n.items ≡ noted_in (moments code.now turns.now start)) }
+    ensures run { OnOk result (stopped_at code.now turns.now start ≡ None) }
+    ensures stops { IfErr result (λ halt. HaltsAt halt (stopped_at code.now turns.now start)) }
+{
+    noted_in(alloc, code, start, turns).map_err(run_halt)
+}
+
+/// The text of what was seen. The list is left to the end of the call's process, which prints one text.
+fn seen_text(alloc: Global, seen: Vec<Seen>, names: &TagNames) -> Result<String, Halt>
+    ensures ok { IfOk result (λ text. string_bytes text ≡ seen_lines names.now seen.items) }
+    ensures err { IfErr result (λ halt. halt ≡ Halt.NoMemory) }
+{
+    let text = view_text(alloc, seen.as_slice(), names);
+    forget(seen);
+    Ok(text?)
+}
+
+/// The text of what was noted. The list is left as that of what was seen.
+fn noted_text(alloc: Global, noted: Vec<Noted>, names: &TagNames) -> Result<String, Halt>
+    ensures ok { IfOk result (λ text. string_bytes text ≡ noted_lines names.now noted.items) }
+    ensures err { IfErr result (λ halt. halt ≡ Halt.NoMemory) }
+{
+    let text = audit_text(alloc, noted.as_slice(), names);
+    forget(noted);
+    Ok(text?)
+}
+
+/// What a fault of a book halts with.
+fn book_halt(fault: BookFault) -> Halt
+    ensures { result ≡ halt_of_book fault }
+{
+    match fault {
+        BookFault::BadHead => broken_line(BookBreak::Head, 1),
+        BookFault::BadLine { line } => broken_line(BookBreak::Line, line),
+        BookFault::SameThread { line } => broken_line(BookBreak::SameThread, line),
+        BookFault::TooMany { line } => broken_line(BookBreak::TooMany, line),
+        BookFault::NoMemory => Halt::NoMemory,
+    }
+}
+
+/// The refusal of a line of a book.
+fn broken_line(flaw: BookBreak, line: u64) -> Halt
+    ensures { result ≡ Halt.Refused (Refusal.Book flaw line) }
+{
+    Halt::Refused(Refusal::Book { flaw, line })
+}
+
+/// What a turn that can't be taken halts with.
+fn run_halt(fault: RunFault) -> Halt
+    ensures { result ≡ halt_of_run fault }
+{
+    match fault {
+        RunFault::NotReady { turn, thread } => Halt::Refused(Refusal::NotReady { turn, thread }),
+        RunFault::NoMemory => Halt::NoMemory,
+    }
+}

@@ -1,0 +1,181 @@
+-- The turns that threads took, and what is made of them.
+use Rattle.std.proofs.Common.{◌≡◌, ◌≤◌, ℕ, List, length, Option, Some, None, Result, Ok, Err, String, string_bytes, IfOk, refl, sym, ap, subst, ◌∙◌}
+use Rattle.std.specs.declared.alloc.Global.{Global}
+use Rattle.want_of_memory.specs.declared.NoMemory.{NoMemory as NoMem}
+use Rattle.lam_bytecode.specs.Codes.{CodeTree, IsCode}
+use Rattle.lam_machine_terms.specs.Worlds.{World}
+use Rattle.lam_machine_terms.specs.Turns.{Moment, moments}
+use Rattle.lam_machine_terms.specs.Valid.{IsValid}
+use Rattle.world_doc_terms.specs.Breaks.{Reading}
+use Rattle.world_doc_terms.specs.Start.{start_of}
+use Rattle.turn_book.specs.Book.{AreTurns, book}
+use Rattle.lam_machine_runs.specs.Ends.{HasEnded, Runs}
+use Rattle.lam_machine_runs.specs.declared.How.{How}
+use Rattle.lam_machine_runs.specs.Stops.{NotReady, stopped_at}
+use Rattle.turns_noted.specs.Stops.{RunsAreWhole, IsStop}
+use Rattle.turns_noted.specs.RunFault.TheVariants.{NotReady as not_ready}
+use Rattle.thread_host.specs.Runs.{Ran, IsWhole}
+use Rattle.thread_host.specs.declared.Finished.{Finished}
+use Rattle.lam_make.specs.Made.{program_text, world_text}
+use Rattle.audit_log_notes.specs.Sums.{summary_lines}
+use Rattle.lam_main_words.specs.Words.{Text}
+use Rattle.lam_main_plan.specs.Refusals.{Plan, prints}
+use Rattle.lam_main_plan.specs.Reading.{Never, IsCompiled, Compiles, fine}
+use Rattle.lam_main_plan.specs.Replays.{by_turns, IsOfTurns, ByReader, ByWorld}
+use Rattle.lam_main_plan.specs.Threads.{status_of, IsOfThreads, made_budget, Makes}
+use Rattle.lam_main_plan.proofs.ReadLemmas.{no_code_then, by_no_world, by_this_world, by_no_reader, by_this_reader}
+use Rattle.lam_main_files.specs.declared.halt.WorldBreak.TheVariants.{NotJson, NoMember, BadMember, NoTag, BadPath, PathTwice}
+use Rattle.lam_main_files.specs.declared.halt.Refusal.{Refusal}
+use Rattle.lam_main_files.specs.declared.halt.Refusal.TheVariants.{Word, Script, NotUtf8, Flawed, CodeTooLong, World as OfWorld, Book, NotReady as NotReadyAt, Absent, TooLong}
+use Rattle.lam_main_files.specs.declared.halt.Halt.{Halt}
+use Rattle.lam_main_files.specs.declared.halt.Halt.TheVariants.{Refused, NoMemory, ShelfFailed}
+use Rattle.lam_main_files.specs.Halts.{refuses, Finds, Says}
+use Rattle.lam_main_threads.specs.declared.taking.Ended.{Ended}
+use Rattle.lam_main_threads.specs.declared.showing.Taken.{Taken}
+use Rattle.lam_main_threads.specs.Taken.{IsParted, IsRunOf, CanBeShown, IsShown, planned, Offers}
+
+-- ---- the turns
+
+whole_runs : (r : Ran) (budget : ℕ) (how : How) → IsWhole r → length r.turns ≤ budget → HasEnded r.code r.world (length r.turns) budget how → Runs r.code r.start budget r.turns how
+whole_runs r budget how w few ended = record { run = w.run; within = few; ended = subst (λ (x : World). HasEnded r.code x (length r.turns) budget how) w.world ended }
+
+same_runs : (a code : CodeTree) (b start : World) (budget : ℕ) (ts turns : List ℕ) (h how : How) → a ≡ code → b ≡ start → turns ≡ ts → how ≡ h → Runs a b budget ts h → Runs code start budget turns how
+same_runs a code b start budget ts turns h how code_is start_is turns_are how_is runs =
+    subst (λ (x : CodeTree). Runs x start budget turns how) code_is
+    (subst (λ (x : World). Runs a x budget turns how) start_is
+    (subst (λ (x : List ℕ). Runs a b budget x how) (sym turns_are)
+    (subst (λ (x : How). Runs a b budget ts x) (sym how_is) runs)))
+
+module _ (finished : Finished) (ended : Ended) (parted : IsParted finished ended) where
+  pub parted_run : (code : CodeTree) (start : World) (budget : ℕ) → (finished.run.code ≡ code) × (finished.run.start ≡ start) → length finished.run.turns ≤ budget → HasEnded finished.run.code finished.run.world (length finished.run.turns) budget finished.how → IsRunOf code start budget ended
+  parted_run code start budget same few how =
+      record {
+        code_is = parted.code ∙ same.0;
+        start_is = parted.start ∙ same.1;
+        runs = same_runs finished.run.code code finished.run.start start budget finished.run.turns ended.parts.turns.items finished.how ended.how same.0 same.1 parted.turns parted.how (whole_runs finished.run budget finished.how parted.whole few how);
+      }
+
+  never_stops : RunsAreWhole finished.run.code → stopped_at ended.parts.code ended.parts.turns.items ended.parts.start ≡ None
+  never_stops law =
+      subst (λ (x : CodeTree). stopped_at x ended.parts.turns.items ended.parts.start ≡ None) (sym parted.code)
+      (subst (λ (x : World). stopped_at finished.run.code ended.parts.turns.items x ≡ None) (sym parted.start)
+      (subst (λ (x : List ℕ). stopped_at finished.run.code x finished.run.start ≡ None) (sym parted.turns)
+      ((law finished.run.turns finished.run.start).0 parted.whole.run)))
+
+  pub parted_shows : RunsAreWhole finished.run.code → CanBeShown ended
+  parted_shows law =
+      record {
+        code = subst IsCode (sym parted.code) parted.whole.code;
+        start = subst IsValid (sym parted.start) parted.whole.start;
+        whole = never_stops law;
+        book = subst AreTurns (sym parted.turns) parted.whole.book;
+      }
+
+-- ---- what is made of them
+
+abbrev pub plan_of : Text → How → Text → Text → Plan
+plan_of out how text bytes = record { status = status_of how; text = text; writes = Some (out, bytes) }
+
+pub same_plan : (out : Text) (a b : How) (s t u v : Text) → a ≡ b → s ≡ t → u ≡ v → plan_of out a s u ≡ plan_of out b t v
+same_plan out a b s t u v how text bytes = ap (λ (h : How). plan_of out h s u) how ∙ ap (λ (x : Text). plan_of out b x u) text ∙ ap (λ (x : Text). plan_of out b t x) bytes
+
+module _ (code : CodeTree) (start : World) (budget : ℕ) (shown : List Moment → Text) (ended : Ended) (taken : Taken) where
+  same_text : IsRunOf code start budget ended → shown (moments ended.parts.code ended.parts.turns.items ended.parts.start) ≡ shown (moments code ended.parts.turns.items start)
+  same_text run =
+      ap (λ (c : CodeTree). shown (moments c ended.parts.turns.items ended.parts.start)) run.code_is
+      ∙ ap (λ (s : World). shown (moments code ended.parts.turns.items s)) run.start_is
+
+  pub of_threads : IsRunOf code start budget ended → IsShown (shown (moments ended.parts.code ended.parts.turns.items ended.parts.start)) ended taken → (out : Text) → IsOfThreads code start out budget shown (planned out taken)
+  of_threads run is out =
+      record {
+        turns = ended.parts.turns.items;
+        ended = ended.how;
+        runs = run.runs;
+        is = same_plan out taken.how ended.how (string_bytes taken.text) (shown (moments code ended.parts.turns.items start)) taken.book.items (book ended.parts.turns.items) is.how_is (is.text_is ∙ same_text run) is.book_is;
+      }
+
+-- what is made of the turns, where memory does not run out
+pub threads_shown : (code : CodeTree) (start : World) (budget : ℕ) (shown : List Moment → Text) (ended : Ended) (answer : Result Taken NoMem) → IsRunOf code start budget ended → IfOk answer (λ taken. IsShown (shown (moments ended.parts.code ended.parts.turns.items ended.parts.start)) ended taken) → IfOk answer (λ taken. (out : Text) → IsOfThreads code start out budget shown (planned out taken))
+threads_shown code start budget shown ended (Ok taken) run is = of_threads code start budget shown ended taken run is
+threads_shown code start budget shown ended (Err error) run is = tt
+
+-- ---- no turn of a run is refused
+
+-- the plan of a refusal is none that prints a text
+is_no_text : (refusal : Refusal) (text : Text) → refuses refusal ≡ prints text → ⊥
+is_no_text (Word index) text e = let s = ap (λ (p : Plan). p.status) e in cc
+is_no_text (Script number) text e = let s = ap (λ (p : Plan). p.status) e in cc
+is_no_text NotUtf8 text e = let s = ap (λ (p : Plan). p.status) e in cc
+is_no_text (Flawed flaw at) text e = let s = ap (λ (p : Plan). p.status) e in cc
+is_no_text (CodeTooLong unit) text e = let s = ap (λ (p : Plan). p.status) e in cc
+is_no_text (OfWorld NotJson) text e = let s = ap (λ (p : Plan). p.status) e in cc
+is_no_text (OfWorld (NoMember name)) text e = let s = ap (λ (p : Plan). p.status) e in cc
+is_no_text (OfWorld (BadMember name)) text e = let s = ap (λ (p : Plan). p.status) e in cc
+is_no_text (OfWorld (NoTag name)) text e = let s = ap (λ (p : Plan). p.status) e in cc
+is_no_text (OfWorld (BadPath index)) text e = let s = ap (λ (p : Plan). p.status) e in cc
+is_no_text (OfWorld (PathTwice index)) text e = let s = ap (λ (p : Plan). p.status) e in cc
+is_no_text (Book flaw number) text e = let s = ap (λ (p : Plan). p.status) e in cc
+is_no_text (NotReadyAt turn thread) text e = let s = ap (λ (p : Plan). p.status) e in cc
+is_no_text (Absent name) text e = let s = ap (λ (p : Plan). p.status) e in cc
+is_no_text (TooLong name) text e = let s = ap (λ (p : Plan). p.status) e in cc
+
+module _ (code : CodeTree) (start : World) (shown : List Moment → Text) (turns : List ℕ) (whole : stopped_at code turns start ≡ None) where
+  whole_prints : (p : Plan) → IsOfTurns code start shown turns p → p ≡ prints (shown (moments code turns start))
+  whole_prints p h = h ∙ ap (λ (stop : Option NotReady). by_turns stop (shown (moments code turns start))) whole
+
+  pub whole_text : (text : String Global) → Says (Ok text) (IsOfTurns code start shown turns) → string_bytes text ≡ shown (moments code turns start)
+  whole_text text h = ap (λ (p : Plan). p.text) (whole_prints (prints (string_bytes text)) h)
+
+  pub want_alone : (halt : Halt) → Says (Err halt) (IsOfTurns code start shown turns) → (halt ≡ ShelfFailed → ⊥) → halt ≡ NoMemory
+  want_alone (Refused refusal) h other = absurd (is_no_text refusal (shown (moments code turns start)) (whole_prints (refuses refusal) h))
+  want_alone NoMemory h other = refl
+  want_alone ShelfFailed h other = absurd (other refl)
+
+  -- a fault that names a turn
+  pub no_stop : (turn thread : ℕ) → IsStop (not_ready turn thread) (stopped_at code turns start) → ⊥
+  no_stop turn thread h = let e = sym whole ∙ h in cc
+
+-- ---- offers
+
+-- what is planned stays so where more is planned
+pub offers_map : (P Q : Text → Plan → Type 0) → ((out : Text) (p : Plan) → P out p → Q out p) → (answer : Result Taken Halt) → Offers answer P → Offers answer Q
+offers_map P Q f (Ok taken) h = λ out. f out (planned out taken) (h out)
+offers_map P Q f (Err (Refused refusal)) h = λ out. f out (refuses refusal) (h out)
+offers_map P Q f (Err NoMemory) h = tt
+offers_map P Q f (Err ShelfFailed) h = tt
+
+-- what is not found is refused as planned, whatever the name of the book
+pub not_offered : {X : Type 0} (IsIt : X → Type 0) (P : Plan → Type 0) (Q : Text → Plan → Type 0) → ((out : Text) (p : Plan) → P p → Q out p) → (halt : Halt) → Finds {X = X} (Err halt) IsIt P → Offers (Err halt) Q
+not_offered IsIt P Q f (Refused refusal) h = λ out. f out (refuses refusal) h
+not_offered IsIt P Q f NoMemory h = tt
+not_offered IsIt P Q f ShelfFailed h = tt
+
+module _ (IsOf : Text → (List Moment → Text) → Plan → Type 0) (read : Result (List Moment → Text) ℕ) where
+  pub reader_offers : (shown : List Moment → Text) (taken : Taken) → read ≡ Ok shown → ((out : Text) → IsOf out shown (planned out taken)) → Offers (Ok taken) (λ out. ByReader (IsOf out) read)
+  reader_offers shown taken is h = λ out. by_this_reader (IsOf out) read shown (planned out taken) is (h out)
+
+  pub no_reader_offers : {X : Type 0} (IsIt : X → Type 0) (halt : Halt) → Finds {X = X} (Err halt) IsIt (ByReader Never read) → Offers (Err halt) (λ out. ByReader (IsOf out) read)
+  no_reader_offers IsIt halt h = not_offered IsIt (ByReader Never read) (λ out. ByReader (IsOf out) read) (λ out p k. by_no_reader (IsOf out) read p k) halt h
+
+module _ (IsOf : Text → World → Plan → Type 0) (read : Reading World) where
+  pub world_offers : (start : World) (taken : Taken) → read ≡ Ok start → ((out : Text) → IsOf out start (planned out taken)) → Offers (Ok taken) (λ out. ByWorld (IsOf out) read)
+  world_offers start taken is h = λ out. by_this_world (IsOf out) read start (planned out taken) is (h out)
+
+  pub no_world_offers : {X : Type 0} (IsIt : X → Type 0) (halt : Halt) → Finds {X = X} (Err halt) IsIt (ByWorld Never read) → Offers (Err halt) (λ out. ByWorld (IsOf out) read)
+  no_world_offers IsIt halt h = not_offered IsIt (ByWorld Never read) (λ out. ByWorld (IsOf out) read) (λ out p k. by_no_world (IsOf out) read p k) halt h
+
+-- ---- what is made of a number
+
+module _ (seed threads : ℕ) (bytes : Text) (same : bytes ≡ program_text) where
+  abbrev OfCode : Text → CodeTree → Plan → Type 0
+  OfCode out code plan = ByWorld (λ start. IsOfThreads code start out made_budget (summary_lines seed threads)) (start_of (world_text seed threads) code) plan
+
+  pub made_offers : (world : Text) (code : CodeTree) (answer : Result Taken Halt) → world ≡ world_text seed threads → IsCompiled bytes (Ok code) → Offers answer (λ out. ByWorld (λ start. IsOfThreads code start out made_budget (summary_lines seed threads)) (start_of world code)) → Offers answer (Makes seed threads)
+  made_offers world code answer made is h =
+      offers_map (λ out. ByWorld (λ start. IsOfThreads code start out made_budget (summary_lines seed threads)) (start_of world code)) (Makes seed threads)
+      (λ out p k. fine (Ok code) (subst (λ (b : Text). IsCompiled b (Ok code)) same is) (subst (λ (w : Text). ByWorld (λ start. IsOfThreads code start out made_budget (summary_lines seed threads)) (start_of w code) p) made k)) answer h
+
+  pub no_made_offers : (halt : Halt) → Finds {X = CodeTree} (Err halt) (λ code. IsCompiled bytes (Ok code)) (Compiles Never bytes) → Offers (Err halt) (Makes seed threads)
+  no_made_offers halt h =
+      not_offered {X = CodeTree} (λ code. IsCompiled bytes (Ok code)) (Compiles Never bytes) (Makes seed threads)
+      (λ out p k. no_code_then (OfCode out) program_text p (subst (λ (b : Text). Compiles Never b p) same k)) halt h

@@ -1,0 +1,124 @@
+//! What a reader is shown of the turns that threads took, and their book.
+
+ghost use Rattle.std.specs.Prelude.{◌≡◌, ◌≢◌, ◌<◌, ◌≤◌, None, IfOk, IfErr, string_bytes};
+ghost use Rattle.lam_bytecode.specs.Codes.{IsCode};
+ghost use Rattle.lam_machine_terms.specs.Turns.{moments};
+ghost use Rattle.lam_machine_terms.specs.Valid.{IsValid};
+ghost use Rattle.lam_machine_runs.specs.Stops.{stopped_at};
+ghost use Rattle.lam_main_words.specs.Words.{Text};
+ghost use Rattle.lam_main_plan.specs.Threads.{IsOfThreads, TakesTurns};
+ghost use Rattle.lam_main_replay.specs.Asked.{reader_of, lines_for};
+ghost use Rattle.lam_main_threads.specs.Taken.{CanBeShown, IsShown, planned, Offers};
+
+use crate::Bounds;
+use crate::taking::{Ended, taken_turns};
+use lam_bytecode::Code;
+use lam_io::Gate;
+use lam_machine_runs::How;
+use lam_main_files::Halt;
+use lam_main_replay::{Reader, Viewer, let_go_world, shown_turns, viewer_of};
+use std::alloc::Global;
+use std::sync::Wait;
+use std::thread::Threads;
+use thread_host::RunParts;
+use turn_book::write_book;
+use turns_noted::World;
+use want_of_memory::NoMemory;
+
+/// What is made of a run: how it ended, what is printed of it, and the bytes of its book.
+#[derive(Drop)]
+pub(crate) struct Taken {
+    pub(crate) how: How,
+    pub(crate) text: String,
+    pub(crate) book: Vec<u8>,
+}
+
+/// What a reader is shown of a run of a code from a world, whose turns threads take. The label of an observer is read
+/// before any turn is taken.
+pub(crate) fn shown<R: Threads + Wait + Sync, G: Gate + Sync>(
+    rt: &R,
+    alloc: Global,
+    code: Code,
+    start: World,
+    reader: &Reader,
+    bounds: Bounds,
+    gate: &G,
+) -> Result<Taken, Halt>
+    requires code { IsCode code }
+    requires valid { IsValid start }
+    requires workers { (0 < bounds.workers) × (bounds.workers ≤ 16) }
+    requires turns { (0 < bounds.turns) × (bounds.turns ≤ 1000000) }
+    ensures offers { Offers result (λ out. TakesTurns out bounds.turns (reader_of reader.now) code start) }
+    ensures no_fault { IfErr result (λ halt. halt ≢ Halt.ShelfFailed) }
+{
+    match viewer_of(reader, start.stores()) {
+        Ok(viewer) => Ok(viewed(rt, alloc, code, start, &viewer, bounds, gate)?),
+        Err(halt) => {
+            let_go_world(start);
+            Err(halt)
+        }
+    }
+}
+
+/// What a viewer is shown of a run of a code from a world.
+fn viewed<R: Threads + Wait + Sync, G: Gate + Sync>(
+    rt: &R,
+    alloc: Global,
+    code: Code,
+    start: World,
+    viewer: &Viewer,
+    bounds: Bounds,
+    gate: &G,
+) -> Result<Taken, NoMemory>
+    requires code { IsCode code }
+    requires valid { IsValid start }
+    requires workers { (0 < bounds.workers) × (bounds.workers ≤ 16) }
+    requires turns { (0 < bounds.turns) × (bounds.turns ≤ 1000000) }
+    ensures { IfOk result (λ taken. (out : Text) → IsOfThreads code start out bounds.turns (lines_for viewer.now.eye viewer.now.names) (planned out taken)) }
+{
+    match taken_turns(rt, alloc, code, start, bounds, gate) {
+        Ok(ended) => shown_run(alloc, ended, viewer),
+        Err(error) => Err(error),
+    }
+}
+
+/// The text that a viewer is shown of a run, and its book.
+fn shown_run(alloc: Global, ended: Ended, viewer: &Viewer) -> Result<Taken, NoMemory>
+    requires { CanBeShown ended }
+    ensures { IfOk result (IsShown (lines_for viewer.now.eye viewer.now.names (moments ended.parts.code ended.parts.turns.items ended.parts.start)) ended) }
+{
+    let Ended { parts, how } = ended;
+    let RunParts { code, start, turns } = parts;
+    let text = lines(alloc, &code, start, turns.as_slice(), viewer)?;
+    let book = write_book(alloc, turns.as_slice())?;
+    Ok(Taken { how, text, book })
+}
+
+/// What a viewer is shown of turns that are a run, so that no turn is refused.
+fn lines(
+    alloc: Global,
+    code: &Code,
+    start: World,
+    turns: &[u32],
+    viewer: &Viewer,
+) -> Result<String, NoMemory>
+    requires code { IsCode code.now }
+    requires valid { IsValid start }
+    requires whole { stopped_at code.now turns.now start ≡ None }
+    ensures { IfOk result (λ text. string_bytes text ≡ lines_for viewer.now.eye viewer.now.names (moments code.now turns.now start)) }
+{
+    match shown_turns(alloc, code, start, turns, viewer) {
+        Ok(text) => Ok(text),
+        Err(halt) => Err(want_of(halt)),
+    }
+}
+
+/// The want of memory that a halt is.
+fn want_of(halt: Halt) -> NoMemory
+    requires { halt ≡ Halt.NoMemory }
+{
+    match halt {
+        Halt::NoMemory => NoMemory,
+        Halt::Refused(_) | Halt::ShelfFailed => unreachable!(),
+    }
+}

@@ -1,0 +1,289 @@
+-- The forms of the words, as a table, and what each asks.
+-- Examples stand at the end.
+use Rattle.std.specs.Prelude.{◌≡◌, ℕ, ◌+◌, ◌^◌, ◌<◌, ◌≤◌, Bool, ◌&&◌, if◌then◌else◌, nat_eq, nat_lt, nat_le, List, [], ◌∷◌, ◌++◌, length, Option, Some, None, Result, Ok, Err, IsOk, codes, is_none, is_some, find, fold, max, slice_get, unwrap_or, string_bytes, refl}
+use Rattle.std.specs.Str.{bytes_eq}
+use Rattle.decimal_text.specs.Decimal.{number_of}
+use Rattle.flow_labels.specs.Reading.{bad_place}
+use Rattle.flow_labels.specs.declared.two_lists.Form.TheVariants.{Label}
+use Rattle.lam_main_words.specs.declared.Kind.{Kind}
+use Rattle.lam_main_words.specs.declared.Kind.TheVariants.{Name, File, Observer, WorkersOption, TurnsOption, Number}
+use Rattle.lam_main_words.specs.declared.Form.{Form}
+use Rattle.lam_main_words.specs.declared.Form.TheVariants.{Play as play_form, Check as check_form, Format as format_form, Code as code_form, Replay as replay_form, Run as run_form, Audit as audit_form, Make as make_form, Help as help_form}
+use Rattle.lam_main_words.specs.declared.Options.{Options}
+use Rattle.lam_main_words.specs.declared.Options.TheVariants.{Neither, Workers, Turns, Both}
+use Rattle.lam_main_words.specs.declared.Command.{Command}
+use Rattle.lam_main_words.specs.declared.Command.TheVariants.{Play, Check, Format, Code, Replay, Run, Audit, Make, Help}
+use Rattle.lam_main_words.specs.declared.WordFault.{WordFault}
+use Rattle.lam_main_words.specs.declared.WordFault.TheVariants.{Word, NoMemory}
+
+abbrev pub Text : Type 0
+Text = List ℕ
+
+-- the most workers and turns of `run`, and as many where the words do not say
+abbrev pub most_workers : ℕ
+most_workers = 16
+
+abbrev pub most_turns : ℕ
+most_turns = 1000000
+
+abbrev pub usual_workers : ℕ
+usual_workers = 4
+
+abbrev pub usual_turns : ℕ
+usual_turns = 100000
+
+-- the greatest seed and the most threads of `make`
+abbrev pub most_seed : ℕ
+most_seed = 18446744073709551615
+
+abbrev pub most_threads : ℕ
+most_threads = 64
+
+-- the name of a form's command
+abbrev pub name : Form → Text
+name play_form = codes "play"
+name check_form = codes "check"
+name format_form = codes "format"
+name code_form = codes "code"
+name replay_form = codes "replay"
+name (run_form options) = codes "run"
+name audit_form = codes "audit"
+name make_form = codes "make"
+name help_form = codes "help"
+
+-- the commands as a reader of the help text sees them
+abbrev pub commands : List Text
+commands = codes "play FILE OBS" ∷ codes "check P" ∷ codes "format P" ∷ codes "code P" ∷ codes "replay P W BOOK OBS" ∷ codes "run P W OBS BOOKOUT [--workers N] [--turns N]" ∷ codes "audit P W BOOK" ∷ codes "make SEED THREADS BOOKOUT" ∷ codes "help" ∷ []
+
+-- a line for each command
+abbrev pub help_lines : List Text → Text
+help_lines [] = []
+help_lines (command ∷ commands) = codes "lam " ++ command ++ codes "\n" ++ help_lines commands
+
+-- a number from the least to the most
+abbrev pub in_range : ℕ → ℕ → Option ℕ → Option ℕ
+in_range least most None = None
+in_range least most (Some n) = if nat_le least n && nat_le n most then Some n else None
+
+-- the number that a text writes in decimal without leading zeros, where it is from the least to the most
+abbrev pub number_in : ℕ → ℕ → Text → Option ℕ
+number_in least most text = in_range least most (number_of text)
+
+-- A word of a form: its command's name, a file's name, which is any word that is not empty, a label's text, an option's
+-- name, or a number from the least to the most.
+abbrev pub fits : Kind → Text → Bool
+fits (Name form) w = bytes_eq w (name form)
+fits File w = nat_lt 0 (length w)
+fits Observer w = is_none (bad_place Label w)
+fits WorkersOption w = bytes_eq w (codes "--workers")
+fits TurnsOption w = bytes_eq w (codes "--turns")
+fits (Number least most) w = is_some (number_in least most w)
+
+-- the words of `run`, by its options
+abbrev pub run_kinds : Options → List Kind
+run_kinds Neither = Name (run_form Neither) ∷ File ∷ File ∷ Observer ∷ File ∷ []
+run_kinds Workers = Name (run_form Neither) ∷ File ∷ File ∷ Observer ∷ File ∷ WorkersOption ∷ Number 1 most_workers ∷ []
+run_kinds Turns = Name (run_form Neither) ∷ File ∷ File ∷ Observer ∷ File ∷ TurnsOption ∷ Number 1 most_turns ∷ []
+run_kinds Both = Name (run_form Neither) ∷ File ∷ File ∷ Observer ∷ File ∷ WorkersOption ∷ Number 1 most_workers ∷ TurnsOption ∷ Number 1 most_turns ∷ []
+
+-- the table: the words of each form
+abbrev pub kinds : Form → List Kind
+kinds play_form = Name play_form ∷ File ∷ Observer ∷ []
+kinds check_form = Name check_form ∷ File ∷ []
+kinds format_form = Name format_form ∷ File ∷ []
+kinds code_form = Name code_form ∷ File ∷ []
+kinds replay_form = Name replay_form ∷ File ∷ File ∷ File ∷ Observer ∷ []
+kinds (run_form options) = run_kinds options
+kinds audit_form = Name audit_form ∷ File ∷ File ∷ File ∷ []
+kinds make_form = Name make_form ∷ Number 0 most_seed ∷ Number 1 most_threads ∷ File ∷ []
+kinds help_form = Name help_form ∷ []
+
+abbrev pub forms : List Form
+forms = play_form ∷ check_form ∷ format_form ∷ code_form ∷ replay_form ∷ run_form Neither ∷ run_form Workers ∷ run_form Turns ∷ run_form Both ∷ audit_form ∷ make_form ∷ help_form ∷ []
+
+-- with how many first words the words of a form agree
+abbrev pub agreed : List Kind → List Text → ℕ
+agreed [] ws = 0
+agreed (k ∷ ks) [] = 0
+agreed (k ∷ ks) (w ∷ ws) = if fits k w then 1 + agreed ks ws else 0
+
+-- words are in a form where it agrees with all of them, and they are as many as its words
+abbrev pub is_in : List Text → Form → Bool
+is_in ws form = nat_eq (agreed (kinds form) ws) (length (kinds form)) && nat_eq (length ws) (length (kinds form))
+
+-- the greatest number of first words with which some form agrees: the least index at which none does
+abbrev pub longest : List Text → ℕ
+longest ws = fold (λ most form. max most (agreed (kinds form) ws)) 0 forms
+
+-- what words ask
+pub data Request : Type 0 where
+  play : (file observer : Text) → Request
+  check : (program : Text) → Request
+  format : (program : Text) → Request
+  code : (program : Text) → Request
+  replay : (program world book observer : Text) → Request
+  run : (program world observer out : Text) (workers turns : ℕ) → Request
+  audit : (program world book : Text) → Request
+  make : (seed threads : ℕ) (out : Text) → Request
+  help : Request
+
+abbrev pub word : List Text → ℕ → Text
+word ws index = unwrap_or (slice_get ws index) []
+
+-- the number of a word, which in the words of a form is from the least to the most
+abbrev pub number : List Text → ℕ → (least most : ℕ) → ℕ
+number ws index least most = unwrap_or (number_in least most (word ws index)) least
+
+-- the workers and the turns that words of `run` ask, of which each may be left out
+abbrev pub workers_in : List Text → Options → ℕ
+workers_in ws Neither = usual_workers
+workers_in ws Workers = number ws 6 1 most_workers
+workers_in ws Turns = usual_workers
+workers_in ws Both = number ws 6 1 most_workers
+
+abbrev pub turns_in : List Text → Options → ℕ
+turns_in ws Neither = usual_turns
+turns_in ws Workers = usual_turns
+turns_in ws Turns = number ws 6 1 most_turns
+turns_in ws Both = number ws 8 1 most_turns
+
+abbrev pub requested : List Text → Form → Request
+requested ws play_form = play (word ws 1) (word ws 2)
+requested ws check_form = check (word ws 1)
+requested ws format_form = format (word ws 1)
+requested ws code_form = code (word ws 1)
+requested ws replay_form = replay (word ws 1) (word ws 2) (word ws 3) (word ws 4)
+requested ws (run_form options) = run (word ws 1) (word ws 2) (word ws 3) (word ws 4) (workers_in ws options) (turns_in ws options)
+requested ws audit_form = audit (word ws 1) (word ws 2) (word ws 3)
+requested ws make_form = make (number ws 1 0 most_seed) (number ws 2 1 most_threads) (word ws 3)
+requested ws help_form = help
+
+abbrev pub request_in : List Text → Option Form → Result Request ℕ
+request_in ws None = Err (longest ws)
+request_in ws (Some form) = Ok (requested ws form)
+
+-- what words ask by their form, or the index at which they are in no form
+abbrev pub request_of : List Text → Result Request ℕ
+request_of ws = request_in ws (find (is_in ws) forms)
+
+-- a command as what it asks
+abbrev pub asked : Command → Request
+asked (Play file observer) = play (string_bytes file) (string_bytes observer)
+asked (Check program) = check (string_bytes program)
+asked (Format program) = format (string_bytes program)
+asked (Code program) = code (string_bytes program)
+asked (Replay program world book observer) = replay (string_bytes program) (string_bytes world) (string_bytes book) (string_bytes observer)
+asked (Run program world observer out workers turns) = run (string_bytes program) (string_bytes world) (string_bytes observer) (string_bytes out) workers turns
+asked (Audit program world book) = audit (string_bytes program) (string_bytes world) (string_bytes book)
+asked (Make seed threads out) = make seed threads (string_bytes out)
+asked Help = help
+
+-- the workers and turns of `run`
+pub record RunsInRange (workers turns : ℕ) : Type 0 where
+  pub some_worker : 1 ≤ workers
+  pub workers_most : workers ≤ most_workers
+  pub some_turn : 1 ≤ turns
+  pub turns_most : turns ≤ most_turns
+
+-- the seed and the threads of `make`
+pub record MakesInRange (seed threads : ℕ) : Type 0 where
+  pub seed_most : seed < 2 ^ 64
+  pub some_thread : 1 ≤ threads
+  pub threads_most : threads ≤ most_threads
+
+-- the numbers of a request are in their ranges
+abbrev pub InRange : Request → Type 0
+InRange (run program world observer out workers turns) = RunsInRange workers turns
+InRange (make seed threads out) = MakesInRange seed threads
+InRange request = Unit
+
+-- What reading words answers: a command that asks what they ask, or the index at which they are in no form.
+-- Memory can run out only where they are in a form.
+abbrev pub ReadsCommand : Result Command WordFault → Result Request ℕ → Type 0
+ReadsCommand (Ok command) request = request ≡ Ok (asked command)
+ReadsCommand (Err (Word at)) request = request ≡ Err at
+ReadsCommand (Err NoMemory) request = IsOk request
+
+-- no words; a word is wanting; a word too many; and words in a form
+no_words : request_of [] ≡ Err 0
+no_words = refl
+
+word_wanting : request_of (codes "play" ∷ codes "s" ∷ []) ≡ Err 2
+word_wanting = refl
+
+word_too_many : request_of (codes "play" ∷ codes "s" ∷ codes "{}/{}" ∷ codes "x" ∷ []) ≡ Err 3
+word_too_many = refl
+
+words_of_play : request_of (codes "play" ∷ codes "s" ∷ codes "{a}/{}" ∷ []) ≡ Ok (play (codes "s") (codes "{a}/{}"))
+words_of_play = refl
+
+words_of_check : request_of (codes "check" ∷ codes "p" ∷ []) ≡ Ok (check (codes "p"))
+words_of_check = refl
+
+word_too_many_of_format : request_of (codes "format" ∷ codes "p" ∷ codes "x" ∷ []) ≡ Err 2
+word_too_many_of_format = refl
+
+words_of_replay : request_of (codes "replay" ∷ codes "p" ∷ codes "w" ∷ codes "b" ∷ codes "{}/{}" ∷ []) ≡ Ok (replay (codes "p") (codes "w") (codes "b") (codes "{}/{}"))
+words_of_replay = refl
+
+no_label_of_replay : request_of (codes "replay" ∷ codes "p" ∷ codes "w" ∷ codes "b" ∷ codes "{}" ∷ []) ≡ Err 4
+no_label_of_replay = refl
+
+words_of_audit : request_of (codes "audit" ∷ codes "p" ∷ codes "w" ∷ codes "b" ∷ []) ≡ Ok (audit (codes "p") (codes "w") (codes "b"))
+words_of_audit = refl
+
+words_of_run : request_of (codes "run" ∷ codes "p" ∷ codes "w" ∷ codes "{}/{}" ∷ codes "b" ∷ []) ≡ Ok (run (codes "p") (codes "w") (codes "{}/{}") (codes "b") 4 100000)
+words_of_run = refl
+
+workers_of_run : request_of (codes "run" ∷ codes "p" ∷ codes "w" ∷ codes "{}/{}" ∷ codes "b" ∷ codes "--workers" ∷ codes "16" ∷ []) ≡ Ok (run (codes "p") (codes "w") (codes "{}/{}") (codes "b") 16 100000)
+workers_of_run = refl
+
+turns_of_run : request_of (codes "run" ∷ codes "p" ∷ codes "w" ∷ codes "{}/{}" ∷ codes "b" ∷ codes "--turns" ∷ codes "1000000" ∷ []) ≡ Ok (run (codes "p") (codes "w") (codes "{}/{}") (codes "b") 4 1000000)
+turns_of_run = refl
+
+both_of_run : request_of (codes "run" ∷ codes "p" ∷ codes "w" ∷ codes "{}/{}" ∷ codes "b" ∷ codes "--workers" ∷ codes "2" ∷ codes "--turns" ∷ codes "5" ∷ []) ≡ Ok (run (codes "p") (codes "w") (codes "{}/{}") (codes "b") 2 5)
+both_of_run = refl
+
+other_order_of_run : request_of (codes "run" ∷ codes "p" ∷ codes "w" ∷ codes "{}/{}" ∷ codes "b" ∷ codes "--turns" ∷ codes "5" ∷ codes "--workers" ∷ codes "2" ∷ []) ≡ Err 7
+other_order_of_run = refl
+
+no_book_of_run : request_of (codes "run" ∷ codes "p" ∷ codes "w" ∷ codes "{}/{}" ∷ []) ≡ Err 4
+no_book_of_run = refl
+
+number_wanting_of_run : request_of (codes "run" ∷ codes "p" ∷ codes "w" ∷ codes "{}/{}" ∷ codes "b" ∷ codes "--workers" ∷ []) ≡ Err 6
+number_wanting_of_run = refl
+
+no_worker : request_of (codes "run" ∷ codes "p" ∷ codes "w" ∷ codes "{}/{}" ∷ codes "b" ∷ codes "--workers" ∷ codes "0" ∷ []) ≡ Err 6
+no_worker = refl
+
+too_many_workers : request_of (codes "run" ∷ codes "p" ∷ codes "w" ∷ codes "{}/{}" ∷ codes "b" ∷ codes "--workers" ∷ codes "17" ∷ []) ≡ Err 6
+too_many_workers = refl
+
+leading_zero : request_of (codes "run" ∷ codes "p" ∷ codes "w" ∷ codes "{}/{}" ∷ codes "b" ∷ codes "--workers" ∷ codes "04" ∷ []) ≡ Err 6
+leading_zero = refl
+
+too_many_turns : request_of (codes "run" ∷ codes "p" ∷ codes "w" ∷ codes "{}/{}" ∷ codes "b" ∷ codes "--turns" ∷ codes "1000001" ∷ []) ≡ Err 6
+too_many_turns = refl
+
+words_of_make : request_of (codes "make" ∷ codes "18446744073709551615" ∷ codes "64" ∷ codes "b" ∷ []) ≡ Ok (make 18446744073709551615 64 (codes "b"))
+words_of_make = refl
+
+no_book_of_make : request_of (codes "make" ∷ codes "1" ∷ codes "2" ∷ []) ≡ Err 3
+no_book_of_make = refl
+
+seed_too_large : request_of (codes "make" ∷ codes "18446744073709551616" ∷ codes "2" ∷ codes "b" ∷ []) ≡ Err 1
+seed_too_large = refl
+
+no_thread : request_of (codes "make" ∷ codes "0" ∷ codes "0" ∷ codes "b" ∷ []) ≡ Err 2
+no_thread = refl
+
+word_too_many_of_help : request_of (codes "help" ∷ codes "me" ∷ []) ≡ Err 1
+word_too_many_of_help = refl
+
+-- the help text
+text_of_help : help_lines commands ≡ codes "lam play FILE OBS\nlam check P\nlam format P\nlam code P\nlam replay P W BOOK OBS\nlam run P W OBS BOOKOUT [--workers N] [--turns N]\nlam audit P W BOOK\nlam make SEED THREADS BOOKOUT\nlam help\n"
+text_of_help = refl
+
+-- an empty word fits nothing
+empty_word : request_of (codes "play" ∷ [] ∷ codes "{}/{}" ∷ []) ≡ Err 1
+empty_word = refl

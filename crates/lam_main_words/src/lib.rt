@@ -1,0 +1,482 @@
+//! The words of the command line: the forms that they may have, and the commands that they ask.
+//!
+//! The forms are a table, `Form::kinds`: a command adds a line to it, or one for each way to write its options, its name, a line of [`help_text`],
+//! and a case to [`read_words`]. Words that are in no form are refused at the least index at which no form agrees with them.
+#![tactic(auto)]
+
+ghost use Rattle.std.specs.Prelude.{◌≡◌, ◌≤◌, IfOk, IfSome, length, map, find, string_bytes};
+ghost use Rattle.lam_main_words.specs.Words.{name, commands, help_lines, in_range, number_in, fits, kinds, run_kinds, forms, agreed, is_in, longest, word, number, most_workers, most_turns, workers_in, turns_in, requested, request_of, asked, ReadsCommand, InRange};
+ghost use Rattle.lam_main_words.specs.declared.WordFault.TheVariants.{NoMemory as no_memory};
+
+use decimal_text::{NumberFault, read_number};
+use flow_labels::{Form as TwoLists, bad_place};
+use std::alloc::{AllocError, AllocFailed, Global};
+use want_of_memory::NoMemory;
+
+/// How many workers `run` has where the words do not say, and the most that it may have.
+const USUAL_WORKERS: u64 = 4;
+
+const MOST_WORKERS: u64 = 16;
+
+/// How many turns `run` takes at most where the words do not say, and the most that it may take.
+const USUAL_TURNS: u64 = 100_000;
+
+const MOST_TURNS: u64 = 1_000_000;
+
+/// The greatest seed that `make` may name, and the most threads.
+const MOST_SEED: u64 = u64::MAX;
+
+const MOST_THREADS: u64 = 64;
+
+/// The name of `run`.
+const RUN: Kind = Kind::Name(Form::Run(Options::Neither));
+
+/// A form of the words.
+#[derive(Clone, Copy)]
+enum Form {
+    /// `play FILE OBS`
+    Play,
+    /// `check P`
+    Check,
+    /// `format P`
+    Format,
+    /// `code P`
+    Code,
+    /// `replay P W BOOK OBS`
+    Replay,
+    /// `run P W OBS BOOKOUT`, and its options
+    Run(Options),
+    /// `audit P W BOOK`
+    Audit,
+    /// `make SEED THREADS BOOKOUT`
+    Make,
+    /// `help`
+    Help,
+}
+
+/// The options of `run` that the words have, in this order.
+#[derive(Clone, Copy)]
+enum Options {
+    /// None.
+    Neither,
+    /// `--workers N`
+    Workers,
+    /// `--turns N`
+    Turns,
+    /// `--workers N --turns N`
+    Both,
+}
+
+impl Form {
+    /// The command's name.
+    fn name(self) -> &'static str
+        ensures { result.now ≡ name self }
+    {
+        match self {
+            Form::Play => "play",
+            Form::Check => "check",
+            Form::Format => "format",
+            Form::Code => "code",
+            Form::Replay => "replay",
+            Form::Run(_) => "run",
+            Form::Audit => "audit",
+            Form::Make => "make",
+            Form::Help => "help",
+        }
+    }
+
+    fn kinds(self) -> &'static [Kind]
+        ensures { result.now ≡ kinds self }
+    {
+        match self {
+            Form::Play => &[Kind::Name(Form::Play), Kind::File, Kind::Observer],
+            Form::Check => &[Kind::Name(Form::Check), Kind::File],
+            Form::Format => &[Kind::Name(Form::Format), Kind::File],
+            Form::Code => &[Kind::Name(Form::Code), Kind::File],
+            Form::Replay => &[
+                Kind::Name(Form::Replay),
+                Kind::File,
+                Kind::File,
+                Kind::File,
+                Kind::Observer,
+            ],
+            Form::Run(options) => options.kinds(),
+            Form::Audit => &[Kind::Name(Form::Audit), Kind::File, Kind::File, Kind::File],
+            Form::Make => &[
+                Kind::Name(Form::Make),
+                Kind::Number(0, MOST_SEED),
+                Kind::Number(1, MOST_THREADS),
+                Kind::File,
+            ],
+            Form::Help => &[Kind::Name(Form::Help)],
+        }
+    }
+}
+
+impl Options {
+    /// The words of `run` with these options.
+    fn kinds(self) -> &'static [Kind]
+        ensures { result.now ≡ run_kinds self }
+    {
+        match self {
+            Options::Neither => &[RUN, Kind::File, Kind::File, Kind::Observer, Kind::File],
+            Options::Workers => &[
+                RUN,
+                Kind::File,
+                Kind::File,
+                Kind::Observer,
+                Kind::File,
+                Kind::WorkersOption,
+                Kind::Number(1, MOST_WORKERS),
+            ],
+            Options::Turns => &[
+                RUN,
+                Kind::File,
+                Kind::File,
+                Kind::Observer,
+                Kind::File,
+                Kind::TurnsOption,
+                Kind::Number(1, MOST_TURNS),
+            ],
+            Options::Both => &[
+                RUN,
+                Kind::File,
+                Kind::File,
+                Kind::Observer,
+                Kind::File,
+                Kind::WorkersOption,
+                Kind::Number(1, MOST_WORKERS),
+                Kind::TurnsOption,
+                Kind::Number(1, MOST_TURNS),
+            ],
+        }
+    }
+}
+
+/// What a word of a form may be.
+#[derive(Clone, Copy)]
+enum Kind {
+    /// The name of the form's command.
+    Name(Form),
+    /// The name of a file: any word that is not empty.
+    File,
+    /// A text that has the form of a label.
+    Observer,
+    /// The option `--workers`.
+    WorkersOption,
+    /// The option `--turns`.
+    TurnsOption,
+    /// A number in decimal without leading zeros, from the first to the second.
+    Number(u64, u64),
+}
+
+impl Kind {
+    fn fits(self, word: &str) -> bool
+        ensures { result ≡ fits self word.now }
+    {
+        match self {
+            Kind::Name(form) => word == form.name(),
+            Kind::File => !word.is_empty(),
+            Kind::Observer => bad_place(TwoLists::Label, word.as_bytes()).is_none(),
+            Kind::WorkersOption => word == "--workers",
+            Kind::TurnsOption => word == "--turns",
+            Kind::Number(least, most) => number_in(least, most, word).is_some(),
+        }
+    }
+}
+
+/// The number that a word writes in decimal without leading zeros, where it is from the least to the most.
+fn number_in(least: u64, most: u64, word: &str) -> Option<u64>
+    ensures value { result ≡ number_in least most word.now }
+    ensures within { IfSome result (λ n. (least ≤ n) × (n ≤ most)) }
+{
+    match read_number(word.as_bytes()) {
+        Ok(number) => in_range(least, most, number),
+        Err(NumberFault::NoNumber) => None,
+        Err(NumberFault::TooLarge) => None,
+    }
+}
+
+fn in_range(least: u64, most: u64, number: u64) -> Option<u64>
+    ensures value { result ≡ in_range least most (Some number) }
+    ensures within { IfSome result (λ n. (least ≤ n) × (n ≤ most)) }
+{
+    if least <= number && number <= most {
+        Some(number)
+    } else {
+        None
+    }
+}
+
+fn forms() -> &'static [Form]
+    ensures { result.now ≡ forms }
+{
+    &[
+        Form::Play,
+        Form::Check,
+        Form::Format,
+        Form::Code,
+        Form::Replay,
+        Form::Run(Options::Neither),
+        Form::Run(Options::Workers),
+        Form::Run(Options::Turns),
+        Form::Run(Options::Both),
+        Form::Audit,
+        Form::Make,
+        Form::Help,
+    ]
+}
+
+/// What the words ask, with its parts as texts of its own.
+#[derive(Drop)]
+pub enum Command {
+    /// `play FILE OBS`: the steps of a script as an observer sees them.
+    Play {
+        file: String,
+        obs: String,
+    },
+    /// `check P`: whether a program keeps the type rules and the region rules, and has code.
+    Check {
+        program: String,
+    },
+    /// `format P`: a program in canonical text.
+    Format {
+        program: String,
+    },
+    /// `code P`: the listing of a program's code.
+    Code {
+        program: String,
+    },
+    /// `replay P W BOOK OBS`: what an observer sees of the run of a program, from the world of a document, in the
+    /// order of a book.
+    Replay {
+        program: String,
+        world: String,
+        book: String,
+        obs: String,
+    },
+    /// `run P W OBS BOOKOUT [--workers N] [--turns N]`: what an observer sees of a run of a program by worker threads,
+    /// from the world of a document, whose book is written. Workers are from 1 to 16, and 4 where the words do not say;
+    /// turns from 1 to 1,000,000, and 100,000 where they do not.
+    Run {
+        program: String,
+        world: String,
+        obs: String,
+        book_out: String,
+        workers: u64,
+        turns: u64,
+    },
+    /// `audit P W BOOK`: the releases and the refusals of such a run.
+    Audit {
+        program: String,
+        world: String,
+        book: String,
+    },
+    /// `make SEED THREADS BOOKOUT`: a book that a seed makes for threads, of which there are from 1 to 64, is written.
+    Make {
+        seed: u64,
+        threads: u64,
+        book_out: String,
+    },
+    /// `help`: the forms of the words.
+    Help,
+}
+
+/// Why words are no command.
+#[derive(Clone, Copy, Debug, PartialEq, Eq)]
+pub enum WordFault {
+    /// The words are in no form. `at` is the index, from 0, of the first word at which they agree with
+    /// no form, or their number where they only stop short of one.
+    Word { at: u64 },
+    /// Memory ran out.
+    NoMemory,
+}
+
+impl From<NoMemory> for WordFault {
+    ghost from_gives = { λ _ e. e ≡ no_memory };
+
+    fn from(_e: NoMemory) -> WordFault {
+        WordFault::NoMemory
+    }
+}
+
+impl From<AllocError> for WordFault {
+    ghost from_gives = { λ _ e. e ≡ no_memory };
+
+    fn from(_e: AllocError) -> WordFault {
+        WordFault::NoMemory
+    }
+}
+
+impl<T: Drop> From<AllocFailed<T>> for WordFault {
+    ghost from_gives = { λ _ e. e ≡ no_memory };
+
+    fn from(_e: AllocFailed<T>) -> WordFault {
+        WordFault::NoMemory
+    }
+}
+
+/// Reads the words of the command line, those after the program's name.
+///
+/// # Errors
+///
+/// `Word` exactly where the words are in no form, tested before any memory is taken; `NoMemory` where memory runs out.
+pub fn read_words(alloc: Global, words: &[String]) -> Result<Command, WordFault>
+    ensures value { ReadsCommand result (request_of (map string_bytes words.now)) }
+    ensures ranges { IfOk result (λ c. InRange (asked c)) }
+{
+    let Some(form) = form_of(words) else {
+        return Err(WordFault::Word { at: longest(words) });
+    };
+    match form {
+        Form::Play => Ok(Command::Play {
+            file: String::from_str(alloc, word_at(words, 1))?,
+            obs: String::from_str(alloc, word_at(words, 2))?,
+        }),
+        Form::Check => Ok(Command::Check {
+            program: String::from_str(alloc, word_at(words, 1))?,
+        }),
+        Form::Format => Ok(Command::Format {
+            program: String::from_str(alloc, word_at(words, 1))?,
+        }),
+        Form::Code => Ok(Command::Code {
+            program: String::from_str(alloc, word_at(words, 1))?,
+        }),
+        Form::Replay => Ok(Command::Replay {
+            program: String::from_str(alloc, word_at(words, 1))?,
+            world: String::from_str(alloc, word_at(words, 2))?,
+            book: String::from_str(alloc, word_at(words, 3))?,
+            obs: String::from_str(alloc, word_at(words, 4))?,
+        }),
+        Form::Audit => Ok(Command::Audit {
+            program: String::from_str(alloc, word_at(words, 1))?,
+            world: String::from_str(alloc, word_at(words, 2))?,
+            book: String::from_str(alloc, word_at(words, 3))?,
+        }),
+        Form::Run(options) => run_command(alloc, words, options),
+        Form::Make => make_command(alloc, words),
+        Form::Help => Ok(Command::Help),
+    }
+}
+
+fn run_command(alloc: Global, words: &[String], options: Options) -> Result<Command, WordFault>
+    ensures value { ReadsCommand result (Ok (requested (map string_bytes words.now) (Form.Run options))) }
+    ensures ranges { IfOk result (λ c. InRange (asked c)) }
+{
+    Ok(Command::Run {
+        program: String::from_str(alloc, word_at(words, 1))?,
+        world: String::from_str(alloc, word_at(words, 2))?,
+        obs: String::from_str(alloc, word_at(words, 3))?,
+        book_out: String::from_str(alloc, word_at(words, 4))?,
+        workers: workers_in(words, options),
+        turns: turns_in(words, options),
+    })
+}
+
+fn make_command(alloc: Global, words: &[String]) -> Result<Command, WordFault>
+    ensures value { ReadsCommand result (Ok (requested (map string_bytes words.now) Form.Make)) }
+    ensures ranges { IfOk result (λ c. InRange (asked c)) }
+{
+    Ok(Command::Make {
+        seed: number_at(words, 1, 0, MOST_SEED),
+        threads: number_at(words, 2, 1, MOST_THREADS),
+        book_out: String::from_str(alloc, word_at(words, 3))?,
+    })
+}
+
+/// The workers that words of `run` ask.
+fn workers_in(words: &[String], options: Options) -> u64
+    ensures value { result ≡ workers_in (map string_bytes words.now) options }
+    ensures some { 1 ≤ result }
+    ensures most { result ≤ most_workers }
+{
+    match options {
+        Options::Workers | Options::Both => number_at(words, 6, 1, MOST_WORKERS),
+        Options::Neither | Options::Turns => USUAL_WORKERS,
+    }
+}
+
+/// The turns that words of `run` ask.
+fn turns_in(words: &[String], options: Options) -> u64
+    ensures value { result ≡ turns_in (map string_bytes words.now) options }
+    ensures some { 1 ≤ result }
+    ensures most { result ≤ most_turns }
+{
+    match options {
+        Options::Turns => number_at(words, 6, 1, MOST_TURNS),
+        Options::Both => number_at(words, 8, 1, MOST_TURNS),
+        Options::Neither | Options::Workers => USUAL_TURNS,
+    }
+}
+
+/// The forms of the words, a line for each command.
+///
+/// # Errors
+///
+/// `NoMemory` where memory runs out.
+pub fn help_text(alloc: Global) -> Result<String, NoMemory>
+    ensures { IfOk result (λ text. string_bytes text ≡ help_lines commands) }
+{
+    Ok(String::from_str(
+        alloc,
+        "lam play FILE OBS\nlam check P\nlam format P\nlam code P\nlam replay P W BOOK OBS\nlam run P W OBS BOOKOUT [--workers N] [--turns N]\nlam audit P W BOOK\nlam make SEED THREADS BOOKOUT\nlam help\n",
+    )?)
+}
+
+fn form_of(words: &[String]) -> Option<Form>
+    ensures { result ≡ find (is_in (map string_bytes words.now)) forms }
+{
+    forms().iter().copied().find(|form| is_in(words, *form))
+}
+
+fn is_in(words: &[String], form: Form) -> bool
+    ensures { result ≡ is_in (map string_bytes words.now) form }
+{
+    let kinds = form.kinds();
+    agreed(kinds, words) == kinds.len() && words.len() == kinds.len()
+}
+
+/// With how many first words the words of a form agree.
+fn agreed(kinds: &[Kind], words: &[String]) -> usize
+    ensures value { result ≡ agreed kinds.now (map string_bytes words.now) }
+    ensures bound { result ≤ length kinds.now }
+{
+    let Some((kind, kinds_left)) = kinds.split_first() else {
+        return 0;
+    };
+    let Some((word, words_left)) = words.split_first() else {
+        return 0;
+    };
+    if kind.fits(word.as_str()) {
+        1 + agreed(kinds_left, words_left)
+    } else {
+        0
+    }
+}
+
+/// The greatest number of first words with which some form agrees.
+fn longest(words: &[String]) -> u64
+    ensures { result ≡ longest (map string_bytes words.now) }
+{
+    let most = forms().iter().fold(0, |most: usize, form| most.max(agreed(form.kinds(), words)));
+    most as u64
+}
+
+/// A word by its index.
+fn word_at(words: &[String], index: usize) -> &str
+    ensures { result.now ≡ word (map string_bytes words.now) index }
+{
+    match words.get(index) {
+        Some(word) => word.as_str(),
+        None => "",
+    }
+}
+
+/// The number of a word, which in the words of a form is from the least to the most.
+fn number_at(words: &[String], index: usize, least: u64, most: u64) -> u64
+    ensures value { result ≡ number (map string_bytes words.now) index least most }
+    ensures no_less { least ≤ result }
+    ensures no_more { least ≤ most → result ≤ most }
+{
+    number_in(least, most, word_at(words, index)).unwrap_or(least)
+}

@@ -1,0 +1,29 @@
+//! Typed programs never go wrong, and what a thread asks for with fewer units.
+//!
+//! The judgement on resolved programs (`lam_resolve_tree`'s `specs/Typing`) suffices for the meaning of threads: a thread of
+//! a typed program never comes to an operand of another kind than its place takes. It ends, it waits for an answer, or
+//! its units are spent. The answers may be any: one that does not suit its ask ends the asks there.
+//!
+//! `proofs/Rows` has a line for each operator and built-in call, `proofs/Locals` the locals of a unit, each of the type
+//! of its slot while the slot is in scope.
+//!
+//! The meaning of a thread has a number of *units*, one for each turn of a loop and each call, so that its tree of asks
+//! is finite. The number decides only how far the tree goes: with fewer units it is the same tree, cut off at places where
+//! the units are used up. So each list of asks that a meaning gives stays, and grows at its end alone.
+#![tactic(auto)]
+
+ghost use Rattle.lam_resolve_tree.specs.Tree.{ResolvedTree};
+ghost use Rattle.lam_meaning_typed.specs.Kinds.{NeverBroken};
+ghost use Rattle.lam_meaning_typed.specs.Fewer.{FewerUnits};
+
+/// No thread of a typed program is broken: with any function of it, arguments of the sorts of its parameters' types, any
+/// capabilities, any number of units and any answers.
+pub fn typed_never_wrong()
+    ensures { (r : ResolvedTree) → NeverBroken r }
+{}
+
+/// With fewer units and the same answers, the asks are the first ones of those with more. They are all of them, and the
+/// thread stands as it does with more, where the fewer units are not used up.
+pub fn fewer_units_ask_first()
+    ensures { (r : ResolvedTree) → FewerUnits r }
+{}

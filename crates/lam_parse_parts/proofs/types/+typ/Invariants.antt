@@ -1,5 +1,0 @@
-use Rattle.std.proofs.Common.{◌-◌, length}
-use Rattle.lam_parse_parts.proofs.types.+typ.Given as goal
-
-abbrev pub decreases-typ : goal.decreases-typ
-decreases-typ l = length l.tokens.now - l.at

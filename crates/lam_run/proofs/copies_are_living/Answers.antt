@@ -1,5 +1,0 @@
-use Rattle.lam_run.proofs.LivingLemmas.{copies_live}
-use Rattle.lam_run.proofs.copies_are_living.Goals as goal
-
-pub returns : goal.returns
-returns c = copies_live

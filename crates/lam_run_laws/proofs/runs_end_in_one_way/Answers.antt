@@ -1,5 +1,0 @@
-use Rattle.lam_run_laws.proofs.EndLemmas.{one_end}
-use Rattle.lam_run_laws.proofs.runs_end_in_one_way.Goals as goal
-
-pub returns : goal.returns
-returns c = one_end

@@ -1,4 +1,0 @@
-use Rattle.lam_serving.proofs.contexts.release.Goals as goal
-
-pub returns : goal.returns
-returns c = c.did.ensures _ c.drops.ensures

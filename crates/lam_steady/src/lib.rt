@@ -1,9 +1,0 @@
-//! Canonical text, read again by the front end: from the bytes that `format` was given to those that it prints of its own
-//! output.
-//!
-//! `lam_round_trip` has the law for tokens. Here it is said of bytes, in the relations of `lam_front`: the canonical text
-//! of a program that bytes spell is UTF-8, and it spells the same program, positions left out, with the same canonical
-//! text again; or it is refused at a token at which the depth sum passes its limit, and for no other reason.
-#![tactic(auto)]
-
-pub mod laws;

@@ -1,9 +1,0 @@
-use Rattle.std.proofs.Common.{◌≡◌, ◌++◌, replicate, vec_capacity}
-use Rattle.lam_value.specs.declared.values.Value.TheVariants.{Nothing}
-use Rattle.lam_threads.proofs.operands.fill.Given as goal
-
-abbrev pub invariant-loop : goal.invariant-loop
-invariant-loop l = record {
-  filled : l.items.items ≡ l.initial.items.items ++ replicate l.counter Nothing;
-  room : vec_capacity l.items ≡ vec_capacity l.initial.items;
-}

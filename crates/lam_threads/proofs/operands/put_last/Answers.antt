@@ -1,9 +1,0 @@
-use Rattle.std.proofs.Common.{◌-◌, arith}
-use Rattle.std.proofs.lemmas.List.{length-reverse}
-use Rattle.lam_threads.proofs.Ends.{set_last}
-use Rattle.lam_threads.proofs.operands.put_last.Goals as goal
-
-pub returns : goal.returns
-returns c =
-    set_last c.args.items.now.items c.truncate.new.self.items (c.len.result - c.args.count) c.args.count c.args.value c.truncate.ensures.items
-    (omega (arith, length-reverse c.args.items.now.items)) (omega (arith, length-reverse c.args.items.now.items))

@@ -1,5 +1,0 @@
-use Rattle.lam_typed.proofs.First.{fewer_units}
-use Rattle.lam_typed.proofs.fewer_units_ask_first.Goals as goal
-
-pub returns : goal.returns
-returns c = fewer_units

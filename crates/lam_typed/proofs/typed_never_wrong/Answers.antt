@@ -1,5 +1,0 @@
-use Rattle.lam_typed.proofs.Threads.{typed_never_broken}
-use Rattle.lam_typed.proofs.typed_never_wrong.Goals as goal
-
-pub returns : goal.returns
-returns c = typed_never_broken

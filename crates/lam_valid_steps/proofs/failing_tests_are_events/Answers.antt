@@ -1,5 +1,0 @@
-use Rattle.lam_valid_steps.proofs.EventLemmas.{failing_events}
-use Rattle.lam_valid_steps.proofs.failing_tests_are_events.Goals as goal
-
-pub returns : goal.returns
-returns c = failing_events

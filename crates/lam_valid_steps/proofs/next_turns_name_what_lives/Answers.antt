@@ -1,5 +1,0 @@
-use Rattle.lam_valid_steps.proofs.PrivateLemmas.{name_what_lives}
-use Rattle.lam_valid_steps.proofs.next_turns_name_what_lives.Goals as goal
-
-pub returns : goal.returns
-returns c = name_what_lives

@@ -1,5 +1,0 @@
-use Rattle.lam_valid_steps.proofs.ReadyLemmas.{can_go_by}
-use Rattle.lam_valid_steps.proofs.ready_threads_can_go.Goals as goal
-
-pub returns : goal.returns
-returns c = can_go_by

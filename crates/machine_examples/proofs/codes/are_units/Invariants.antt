@@ -1,7 +1,0 @@
-use Rattle.std.proofs.Common.{take}
-use Rattle.std.specs.List.{All}
-use Rattle.lam_bytecode.specs.Codes.{IsUnit}
-use Rattle.machine_examples.proofs.codes.are_units.Given as goal
-
-abbrev pub invariant-loop-unit : goal.invariant-loop-unit
-invariant-loop-unit l = All IsUnit (take l.unit-index l.units)

@@ -1,5 +1,0 @@
-use Rattle.std.proofs.Common.{◌≡◌, take}
-use Rattle.machine_run.proofs.books.take_all.Given as goal
-
-abbrev pub invariant-loop-turn : goal.invariant-loop-turn
-invariant-loop-turn l = (l.run.code ≡ l.initial.run.code) × (l.run.start ≡ l.initial.run.start) × (l.run.turns ≡ take l.turn l.turns)

@@ -1,5 +1,0 @@
-use Rattle.machine_run.proofs.RunLemmas.{whole_opened}
-use Rattle.machine_run.proofs.run.Run.new.Goals as goal
-
-pub invariant_of-result : goal.invariant_of-result
-invariant_of-result c = rw (c.new.ensures.items, c.in-Ok.ensures) (whole_opened c.args.code c.args.start c.requires.code c.requires.valid)

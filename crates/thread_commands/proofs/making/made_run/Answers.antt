@@ -1,7 +1,0 @@
-use Rattle.run_notes.specs.Sums.{summary_lines}
-use Rattle.lam_plan.specs.Threads.{made_budget}
-use Rattle.thread_commands.proofs.TakenLemmas.{threads_shown}
-use Rattle.thread_commands.proofs.making.made_run.Goals as goal
-
-pub returns-in-Ok : goal.returns-in-Ok
-returns-in-Ok g c = threads_shown c.args.code c.args.start made_budget (summary_lines c.args.seed c.args.threads) c.in-Ok.ended c.summed_run.result c.in-Ok.ensures.run c.summed_run.ensures

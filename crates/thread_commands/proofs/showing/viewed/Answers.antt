@@ -1,6 +1,0 @@
-use Rattle.lam_replay.specs.Asked.{lines_for}
-use Rattle.thread_commands.proofs.TakenLemmas.{threads_shown}
-use Rattle.thread_commands.proofs.showing.viewed.Goals as goal
-
-pub returns-in-Ok : goal.returns-in-Ok
-returns-in-Ok g c = threads_shown c.args.code c.args.start c.args.bounds.turns (lines_for c.args.viewer.now.eye c.args.viewer.now.names) c.in-Ok.ended c.shown_run.result c.in-Ok.ensures.run c.shown_run.ensures

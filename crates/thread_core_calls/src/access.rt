@@ -1,0 +1,277 @@
+//! Barriers, accesses, monitors, and what is made.
+
+ghost use Rattle.std.specs.Prelude.{◌≡◌, ◌∷◌, true, reverse, List};
+ghost use Rattle.lam_asks.specs.declared.ask.Ask.TheVariants as ask;
+ghost use Rattle.thread_steps.specs.Ops.{tested, on_thing, may_read, may_write, barrier, gets_field, puts_field, gets_element, puts_element, new_array, on_any, on_int, monitor_of, is_held};
+ghost use Rattle.lam_value.specs.declared.values.Value.{Value};
+ghost use Rattle.thread_core_effects.specs.Acting.{did_of, makes_object};
+ghost use Rattle.thread_core_effects.specs.Fitting.{place_in};
+
+use flow_labels::{Denied, Label, read_rule, write_rule};
+use lam_asks::Fault;
+use lam_bytecode::Kinds;
+use lam_value::{Kind, Name, Value};
+use thread_core_effects::{Sight, Sketch, is_null, same_names, thing_in};
+use thread_core_state::Operands;
+
+/// How long an array may be.
+const LENGTH_LIMIT: u64 = 65_536;
+
+fn barred(denied: Option<Denied>) -> Sight<'static>
+    ensures { (locals s : List Value) → did_of result locals s ≡ barrier s denied }
+{
+    match denied {
+        None => Sight::Drops { takes: 0 },
+        Some(denied) => Sight::Asks {
+            ask: Sketch::Barred(denied),
+            takes: 0,
+            leaves_null: false,
+        },
+    }
+}
+
+/// Tests that a thing may be read.
+fn reading(v: &Value, label: &Label) -> Sight<'static>
+    ensures { (locals s rest : List Value) → did_of result locals s ≡ on_thing (v.now ∷ rest) (λ n r. barrier s (may_read label.now n.own)) }
+{
+    match v {
+        Value::Obj(name) => barred(read_rule(label, name.own())),
+        Value::Arr { name, .. } => barred(read_rule(label, name.own())),
+        Value::Nothing => Sight::Fails(Fault::Null),
+        _ => Sight::Breaks,
+    }
+}
+
+/// Tests that a thing may be written.
+fn writing(v: &Value, label: &Label) -> Sight<'static>
+    ensures { (locals s rest : List Value) → did_of result locals s ≡ on_thing (v.now ∷ rest) (λ n r. barrier s (may_write label.now n.own)) }
+{
+    match v {
+        Value::Obj(name) => barred(write_rule(label, name.own())),
+        Value::Arr { name, .. } => barred(write_rule(label, name.own())),
+        Value::Nothing => Sight::Fails(Fault::Null),
+        _ => Sight::Breaks,
+    }
+}
+
+/// Tests that the thing so far below the top may be read.
+pub fn read_barrier(stack: &Operands, below: usize, label: &Label) -> Sight<'static>
+    ensures { (locals : List Value) → did_of result locals stack.now ≡ tested stack.now below (may_read label.now) }
+{
+    match stack.get(below) {
+        None => Sight::Breaks,
+        Some(v) => reading(v, label),
+    }
+}
+
+/// Tests that the thing so far below the top may be written.
+pub fn write_barrier(stack: &Operands, below: usize, label: &Label) -> Sight<'static>
+    ensures { (locals : List Value) → did_of result locals stack.now ≡ tested stack.now below (may_write label.now) }
+{
+    match stack.get(below) {
+        None => Sight::Breaks,
+        Some(v) => writing(v, label),
+    }
+}
+
+/// Asks for a field of the object on top.
+pub fn get_field<'a>(stack: &'a Operands, at: u32, label: &Label) -> Sight<'a>
+    ensures { (locals : List Value) → did_of result locals stack.now ≡ gets_field label.now at stack.now }
+{
+    let Some(r) = stack.get(0) else {
+        return Sight::Breaks;
+    };
+    let Value::Obj(name) = r else {
+        return Sight::Breaks;
+    };
+    if read_rule(label, name.own()).is_some() {
+        return Sight::Breaks;
+    }
+    let at = u64::from(at);
+    Sight::Asks {
+        ask: Sketch::Read { r, at },
+        takes: 1,
+        leaves_null: false,
+    }
+}
+
+/// Asks that the top operand be put into a field of the object below it.
+pub fn put_field<'a>(stack: &'a Operands, at: u32, label: &Label) -> Sight<'a>
+    ensures { (locals : List Value) → did_of result locals stack.now ≡ on_any stack.now (λ v s. puts_field label.now at v s) }
+{
+    let Some(v) = stack.get(0) else {
+        return Sight::Breaks;
+    };
+    let Some(r) = stack.get(1) else {
+        return Sight::Breaks;
+    };
+    let Value::Obj(name) = r else {
+        return Sight::Breaks;
+    };
+    if write_rule(label, name.own()).is_some() {
+        return Sight::Breaks;
+    }
+    let at = u64::from(at);
+    Sight::Asks {
+        ask: Sketch::Write { r, at, v },
+        takes: 2,
+        leaves_null: false,
+    }
+}
+
+/// The place within a length that a number is.
+fn place_of(i: i64, len: u64) -> Option<u64>
+    ensures { result ≡ place_in i len }
+{
+    if i < 0 {
+        return None;
+    }
+    let at = i as u64;
+    if at < len { Some(at) } else { None }
+}
+
+/// Asks for an element, at the number on top, of the array below it.
+pub fn get_element<'a>(stack: &'a Operands, label: &Label) -> Sight<'a>
+    ensures { (locals : List Value) → did_of result locals stack.now ≡ on_int stack.now (λ i s. gets_element label.now i s) }
+{
+    let Some(Value::Int(i)) = stack.get(0) else {
+        return Sight::Breaks;
+    };
+    let Some(r) = stack.get(1) else {
+        return Sight::Breaks;
+    };
+    let Value::Arr { name, len } = r else {
+        return Sight::Breaks;
+    };
+    if read_rule(label, name.own()).is_some() {
+        return Sight::Breaks;
+    }
+    match place_of(*i, *len) {
+        None => Sight::Fails(Fault::Index),
+        Some(at) => Sight::Asks {
+            ask: Sketch::Read { r, at },
+            takes: 2,
+            leaves_null: false,
+        },
+    }
+}
+
+/// Asks that the top operand be put into an element, at the number below it, of the array below that.
+pub fn put_element<'a>(stack: &'a Operands, label: &Label) -> Sight<'a>
+    ensures { (locals : List Value) → did_of result locals stack.now ≡ on_any stack.now (λ v s. on_int s (λ i s. puts_element label.now i v s)) }
+{
+    let Some(v) = stack.get(0) else {
+        return Sight::Breaks;
+    };
+    let Some(Value::Int(i)) = stack.get(1) else {
+        return Sight::Breaks;
+    };
+    let Some(r) = stack.get(2) else {
+        return Sight::Breaks;
+    };
+    let Value::Arr { name, len } = r else {
+        return Sight::Breaks;
+    };
+    if write_rule(label, name.own()).is_some() {
+        return Sight::Breaks;
+    }
+    match place_of(*i, *len) {
+        None => Sight::Fails(Fault::Index),
+        Some(at) => Sight::Asks {
+            ask: Sketch::Write { r, at, v },
+            takes: 3,
+            leaves_null: false,
+        },
+    }
+}
+
+/// Asks for a new object of a class.
+pub fn new_object<'a>(classes: &'a [Kinds], class: u32) -> Sight<'a>
+    ensures { (locals s : List Value) → did_of result locals s ≡ makes_object classes.now class s }
+{
+    match classes.get(class as usize) {
+        None => Sight::Breaks,
+        Some(kinds) => {
+            let kinds = kinds.as_slice();
+            Sight::Asks {
+                ask: Sketch::NewObject { class, kinds },
+                takes: 0,
+                leaves_null: false,
+            }
+        }
+    }
+}
+
+/// Asks for a new array, as long as the number on top.
+pub fn new_array(stack: &Operands, kind: Kind) -> Sight<'_>
+    ensures { (locals : List Value) → did_of result locals stack.now ≡ on_int stack.now (λ n s. new_array kind s n) }
+{
+    let Some(Value::Int(n)) = stack.get(0) else {
+        return Sight::Breaks;
+    };
+    if *n < 0 {
+        return Sight::Fails(Fault::Long);
+    }
+    let len = *n as u64;
+    if len > LENGTH_LIMIT {
+        return Sight::Fails(Fault::Long);
+    }
+    Sight::Asks {
+        ask: Sketch::NewArray { kind, len },
+        takes: 1,
+        leaves_null: false,
+    }
+}
+
+/// Asks for the monitor of the thing on top.
+pub fn enter_monitor(stack: &Operands) -> Sight<'_>
+    ensures { (locals : List Value) → did_of result locals stack.now ≡ monitor_of (λ r. ask.MonEnter r) (λ n. true) stack.now }
+{
+    let Some(r) = stack.get(0) else {
+        return Sight::Breaks;
+    };
+    if is_null(r) {
+        return Sight::Fails(Fault::Null);
+    }
+    match thing_in(r) {
+        None => Sight::Breaks,
+        Some(_) => Sight::Asks {
+            ask: Sketch::MonEnter { r },
+            takes: 1,
+            leaves_null: false,
+        },
+    }
+}
+
+/// Whether a monitor is among those that were taken.
+fn is_held(name: &Name, taken: &[Name]) -> bool
+    ensures { result ≡ is_held name.now (reverse taken.now) }
+{
+    taken.iter().rev().any(|other| same_names(name, other))
+}
+
+/// Gives the monitor of the thing on top back, where it was taken.
+pub fn leave_monitor<'a>(stack: &'a Operands, taken: &[Name]) -> Sight<'a>
+    ensures { (locals : List Value) → did_of result locals stack.now ≡ monitor_of (λ r. ask.MonLeave r) (λ n. is_held n (reverse taken.now)) stack.now }
+{
+    let Some(r) = stack.get(0) else {
+        return Sight::Breaks;
+    };
+    if is_null(r) {
+        return Sight::Fails(Fault::Null);
+    }
+    match thing_in(r) {
+        None => Sight::Breaks,
+        Some(name) => {
+            if is_held(name, taken) {
+                Sight::Asks {
+                    ask: Sketch::MonLeave { r },
+                    takes: 1,
+                    leaves_null: false,
+                }
+            } else {
+                Sight::Breaks
+            }
+        }
+    }
+}

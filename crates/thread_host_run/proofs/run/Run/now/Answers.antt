@@ -1,0 +1,10 @@
+use Rattle.std.proofs.Common.{subst}
+use Rattle.lam_machine_terms.specs.Valid.{IsValid}
+use Rattle.thread_host_run.specs.Runs.{Ran}
+use Rattle.thread_host_run.proofs.RunLemmas.{valid_now}
+use Rattle.thread_host_run.proofs.run.Run.now.Goals as goal
+
+pub returns-clause-valid : goal.returns-clause-valid
+returns-clause-valid c =
+    let run = c.self.inside in
+    subst (λ (r : Ran). IsValid r.world) c.self.view_is (valid_now (record { code = run.code; start = run.start; turns = run.turns.items; world = run.world }) c.self.invariant)

@@ -1,0 +1,72 @@
+//! Whether a thread is ready.
+//!
+//! [`ready`] tells whether there is a turn of a thread to take, without memory: it reads how the thread stands, and, where
+//! it asks next, what the ask waits for. `lam_machine_terms` says by the turn itself what ready means; `specs/Readiness` says
+//! it by these two.
+
+ghost use Rattle.std.specs.Prelude.{◌≡◌, slice_get};
+ghost use Rattle.std.specs.Option.{option_copied};
+ghost use Rattle.thread_steps.specs.Next as next;
+ghost use Rattle.thread_core.specs.Turning.{awaited_of, awaited_by};
+ghost use Rattle.lam_machine_terms.specs.Turns as turns;
+ghost use Rattle.lam_machine_effects.specs.Parts.{world_of};
+ghost use Rattle.thread_host_run.specs.Readiness.{waits_on, ready_by};
+
+use lam_bytecode::Code;
+use lam_machine_effects::Stores;
+use lam_machine_world::{World, lives};
+use thread_core::{Standing, Waits, standing, waits_for};
+use thread_core_state::LamThread;
+
+/// Whether a thread is there, is neither stuck nor ended, and its next ask, if it makes one, does not wait. Takes no
+/// memory.
+pub fn ready(world: &World, code: &Code, thread: u32) -> bool
+    ensures { result ≡ turns.ready code.now world.now thread }
+{
+    ready_at(&world.stores, world.threads.as_slice(), code, thread)
+}
+
+fn ready_at(stores: &Stores, threads: &[LamThread], code: &Code, thread: u32) -> bool
+    ensures { result ≡ turns.ready code.now (world_of stores.now threads.now) thread }
+{
+    match thread_in(threads, thread) {
+        None => false,
+        Some(found) => stands_ready(stores, threads, code, thread, found),
+    }
+}
+
+/// The thread of a number, where it is there.
+fn thread_in(threads: &[LamThread], thread: u32) -> Option<&LamThread>
+    ensures { option_copied result ≡ slice_get threads.now thread }
+{
+    threads.get(thread as usize)
+}
+
+/// Whether a thread that is there is ready.
+fn stands_ready(
+    stores: &Stores,
+    threads: &[LamThread],
+    code: &Code,
+    thread: u32,
+    found: &LamThread,
+) -> bool
+    ensures { result ≡ ready_by (next.standing code.now found.now) (waits_on (world_of stores.now threads.now) thread (awaited_of code.now found.now)) }
+{
+    match standing(found, code) {
+        Standing::Private => true,
+        Standing::Shared => !ask_waits(stores, threads, thread, waits_for(found, code)),
+        Standing::Stuck => false,
+        Standing::Ended => false,
+    }
+}
+
+/// Whether a thread waits for what its ask waits for: another one holds the monitor, or the other one lives.
+fn ask_waits(stores: &Stores, threads: &[LamThread], thread: u32, waits: Waits) -> bool
+    ensures { result ≡ waits_on (world_of stores.now threads.now) thread (awaited_by waits.entry) }
+{
+    match waits {
+        Waits::Nobody => false,
+        Waits::Monitor(name) => !stores.monitors.is_free_for(name, thread),
+        Waits::Thread(number) => lives(threads, number),
+    }
+}

@@ -1,0 +1,15 @@
+//! Laws of world documents, in proofs alone.
+//!
+//! `world_doc_terms` defines what a document gives: the start of a run, or its first break. Here that is joined to the machine
+//! and to the source.
+//!
+//! - `starts`: a world that a document gives is valid, so that everything that is proved of runs from a valid start holds
+//!   of runs from a document, and its threads stand at entries (`specs/Starts`, `specs/Standing`).
+//! - `runs`: every run of a typed program from there means what its source means (`specs/Documents`, `specs/Entries`).
+#![tactic(auto)]
+
+mod runs;
+mod starts;
+
+pub use runs::{entries_are_functions, runs_of_documents_mean};
+pub use starts::{texts_start, threads_stand_at_entries, worlds_start};

@@ -1,5 +1,0 @@
-use Rattle.world_equality.proofs.ThreadParts.{seen_same}
-use Rattle.world_equality.proofs.contexts.same_held.Goals as goal
-
-pub returns : goal.returns
-returns c = seen_same c.same_names.result c.held.result.now c.held-2.result.now c.args.a.now.held c.args.b.now.held c.same_names.ensures c.held.ensures c.held-2.ensures

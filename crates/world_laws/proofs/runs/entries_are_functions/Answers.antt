@@ -1,5 +1,0 @@
-use Rattle.world_laws.proofs.Units.{int_functions}
-use Rattle.world_laws.proofs.runs.entries_are_functions.Goals as goal
-
-pub returns : goal.returns
-returns c = int_functions

@@ -1,5 +1,0 @@
-use Rattle.world_laws.proofs.Starting.{documents_mean}
-use Rattle.world_laws.proofs.runs.runs_of_documents_mean.Goals as goal
-
-pub returns : goal.returns
-returns c = documents_mean

@@ -1,5 +1,0 @@
-use Rattle.world_laws.proofs.StartLemmas.{text_start}
-use Rattle.world_laws.proofs.starts.texts_start.Goals as goal
-
-pub returns : goal.returns
-returns c = text_start

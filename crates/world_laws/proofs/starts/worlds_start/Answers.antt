@@ -1,5 +1,0 @@
-use Rattle.world_laws.proofs.StartLemmas.{start}
-use Rattle.world_laws.proofs.starts.worlds_start.Goals as goal
-
-pub returns : goal.returns
-returns c = start
