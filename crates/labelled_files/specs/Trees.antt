@@ -70,13 +70,25 @@ changed (Some x) m n f = insert m n (f x)
 abbrev pub changed_at : {X : Type 0} → FinMap name_cmp X → Name → (X → X) → FinMap name_cmp X
 changed_at m n f = changed (get m n) m n f
 
+-- a directory has at most this many entries
+abbrev pub most_entries : ℕ
+most_entries = 4096
+
+-- a home makes at most this many files and directories
+abbrev pub most_files : ℕ
+most_files = 65536
+
+-- a file has at most this many bytes
+abbrev pub most_bytes : ℕ
+most_bytes = 1048576
+
 -- why nothing can be made at a number: the first of these that holds, in this order
 abbrev pub fault_at : Tree → Name → List ℕ → ℕ → Option FileFault
 fault_at t dir text number =
     if not (is_entry_name text) then Some BadName
     else (if is_some (target_at t dir text) then Some Exists
-    else (if nat_eq (length (entries_at t dir)) 4096 then Some DirFull
-    else (if nat_eq number 65536 then Some HomeFull else None)))
+    else (if nat_eq (length (entries_at t dir)) most_entries then Some DirFull
+    else (if nat_eq number most_files then Some HomeFull else None)))
 
 -- why nothing of a home can be made, at its next number
 abbrev pub first_fault : Tree → Name → List ℕ → Home → Option FileFault
@@ -125,9 +137,9 @@ with_count t home n = record t { counts = raised t.counts home n }
 abbrev pub without_entry : Tree → Name → List ℕ → Tree
 without_entry t dir text = record t { dirs = changed_at t.dirs dir (without text) }
 
--- bytes, and after them the front of more that fits into 1,048,576
+-- bytes, and after them the front of more that fits
 abbrev pub appended : List ℕ → List ℕ → List ℕ
-appended more bytes = bytes ++ take (1048576 - length bytes) more
+appended more bytes = bytes ++ take (most_bytes - length bytes) more
 
 -- more bytes at the end of a file
 abbrev pub with_more : Tree → Name → List ℕ → Tree
@@ -145,7 +157,7 @@ IsWellCounted t = AreCounted t.files t.counts × AreCounted t.dirs t.counts
 
 -- no home has made more than a home may make
 abbrev pub IsWithinLimit : Tree → Type 0
-IsWithinLimit t = AreWithin 65536 t.counts
+IsWithinLimit t = AreWithin most_files t.counts
 
 -- the root is a directory
 abbrev pub IsRooted : Tree → Type 0
@@ -163,7 +175,7 @@ AreGood t es = (text : List ℕ) (target : Target) → lookup (text_eq text) es 
 pub record AreListed (t : Tree) (es : Entries) : Type 0 where
   pub good : AreGood t es
   pub distinct : IsDistinct text_eq (keys_of es)
-  pub few : length es ≤ 4096
+  pub few : length es ≤ most_entries
 
 pub record IsSound (t : Tree) : Type 0 where
   pub counted : IsWellCounted t

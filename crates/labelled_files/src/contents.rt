@@ -1,7 +1,7 @@
 //! The bytes of one file.
 
 ghost use Rattle.std.specs.Prelude.{◌≡◌, ◌≤◌, [], take, drop, length, IfOk, OnOk, OnErr};
-ghost use Rattle.labelled_files.specs.Trees.{appended};
+ghost use Rattle.labelled_files.specs.Trees.{appended, most_bytes};
 
 use flow_labels::NoMemory;
 use std::alloc::Global;
@@ -13,7 +13,7 @@ pub const FILE_LIMIT: usize = 1_048_576;
 #[derive(Drop)]
 pub(crate) struct Contents {
     bytes: Vec<u8>,
-    ghost few: { length bytes.items ≤ 1048576 },
+    ghost few: { length bytes.items ≤ most_bytes },
 }
 
 impl Contents {
@@ -27,7 +27,7 @@ impl Contents {
 
     pub(crate) fn bytes(&self) -> &[u8]
         ensures value { result.now ≡ self.now.bytes.items }
-        ensures few { length result.now ≤ 1048576 }
+        ensures few { length result.now ≤ most_bytes }
     {
         self.bytes.as_slice()
     }

@@ -14,7 +14,7 @@ ghost use Rattle.lam_value.specs.Alike.{is_shown};
 ghost use Rattle.lam_value.specs.declared.names.Name.{Name};
 ghost use Rattle.lam_value.specs.Names.{name_eq};
 ghost use Rattle.labelled_files.specs.Trees as tree;
-ghost use Rattle.labelled_files.specs.Trees.{public_home, root_alone, lives_as, target_at, bytes_at, next_name, with_file, with_dir, placed, with_count, without_entry, with_more, with_first, changed_at, joined, IsSound, AreSeenAlike};
+ghost use Rattle.labelled_files.specs.Trees.{public_home, root_alone, lives_as, target_at, bytes_at, next_name, with_file, with_dir, placed, with_count, without_entry, with_more, with_first, changed_at, joined, most_entries, most_files, most_bytes, IsSound, AreSeenAlike};
 ghost use Rattle.labelled_files.specs.declared.files.FileFault.TheVariants.{NoMemory as no_memory};
 
 use crate::both::both;
@@ -136,7 +136,7 @@ impl Files {
     /// The number that the next file or directory of a home gets: how many it has made, at most `HOME_LIMIT`.
     pub fn next(&self, maker: &Label, own: &Label) -> u64
         ensures value { result ≡ count_in self.now.counts (home_of maker.now own.now) }
-        ensures bound { result ≤ 65536 }
+        ensures bound { result ≤ most_files }
     {
         self.counters.next(maker, own)
     }
@@ -281,7 +281,7 @@ impl Files {
     ///
     /// `NoMemory` where memory is refused; everything is then as it was.
     pub fn raise_counter(&mut self, maker: &Label, own: &Label, n: u64) -> Result<(), NoMemory>
-        requires { n ≤ 65536 }
+        requires { n ≤ most_files }
         ensures ok { OnOk result (self.new ≡ with_count self.old (home_of maker.now own.now) n) }
         ensures err { OnErr result (self.new ≡ self.old) }
     {
@@ -381,14 +381,14 @@ impl Files {
     /// The number of bytes of a file, at most `FILE_LIMIT`.
     pub fn length(&self, f: &Name) -> u64
         ensures value { result ≡ length (bytes_at self.now f.now) }
-        ensures bound { result ≤ 1048576 }
+        ensures bound { result ≤ most_bytes }
     {
         self.bytes(f).len() as u64
     }
 
     fn bytes(&self, f: &Name) -> &[u8]
         ensures value { result.now ≡ bytes_at self.now f.now }
-        ensures few { length result.now ≤ 1048576 }
+        ensures few { length result.now ≤ most_bytes }
     {
         match self.files.get(f) {
             None => &[],
@@ -572,8 +572,8 @@ fn add_file(
     entry: &[u8],
     name: &Name,
 ) -> Result<(), NoMemory>
-    requires room { name.now.n < 65536 }
-    requires few { length (at dirs.old.entries dir.now) < 4096 }
+    requires room { name.now.n < most_files }
+    requires few { length (at dirs.old.entries dir.now) < most_entries }
     requires fresh { lookup (text_eq entry.now) (at dirs.old.entries dir.now) ≡ None }
     ensures dirs { OnOk result (dirs_of dirs.new.entries ≡ changed_at (dirs_of dirs.old.entries) dir.now (joined entry.now EntryKind.File name.now)) }
     ensures files { OnOk result (files_of files.new.entries ≡ insert (files_of files.old.entries) name.now []) }
@@ -616,8 +616,8 @@ fn add_dir(
     entry: &[u8],
     name: &Name,
 ) -> Result<(), NoMemory>
-    requires room { name.now.n < 65536 }
-    requires few { length (at dirs.old.entries dir.now) < 4096 }
+    requires room { name.now.n < most_files }
+    requires few { length (at dirs.old.entries dir.now) < most_entries }
     requires fresh { lookup (text_eq entry.now) (at dirs.old.entries dir.now) ≡ None }
     ensures dirs { OnOk result (dirs_of dirs.new.entries ≡ insert (changed_at (dirs_of dirs.old.entries) dir.now (joined entry.now EntryKind.Dir name.now)) name.now []) }
     ensures counters { OnOk result (counters.new ≡ raised counters.old (home_of name.now.maker name.now.own) (name.now.n + 1)) }
@@ -667,8 +667,8 @@ fn list(
     entry: &[u8],
     target: Target,
 ) -> Result<(), NoMemory>
-    requires room { target.name.n < 65536 }
-    requires few { length (at dirs.old.entries dir.now) < 4096 }
+    requires room { target.name.n < most_files }
+    requires few { length (at dirs.old.entries dir.now) < most_entries }
     requires fresh { lookup (text_eq entry.now) (at dirs.old.entries dir.now) ≡ None }
     ensures dirs { OnOk result (dirs_of dirs.new.entries ≡ changed_at (dirs_of dirs.old.entries) dir.now (joined entry.now target.kind target.name)) }
     ensures counters { OnOk result (counters.new ≡ raised counters.old (home_of target.name.maker target.name.own) (target.name.n + 1)) }
@@ -684,7 +684,7 @@ fn list(
 
 /// Lets a name's home have made what has that name.
 fn count_name(counters: &mut Counters, name: &Name) -> Result<(), NoMemory>
-    requires room { name.now.n < 65536 }
+    requires room { name.now.n < most_files }
     ensures ok { OnOk result (counters.new ≡ raised counters.old (home_of name.now.maker name.now.own) (name.now.n + 1)) }
     ensures err { OnErr result (counters.new ≡ counters.old) }
 {
@@ -693,7 +693,7 @@ fn count_name(counters: &mut Counters, name: &Name) -> Result<(), NoMemory>
 
 /// Counts a target, and lets it go: there is no directory for it.
 fn count_alone(counters: &mut Counters, target: Target) -> Result<(), NoMemory>
-    requires room { target.name.n < 65536 }
+    requires room { target.name.n < most_files }
     ensures ok { OnOk result (counters.new ≡ raised counters.old (home_of target.name.maker target.name.own) (target.name.n + 1)) }
     ensures err { OnErr result (counters.new ≡ counters.old) }
 {
@@ -708,8 +708,8 @@ fn list_in(
     entry: &[u8],
     target: Target,
 ) -> Result<(), NoMemory>
-    requires room { target.name.n < 65536 }
-    requires few { length (shown directory.old) < 4096 }
+    requires room { target.name.n < most_files }
+    requires few { length (shown directory.old) < most_entries }
     requires fresh { lookup (text_eq entry.now) (shown directory.old) ≡ None }
     ensures entries { OnOk result (shown directory.new ≡ joined entry.now target.kind target.name (shown directory.old)) }
     ensures counters { OnOk result (counters.new ≡ raised counters.old (home_of target.name.maker target.name.own) (target.name.n + 1)) }
@@ -735,7 +735,7 @@ fn counted_text(
     entry: &[u8],
     target: &Target,
 ) -> Result<Vec<u8>, NoMemory>
-    requires { target.now.name.n < 65536 }
+    requires { target.now.name.n < most_files }
     ensures text { IfOk result (λ t. t.items ≡ entry.now) }
     ensures counters { OnOk result (counters.new ≡ raised counters.old (home_of target.now.name.maker target.now.name.own) (target.now.name.n + 1)) }
     ensures room { OnOk result (1 ≤ spare directory.new.entries) }

@@ -76,9 +76,13 @@ with_copy h n home = record {
 abbrev pub IsWellCounted : Things → Type 0
 IsWellCounted h = AreCounted h.slots h.counts
 
+-- a home makes at most this many things
+abbrev pub most_things : ℕ
+most_things = 1048576
+
 -- no home has made more things than a home may make
 abbrev pub IsWithinLimit : Things → Type 0
-IsWithinLimit h = AreWithin 1048576 h.counts
+IsWithinLimit h = AreWithin most_things h.counts
 
 -- what has slots is something, and what is something has slots
 abbrev pub IsWellSorted : Things → Type 0

@@ -17,7 +17,7 @@ ghost use Rattle.lam_value.specs.Alike.{AreAlike};
 ghost use Rattle.lam_value.specs.Homes as homes;
 ghost use Rattle.lam_value.specs.Homes.{Home, home_of, home_eq, name_of, count_in, counted};
 ghost use Rattle.lam_value.specs.Shapes.{slots_of};
-ghost use Rattle.labelled_heap.specs.Things.{no_things, slots_at, with_slot, with_thing, with_copy, sort_of, IsSound, AreSeenAlike};
+ghost use Rattle.labelled_heap.specs.Things.{no_things, slots_at, with_slot, with_thing, with_copy, sort_of, most_things, IsSound, AreSeenAlike};
 ghost use Rattle.labelled_heap.specs.Seen.{row_at, thing_at, slots_in, written_in, AreRows};
 ghost use Rattle.labelled_heap.specs.declared.heap.HeapFault.TheVariants.{NoMemory as no_memory};
 
@@ -211,7 +211,7 @@ impl Heap {
     /// The number that the next thing of a home gets: how many it has made, at most `HOME_LIMIT`.
     pub fn next(&self, maker: &Label, own: &Label) -> u64
         ensures value { result ≡ count_in self.now.counts (home_of maker.now own.now) }
-        ensures bound { result ≤ 1048576 }
+        ensures bound { result ≤ most_things }
     {
         self.counters.next(maker, own)
     }
@@ -225,7 +225,7 @@ impl Heap {
         ensures name { IfOk result (λ n. n ≡ name_of (home_of maker.now own.now) (count_in self.old.counts (home_of maker.now own.now))) }
         ensures ok { OnOk result (self.new ≡ with_thing self.old (home_of maker.now own.now) (sort_of shape) (slots_of shape)) }
         ensures err { OnErr result (self.new ≡ self.old) }
-        ensures full { IsErrOf result HeapFault.HomeFull ↔ (count_in self.old.counts (home_of maker.now own.now) ≡ 1048576) }
+        ensures full { IsErrOf result HeapFault.HomeFull ↔ (count_in self.old.counts (home_of maker.now own.now) ≡ most_things) }
     {
         let number = self.next(maker, own);
         if number == HOME_LIMIT {
@@ -253,7 +253,7 @@ impl Heap {
         ensures name { IfOk result (λ n. n ≡ name_of (home_of maker.now own.now) (count_in self.old.counts (home_of maker.now own.now))) }
         ensures ok { OnOk result (self.new ≡ with_copy self.old r.now (home_of maker.now own.now)) }
         ensures err { OnErr result (self.new ≡ self.old) }
-        ensures full { IsErrOf result HeapFault.HomeFull ↔ (count_in self.old.counts (home_of maker.now own.now) ≡ 1048576) }
+        ensures full { IsErrOf result HeapFault.HomeFull ↔ (count_in self.old.counts (home_of maker.now own.now) ≡ most_things) }
     {
         let number = self.next(maker, own);
         if number == HOME_LIMIT {
@@ -470,7 +470,7 @@ fn add_thing(
 ) -> Result<Name, NoMemory>
     requires rows { AreRows rows.old }
     requires next { number ≡ count_in counters.old (home_of maker.now own.now) }
-    requires room { number < 1048576 }
+    requires room { number < most_things }
     ensures rows { AreRows rows.new }
     ensures name { IfOk result (λ n. n ≡ name_of (home_of maker.now own.now) number) }
     ensures things { OnOk result ((h : Home) → row_at rows.new.entries h ≡ cond (home_eq (home_of maker.now own.now) h) (row_at rows.old.entries (home_of maker.now own.now) ++ thing ∷ []) (row_at rows.old.entries h)) }
@@ -508,7 +508,7 @@ fn put_last(
     thing: Thing,
 ) -> Result<(), NoMemory>
     requires next { number ≡ count_in counters.old (home_of maker.now own.now) }
-    requires room { number < 1048576 }
+    requires room { number < most_things }
     ensures things { OnOk result (row.new.things.items ≡ row.old.things.items ++ thing ∷ []) }
     ensures counters { OnOk result (counters.new ≡ counted counters.old (home_of maker.now own.now)) }
     ensures same_things { OnErr result (row.new.things.items ≡ row.old.things.items) }
@@ -534,7 +534,7 @@ fn put_first(
 ) -> Result<(), NoMemory>
     requires rows { AreRows rows.old }
     requires next { number ≡ count_in counters.old home.now }
-    requires room { number < 1048576 }
+    requires room { number < most_things }
     ensures rows { AreRows rows.new }
     ensures things { OnOk result ((h : Home) → row_at rows.new.entries h ≡ cond (home_eq home.now h) (thing ∷ []) (row_at rows.old.entries h)) }
     ensures counters { OnOk result (counters.new ≡ counted counters.old home.now) }
@@ -565,7 +565,7 @@ fn take_number(
     number: u64,
 ) -> Result<Home, NoMemory>
     requires next { number ≡ count_in counters.old home.now }
-    requires room { number < 1048576 }
+    requires room { number < most_things }
     ensures home { IfOk result (λ h. h ≡ home.now) }
     ensures rows { rows.new.entries ≡ rows.old.entries }
     ensures unique { IsUnique home_eq rows.new }

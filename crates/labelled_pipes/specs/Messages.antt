@@ -2,7 +2,7 @@
 --
 -- Of the line whose front are the bytes `a`, before some capabilities, a receiver of bytes takes `a`, and one of
 -- capabilities takes nothing, although capabilities wait behind.
-use Rattle.std.specs.Prelude.{◌≡◌, Bool, true, false, cond, List, [], ◌∷◌, ◌++◌, length, nat_lt, Option, Some, None, codes, refl}
+use Rattle.std.specs.Prelude.{◌≡◌, ℕ, Bool, true, false, cond, List, [], ◌∷◌, ◌++◌, length, nat_lt, Option, Some, None, codes, refl}
 use Rattle.capabilities.specs.declared.Caps.{Caps as Capabilities}
 use Rattle.labelled_pipes.specs.declared.message.Message.{Message}
 use Rattle.labelled_pipes.specs.declared.message.Message.TheVariants.{Bytes, Caps}
@@ -19,9 +19,13 @@ is_of bytes_kind (Caps caps) = false
 is_of caps_kind (Bytes text) = false
 is_of caps_kind (Caps caps) = true
 
--- a message joins the end of a line in which fewer than 1,024 wait; else the line stays as it is
+-- in a line at most this many messages wait
+abbrev pub most_messages : ℕ
+most_messages = 1024
+
+-- a message joins the end of a line in which fewer wait; else the line stays as it is
 abbrev pub joined : Message → List Message → List Message
-joined m line = cond (nat_lt (length line) 1024) (line ++ m ∷ []) line
+joined m line = cond (nat_lt (length line) most_messages) (line ++ m ∷ []) line
 
 -- the front of a line, where it is of a kind: none of an empty line, and none of one whose front is of the other
 abbrev pub front_of : MessageKind → List Message → Option Message

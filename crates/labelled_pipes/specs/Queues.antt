@@ -1,5 +1,5 @@
 -- What pipes are seen as, and what their calls make of them.
-use Rattle.std.specs.Prelude.{◌≡◌, IsTrue, List, [], Option, Some, None, unwrap_or, refl}
+use Rattle.std.specs.Prelude.{◌≡◌, ℕ, IsTrue, List, [], Option, Some, None, unwrap_or, refl}
 use Rattle.std.specs.Coded.{Coded, code_by, coded×, coded_list}
 use Rattle.std.specs.FinMap as map
 use Rattle.std.specs.FinMap.{FinMap, get, insert}
@@ -57,9 +57,13 @@ with_pipe q home = record {
 abbrev pub IsWellCounted : Queues → Type 0
 IsWellCounted q = AreCounted q.waiting q.counts
 
+-- a home makes at most this many pipes
+abbrev pub most_pipes : ℕ
+most_pipes = 4096
+
 -- no home has made more pipes than a home may make
 abbrev pub IsWithinLimit : Queues → Type 0
-IsWithinLimit q = AreWithin 4096 q.counts
+IsWithinLimit q = AreWithin most_pipes q.counts
 
 pub record IsSound (q : Queues) : Type 0 where
   pub counted : IsWellCounted q

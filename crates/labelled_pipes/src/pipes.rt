@@ -13,7 +13,7 @@ ghost use Rattle.lam_value.specs.Homes.{home_of, name_of, count_in, counted};
 ghost use Rattle.lam_value.specs.declared.names.Name.{Name};
 ghost use Rattle.lam_value.specs.Names.{name_eq};
 ghost use Rattle.labelled_pipes.specs.Messages.{joined, front_of, rest_of};
-ghost use Rattle.labelled_pipes.specs.Queues.{no_pipes, waiting_at, with_pipe, with_sent, with_received, IsSound, AreSeenAlike};
+ghost use Rattle.labelled_pipes.specs.Queues.{no_pipes, waiting_at, with_pipe, with_sent, with_received, most_pipes, IsSound, AreSeenAlike};
 ghost use Rattle.labelled_pipes.specs.declared.pipes.PipeFault.TheVariants.{NoMemory as no_memory};
 
 use crate::message::{Message, MessageKind};
@@ -104,7 +104,7 @@ impl Pipes {
     /// The number that the next pipe of a home gets: how many it has made, at most `HOME_LIMIT`.
     pub fn next(&self, maker: &Label, own: &Label) -> u64
         ensures value { result ≡ count_in self.now.counts (home_of maker.now own.now) }
-        ensures bound { result ≤ 4096 }
+        ensures bound { result ≤ most_pipes }
     {
         self.counters.next(maker, own)
     }
@@ -118,7 +118,7 @@ impl Pipes {
         ensures name { IfOk result (λ n. n ≡ name_of (home_of maker.now own.now) (count_in self.old.counts (home_of maker.now own.now))) }
         ensures ok { OnOk result (self.new ≡ with_pipe self.old (home_of maker.now own.now)) }
         ensures err { OnErr result (self.new ≡ self.old) }
-        ensures full { IsErrOf result PipeFault.HomeFull ↔ (count_in self.old.counts (home_of maker.now own.now) ≡ 4096) }
+        ensures full { IsErrOf result PipeFault.HomeFull ↔ (count_in self.old.counts (home_of maker.now own.now) ≡ most_pipes) }
     {
         let number = self.next(maker, own);
         if number == HOME_LIMIT {
@@ -257,7 +257,7 @@ fn add_pipe(
     number: u64,
 ) -> Result<Name, NoMemory>
     requires next { number ≡ count_in counters.old (home_of maker.now own.now) }
-    requires room { number < 4096 }
+    requires room { number < most_pipes }
     ensures name { IfOk result (λ n. n ≡ name_of (home_of maker.now own.now) number) }
     ensures queues { OnOk result ((q : Name) → at_key name_eq queues.new q ≡ cond (name_eq (name_of (home_of maker.now own.now) number) q) (Some []) (at_key name_eq queues.old q)) }
     ensures counters { OnOk result (counters.new ≡ counted counters.old (home_of maker.now own.now)) }

@@ -78,9 +78,13 @@ listings r (q ∷ qs) = cond (eq_by_cmp name_cmp r q) 1 0 + listings r qs
 abbrev pub lowered : Held → Name → ℕ → List Name → ℕ
 lowered m r t rs = if is_free m r t then takings m r - listings r rs else takings m r
 
+-- a thread takes a monitor that it holds at most this often
+abbrev pub most_takings : ℕ
+most_takings = 1048576
+
 -- ---- what holds of all monitors: who holds one holds it once at least, and no more often than a thread may
 abbrev pub IsSound : Held → Type 0
-IsSound m = (r : Name) (h : Holder) → get m r ≡ Some h → (1 ≤ h.count) × (h.count ≤ 1048576)
+IsSound m = (r : Name) (h : Holder) → get m r ≡ Some h → (1 ≤ h.count) × (h.count ≤ most_takings)
 
 -- ---- what is equal in two where an observer sees: the monitors of things whose label flows to the observer's
 abbrev pub AreSeenAlike : Label → Held → Held → Type 0

@@ -15,7 +15,7 @@ ghost use Rattle.std.specs.FinMap as map;
 ghost use Rattle.std.specs.HashMap.{get as at_key};
 ghost use Rattle.lam_value.specs.declared.names.Name.{Name};
 ghost use Rattle.lam_value.specs.Names.{name_eq};
-ghost use Rattle.monitor_core.specs.Held.{is_free, count_of, takings, once_more, entered, left, dropped, lowered, one_less, IsSound, AreSeenAlike};
+ghost use Rattle.monitor_core.specs.Held.{is_free, count_of, takings, once_more, entered, left, dropped, lowered, one_less, most_takings, IsSound, AreSeenAlike};
 
 use flow_labels::{Label, NoMemory};
 use indexmap::IndexMap;
@@ -95,7 +95,7 @@ impl Monitors {
     /// `NoMemory` where memory is refused; the monitors are then as they were.
     pub fn enter(&mut self, r: &Name, thread: u32) -> Result<(), NoMemory>
         requires free { IsTrue (is_free self.old r.now thread) }
-        requires room { takings self.old r.now < 1048576 }
+        requires room { takings self.old r.now < most_takings }
         ensures ok { OnOk result (self.new ≡ entered self.old r.now thread) }
         ensures err { OnErr result (self.new ≡ self.old) }
     {
@@ -170,7 +170,7 @@ fn find_holder(holders: &IndexMap<Name, Holder>, r: &Name) -> Option<Holder>
 
 /// One entry of a thread. A monitor that is held keeps its name.
 fn take(holders: &mut IndexMap<Name, Holder>, r: &Name, thread: u32) -> Result<(), NoMemory>
-    requires { count_of (at_key name_eq holders.old r.now) < 1048576 }
+    requires { count_of (at_key name_eq holders.old r.now) < most_takings }
     ensures ok { OnOk result ((q : Name) → at_key name_eq holders.new q ≡ cond (name_eq r.now q) (Some (once_more (at_key name_eq holders.old r.now) thread)) (at_key name_eq holders.old q)) }
     ensures err { OnErr result ((q : Name) → at_key name_eq holders.new q ≡ at_key name_eq holders.old q) }
 {
