@@ -1,0 +1,9 @@
+pub mod Tables
+pub mod Settling
+pub mod Best
+pub mod Ending
+pub mod Lists
+pub mod Order
+pub mod Passing
+pub mod RoundFacts
+pub mod Breaking

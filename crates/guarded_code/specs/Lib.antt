@@ -1,0 +1,7 @@
+pub mod Rounds
+pub mod Descriptions
+pub mod Changes
+pub mod Breaks
+pub mod Says
+pub mod Facts
+pub mod Samples
