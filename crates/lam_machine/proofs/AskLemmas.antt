@@ -13,6 +13,7 @@ use Rattle.lam_asks.specs.declared.answer.What.TheVariants.{Asked}
 use Rattle.lam_bytecode.specs.Codes.{CodeTree}
 use Rattle.thread_steps.specs.Threads.{Context, Thread}
 use Rattle.thread_steps.specs.Next.{Next, asks, next_of, takes}
+use Rattle.lam_machine_terms.specs.Limits.{most_threads}
 use Rattle.lam_machine_terms.specs.Worlds.{World, contexts_in, contexts_at}
 use Rattle.lam_machine_terms.specs.Deeds as told
 use Rattle.lam_machine_terms.specs.Serving.{serve}
@@ -115,14 +116,14 @@ module _ (code : CodeTree) (s : Stores) (threads : List Thread) (t : ℕ) (a : A
   unfolding Fits
   fits d serves = same_effect (λ e. HasRoom t e s) (meaning d.effect) _ (does d serves).effect (room_row (world_of s threads) t asking.asking.top a asking.ready asking.living)
 
-  few_born : (d : Deed) → Serves (world_of s threads) t a d → length threads ≤ 4096 → length (with_born code d.effect threads) ≤ 4096
+  few_born : (d : Deed) → Serves (world_of s threads) t a d → length threads ≤ most_threads → length (with_born code d.effect threads) ≤ most_threads
   unfolding with_born
   few_born d serves k = born_few code d.effect threads (same_effect (λ e. HasSeat (length threads) e) (meaning d.effect) _ (does d serves).effect (seat_row (world_of s threads) asking.asking.top a)) k
 
-  pub few_after : (d : Deed) (after : List Thread) → Serves (world_of s threads) t a d → TookAt code (with_born code d.effect threads) t a d.answer after → length threads ≤ 4096 → length after ≤ 4096
+  pub few_after : (d : Deed) (after : List Thread) → Serves (world_of s threads) t a d → TookAt code (with_born code d.effect threads) t a d.answer after → length threads ≤ most_threads → length after ≤ most_threads
   few_after d after serves took k =
       let n : length after ≡ length (with_born code d.effect threads) = ap length took.list ∙ length-set (with_born code d.effect threads) t took.to in
-      let few : length (with_born code d.effect threads) ≤ 4096 = few_born d serves k in
+      let few : length (with_born code d.effect threads) ≤ most_threads = few_born d serves k in
       omega arith
 
   abbrev after_of : Deed → Thread

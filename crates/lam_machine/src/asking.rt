@@ -5,6 +5,7 @@ ghost use Rattle.std.specs.Option.{option_copied};
 ghost use Rattle.flow_labels.specs.declared.Label.{Label};
 ghost use Rattle.lam_asks.specs.declared.answer.What.TheVariants.{Asked};
 ghost use Rattle.thread_steps.specs.Threads.{Context as Plain};
+ghost use Rattle.lam_machine_terms.specs.Limits.{most_threads};
 ghost use Rattle.lam_machine_terms.specs.Worlds.{contexts_in};
 ghost use Rattle.lam_machine_effects.specs.Parts.{world_of};
 ghost use Rattle.lam_machine_turns.specs.Turned.{IsTurn};
@@ -54,10 +55,10 @@ pub fn take_ask(
     thread: u32,
     ask: &Ask,
 ) -> Result<Answer, NoMemory>
-    requires few { length threads.old.items ≤ 4096 }
+    requires few { length threads.old.items ≤ most_threads }
     requires asks { MayAsk code.now (world_of stores.old threads.old.items) thread ask.now }
     ensures ok { IfOk result (λ x. (l : Label) → l ≡ label_at (world_of stores.old threads.old.items) thread → IsTurn code.now thread (world_of stores.old threads.old.items) (record { label = l; thread = thread; what = Asked ask.now x }) (world_of stores.new threads.new.items)) }
-    ensures few { length threads.new.items ≤ 4096 }
+    ensures few { length threads.new.items ≤ most_threads }
     ensures same_stores { OnErr result (stores.new ≡ stores.old) }
     ensures same_threads { OnErr result (threads.new.items ≡ threads.old.items) }
 {
@@ -82,7 +83,7 @@ pub fn take_ask(
 
 /// What the ask of a thread is served by.
 fn served(stores: &Stores, threads: &[LamThread], thread: u32, ask: &Ask) -> Result<Deed, NoMemory>
-    requires few { length threads.now ≤ 4096 }
+    requires few { length threads.now ≤ most_threads }
     requires top { (c : Plain) × (slice_get (contexts_in (slice_get threads.now thread)) 0 ≡ Some c) }
     ensures { IfOk result (λ d. Serves (world_of stores.now threads.now) thread ask.now d) }
 {

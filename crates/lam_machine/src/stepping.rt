@@ -3,6 +3,7 @@
 ghost use Rattle.std.specs.Prelude.{◌≡◌, ◌≤◌, length, slice_get, IfOk, OnErr};
 ghost use Rattle.flow_labels.specs.declared.Label.{Label as LabelOf};
 ghost use Rattle.lam_machine_effects.specs.declared.stores.Stores.{Stores};
+ghost use Rattle.lam_machine_terms.specs.Limits.{most_threads};
 ghost use Rattle.lam_machine_terms.specs.Worlds.{contexts_in};
 ghost use Rattle.lam_machine_effects.specs.Parts.{world_of};
 ghost use Rattle.lam_machine.specs.Machine.{CopiesLive, IsStep};
@@ -46,10 +47,10 @@ fn take_step(
     code: &Code,
     thread: u32,
 ) -> Result<Option<Event>, NoMemory>
-    requires few { length threads.old.items ≤ 4096 }
+    requires few { length threads.old.items ≤ most_threads }
     requires living { CopiesLive code.now (world_of stores.old threads.old.items) thread }
     ensures ok { IfOk result (λ o. IsStep code.now thread (world_of stores.old threads.old.items) o (world_of stores.new threads.new.items)) }
-    ensures few { length threads.new.items ≤ 4096 }
+    ensures few { length threads.new.items ≤ most_threads }
     ensures same_stores { OnErr result (stores.new ≡ stores.old) }
     ensures same_threads { OnErr result (threads.new.items ≡ threads.old.items) }
 {
@@ -107,12 +108,12 @@ fn step_asking(
     thread: u32,
     ask: Ask,
 ) -> Result<Option<Event>, NoMemory>
-    requires few { length threads.old.items ≤ 4096 }
+    requires few { length threads.old.items ≤ most_threads }
     requires asks { AsksNext code.now (world_of stores.old threads.old.items) thread ask }
     requires living { CopiesLive code.now (world_of stores.old threads.old.items) thread }
     requires label { label ≡ label_at (world_of stores.old threads.old.items) thread }
     ensures ok { IfOk result (λ o. IsStep code.now thread (world_of stores.old threads.old.items) o (world_of stores.new threads.new.items)) }
-    ensures few { length threads.new.items ≤ 4096 }
+    ensures few { length threads.new.items ≤ most_threads }
     ensures same_stores { OnErr result (stores.new ≡ stores.old) }
     ensures same_threads { OnErr result (threads.new.items ≡ threads.old.items) }
 {
@@ -144,11 +145,11 @@ fn answer_ask(
     thread: u32,
     ask: &Ask,
 ) -> Result<Option<Answer>, NoMemory>
-    requires few { length threads.old.items ≤ 4096 }
+    requires few { length threads.old.items ≤ most_threads }
     requires asks { AsksNext code.now (world_of stores.old threads.old.items) thread ask.now }
     requires living { CopiesLive code.now (world_of stores.old threads.old.items) thread }
     ensures ok { IfOk result (λ x. (l : LabelOf) → l ≡ label_at (world_of stores.old threads.old.items) thread → IsStep code.now thread (world_of stores.old threads.old.items) (asked_event l thread ask.now x) (world_of stores.new threads.new.items)) }
-    ensures few { length threads.new.items ≤ 4096 }
+    ensures few { length threads.new.items ≤ most_threads }
     ensures same_stores { OnErr result (stores.new ≡ stores.old) }
     ensures same_threads { OnErr result (threads.new.items ≡ threads.old.items) }
 {

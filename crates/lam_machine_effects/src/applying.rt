@@ -4,9 +4,9 @@ ghost use Rattle.std.specs.Prelude.{ℕ, ◌≡◌, ◌<◌, ◌+◌, IsTrue, No
 ghost use Rattle.std.specs.FinMap.{contains_key};
 ghost use Rattle.lam_value.specs.Homes.{home_of, count_in};
 ghost use Rattle.lam_value.specs.Shapes.{slots_of};
-ghost use Rattle.labelled_heap.specs.Things.{sort_of, with_thing, with_copy, with_slot};
+ghost use Rattle.labelled_heap.specs.Things.{most_things, sort_of, with_thing, with_copy, with_slot};
 ghost use Rattle.labelled_files.specs.Trees.{first_fault, with_file, with_dir};
-ghost use Rattle.labelled_pipes.specs.Queues.{with_pipe, with_sent};
+ghost use Rattle.labelled_pipes.specs.Queues.{most_pipes, with_pipe, with_sent};
 ghost use Rattle.lam_machine_effects.specs.Groups.{is_read, is_of_files, is_of_monitors};
 ghost use Rattle.lam_machine_effects.specs.Meaning.{meaning, IsAfter};
 ghost use Rattle.lam_machine_effects.specs.Room.{HasRoom};
@@ -151,7 +151,7 @@ fn send(pipes: &mut Pipes, pipe: Name, message: Message) -> Result<(), NoMemory>
 }
 
 fn add_thing(heap: &mut Heap, maker: Label, own: Label, shape: Shape) -> Result<(), NoMemory>
-    requires { count_in heap.old.counts (home_of maker own) < 1048576 }
+    requires { count_in heap.old.counts (home_of maker own) < most_things }
     ensures ok { OnOk result (heap.new ≡ with_thing heap.old (home_of maker own) (sort_of shape) (slots_of shape)) }
     ensures err { OnErr result (heap.new ≡ heap.old) }
 {
@@ -164,7 +164,7 @@ fn add_thing(heap: &mut Heap, maker: Label, own: Label, shape: Shape) -> Result<
 
 fn add_copy(heap: &mut Heap, thing: &Name, maker: &Label, own: &Label) -> Result<(), NoMemory>
     requires lives { IsTrue (contains_key heap.old.slots thing.now) }
-    requires room { count_in heap.old.counts (home_of maker.now own.now) < 1048576 }
+    requires room { count_in heap.old.counts (home_of maker.now own.now) < most_things }
     ensures ok { OnOk result (heap.new ≡ with_copy heap.old thing.now (home_of maker.now own.now)) }
     ensures err { OnErr result (heap.new ≡ heap.old) }
 {
@@ -212,7 +212,7 @@ fn add_dir(
 }
 
 fn add_pipe(pipes: &mut Pipes, maker: &Label, own: &Label) -> Result<(), NoMemory>
-    requires { count_in pipes.old.counts (home_of maker.now own.now) < 4096 }
+    requires { count_in pipes.old.counts (home_of maker.now own.now) < most_pipes }
     ensures ok { OnOk result (pipes.new ≡ with_pipe pipes.old (home_of maker.now own.now)) }
     ensures err { OnErr result (pipes.new ≡ pipes.old) }
 {

@@ -7,7 +7,7 @@
 //! - `stores` has one of each store: what the threads of the machine share, with its copy.
 //! - `deed` has the deeds and the short ways to write them.
 //! - `effect` has the effects, and makes them of what an ask names.
-//! - `apply` applies them.
+//! - `applying` applies them.
 //!
 //! A world is its stores and its threads (`specs/Parts`). `specs/Meaning` says what deeds mean: an effect is one of the
 //! definitions', and `effect_of` there says what it does.

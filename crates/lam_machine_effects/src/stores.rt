@@ -1,5 +1,5 @@
-//! What the threads of the machine share: objects and arrays with their monitors, files and directories, pipes, and
-//! how many tags there are.
+//! What the threads of the machine share: objects and arrays with their monitors, files and directories, pipes, how
+//! many tags there are, and what is public.
 //!
 //! Each store stands in a crate of its own and says what its calls do. [`Stores`] has one of each. Threads stand
 //! beside it: a world of the machine is stores and threads (`specs/Parts`), so that a thread can be taken out and
@@ -12,6 +12,7 @@ ghost use Rattle.labelled_files.specs.Trees.{root_alone};
 ghost use Rattle.lam_machine_effects.specs.Parts.{first_stores};
 
 use crate::both::both;
+use capabilities::Caps;
 use flow_labels::TagNames;
 use labelled_files::Files;
 use labelled_heap::Heap;
@@ -28,6 +29,8 @@ pub const TAG_LIMIT: u64 = 65_536;
 pub struct Stores {
     /// The names of the first tags: that of tag n stands at place n.
     pub names: TagNames,
+    /// What every context counts as holding, by the kinds of the first tags.
+    pub public: Caps,
     /// How many tags there are: the number of the next one.
     pub tags: u64,
     pub heap: Heap,
@@ -37,18 +40,20 @@ pub struct Stores {
 }
 
 impl Stores {
-    /// The stores in which nothing was made: the root directory alone, and the tags that have names.
+    /// The stores in which nothing was made: the root directory alone, and the tags that have names, with what is
+    /// public.
     ///
     /// # Errors
     ///
     /// `NoMemory` where memory is refused.
-    pub fn new(alloc: Global, names: TagNames) -> Result<Stores, NoMemory>
-        ensures { IfOk result (λ s. s ≡ first_stores names) }
+    pub fn new(alloc: Global, names: TagNames, public: Caps) -> Result<Stores, NoMemory>
+        ensures { IfOk result (λ s. s ≡ first_stores names public) }
     {
         match Files::new(alloc) {
-            Ok(files) => Ok(with_files(alloc, names, files)),
+            Ok(files) => Ok(with_files(alloc, names, public, files)),
             Err(error) => {
                 drop(names);
+                drop(public);
                 Err(error)
             }
         }
@@ -62,14 +67,16 @@ impl Stores {
     pub fn copy(&self) -> Result<Stores, NoMemory>
         ensures { IfOk result (λ s. s ≡ self.now) }
     {
+        let tags = both(self.names.copy(), self.public.copy());
         let things = both(self.heap.copy(), self.monitors.copy());
         let streams = both(self.files.copy(), self.pipes.copy());
-        let (names, ((heap, monitors), (files, pipes))) = both(
-            self.names.copy(),
+        let ((names, public), ((heap, monitors), (files, pipes))) = both(
+            tags,
             both(things, streams),
         )?;
         Ok(Stores {
             names,
+            public,
             tags: self.tags,
             heap,
             monitors,
@@ -80,13 +87,14 @@ impl Stores {
 }
 
 /// The stores in which nothing was made but these files.
-fn with_files(alloc: Global, names: TagNames, files: Files) -> Stores
+fn with_files(alloc: Global, names: TagNames, public: Caps, files: Files) -> Stores
     requires { files ≡ root_alone }
-    ensures { result ≡ first_stores names }
+    ensures { result ≡ first_stores names public }
 {
     let tags = names.count();
     Stores {
         names,
+        public,
         tags,
         heap: Heap::new(alloc),
         monitors: Monitors::new(alloc),

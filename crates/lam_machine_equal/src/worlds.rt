@@ -33,11 +33,11 @@ fn same_stores(a: &Stores, b: &Stores) -> bool
     same_tags(a, b) && same_things(a, b)
 }
 
-/// Whether there are as many tags, with the same names.
+/// Whether there are as many tags, with the same names, and the same is public.
 fn same_tags(a: &Stores, b: &Stores) -> bool
-    ensures { IsTrue result ↔ ((a.now.tags ≡ b.now.tags) × (a.now.names ≡ b.now.names)) }
+    ensures { IsTrue result ↔ ((a.now.tags ≡ b.now.tags) × ((a.now.names ≡ b.now.names) × (a.now.public ≡ b.now.public))) }
 {
-    a.tags == b.tags && same_names(&a.names, &b.names)
+    a.tags == b.tags && same_names(&a.names, &b.names) && a.public.same(&b.public)
 }
 
 /// Whether all that was made is equal, and who holds each monitor.

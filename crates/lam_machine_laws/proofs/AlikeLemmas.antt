@@ -56,6 +56,7 @@ pub record AlikeThreads (o : Label) (xs ys : List Thread) : Type 0 where
   pub results : flows public_label o ≡ true → (t : ℕ) → SameResults (slice_get xs t) (slice_get ys t)
 
 pub record Alike (o : Label) (w u : World) : Type 0 where
+  pub public : w.public ≡ u.public
   pub heap : AlikeHeaps o w.heap u.heap
   pub monitors : SameNames o w.monitors u.monitors
   pub files : AlikeTrees o w.files u.files
@@ -81,9 +82,10 @@ counts_alike o m n same h = by (maker_seen o h) (same h)
 some_same : (m n : ℕ) → Some m ≡ Some n → m ≡ n
 some_same m n e = cc
 
-pub alike_by_view : (o : Label) (w u : World) → view o w ≡ view o u → Alike o w u
-alike_by_view o w u e =
+pub alike_by_view : (o : Label) (w u : World) → w.public ≡ u.public → view o w ≡ view o u → Alike o w u
+alike_by_view o w u public e =
     record {
+      public = public;
       heap = record {
         slots = seen_get name_total name_exact (own_seen o) w.heap.slots u.heap.slots (ap (λ v. v.slots) e);
         counts = λ h s. sym (counts_shown o w.heap.counts h s) ∙ ap (λ v. v.heap_counts h) e ∙ counts_shown o u.heap.counts h s;
@@ -127,6 +129,7 @@ view_by_alike o w u a =
 pub alike_refl : (o : Label) (w : World) → Alike o w w
 alike_refl o w =
     record {
+      public = refl;
       heap = record { slots = λ n s. refl; counts = λ n s. refl };
       monitors = λ n s. refl;
       files = record { dirs = λ n s. refl; files = λ n s. refl; counts = λ n s. refl };
@@ -138,6 +141,7 @@ alike_refl o w =
 pub alike_sym : (o : Label) (w u : World) → Alike o w u → Alike o u w
 alike_sym o w u a =
     record {
+      public = sym a.public;
       heap = record { slots = λ n s. sym (a.heap.slots n s); counts = λ n s. sym (a.heap.counts n s) };
       monitors = λ n s. sym (a.monitors n s);
       files = record { dirs = λ n s. sym (a.files.dirs n s); files = λ n s. sym (a.files.files n s); counts = λ n s. sym (a.files.counts n s) };
@@ -149,6 +153,7 @@ alike_sym o w u a =
 pub alike_trans : (o : Label) (w u v : World) → Alike o w u → Alike o u v → Alike o w v
 alike_trans o w u v a b =
     record {
+      public = a.public ∙ b.public;
       heap = record { slots = λ n s. a.heap.slots n s ∙ b.heap.slots n s; counts = λ n s. a.heap.counts n s ∙ b.heap.counts n s };
       monitors = λ n s. a.monitors n s ∙ b.monitors n s;
       files = record { dirs = λ n s. a.files.dirs n s ∙ b.files.dirs n s; files = λ n s. a.files.files n s ∙ b.files.files n s; counts = λ n s. a.files.counts n s ∙ b.files.counts n s };
@@ -160,19 +165,19 @@ alike_trans o w u v a b =
 -- ---- one store changes on both sides
 
 pub with_heaps : (o : Label) (w u : World) (h k : Things) → Alike o w u → AlikeHeaps o h k → Alike o (record w { heap = h }) (record u { heap = k })
-with_heaps o w u h k a b = record { heap = b; monitors = a.monitors; files = a.files; pipes = a.pipes; threads = a.threads; tags = a.tags }
+with_heaps o w u h k a b = record { public = a.public; heap = b; monitors = a.monitors; files = a.files; pipes = a.pipes; threads = a.threads; tags = a.tags }
 
 pub with_monitors : (o : Label) (w u : World) (m n : Held) → Alike o w u → SameNames o m n → Alike o (record w { monitors = m }) (record u { monitors = n })
-with_monitors o w u m n a b = record { heap = a.heap; monitors = b; files = a.files; pipes = a.pipes; threads = a.threads; tags = a.tags }
+with_monitors o w u m n a b = record { public = a.public; heap = a.heap; monitors = b; files = a.files; pipes = a.pipes; threads = a.threads; tags = a.tags }
 
 pub with_trees : (o : Label) (w u : World) (t s : Tree) → Alike o w u → AlikeTrees o t s → Alike o (record w { files = t }) (record u { files = s })
-with_trees o w u t s a b = record { heap = a.heap; monitors = a.monitors; files = b; pipes = a.pipes; threads = a.threads; tags = a.tags }
+with_trees o w u t s a b = record { public = a.public; heap = a.heap; monitors = a.monitors; files = b; pipes = a.pipes; threads = a.threads; tags = a.tags }
 
 pub with_queues : (o : Label) (w u : World) (q r : Queues) → Alike o w u → AlikeQueues o q r → Alike o (record w { pipes = q }) (record u { pipes = r })
-with_queues o w u q r a b = record { heap = a.heap; monitors = a.monitors; files = a.files; pipes = b; threads = a.threads; tags = a.tags }
+with_queues o w u q r a b = record { public = a.public; heap = a.heap; monitors = a.monitors; files = a.files; pipes = b; threads = a.threads; tags = a.tags }
 
 pub with_threads : (o : Label) (w u : World) (xs ys : List Thread) → Alike o w u → AlikeThreads o xs ys → Alike o (record w { threads = xs }) (record u { threads = ys })
-with_threads o w u xs ys a b = record { heap = a.heap; monitors = a.monitors; files = a.files; pipes = a.pipes; threads = b; tags = a.tags }
+with_threads o w u xs ys a b = record { public = a.public; heap = a.heap; monitors = a.monitors; files = a.files; pipes = a.pipes; threads = b; tags = a.tags }
 
 pub with_tags : (o : Label) (w u : World) (m n : ℕ) → Alike o w u → (flows public_label o ≡ true → m ≡ n) → Alike o (record w { next_tag = m }) (record u { next_tag = n })
-with_tags o w u m n a b = record { heap = a.heap; monitors = a.monitors; files = a.files; pipes = a.pipes; threads = a.threads; tags = b }
+with_tags o w u m n a b = record { public = a.public; heap = a.heap; monitors = a.monitors; files = a.files; pipes = a.pipes; threads = a.threads; tags = b }

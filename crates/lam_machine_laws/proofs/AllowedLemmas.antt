@@ -1,4 +1,4 @@
--- Each release passes the change rule, and uses what its context holds.
+-- Each release passes the change rule, and uses what its context holds or is public.
 use Rattle.std.proofs.Common.{◌≡◌, ℕ, ◌+◌, true, false, List, [], ◌∷◌, ◌++◌, Option, Some, None, refl, sym, ap, ◌∙◌, subst}
 use Rattle.std.proofs.Math.Bool.{true≢false}
 use Rattle.std.specs.FinSet.{difference, is_subset}
@@ -9,7 +9,7 @@ use Rattle.flow_labels.specs.declared.Rule.{Rule}
 use Rattle.flow_labels.specs.declared.Rule.TheVariants.{AddS, DropS, AddI, DropI, Caps as caps_rule}
 use Rattle.flow_labels.specs.Failing.{denied_or, first_failing, read_test}
 use Rattle.capabilities.specs.declared.Caps.{Caps}
-use Rattle.capabilities.specs.Changes.{MayChange, Covers, used, change_test, covers_test}
+use Rattle.capabilities.specs.Changes.{MayChange, Covers, joined, used, change_test, covers_test}
 use Rattle.lam_value.specs.declared.values.Value.{Value}
 use Rattle.lam_value.specs.Homes.{home_of, name_of, count_in}
 use Rattle.labelled_heap.specs.Things.{slots_at}
@@ -20,7 +20,7 @@ use Rattle.thread_steps.specs.Threads.{Context, Thread}
 use Rattle.thread_steps.specs.Next.{Next, goes, asks, stuck, next_of}
 use Rattle.lam_machine_terms.specs.Worlds.{World, contexts_in}
 use Rattle.lam_machine_terms.specs.Deeds.{Made, a_region, a_thing, made_label, Deed}
-use Rattle.lam_machine_terms.specs.Serving.{renamed, serve}
+use Rattle.lam_machine_terms.specs.Serving.{renamed, served_by, publicly, serve}
 use Rattle.lam_machine_terms.specs.Turns.{is_ready, Moment, served, turn_by}
 use Rattle.lam_machine_terms.specs.Views.{goes_down, is_release, used_by}
 use Rattle.lam_machine_laws.proofs.FlowLemmas.{each_passes}
@@ -75,7 +75,7 @@ none_made m e = absurd cc
 fair : (c : Context) (n m : Made) → first_failing (change_test c.caps c.label (made_label n)) ≡ None → Some n ≡ Some m → first_failing (change_test c.caps c.label (made_label m)) ≡ None
 fair c n m h e = subst (λ m. first_failing (change_test c.caps c.label (made_label m)) ≡ None) (some_inj n m e) h
 
-copy_fair : (w : World) (c : Context) (r : Value) (l : Label) → Fair c (serve w c (CopyTo r l))
+copy_fair : (w : World) (c : Context) (r : Value) (l : Label) → Fair c (served_by w c (CopyTo r l))
 copy_fair w c r l =
     on_thing_by (Fair c) r _
     (λ n e. under_by (Fair c) _ _
@@ -87,7 +87,7 @@ copy_fair w c r l =
     (λ x m q. none_made m q))
     (λ f m q. none_made m q)
 
-entry_fair : (w : World) (c : Context) (l : Label) (k : Caps) (region : ℕ) (args : List Value) → Fair c (serve w c (Enter l k region args))
+entry_fair : (w : World) (c : Context) (l : Label) (k : Caps) (region : ℕ) (args : List Value) → Fair c (served_by w c (Enter l k region args))
 entry_fair w c l k region args =
     under_by (Fair c) _ _
     (λ t.
@@ -98,30 +98,31 @@ entry_fair w c l k region args =
 no_release : (w : World) (c : Context) (a : Ask) (m : Made) {X : Type 0} → goes_down c.label (serve w c a).made ≡ false → (serve w c a).made ≡ Some m → goes_down c.label (Some m) ≡ true → X
 no_release w c a m above e down = absurd (true≢false (sym down ∙ ap (goes_down c.label) (sym e) ∙ above))
 
-fair_row : (w : World) (c : Context) (a : Ask) (m : Made) → (serve w c a).made ≡ Some m → goes_down c.label (Some m) ≡ true → first_failing (change_test c.caps c.label (made_label m)) ≡ None
-fair_row w c (CopyTo r l) m e down = copy_fair w c r l m e
-fair_row w c (Enter l k region args) m e down = entry_fair w c l k region args m e
+fair_row : (w : World) (c : Context) (a : Ask) (m : Made) → (serve w c a).made ≡ Some m → goes_down c.label (Some m) ≡ true → first_failing (change_test (joined c.caps w.public) c.label (made_label m)) ≡ None
+fair_row w c (CopyTo r l) m e down = copy_fair w (publicly w.public c) r l m e
+fair_row w c (Enter l k region args) m e down = entry_fair w (publicly w.public c) l k region args m e
 fair_row w c a m e down = no_release w c a m ((served_proper w c a).above refl) e down
 
 -- ---- turns
 
-allowed_made : (w : World) (t : ℕ) (c : Context) (a : Ask) (m : Moment) (x : Option Made) → m.event.label ≡ c.label → m.made ≡ x → (serve w c a).made ≡ x → goes_down c.label x ≡ true → IsAllowed c m
+allowed_made : (w : World) (t : ℕ) (c : Context) (a : Ask) (m : Moment) (x : Option Made) → m.event.label ≡ c.label → m.made ≡ x → (serve w c a).made ≡ x → goes_down c.label x ≡ true → IsAllowed w.public c m
 allowed_made w t c a m None l e d down = absurd (true≢false (sym down))
 allowed_made w t c a m (Some made) l e d down =
-    let may = change_passes c.caps c.label (made_label made) (fair_row w c a made d down) in
+    let k = joined c.caps w.public in
+    let may = change_passes k c.label (made_label made) (fair_row w c a made d down) in
     record {
       made = made;
       it = e;
       may = may;
       by = ap (λ p. used_by p m.made) l ∙ ap (used_by c.label) e;
-      held = used_held c.caps c.label (made_label made) may;
+      held = used_held k c.label (made_label made) may;
     }
 
-by_next : (code : CodeTree) (w : World) (t : ℕ) (th : Thread) (c : Context) (rest : List Context) (nx : Next) (m : Moment) → turn_by code w t th c rest nx ≡ Some m → is_release m ≡ true → IsAllowed c m
-by_next code w t th c rest (goes i) m h = subst (λ x. is_release x ≡ true → IsAllowed c x) (some_inj _ m h) (λ e. absurd (true≢false (sym e)))
+by_next : (code : CodeTree) (w : World) (t : ℕ) (th : Thread) (c : Context) (rest : List Context) (nx : Next) (m : Moment) → turn_by code w t th c rest nx ≡ Some m → is_release m ≡ true → IsAllowed w.public c m
+by_next code w t th c rest (goes i) m h = subst (λ x. is_release x ≡ true → IsAllowed w.public c x) (some_inj _ m h) (λ e. absurd (true≢false (sym e)))
 by_next code w t th c rest (asks a i) m h =
     let d = serve w c a in
-    subst (λ x. is_release x ≡ true → IsAllowed c x) (only (is_ready w t c a) (served code w t th c rest a i d) m h).1
+    subst (λ x. is_release x ≡ true → IsAllowed w.public c x) (only (is_ready w t c a) (served code w t th c rest a i d) m h).1
     (λ e. allowed_made w t c a (served code w t th c rest a i d) d.made refl refl refl e)
 by_next code w t th c rest stuck m h = absurd cc
 

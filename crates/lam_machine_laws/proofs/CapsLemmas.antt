@@ -3,11 +3,13 @@ use Rattle.std.proofs.Common.{◌≡◌, ℕ, zero, suc, List, [], ◌∷◌, �
 use Rattle.std.specs.Prelude.{map, slice_get}
 use Rattle.std.specs.List.{AllByRecursion}
 use Rattle.flow_labels.specs.Flow.{public_label}
-use Rattle.flow_labels.specs.Failing.{same_test}
+use Rattle.flow_labels.specs.declared.Denied.{Denied}
+use Rattle.flow_labels.specs.Failing.{first_failing, same_test}
 use Rattle.capabilities.specs.declared.Caps.{Caps}
-use Rattle.capabilities.specs.Changes.{Covers, change_test, covers_test}
+use Rattle.capabilities.specs.Changes.{Covers, joined, change_test, covers_test}
 use Rattle.lam_value.specs.declared.values.Value.{Value}
 use Rattle.lam_value.specs.declared.values.Value.TheVariants.{Tag, CapV}
+use Rattle.lam_asks.specs.declared.fault.Fault.{Fault}
 use Rattle.lam_asks.specs.declared.answer.Answer.{Answer}
 use Rattle.lam_asks.specs.declared.answer.Answer.TheVariants.{Done, Entered, Val, Refused, Failed}
 use Rattle.lam_asks.specs.declared.ask.Ask.{Ask}
@@ -16,13 +18,15 @@ use Rattle.lam_bytecode.specs.Codes.{CodeTree}
 use Rattle.thread_steps.specs.Threads.{Inside, Context, Thread}
 use Rattle.thread_steps.specs.Next.{Next, goes, asks, stuck, next_of, with_inside, given, gains, done, entered, started, takes}
 use Rattle.lam_machine_terms.specs.Worlds.{World, thread_at, contexts_in, contexts_at, with_thread}
-use Rattle.lam_machine_terms.specs.Deeds.{Effect, nothing, takes_tag, sets_slot, adds_thing, adds_copy, takes_monitor, gives_back, drops, adds_file, adds_dir, removes, appends, cuts, adds_pipe, sends, receives, adds_thread, effect_of, Deed}
-use Rattle.lam_machine_terms.specs.Serving.{serve}
+use Rattle.lam_machine_terms.specs.Deeds.{Effect, nothing, adds_thread, effect_of, Deed, answers}
+use Rattle.lam_machine_terms.specs.Serving.{served_by, publicly, serve}
 use Rattle.lam_machine_terms.specs.Turns.{is_ready, Moment, goes_on, served, turn_by}
 use Rattle.lam_machine_laws.proofs.FlowLemmas.{each_passes}
 use Rattle.lam_machine_laws.proofs.ThreadLemmas.{some_inj, there, front, answered_front}
-use Rattle.lam_machine_laws.proofs.RowLemmas.{under_by, unless_by, on_thing_by}
 use Rattle.lam_machine_laws.proofs.TurnLemmas.{acts, only}
+use Rattle.lam_machine_laws.proofs.JudgedLemmas.{judged_by}
+use Rattle.lam_machine_laws.specs.Judged.{deed_by}
+use Rattle.lam_machine_laws.specs.Tests.{tests_of}
 use Rattle.lam_machine_laws.specs.Laws.{granted, left_after, AreEntered, AreAfter, AreHeld, CapsDoNotGrow}
 use Rattle.lam_machine_laws.proofs.BackLemmas.{at_after, set_there, effect_threads, still_there}
 use Rattle.lam_machine_laws.proofs.AllowedLemmas.{covers_passes}
@@ -59,77 +63,56 @@ abbrev EntersBelow : Caps → Ask → Answer → Type 0
 EntersBelow k (ask.Enter l d r vs) x = CoversEntry k d x
 EntersBelow k a x = Unit {0}
 
-entered_caps : (code : CodeTree) (c : Context) (i : Inside) (a : Ask) → EntersBelow c.caps a Entered → AreEntered c.caps a (caps_in (entered code c [] i a))
-entered_caps code c i (ask.Enter l k r vs) h = (refl, h)
-entered_caps code c i a h = refl
+entered_caps : (public : Caps) (code : CodeTree) (c : Context) (i : Inside) (a : Ask) → EntersBelow (joined c.caps public) a Entered → AreEntered public c.caps a (caps_in (entered code c [] i a))
+entered_caps public code c i (ask.Enter l k r vs) h = (refl, h)
+entered_caps public code c i a h = refl
 
-front_caps : (code : CodeTree) (c : Context) (i : Inside) (a : Ask) (x : Answer) → EntersBelow c.caps a x → AreAfter c.caps a x (caps_in (front code c i a x))
-front_caps code c i a Done h = done_caps code c i a
-front_caps code c i a Entered h = entered_caps code c i a h
-front_caps code c i a (Val v) h = ap (λ k. k ∷ []) (gains_caps a v (given c i v))
-front_caps code c i a (Refused d) h = refl
-front_caps code c i a (Failed f) h = refl
+front_caps : (public : Caps) (code : CodeTree) (c : Context) (i : Inside) (a : Ask) (x : Answer) → EntersBelow (joined c.caps public) a x → AreAfter public c.caps a x (caps_in (front code c i a x))
+front_caps public code c i a Done h = done_caps code c i a
+front_caps public code c i a Entered h = entered_caps public code c i a h
+front_caps public code c i a (Val v) h = ap (λ k. k ∷ []) (gains_caps a v (given c i v))
+front_caps public code c i a (Refused d) h = refl
+front_caps public code c i a (Failed f) h = refl
 
 -- ---- rows
 
-abbrev EntersRight : Context → Caps → Deed → Type 0
-EntersRight c k d = CoversEntry c.caps k d.answer
+abbrev EntersRight : Caps → Ask → Deed → Type 0
+EntersRight k a d = EntersBelow k a d.answer
 
-entry_row : (w : World) (c : Context) (a : Ask) → EntersBelow c.caps a (serve w c a).answer
-entry_row w c (ask.Enter l k region args) =
-    under_by (EntersRight c k) _ _
-    (λ t. unless_by (EntersRight c k) _ _ (covers_passes c.caps k (each_passes (change_test c.caps c.label l) (covers_test c.caps k) t).1) (λ f. tt))
-    (λ x. tt)
-entry_row w c a = tt
+done_enters : (w : World) (c : Context) (a : Ask) → first_failing (tests_of c a) ≡ None → EntersRight c.caps a (deed_by w c a)
+done_enters w c (ask.Enter l k region args) e = covers_passes c.caps k (each_passes (change_test c.caps c.label l) (covers_test c.caps k) e).1
+done_enters w c a e = tt
+
+refused_enters : (k : Caps) (a : Ask) (x : Denied) → EntersRight k a (answers (Refused x))
+refused_enters k (ask.Enter l d r vs) x = tt
+refused_enters k a x = tt
+
+failed_enters : (k : Caps) (a : Ask) (f : Fault) → EntersRight k a (answers (Failed f))
+failed_enters k (ask.Enter l d r vs) f = tt
+failed_enters k a f = tt
+
+entry_row : (w : World) (c : Context) (a : Ask) → EntersRight c.caps a (served_by w c a)
+entry_row w c a = judged_by (EntersRight c.caps a) w c a (λ x e. refused_enters c.caps a x) (λ f e g. failed_enters c.caps a f) (λ e g. done_enters w c a e)
 
 -- the capabilities of a new thread are held
-abbrev Spawns : Context → Effect → Type 0
-Spawns c (adds_thread unit args caps) = Covers c.caps caps
-Spawns c e = Unit {0}
+abbrev Spawns : Caps → Effect → Type 0
+Spawns k (adds_thread unit args caps) = Covers k caps
+Spawns k e = Unit {0}
 
-abbrev SpawnsRight : Context → Deed → Type 0
-SpawnsRight c d = Spawns c d.effect
+abbrev SpawnsRight : Caps → Deed → Type 0
+SpawnsRight k d = Spawns k d.effect
 
-module _ (w : World) (c : Context) where
-  spawn_row : (a : Ask) → SpawnsRight c (serve w c a)
-  spawn_row (ask.Read r at) = on_thing_by (SpawnsRight c) r _ (λ n e. under_by (SpawnsRight c) _ _ (λ t. tt) (λ x. tt)) (λ f. tt)
-  spawn_row (ask.Write r at v) = on_thing_by (SpawnsRight c) r _ (λ n e. under_by (SpawnsRight c) _ _ (λ t. tt) (λ x. tt)) (λ f. tt)
-  spawn_row (ask.New shape) = unless_by (SpawnsRight c) _ _ tt (λ f. tt)
-  spawn_row (ask.CopyTo r l) = on_thing_by (SpawnsRight c) r _ (λ n e. under_by (SpawnsRight c) _ _ (λ t. unless_by (SpawnsRight c) _ _ tt (λ f. tt)) (λ x. tt)) (λ f. tt)
-  spawn_row ask.Mint = under_by (SpawnsRight c) _ _ (λ t. unless_by (SpawnsRight c) _ _ tt (λ f. tt)) (λ x. tt)
-  spawn_row (ask.Enter l k region args) = under_by (SpawnsRight c) _ _ (λ t. unless_by (SpawnsRight c) _ _ tt (λ f. tt)) (λ x. tt)
-  spawn_row ask.Leave = tt
-  spawn_row (ask.Barred denied) = tt
-  spawn_row (ask.Caught f) = tt
-  spawn_row (ask.Suppressed f) = tt
-  spawn_row (ask.End out) = tt
-  spawn_row (ask.MonEnter r) = on_thing_by (SpawnsRight c) r _ (λ n e. under_by (SpawnsRight c) _ _ (λ t. unless_by (SpawnsRight c) _ _ tt (λ f. tt)) (λ x. tt)) (λ f. tt)
-  spawn_row (ask.MonLeave r) = on_thing_by (SpawnsRight c) r _ (λ n e. tt) (λ f. tt)
-  spawn_row (ask.MakeFile d text l) = under_by (SpawnsRight c) _ _ (λ t. unless_by (SpawnsRight c) _ _ tt (λ f. tt)) (λ x. tt)
-  spawn_row (ask.MakeDir d text l) = under_by (SpawnsRight c) _ _ (λ t. unless_by (SpawnsRight c) _ _ tt (λ f. tt)) (λ x. tt)
-  spawn_row (ask.OpenFile d text) = under_by (SpawnsRight c) _ _ (λ t. tt) (λ x. tt)
-  spawn_row (ask.OpenDir d text) = under_by (SpawnsRight c) _ _ (λ t. tt) (λ x. tt)
-  spawn_row (ask.Remove d text) = under_by (SpawnsRight c) _ _ (λ t. unless_by (SpawnsRight c) _ _ tt (λ f. tt)) (λ x. tt)
-  spawn_row (ask.FileRead f at n) = under_by (SpawnsRight c) _ _ (λ t. tt) (λ x. tt)
-  spawn_row (ask.FileLength f) = under_by (SpawnsRight c) _ _ (λ t. tt) (λ x. tt)
-  spawn_row (ask.Append f bytes) = under_by (SpawnsRight c) _ _ (λ t. tt) (λ x. tt)
-  spawn_row (ask.Cut f len) = under_by (SpawnsRight c) _ _ (λ t. tt) (λ x. tt)
-  spawn_row (ask.MakePipe l) = under_by (SpawnsRight c) _ _ (λ t. unless_by (SpawnsRight c) _ _ tt (λ f. tt)) (λ x. tt)
-  spawn_row (ask.Send p bytes) = under_by (SpawnsRight c) _ _ (λ t. tt) (λ x. tt)
-  spawn_row (ask.SendCaps p caps) = under_by (SpawnsRight c) _ _ (λ t. tt) (λ x. tt)
-  spawn_row (ask.Receive p) = under_by (SpawnsRight c) _ _ (λ t. tt) (λ x. tt)
-  spawn_row (ask.ReceiveCaps p) = under_by (SpawnsRight c) _ _ (λ t. tt) (λ x. tt)
-  spawn_row (ask.Spawn unit args caps) =
-      under_by (SpawnsRight c) _ _
-      (λ t. unless_by (SpawnsRight c) _ _ (covers_passes c.caps caps (each_passes (same_test c.label public_label) (covers_test c.caps caps) t).1) (λ f. tt))
-      (λ x. tt)
-  spawn_row (ask.Join t) = under_by (SpawnsRight c) _ _ (λ e. tt) (λ x. tt)
-  spawn_row (ask.Say bytes) = tt
+done_spawns : (w : World) (c : Context) (a : Ask) → first_failing (tests_of c a) ≡ None → SpawnsRight c.caps (deed_by w c a)
+done_spawns w c (ask.Spawn unit args caps) e = covers_passes c.caps caps (each_passes (same_test c.label public_label) (covers_test c.caps caps) e).1
+done_spawns w c a e = tt
+
+spawn_row : (w : World) (c : Context) (a : Ask) → SpawnsRight c.caps (served_by w c a)
+spawn_row w c a = judged_by (SpawnsRight c.caps) w c a (λ x e. tt) (λ f e g. tt) (λ e g. done_spawns w c a e)
 
 -- ---- new threads
 
-abbrev AllCovered : Context → Option Thread → Type 0
-AllCovered c x = AllByRecursion (λ (d : Context). Covers c.caps d.caps) (contexts_in x)
+abbrev AllCovered : Caps → Option Thread → Type 0
+AllCovered k x = AllByRecursion (λ (d : Context). Covers k d.caps) (contexts_in x)
 
 grown_new : (P : Option Thread → Type 0) (xs : List Thread) (a : Thread) (j : ℕ) → slice_get xs j ≡ None → P None → P (Some a) → P (slice_get (xs ++ a ∷ []) j)
 grown_new P [] a zero e no_one new = new
@@ -137,27 +120,12 @@ grown_new P [] a (suc j) e no_one new = no_one
 grown_new P (x ∷ xs) a zero e no_one new = absurd cc
 grown_new P (x ∷ xs) a (suc j) e no_one new = grown_new P xs a j e no_one new
 
-nobody : (c : Context) (x : Option Thread) → x ≡ None → AllCovered c x
-nobody c x e = subst (AllCovered c) (sym e) tt
+nobody : (k : Caps) (x : Option Thread) → x ≡ None → AllCovered k x
+nobody k x e = subst (AllCovered k) (sym e) tt
 
-effect_covers : (code : CodeTree) (c : Context) (t : ℕ) (e : Effect) (w : World) (j : ℕ) → Spawns c e → thread_at w j ≡ None → AllCovered c (thread_at (effect_of code t e w) j)
-effect_covers code c t (adds_thread unit args caps) w j h n = grown_new (AllCovered c) w.threads (started code unit args caps) j n tt (h, tt)
-effect_covers code c t nothing w j h n = nobody c (thread_at w j) n
-effect_covers code c t takes_tag w j h n = nobody c (thread_at w j) n
-effect_covers code c t (sets_slot k at v) w j h n = nobody c (thread_at w j) n
-effect_covers code c t (adds_thing home sort xs) w j h n = nobody c (thread_at w j) n
-effect_covers code c t (adds_copy k home) w j h n = nobody c (thread_at w j) n
-effect_covers code c t (takes_monitor k) w j h n = nobody c (thread_at w j) n
-effect_covers code c t (gives_back k) w j h n = nobody c (thread_at w j) n
-effect_covers code c t (drops ns) w j h n = nobody c (thread_at w j) n
-effect_covers code c t (adds_file d text home) w j h n = nobody c (thread_at w j) n
-effect_covers code c t (adds_dir d text home) w j h n = nobody c (thread_at w j) n
-effect_covers code c t (removes d text) w j h n = nobody c (thread_at w j) n
-effect_covers code c t (appends f bytes) w j h n = nobody c (thread_at w j) n
-effect_covers code c t (cuts f len) w j h n = nobody c (thread_at w j) n
-effect_covers code c t (adds_pipe home) w j h n = nobody c (thread_at w j) n
-effect_covers code c t (sends p m) w j h n = nobody c (thread_at w j) n
-effect_covers code c t (receives p k) w j h n = nobody c (thread_at w j) n
+effect_covers : (code : CodeTree) (k : Caps) (t : ℕ) (e : Effect) (w : World) (j : ℕ) → Spawns k e → thread_at w j ≡ None → AllCovered k (thread_at (effect_of code t e w) j)
+effect_covers code k t (adds_thread unit args caps) w j h n = grown_new (AllCovered k) w.threads (started code unit args caps) j n tt (h, tt)
+effect_covers code k t e w j h n = nobody k (thread_at w j) n
 
 -- ---- turns
 
@@ -167,8 +135,8 @@ record Kept (code : CodeTree) (w : World) (t : ℕ) (c : Context) (rest : List C
   world : m.world ≡ effect_of code t effect (with_thread w t to)
   new : List Context
   form : to.contexts ≡ new ++ rest
-  caps : AreHeld c.caps m.event.what (caps_in new)
-  spawns : Spawns c effect
+  caps : AreHeld w.public c.caps m.event.what (caps_in new)
+  spawns : Spawns (joined c.caps w.public) effect
 
 kept_by : (code : CodeTree) (w : World) (t : ℕ) (th : Thread) (c : Context) (rest : List Context) (nx : Next) (m : Moment) → turn_by code w t th c rest nx ≡ Some m → Kept code w t c rest m
 kept_by code w t th c rest (goes i) m h =
@@ -183,8 +151,8 @@ kept_by code w t th c rest (asks a i) m h =
       world = refl;
       new = front code c i a d.answer;
       form = answered_front code c rest i a d.answer;
-      caps = front_caps code c i a d.answer (entry_row w c a);
-      spawns = spawn_row w c a;
+      caps = front_caps w.public code c i a d.answer (entry_row w (publicly w.public c) a);
+      spawns = spawn_row w (publicly w.public c) a;
     })
 kept_by code w t th c rest stuck m h = absurd cc
 
@@ -199,6 +167,7 @@ caps_stay code w t m h =
     let a = acts code w t m h in
     let k = kept_by code w t a.thread a.top a.rest (next_of code a.top) m a.gives in
     let u = with_thread w t k.to in
+    let held = joined a.top.caps w.public in
     let here = there (thread_at w t) a.thread a.at in
     let mine = effect_threads code t k.effect u t (still_there w t k.to t here) ∙ set_there t w.threads k.to here in
     record {
@@ -212,5 +181,5 @@ caps_stay code w t m h =
           ap (λ (v : World). contexts_at v j) k.world ∙ ap contexts_in (effect_threads code t k.effect u j (still_there w t k.to j is))
           ∙ at_after (λ x. contexts_in x ≡ contexts_at w j) t j w.threads k.to refl (λ s. absurd (other s));
       started = λ j none.
-          subst (λ (v : World). AllCovered a.top (thread_at v j)) (sym k.world) (effect_covers code a.top t k.effect u j k.spawns (still_none w t a.thread k.to j a.at none));
+          subst (λ (v : World). AllCovered held (thread_at v j)) (sym k.world) (effect_covers code held t k.effect u j k.spawns (still_none w t a.thread k.to j a.at none));
     }

@@ -5,6 +5,8 @@ pub mod EffectLemmas
 pub mod ThreadLemmas
 pub mod RowLemmas
 pub mod SameLemmas
+pub mod JudgedLemmas
+pub mod Full
 pub mod TurnLemmas
 pub mod DownLemmas
 pub mod WholeLemmas

@@ -2,11 +2,7 @@
 use Rattle.std.proofs.Common.{◌≡◌, ℕ, zero, suc, Bool, true, false, cond, List, [], ◌∷◌, ◌++◌, Option, Some, None, length, refl, sym, ap, subst, ◌∙◌, arith}
 use Rattle.std.specs.Prelude.{nat_eq, map, filter, slice_get, slice_set}
 use Rattle.std.proofs.lemmas.Bool.Decides.{nat_tests}
-use Rattle.flow_labels.specs.Failing.{Test}
-use Rattle.lam_value.specs.declared.names.Name.{Name}
-use Rattle.lam_value.specs.declared.values.Value.{Value}
 use Rattle.lam_value.specs.declared.values.Value.TheVariants as value
-use Rattle.lam_asks.specs.declared.fault.Fault.{Fault}
 use Rattle.lam_asks.specs.declared.answer.Answer.{Answer}
 use Rattle.lam_asks.specs.declared.answer.Answer.TheVariants.{Val}
 use Rattle.lam_asks.specs.declared.answer.What.{What}
@@ -17,12 +13,13 @@ use Rattle.lam_bytecode.specs.Codes.{CodeTree}
 use Rattle.thread_steps.specs.Threads.{Inside, Context, Thread}
 use Rattle.thread_steps.specs.Next.{Next, goes, asks, stuck, next_of, with_inside, takes, started}
 use Rattle.lam_machine_terms.specs.Worlds.{World, thread_at, with_thread}
-use Rattle.lam_machine_terms.specs.Deeds.{Effect, adds_thread, effect_of, Deed, under, unless, on_thing}
-use Rattle.lam_machine_terms.specs.Serving.{serve}
+use Rattle.lam_machine_terms.specs.Deeds.{Effect, adds_thread, effect_of, Deed}
+use Rattle.lam_machine_terms.specs.Serving.{served_by, publicly, serve}
 use Rattle.lam_machine_terms.specs.Turns.{is_ready, Moment, goes_on, served, turn_by, step, and_then, moments, left_by, replay}
 use Rattle.lam_machine_laws.proofs.ThreadLemmas.{some_inj, length-set}
-use Rattle.lam_machine_laws.proofs.RowLemmas.{under_by, unless_by, on_thing_by}
 use Rattle.lam_machine_laws.proofs.TurnLemmas.{acts, only, turn_thread}
+use Rattle.lam_machine_laws.proofs.JudgedLemmas.{judged_by}
+use Rattle.lam_machine_laws.specs.Judged.{deed_by}
 use Rattle.lam_machine_laws.specs.Own.{OwnTurn, IsSpawned, Touches, TurnsTouchTheirThread, done_by, OwnTurns, ComesFrom, ThreadsFollowTheirTurns}
 
 -- ---- lists of threads
@@ -66,50 +63,15 @@ abbrev SpawnsBy : World → Ask → Effect → Answer → Type 0
 SpawnsBy w a (adds_thread unit args caps) x = (a ≡ ask.Spawn unit args caps) × (x ≡ Val (value.Thread (length w.threads)))
 SpawnsBy w a e x = Unit {0}
 
-module _ (w : World) (c : Context) where
-  abbrev SpawnDeed : Ask → Deed → Type 0
-  SpawnDeed a d = SpawnsBy w a d.effect d.answer
+abbrev SpawnDeed : World → Ask → Deed → Type 0
+SpawnDeed w a d = SpawnsBy w a d.effect d.answer
 
-  ruled : (a : Ask) (t : Test) (d : Deed) → SpawnDeed a d → SpawnDeed a (under t d)
-  ruled a t d h = under_by (SpawnDeed a) t d (λ x. h) (λ x. tt)
+done_spawn : (w : World) (c : Context) (a : Ask) → SpawnDeed w a (deed_by w c a)
+done_spawn w c (ask.Spawn unit args caps) = (refl, refl)
+done_spawn w c a = tt
 
-  unfailing : (a : Ask) (f : Option Fault) (d : Deed) → SpawnDeed a d → SpawnDeed a (unless f d)
-  unfailing a f d h = unless_by (SpawnDeed a) f d h (λ x. tt)
-
-  leading : (a : Ask) (r : Value) (go : Name → Deed) → ((n : Name) → SpawnDeed a (go n)) → SpawnDeed a (on_thing r go)
-  leading a r go h = on_thing_by (SpawnDeed a) r go (λ n e. h n) (λ x. tt)
-
-  spawn_row : (a : Ask) → SpawnDeed a (serve w c a)
-  spawn_row (ask.Read r at) = leading (ask.Read r at) r _ (λ n. ruled (ask.Read r at) _ _ tt)
-  spawn_row (ask.Write r at v) = leading (ask.Write r at v) r _ (λ n. ruled (ask.Write r at v) _ _ tt)
-  spawn_row (ask.New shape) = unfailing (ask.New shape) _ _ tt
-  spawn_row (ask.CopyTo r l) = leading (ask.CopyTo r l) r _ (λ n. ruled (ask.CopyTo r l) _ _ (unfailing (ask.CopyTo r l) _ _ tt))
-  spawn_row ask.Mint = ruled ask.Mint _ _ (unfailing ask.Mint _ _ tt)
-  spawn_row (ask.Enter l k region args) = ruled (ask.Enter l k region args) _ _ (unfailing (ask.Enter l k region args) _ _ tt)
-  spawn_row ask.Leave = tt
-  spawn_row (ask.Barred denied) = tt
-  spawn_row (ask.Caught f) = tt
-  spawn_row (ask.Suppressed f) = tt
-  spawn_row (ask.End out) = tt
-  spawn_row (ask.MonEnter r) = leading (ask.MonEnter r) r _ (λ n. ruled (ask.MonEnter r) _ _ (unfailing (ask.MonEnter r) _ _ tt))
-  spawn_row (ask.MonLeave r) = leading (ask.MonLeave r) r _ (λ n. tt)
-  spawn_row (ask.MakeFile d text l) = ruled (ask.MakeFile d text l) _ _ (unfailing (ask.MakeFile d text l) _ _ tt)
-  spawn_row (ask.MakeDir d text l) = ruled (ask.MakeDir d text l) _ _ (unfailing (ask.MakeDir d text l) _ _ tt)
-  spawn_row (ask.OpenFile d text) = ruled (ask.OpenFile d text) _ _ tt
-  spawn_row (ask.OpenDir d text) = ruled (ask.OpenDir d text) _ _ tt
-  spawn_row (ask.Remove d text) = ruled (ask.Remove d text) _ _ (unfailing (ask.Remove d text) _ _ tt)
-  spawn_row (ask.FileRead f at n) = ruled (ask.FileRead f at n) _ _ tt
-  spawn_row (ask.FileLength f) = ruled (ask.FileLength f) _ _ tt
-  spawn_row (ask.Append f bytes) = ruled (ask.Append f bytes) _ _ tt
-  spawn_row (ask.Cut f len) = ruled (ask.Cut f len) _ _ tt
-  spawn_row (ask.MakePipe l) = ruled (ask.MakePipe l) _ _ (unfailing (ask.MakePipe l) _ _ tt)
-  spawn_row (ask.Send p bytes) = ruled (ask.Send p bytes) _ _ tt
-  spawn_row (ask.SendCaps p caps) = ruled (ask.SendCaps p caps) _ _ tt
-  spawn_row (ask.Receive p) = ruled (ask.Receive p) _ _ tt
-  spawn_row (ask.ReceiveCaps p) = ruled (ask.ReceiveCaps p) _ _ tt
-  spawn_row (ask.Spawn unit args caps) = ruled (ask.Spawn unit args caps) _ _ (unfailing (ask.Spawn unit args caps) _ _ (refl, refl))
-  spawn_row (ask.Join u) = ruled (ask.Join u) _ _ tt
-  spawn_row (ask.Say bytes) = tt
+spawn_row : (w : World) (c : Context) (a : Ask) → SpawnDeed w a (served_by w c a)
+spawn_row w c a = judged_by (SpawnDeed w a) w c a (λ x e. tt) (λ f e g. tt) (λ e g. done_spawn w c a)
 
 -- ---- one turn
 
@@ -156,7 +118,7 @@ module _ (code : CodeTree) (w : World) (t : ℕ) (th : Thread) (c : Context) (re
         then_at = effect_keeps code t d.effect between t to (set_here t w.threads to th at);
         own = record { top = c; rest = rest; list = list; turns = (i, e, refl) };
         others = λ u b apart h. effect_keeps code t d.effect between u b (set_apart t u w.threads to apart ∙ h);
-        new = λ u b none h. started_by code w t to d.effect a d.answer (spawn_row w c a) u b none h;
+        new = λ u b none h. started_by code w t to d.effect a d.answer (spawn_row w (publicly w.public c) a) u b none h;
       }
 
   next_touches : (nx : Next) (m : Moment) → next_of code c ≡ nx → turn_by code w t th c rest nx ≡ Some m → Touches code w t m

@@ -1,29 +1,27 @@
 -- Where an ask is refused, and that a refusal or a failure changes nothing.
-use Rattle.std.proofs.Common.{◌≡◌, ℕ, List, [], ◌∷◌, Option, Some, None, refl, sym, ap, ◌∙◌, subst}
+use Rattle.std.proofs.Common.{◌≡◌, ℕ, List, ◌∷◌, Option, Some, None, refl, sym, ap, ◌∙◌, subst}
 use Rattle.flow_labels.specs.declared.Denied.{Denied}
-use Rattle.flow_labels.specs.Failing.{Test, first_failing}
-use Rattle.lam_value.specs.declared.names.Name.{Name}
-use Rattle.lam_value.specs.declared.values.Value.{Value}
-use Rattle.lam_value.specs.declared.values.Value.TheVariants.{Obj, Arr}
+use Rattle.flow_labels.specs.Failing.{first_failing}
 use Rattle.lam_asks.specs.declared.fault.Fault.{Fault}
 use Rattle.lam_asks.specs.declared.fault.Fault.TheVariants as fault
 use Rattle.lam_asks.specs.declared.answer.Outcome.{Outcome}
-use Rattle.lam_asks.specs.declared.answer.Outcome.TheVariants as outcome
 use Rattle.lam_asks.specs.declared.answer.Answer.{Answer}
 use Rattle.lam_asks.specs.declared.answer.Answer.TheVariants.{Done, Entered, Val, Refused, Failed}
 use Rattle.lam_asks.specs.declared.answer.What.TheVariants.{Asked}
 use Rattle.lam_asks.specs.declared.ask.Ask.{Ask}
-use Rattle.lam_asks.specs.declared.ask.Ask.TheVariants.{Read, Write, New, CopyTo, Mint, Enter, Leave, Barred, Caught, Suppressed, MonEnter, MonLeave, MakeFile, MakeDir, OpenFile, OpenDir, Remove, FileRead, FileLength, Append, Cut, MakePipe, Send, SendCaps, Receive, ReceiveCaps, Spawn, Join, Say, End}
+use Rattle.lam_asks.specs.declared.ask.Ask.TheVariants.{Leave, End}
 use Rattle.lam_bytecode.specs.Codes.{CodeTree}
 use Rattle.thread_steps.specs.Threads.{Inside, Context, Thread}
 use Rattle.thread_steps.specs.Next.{Next, goes, asks, stuck, next_of, with_inside, faulted, takes, result_after}
 use Rattle.lam_machine_terms.specs.Worlds.{World, thread_at, with_thread}
-use Rattle.lam_machine_terms.specs.Deeds.{Effect, nothing, effect_of, Made, Deed, answers, does, gives, makes, unless_denied, under, unless, on_thing}
-use Rattle.lam_machine_terms.specs.Serving.{opened, joined, serve}
+use Rattle.lam_machine_terms.specs.Deeds.{nothing, effect_of, Deed}
+use Rattle.lam_machine_terms.specs.Serving.{served_by, publicly, serve}
 use Rattle.lam_machine_terms.specs.Turns.{is_ready, Moment, goes_on, served, turn_by}
 use Rattle.lam_machine_laws.proofs.ThreadLemmas.{some_inj}
 use Rattle.lam_machine_laws.proofs.TurnLemmas.{acts, only}
-use Rattle.lam_machine_laws.specs.Tests.{of_thing, tests_of, RefusalsNameTheFirst, OnlyFaults, RefusalsChangeNothing}
+use Rattle.lam_machine_laws.proofs.JudgedLemmas.{judged_by}
+use Rattle.lam_machine_laws.specs.Judged.{deed_by}
+use Rattle.lam_machine_laws.specs.Tests.{tests_of, RefusalsNameTheFirst, OnlyFaults, RefusalsChangeNothing}
 
 -- a refusal and a failure have no effect and make nothing, and an outcome is not written by them
 abbrev Quiet : Answer → Deed → Type 0
@@ -33,112 +31,51 @@ Quiet (Val v) d = Unit {0}
 Quiet (Refused x) d = (d.effect ≡ nothing) × (d.made ≡ None)
 Quiet (Failed f) d = (d.effect ≡ nothing) × (d.made ≡ None)
 
-record NeverRefuses (d : Deed) : Type 0 where
-  never : (x : Denied) → d.answer ≡ Refused x → ⊥
-  quiet : Quiet d.answer d
+-- what is done is neither a refusal nor a failure
+abbrev IsDone : Answer → Type 0
+IsDone Done = Unit {0}
+IsDone Entered = Unit {0}
+IsDone (Val v) = Unit {0}
+IsDone (Refused x) = ⊥
+IsDone (Failed f) = ⊥
 
-record IsRuled (t : Test) (d : Deed) : Type 0 where
-  to : (x : Denied) → d.answer ≡ Refused x → first_failing t ≡ Some x
-  back : (x : Denied) → first_failing t ≡ Some x → d.answer ≡ Refused x
-  quiet : Quiet d.answer d
+done_done : (w : World) (c : Context) (a : Ask) → IsDone (deed_by w c a).answer
+done_done w c Leave = tt
+done_done w c a = tt
 
-done_never : (e : Effect) → NeverRefuses (does e)
-done_never e = record { never = λ x q. cc; quiet = tt }
+done_quiet : (x : Answer) (d : Deed) → IsDone x → Quiet x d
+done_quiet (Refused x) d h = absurd h
+done_quiet (Failed f) d h = absurd h
+done_quiet x d h = tt
 
-gives_never : (v : Value) (e : Effect) → NeverRefuses (gives v e)
-gives_never v e = record { never = λ x q. cc; quiet = tt }
-
-makes_never : (v : Value) (e : Effect) (m : Made) → NeverRefuses (makes v e m)
-makes_never v e m = record { never = λ x q. cc; quiet = tt }
-
-value_never : (v : Value) → NeverRefuses (answers (Val v))
-value_never v = record { never = λ x q. cc; quiet = tt }
-
-failed_never : (f : Fault) → NeverRefuses (answers (Failed f))
-failed_never f = record { never = λ x q. cc; quiet = (refl, refl) }
-
-opened_never : (refer : Name → Value) (x : Option Name) → NeverRefuses (answers (opened refer x))
-opened_never refer None = failed_never fault.NoEntry
-opened_never refer (Some n) = value_never (refer n)
-
-joined_never : (x : Option Outcome) → NeverRefuses (answers (joined x))
-joined_never None = failed_never fault.Child
-joined_never (Some (outcome.Value v)) = value_never v
-joined_never (Some (outcome.Failed f)) = failed_never fault.Child
-
-unless_never : (x : Option Fault) (d : Deed) → NeverRefuses d → NeverRefuses (unless x d)
-unfolding unless
-unless_never None d h = h
-unless_never (Some f) d h = failed_never f
+done_never : (y : Answer) (x : Denied) → IsDone y → y ≡ Refused x → ⊥
+done_never y x h e = subst IsDone e h
 
 refused_inj : (x y : Denied) → Refused x ≡ Refused y → x ≡ y
 refused_inj x y e = cc
 
-under_ruled : (t : Test) (d : Deed) → NeverRefuses d → IsRuled t (under t d)
-unfolding under
-under_ruled t d h = go (first_failing t) refl
-  where
-    go : (y : Option Denied) → first_failing t ≡ y → IsRuled t (unless_denied y d)
-    go None e = record { to = λ x q. absurd (h.never x q); back = λ x q. absurd (let both : None ≡ Some x = sym e ∙ q in cc); quiet = h.quiet }
-    go (Some y) e =
-        record {
-          to = λ x q. e ∙ ap Some (refused_inj y x q);
-          back = λ x q. ap Refused (some_inj y x (sym e ∙ q));
-          quiet = (refl, refl);
-        }
+none_some : {X : Type 0} (y : Option Denied) (x : Denied) → y ≡ None → y ≡ Some x → X
+none_some y x e q = let both : None ≡ Some x = sym e ∙ q in absurd cc
 
-free_ruled : (d : Deed) → NeverRefuses d → IsRuled [] d
-free_ruled d h = record { to = λ x q. absurd (h.never x q); back = λ x q. absurd cc; quiet = h.quiet }
+quiet_row : (w : World) (c : Context) (a : Ask) → Quiet (served_by w c a).answer (served_by w c a)
+quiet_row w c a =
+    let d = deed_by w c a in
+    judged_by (λ (d : Deed). Quiet d.answer d) w c a (λ x e. (refl, refl)) (λ f e g. (refl, refl)) (λ e g. done_quiet d.answer d (done_done w c a))
 
-thing_ruled : (r : Value) (test : Name → Test) (go : Name → Deed) → ((n : Name) → IsRuled (test n) (go n)) → IsRuled (of_thing r test) (on_thing r go)
-unfolding on_thing
-thing_ruled (Obj n) test go h = h n
-thing_ruled (Arr n len) test go h = h n
-thing_ruled v test go h = free_ruled _ (failed_never fault.Null)
+-- where an ask is refused, and where one of its tests fails
+to_rule : (w : World) (c : Context) (a : Ask) (x : Denied) → (served_by w c a).answer ≡ Refused x → first_failing (tests_of c a) ≡ Some x
+to_rule w c a x =
+    judged_by (λ (d : Deed). d.answer ≡ Refused x → first_failing (tests_of c a) ≡ Some x) w c a
+    (λ y e q. e ∙ ap Some (refused_inj y x q)) (λ f e g q. absurd cc) (λ e g q. absurd (done_never (deed_by w c a).answer x (done_done w c a) q))
 
-thing_free : (r : Value) (go : Name → Deed) → ((n : Name) → NeverRefuses (go n)) → NeverRefuses (on_thing r go)
-unfolding on_thing
-thing_free (Obj n) go h = h n
-thing_free (Arr n len) go h = h n
-thing_free v go h = failed_never fault.Null
-
-nothing_done : NeverRefuses (answers Done)
-nothing_done = record { never = λ x q. cc; quiet = tt }
-
-ruled_row : (w : World) (c : Context) (a : Ask) → IsRuled (tests_of c a) (serve w c a)
-ruled_row w c (Read r at) = thing_ruled r _ _ (λ n. under_ruled _ _ (value_never _))
-ruled_row w c (Write r at v) = thing_ruled r _ _ (λ n. under_ruled _ _ (done_never _))
-ruled_row w c (New shape) = free_ruled _ (unless_never _ _ (makes_never _ _ _))
-ruled_row w c (CopyTo r l) = thing_ruled r _ _ (λ n. under_ruled _ _ (unless_never _ _ (makes_never _ _ _)))
-ruled_row w c Mint = under_ruled _ _ (unless_never _ _ (gives_never _ _))
-ruled_row w c (Enter l k region args) = under_ruled _ _ (unless_never _ _ (record { never = λ x q. cc; quiet = tt }))
-ruled_row w c Leave = free_ruled _ nothing_done
-ruled_row w c (Barred denied) = free_ruled _ nothing_done
-ruled_row w c (Caught f) = free_ruled _ (done_never _)
-ruled_row w c (Suppressed f) = free_ruled _ (done_never _)
-ruled_row w c (End out) = free_ruled _ (done_never _)
-ruled_row w c (MonEnter r) = thing_ruled r _ _ (λ n. under_ruled _ _ (unless_never _ _ (done_never _)))
-ruled_row w c (MonLeave r) = free_ruled _ (thing_free r _ (λ n. done_never _))
-ruled_row w c (MakeFile d text l) = under_ruled _ _ (unless_never _ _ (makes_never _ _ _))
-ruled_row w c (MakeDir d text l) = under_ruled _ _ (unless_never _ _ (makes_never _ _ _))
-ruled_row w c (OpenFile d text) = under_ruled _ _ (opened_never _ _)
-ruled_row w c (OpenDir d text) = under_ruled _ _ (opened_never _ _)
-ruled_row w c (Remove d text) = under_ruled _ _ (unless_never _ _ (done_never _))
-ruled_row w c (FileRead f at n) = under_ruled _ _ (value_never _)
-ruled_row w c (FileLength f) = under_ruled _ _ (value_never _)
-ruled_row w c (Append f bytes) = under_ruled _ _ (done_never _)
-ruled_row w c (Cut f len) = under_ruled _ _ (done_never _)
-ruled_row w c (MakePipe l) = under_ruled _ _ (unless_never _ _ (makes_never _ _ _))
-ruled_row w c (Send p bytes) = under_ruled _ _ (done_never _)
-ruled_row w c (SendCaps p caps) = under_ruled _ _ (done_never _)
-ruled_row w c (Receive p) = under_ruled _ _ (gives_never _ _)
-ruled_row w c (ReceiveCaps p) = under_ruled _ _ (gives_never _ _)
-ruled_row w c (Spawn unit args caps) = under_ruled _ _ (unless_never _ _ (makes_never _ _ _))
-ruled_row w c (Join t) = under_ruled _ _ (joined_never _)
-ruled_row w c (Say bytes) = free_ruled _ nothing_done
+by_rule : (w : World) (c : Context) (a : Ask) (x : Denied) → first_failing (tests_of c a) ≡ Some x → (served_by w c a).answer ≡ Refused x
+by_rule w c a x =
+    let t = first_failing (tests_of c a) in
+    judged_by (λ (d : Deed). t ≡ Some x → d.answer ≡ Refused x) w c a
+    (λ y e q. ap Refused (some_inj y x (sym e ∙ q))) (λ f e g q. none_some t x e q) (λ e g q. none_some t x e q)
 
 pub name_the_first : RefusalsNameTheFirst
-name_the_first w c a x = let h = ruled_row w c a in (h.to x, h.back x)
+name_the_first w c a x = let d = publicly w.public c in (to_rule w d a x, by_rule w d a x)
 
 -- ---- nothing else changes
 
@@ -186,7 +123,7 @@ module _ (code : CodeTree) (w : World) (t : ℕ) (th : Thread) (c : Context) (re
   unfolding faulty
   only_refused b i x e =
       let d = serve w c b in
-      let q = quiet_refused d.answer d x (ruled_row w c b).quiet e in
+      let q = quiet_refused d.answer d x (quiet_row w (publicly w.public c) b) e in
       record {
         thread = th;
         top = c;
@@ -204,7 +141,7 @@ module _ (code : CodeTree) (w : World) (t : ℕ) (th : Thread) (c : Context) (re
   unfolding faulty
   only_failed b i f e =
       let d = serve w c b in
-      let q = quiet_failed d.answer d f (ruled_row w c b).quiet e in
+      let q = quiet_failed d.answer d f (quiet_row w (publicly w.public c) b) e in
       record {
         thread = th;
         top = c;

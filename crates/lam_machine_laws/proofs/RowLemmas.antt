@@ -7,7 +7,8 @@ use Rattle.flow_labels.specs.declared.Label.{Label}
 use Rattle.flow_labels.specs.declared.Denied.{Denied}
 use Rattle.flow_labels.specs.Flow.{flows, public_label}
 use Rattle.flow_labels.specs.Failing.{Test, first_failing, read_test, write_test, same_test}
-use Rattle.capabilities.specs.Changes.{change_test, covers_test}
+use Rattle.capabilities.specs.declared.Caps.{Caps}
+use Rattle.capabilities.specs.Changes.{joined, change_test, covers_test}
 use Rattle.lam_value.specs.declared.names.Name.{Name}
 use Rattle.lam_value.specs.declared.values.Value.{Value}
 use Rattle.lam_value.specs.declared.values.Value.TheVariants.{Obj, Arr}
@@ -27,7 +28,7 @@ use Rattle.lam_asks.specs.declared.ask.Ask.TheVariants.{Read, Write, New, CopyTo
 use Rattle.thread_steps.specs.Threads.{Context}
 use Rattle.lam_machine_terms.specs.Worlds.{World}
 use Rattle.lam_machine_terms.specs.Deeds.{Effect, takes_tag, sets_slot, adds_thing, adds_copy, takes_monitor, gives_back, drops, adds_file, adds_dir, removes, appends, cuts, sends, receives, Made, a_thing, a_file, a_dir, made_label, Deed, answers, does, gives, makes, unless_denied, under, unless, on_thing}
-use Rattle.lam_machine_terms.specs.Serving.{reference, renamed, opened, joined, creates, serve}
+use Rattle.lam_machine_terms.specs.Serving.{reference, renamed, opened, ended_with, creates, serve}
 use Rattle.lam_machine_terms.specs.Turns.{may_ask, lists}
 use Rattle.lam_machine_terms.specs.Views.{goes_down}
 use Rattle.lam_machine_laws.proofs.FlowLemmas.{flows_refl, flows_trans, hidden_up, each_passes, read_passes, write_passes, same_passes, mint_passes}
@@ -128,7 +129,7 @@ opened_proper : (w : World) (c : Context) (a : Ask) (refer : Name → Value) (x 
 opened_proper w c a refer None = record { fits = tt; own = tt; above = λ e. refl; openly = λ o s. tt; hidden = λ s may o h. tt }
 opened_proper w c a refer (Some n) = given w c a (refer n)
 
-joined_proper : (w : World) (c : Context) (a : Ask) (x : Option Outcome) → IsProper w c a (answers (joined x))
+joined_proper : (w : World) (c : Context) (a : Ask) (x : Option Outcome) → IsProper w c a (answers (ended_with x))
 joined_proper w c a None = failed w c a Child
 joined_proper w c a (Some (outcome.Value v)) = given w c a v
 joined_proper w c a (Some (outcome.Failed f)) = failed w c a Child
@@ -159,6 +160,10 @@ placed_proper w c a d l v e m label region openly hid into above =
 true_is : {X : Type 0} → true ≡ false → X
 true_is e = absurd (true≢false e)
 
+-- what a context counts as holding
+abbrev holding : World → Context → Caps
+holding w c = joined c.caps w.public
+
 pub served_proper : (w : World) (c : Context) (a : Ask) → IsProper w c a (serve w c a)
 served_proper w c (Read r at) = referred w c (Read r at) r _ (λ n e. ruled w c (Read r at) _ _ (λ t. given w c (Read r at) _))
 served_proper w c (Write r at v) =
@@ -169,7 +174,7 @@ served_proper w c (New shape) =
 served_proper w c (CopyTo r l) =
     referred w c (CopyTo r l) r _ (λ n e. ruled w c (CopyTo r l) _ _ (λ t.
     creates_proper w c (CopyTo r l) (home_of c.label l) (slots_at w.heap n) (renamed r) (adds_copy n (home_of c.label l)) (λ x. true_is x)
-    (λ o s. (s, flows_trans n.own c.label o (read_passes c.label n.own (each_passes (read_test c.label n.own) (change_test c.caps n.own l ++ change_test c.caps c.label l) t).0) s)) (λ o hid. (hid, (_, refl)))))
+    (λ o s. (s, flows_trans n.own c.label o (read_passes c.label n.own (each_passes (read_test c.label n.own) (change_test (holding w c) n.own l ++ change_test (holding w c) c.label l) t).0) s)) (λ o hid. (hid, (_, refl)))))
 served_proper w c Mint =
     ruled w c Mint _ _ (λ t. faulted w c Mint _ _ (gives_proper w c Mint _ takes_tag (λ o. tt) (λ s may o hid. (public_hidden c.label o (mint_passes c.label t) hid, tt))))
 served_proper w c (Enter l k region args) =
@@ -188,16 +193,16 @@ served_proper w c (MonLeave r) =
     done_proper w c (MonLeave r) (gives_back n) tt (λ o. tt) (λ s may o hid. (of_label c.label n.own o (listed_thing c.label c.held r n s.held e may) hid, tt)))
 served_proper w c (MakeFile d text l) =
     ruled w c (MakeFile d text l) _ _ (λ t.
-    let a = each_passes (read_test c.label d.own) (write_test c.label d.own ++ (write_test c.label l ++ change_test c.caps c.label l)) t in
-    let b = each_passes (write_test c.label d.own) (write_test c.label l ++ change_test c.caps c.label l) a.1 in
-    let k = each_passes (write_test c.label l) (change_test c.caps c.label l) b.1 in
+    let a = each_passes (read_test c.label d.own) (write_test c.label d.own ++ (write_test c.label l ++ change_test (holding w c) c.label l)) t in
+    let b = each_passes (write_test c.label d.own) (write_test c.label l ++ change_test (holding w c) c.label l) a.1 in
+    let k = each_passes (write_test c.label l) (change_test (holding w c) c.label l) b.1 in
     faulted w c (MakeFile d text l) _ _
     (placed_proper w c (MakeFile d text l) d l _ (adds_file d text (home_of c.label l)) (a_file (next_name w.files (home_of c.label l))) refl tt (λ o s. s) (λ o h i j. (h, i, j, tt)) (write_passes c.label d.own b.0) (write_passes c.label l k.0)))
 served_proper w c (MakeDir d text l) =
     ruled w c (MakeDir d text l) _ _ (λ t.
-    let a = each_passes (read_test c.label d.own) (write_test c.label d.own ++ (write_test c.label l ++ change_test c.caps c.label l)) t in
-    let b = each_passes (write_test c.label d.own) (write_test c.label l ++ change_test c.caps c.label l) a.1 in
-    let k = each_passes (write_test c.label l) (change_test c.caps c.label l) b.1 in
+    let a = each_passes (read_test c.label d.own) (write_test c.label d.own ++ (write_test c.label l ++ change_test (holding w c) c.label l)) t in
+    let b = each_passes (write_test c.label d.own) (write_test c.label l ++ change_test (holding w c) c.label l) a.1 in
+    let k = each_passes (write_test c.label l) (change_test (holding w c) c.label l) b.1 in
     faulted w c (MakeDir d text l) _ _
     (placed_proper w c (MakeDir d text l) d l _ (adds_dir d text (home_of c.label l)) (a_dir (next_name w.files (home_of c.label l))) refl tt (λ o s. s) (λ o h i j. (h, i, j, tt)) (write_passes c.label d.own b.0) (write_passes c.label l k.0)))
 served_proper w c (OpenFile d text) = ruled w c (OpenFile d text) _ _ (λ t. opened_proper w c (OpenFile d text) _ _)
@@ -213,21 +218,21 @@ served_proper w c (Cut f len) =
     ruled w c (Cut f len) _ _ (λ t. done_proper w c (Cut f len) (cuts f len) tt (λ o. tt) (λ s may o hid. (hidden_up c.label f.own o (write_passes c.label f.own t) hid, tt)))
 served_proper w c (MakePipe l) =
     ruled w c (MakePipe l) _ _ (λ t.
-    let above = write_passes c.label l (each_passes (write_test c.label l) (change_test c.caps c.label l) t).0 in
+    let above = write_passes c.label l (each_passes (write_test c.label l) (change_test (holding w c) c.label l) t).0 in
     faulted w c (MakePipe l) _ _
     (record { fits = tt; own = tt; above = λ x. up c.label l above; openly = λ o s. s; hidden = λ s may o hid. (hid, hidden_up c.label l o above hid, tt) }))
 served_proper w c (Send p bytes) =
     ruled w c (Send p bytes) _ _ (λ t. done_proper w c (Send p bytes) (sends p (message.Bytes bytes)) tt (λ o. tt) (λ s may o hid. (hidden_up c.label p.own o (write_passes c.label p.own t) hid, tt)))
 served_proper w c (SendCaps p caps) =
     ruled w c (SendCaps p caps) _ _ (λ t.
-    done_proper w c (SendCaps p caps) (sends p (message.Caps caps)) tt (λ o. tt) (λ s may o hid. (hidden_up c.label p.own o (write_passes c.label p.own (each_passes (write_test c.label p.own) (covers_test c.caps caps) t).0) hid, tt)))
+    done_proper w c (SendCaps p caps) (sends p (message.Caps caps)) tt (λ o. tt) (λ s may o hid. (hidden_up c.label p.own o (write_passes c.label p.own (each_passes (write_test c.label p.own) (covers_test (holding w c) caps) t).0) hid, tt)))
 served_proper w c (Receive p) =
     ruled w c (Receive p) _ _ (λ t. gives_proper w c (Receive p) _ (receives p sort_of_message.Bytes) (λ o. tt) (λ s may o hid. (of_label c.label p.own o (same_passes c.label p.own t) hid, tt)))
 served_proper w c (ReceiveCaps p) =
     ruled w c (ReceiveCaps p) _ _ (λ t. gives_proper w c (ReceiveCaps p) _ (receives p sort_of_message.Caps) (λ o. tt) (λ s may o hid. (of_label c.label p.own o (same_passes c.label p.own t) hid, tt)))
 served_proper w c (Spawn unit args caps) =
     ruled w c (Spawn unit args caps) _ _ (λ t.
-    let public = same_passes c.label public_label (each_passes (same_test c.label public_label) (covers_test c.caps caps) t).0 in
+    let public = same_passes c.label public_label (each_passes (same_test c.label public_label) (covers_test (holding w c) caps) t).0 in
     faulted w c (Spawn unit args caps) _ _
     (record {
       fits = tt;

@@ -12,24 +12,27 @@ use Rattle.lam_value.specs.declared.values.Value.{Value}
 use Rattle.lam_value.specs.declared.values.Value.TheVariants.{Int, Bytes, Nothing, Obj, Arr, File, Dir, Pipe, Thread, Tag}
 use Rattle.lam_value.specs.Shapes.{slots_of}
 use Rattle.lam_value.specs.Homes.{Home, home_of, name_of}
-use Rattle.labelled_heap.specs.Things.{sort_of}
+use Rattle.labelled_heap.specs.Things.{most_things, sort_of}
 use Rattle.monitor_core.specs.declared.Holder.{Holder}
-use Rattle.monitor_core.specs.Held.{count_of}
+use Rattle.monitor_core.specs.Held.{most_takings, count_of}
 use Rattle.labelled_files.specs.declared.directory.EntryKind.TheVariants as kind
 use Rattle.labelled_files.specs.declared.files.FileFault.{FileFault}
 use Rattle.labelled_files.specs.declared.files.FileFault.TheVariants as file_fault
 use Rattle.labelled_files.specs.Entries.{Entries, text_eq, is_entry_name, name_of_kind}
+use Rattle.labelled_files.specs.Trees.{most_entries, most_files}
 use Rattle.labelled_pipes.specs.declared.message.Message.{Message}
 use Rattle.labelled_pipes.specs.declared.message.MessageKind.TheVariants as sort_of_message
 use Rattle.labelled_pipes.specs.Messages.{front_of}
+use Rattle.labelled_pipes.specs.Queues.{most_pipes}
 use Rattle.lam_asks.specs.declared.fault.Fault.TheVariants.{Deep, HomeFull}
 use Rattle.lam_asks.specs.declared.answer.Answer.TheVariants.{Val}
 use Rattle.lam_asks.specs.declared.ask.Ask.{Ask}
 use Rattle.lam_asks.specs.declared.ask.Ask.TheVariants.{Read, Write, New, CopyTo, Mint, Enter, Leave, Barred, Caught, Suppressed, MonEnter, MonLeave, MakeFile, MakeDir, OpenFile, OpenDir, Remove, FileRead, FileLength, Append, Cut, MakePipe, Send, SendCaps, Receive, ReceiveCaps, Spawn, Join, Say, End}
 use Rattle.thread_steps.specs.Threads.{Context}
+use Rattle.lam_machine_terms.specs.Limits.{most_tags, most_threads}
 use Rattle.lam_machine_terms.specs.Worlds.{World}
 use Rattle.lam_machine_terms.specs.Deeds.{Effect, takes_tag, takes_monitor, adds_thing, adds_copy, adds_file, adds_dir, adds_pipe, adds_thread, removes, receives, a_thing, a_file, a_dir, a_pipe, a_thread, Deed, answers, does, gives, makes, unless_denied, under, unless, full, on_thing}
-use Rattle.lam_machine_terms.specs.Serving.{reference, renamed, file_faults, opened, absent, received, joined, serve}
+use Rattle.lam_machine_terms.specs.Serving.{reference, renamed, file_faults, opened, absent, received, ended_with, served_by, publicly, serve}
 use Rattle.lam_machine_laws.proofs.FlowLemmas.{flows_trans, each_passes, read_passes, same_passes, mint_passes}
 use Rattle.lam_machine_laws.proofs.AlikeLemmas.{Alike}
 use Rattle.lam_machine_laws.proofs.EffectLemmas.{count_same}
@@ -57,85 +60,90 @@ same_seen o p x s e = ap (λ l. flows l o) (same_passes p x e) ∙ s
 
 -- deeds by the numbers that they hang on
 abbrev created : Home → (Name → Value) → Effect → ℕ → List Value → Deed
-created home refer e k slots = unless (full k 1048576 HomeFull) (makes (refer (name_of home k)) e (a_thing (name_of home k) (refer (name_of home k)) slots))
+created home refer e k slots = unless (full k most_things HomeFull) (makes (refer (name_of home k)) e (a_thing (name_of home k) (refer (name_of home k)) slots))
 
-abbrev fault_by : Option Entries → ℕ → List ℕ → Option FileFault
-fault_by x k text =
+-- why nothing is made in a directory, by its entries and the number that it would get
+abbrev making_fault : Option Entries → ℕ → List ℕ → Option FileFault
+making_fault x k text =
     if not (is_entry_name text) then Some file_fault.BadName
     else (if is_some (lookup (text_eq text) (unwrap_or x [])) then Some file_fault.Exists
-    else (if nat_eq (length (unwrap_or x [])) 4096 then Some file_fault.DirFull
-    else (if nat_eq k 65536 then Some file_fault.HomeFull else None)))
+    else (if nat_eq (length (unwrap_or x [])) most_entries then Some file_fault.DirFull
+    else (if nat_eq k most_files then Some file_fault.HomeFull else None)))
 
-pub serve_same : (o : Label) (w u : World) (c : Context) (a : Ask) → flows c.label o ≡ true → Alike o w u → serve w c a ≡ serve u c a
-serve_same o w u c (Read r at) s l =
+rows_same : (o : Label) (w u : World) (c : Context) (a : Ask) → flows c.label o ≡ true → Alike o w u → served_by w c a ≡ served_by u c a
+rows_same o w u c (Read r at) s l =
     on_thing_same r _ _ (λ n. under_same _ _ _ (λ t.
     ap (λ (x : Option (List Value)). answers (Val (unwrap_or (slice_get (unwrap_or x []) at) Nothing))) (l.heap.slots n (read_seen o c.label n.own s t))))
-serve_same o w u c (Write r at v) s l = refl
-serve_same o w u c (New shape) s l =
+rows_same o w u c (Write r at v) s l = refl
+rows_same o w u c (New shape) s l =
     let home = home_of c.label c.label in
     ap (λ k. created home (reference shape) (adds_thing home (sort_of shape) (slots_of shape)) k (slots_of shape)) (count_same o w.heap.counts u.heap.counts home l.heap.counts s)
-serve_same o w u c (CopyTo r own) s l =
+rows_same o w u c (CopyTo r own) s l =
     on_thing_same r _ _ (λ n. under_same _ _ _ (λ t.
     let home = home_of c.label own in
     let k = count_same o w.heap.counts u.heap.counts home l.heap.counts s in
     let xs = l.heap.slots n (read_seen o c.label n.own s (each_passes (read_test c.label n.own) (change_test c.caps n.own own ++ change_test c.caps c.label own) t).0) in
     λ j. created home (renamed r) (adds_copy n home) (k j) (unwrap_or (xs j) [])))
-serve_same o w u c Mint s l =
-    under_same _ _ _ (λ t. ap (λ k. unless (full k 65536 HomeFull) (gives (Tag k) takes_tag)) (l.tags (ap (λ x. flows x o) (sym (mint_passes c.label t)) ∙ s)))
-serve_same o w u c (Enter label k region args) s l = refl
-serve_same o w u c Leave s l = refl
-serve_same o w u c (Barred denied) s l = refl
-serve_same o w u c (Caught f) s l = refl
-serve_same o w u c (Suppressed f) s l = refl
-serve_same o w u c (End out) s l = refl
-serve_same o w u c (MonEnter r) s l =
+rows_same o w u c Mint s l =
+    under_same _ _ _ (λ t. ap (λ k. unless (full k most_tags HomeFull) (gives (Tag k) takes_tag)) (l.tags (ap (λ x. flows x o) (sym (mint_passes c.label t)) ∙ s)))
+rows_same o w u c (Enter label k region args) s l = refl
+rows_same o w u c Leave s l = refl
+rows_same o w u c (Barred denied) s l = refl
+rows_same o w u c (Caught f) s l = refl
+rows_same o w u c (Suppressed f) s l = refl
+rows_same o w u c (End out) s l = refl
+rows_same o w u c (MonEnter r) s l =
     on_thing_same r _ _ (λ n. under_same _ _ _ (λ t.
-    ap (λ (x : Option Holder). unless (full (count_of x) 1048576 Deep) (does (takes_monitor n))) (l.monitors n (same_seen o c.label n.own s t))))
-serve_same o w u c (MonLeave r) s l = refl
-serve_same o w u c (MakeFile d text own) s l =
+    ap (λ (x : Option Holder). unless (full (count_of x) most_takings Deep) (does (takes_monitor n))) (l.monitors n (same_seen o c.label n.own s t))))
+rows_same o w u c (MonLeave r) s l = refl
+rows_same o w u c (MakeFile d text own) s l =
     under_same _ _ _ (λ t.
     let home = home_of c.label own in
     let k = count_same o w.files.counts u.files.counts home l.files.counts s in
     let es = l.files.dirs d (read_seen o c.label d.own s (each_passes (read_test c.label d.own) (write_test c.label d.own ++ (write_test c.label own ++ change_test c.caps c.label own)) t).0) in
-    λ j. unless (file_faults (fault_by (es j) (k j) text)) (makes (File (name_of home (k j))) (adds_file d text home) (a_file (name_of home (k j)))))
-serve_same o w u c (MakeDir d text own) s l =
+    λ j. unless (file_faults (making_fault (es j) (k j) text)) (makes (File (name_of home (k j))) (adds_file d text home) (a_file (name_of home (k j)))))
+rows_same o w u c (MakeDir d text own) s l =
     under_same _ _ _ (λ t.
     let home = home_of c.label own in
     let k = count_same o w.files.counts u.files.counts home l.files.counts s in
     let es = l.files.dirs d (read_seen o c.label d.own s (each_passes (read_test c.label d.own) (write_test c.label d.own ++ (write_test c.label own ++ change_test c.caps c.label own)) t).0) in
-    λ j. unless (file_faults (fault_by (es j) (k j) text)) (makes (Dir (name_of home (k j))) (adds_dir d text home) (a_dir (name_of home (k j)))))
-serve_same o w u c (OpenFile d text) s l =
+    λ j. unless (file_faults (making_fault (es j) (k j) text)) (makes (Dir (name_of home (k j))) (adds_dir d text home) (a_dir (name_of home (k j)))))
+rows_same o w u c (OpenFile d text) s l =
     under_same _ _ _ (λ t.
     ap (λ (x : Option Entries). answers (opened (λ n. File n) (name_of_kind kind.File (lookup (text_eq text) (unwrap_or x []))))) (l.files.dirs d (read_seen o c.label d.own s t)))
-serve_same o w u c (OpenDir d text) s l =
+rows_same o w u c (OpenDir d text) s l =
     under_same _ _ _ (λ t.
     ap (λ (x : Option Entries). answers (opened (λ n. Dir n) (name_of_kind kind.Dir (lookup (text_eq text) (unwrap_or x []))))) (l.files.dirs d (read_seen o c.label d.own s t)))
-serve_same o w u c (Remove d text) s l =
+rows_same o w u c (Remove d text) s l =
     under_same _ _ _ (λ t.
     ap (λ (x : Option Entries). unless (absent (lookup (text_eq text) (unwrap_or x []))) (does (removes d text)))
     (l.files.dirs d (read_seen o c.label d.own s (each_passes (read_test c.label d.own) (write_test c.label d.own) t).0)))
-serve_same o w u c (FileRead f at n) s l =
+rows_same o w u c (FileRead f at n) s l =
     under_same _ _ _ (λ t. ap (λ (x : Option (List ℕ)). answers (Val (Bytes (take n (drop at (unwrap_or x [])))))) (l.files.files f (read_seen o c.label f.own s t)))
-serve_same o w u c (FileLength f) s l =
+rows_same o w u c (FileLength f) s l =
     under_same _ _ _ (λ t. ap (λ (x : Option (List ℕ)). answers (Val (Int (pos (length (unwrap_or x [])))))) (l.files.files f (read_seen o c.label f.own s t)))
-serve_same o w u c (Append f bytes) s l = refl
-serve_same o w u c (Cut f len) s l = refl
-serve_same o w u c (MakePipe own) s l =
+rows_same o w u c (Append f bytes) s l = refl
+rows_same o w u c (Cut f len) s l = refl
+rows_same o w u c (MakePipe own) s l =
     let home = home_of c.label own in
     under_same _ _ _ (λ t.
-    ap (λ k. unless (full k 4096 HomeFull) (makes (Pipe (name_of home k)) (adds_pipe home) (a_pipe (name_of home k)))) (count_same o w.pipes.counts u.pipes.counts home l.pipes.counts s))
-serve_same o w u c (Send p bytes) s l = refl
-serve_same o w u c (SendCaps p caps) s l = refl
-serve_same o w u c (Receive p) s l =
+    ap (λ k. unless (full k most_pipes HomeFull) (makes (Pipe (name_of home k)) (adds_pipe home) (a_pipe (name_of home k)))) (count_same o w.pipes.counts u.pipes.counts home l.pipes.counts s))
+rows_same o w u c (Send p bytes) s l = refl
+rows_same o w u c (SendCaps p caps) s l = refl
+rows_same o w u c (Receive p) s l =
     under_same _ _ _ (λ t.
     ap (λ (x : Option (List Message)). gives (received (front_of sort_of_message.Bytes (unwrap_or x []))) (receives p sort_of_message.Bytes)) (l.pipes.waiting p (same_seen o c.label p.own s t)))
-serve_same o w u c (ReceiveCaps p) s l =
+rows_same o w u c (ReceiveCaps p) s l =
     under_same _ _ _ (λ t.
     ap (λ (x : Option (List Message)). gives (received (front_of sort_of_message.Caps (unwrap_or x []))) (receives p sort_of_message.Caps)) (l.pipes.waiting p (same_seen o c.label p.own s t)))
-serve_same o w u c (Spawn unit args caps) s l =
+rows_same o w u c (Spawn unit args caps) s l =
     under_same _ _ _ (λ t.
-    ap (λ k. unless (full k 4096 HomeFull) (makes (Thread k) (adds_thread unit args caps) (a_thread k)))
+    ap (λ k. unless (full k most_threads HomeFull) (makes (Thread k) (adds_thread unit args caps) (a_thread k)))
     (l.threads.count (same_seen o c.label public_label s (each_passes (same_test c.label public_label) (covers_test c.caps caps) t).0)))
-serve_same o w u c (Join t) s l =
-    under_same _ _ _ (λ e. ap (λ x. answers (joined x)) (l.threads.results (read_seen o c.label public_label s e) t))
-serve_same o w u c (Say bytes) s l = refl
+rows_same o w u c (Join t) s l =
+    under_same _ _ _ (λ e. ap (λ x. answers (ended_with x)) (l.threads.results (read_seen o c.label public_label s e) t))
+rows_same o w u c (Say bytes) s l = refl
+
+-- with the same public capabilities a context counts as holding the same
+pub serve_same : (o : Label) (w u : World) (c : Context) (a : Ask) → flows c.label o ≡ true → Alike o w u → serve w c a ≡ serve u c a
+serve_same o w u c a s l = rows_same o w u (publicly w.public c) a s l ∙ ap (λ k. served_by u (publicly k c) a) l.public

@@ -1,72 +1,61 @@
 -- Each effect that there is room for keeps the stores sound, and each ask has only such effects.
-use Rattle.std.proofs.Common.{◌≡◌, ℕ, ◌+◌, ◌<◌, ◌≤◌, Bool, true, false, List, [], ◌∷◌, ◌++◌, Option, Some, None, length, refl, sym, subst, arith, length-append}
-use Rattle.std.specs.Prelude.{IsTrue, is_some, unwrap_or, nat_lt, cond, slice_set}
-use Rattle.std.proofs.lemmas.Bool.Decides.{nat_tests}
+use Rattle.std.proofs.Common.{◌≡◌, ℕ, ◌+◌, ◌<◌, ◌≤◌, true, List, [], ◌∷◌, ◌++◌, Option, Some, None, length, refl, sym, subst, arith, length-append}
+use Rattle.std.specs.Prelude.{IsTrue, is_some, unwrap_or, slice_set}
 use Rattle.std.specs.FinMap.{get, insert, contains_key}
 use Rattle.lam_value.specs.declared.names.Name.{Name}
 use Rattle.lam_value.specs.declared.values.Value.{Value}
 use Rattle.lam_value.specs.declared.values.Value.TheVariants.{Obj, Arr}
-use Rattle.lam_value.specs.Homes.{Home, name_of, count_in, counted}
+use Rattle.lam_value.specs.Homes.{Home, home_of, name_of, count_in, counted}
 use Rattle.labelled_heap.specs.declared.heap.Sort.{Sort}
 use Rattle.labelled_heap.specs.Things as heap
-use Rattle.labelled_heap.specs.Things.{Things, sorted_as, with_copy}
+use Rattle.labelled_heap.specs.Things.{Things, most_things, sorted_as, with_copy}
 use Rattle.labelled_heap.proofs.ThingLemmas.{sound_thing, sound_slot}
 use Rattle.monitor_core.specs.Held as monitors
-use Rattle.monitor_core.specs.Held.{Held, takings, left, dropped}
+use Rattle.monitor_core.specs.Held.{Held, most_takings, takings, left, dropped}
 use Rattle.monitor_core.proofs.HeldLemmas.{entered_sound, left_sound}
 use Rattle.labelled_files.specs.Trees as files
 use Rattle.labelled_files.specs.Trees.{Tree, first_fault, root_alone}
-use Rattle.labelled_files.specs.declared.files.FileFault.{FileFault}
 use Rattle.labelled_files.proofs.MakeLemmas.{fine, new, room, free}
 use Rattle.labelled_files.proofs.SoundLemmas.{sound_file, sound_dir, sound_bytes, sound_without}
 use Rattle.labelled_pipes.specs.Queues as pipes
-use Rattle.labelled_pipes.specs.Queues.{Queues}
+use Rattle.labelled_pipes.specs.Queues.{Queues, most_pipes}
 use Rattle.labelled_pipes.proofs.QueueLemmas.{sound_pipe, sound_changed}
 use Rattle.lam_asks.specs.declared.fault.Fault.{Fault}
+use Rattle.lam_asks.specs.declared.fault.Fault.TheVariants.{Deep, HomeFull}
 use Rattle.lam_asks.specs.declared.ask.Ask.{Ask}
 use Rattle.lam_asks.specs.declared.ask.Ask.TheVariants as ask
 use Rattle.lam_bytecode.specs.Codes.{CodeTree}
 use Rattle.thread_steps.specs.Threads.{Context, Thread}
 use Rattle.thread_steps.specs.Next.{Next, goes, asks, stuck, next_of, started, takes}
+use Rattle.lam_machine_terms.specs.Limits.{most_tags, most_threads}
 use Rattle.lam_machine_terms.specs.Worlds.{World, with_thread}
 use Rattle.lam_machine_terms.specs.Deeds.{Effect, nothing, takes_tag, sets_slot, adds_thing, adds_copy, takes_monitor, gives_back, drops, adds_file, adds_dir, removes, appends, cuts, adds_pipe, sends, receives, adds_thread, effect_of, Deed, answers, unless, full}
 use Rattle.lam_asks.specs.declared.answer.Answer.TheVariants.{Failed}
-use Rattle.lam_machine_terms.specs.Serving.{file_faults, serve}
+use Rattle.lam_machine_terms.specs.Serving.{served_by, publicly, serve}
 use Rattle.lam_machine_terms.specs.Turns.{is_ready, Moment, goes_on, served, turn_by}
 use Rattle.lam_machine_laws.proofs.ThreadLemmas.{some_inj, length-set}
-use Rattle.lam_machine_laws.proofs.RowLemmas.{RefersTo, under_by, on_thing_by}
+use Rattle.lam_machine_laws.proofs.RowLemmas.{RefersTo}
 use Rattle.lam_machine_laws.proofs.TurnLemmas.{acts, only}
+use Rattle.lam_machine_laws.proofs.JudgedLemmas.{judged_by, refers, followed}
+pub use Rattle.lam_machine_laws.proofs.Full.{not_full, no_fault}
+use Rattle.lam_machine_laws.specs.Judged.{fault_by, name_in, deed_by}
 use Rattle.lam_machine_laws.specs.Sound.{IsSoundWorld, ThingLives, CopiesLiving, FindsLiving, StaysSound}
 
 -- ---- room
 
 abbrev HasRoom : World → Effect → Type 0
-HasRoom w takes_tag = w.next_tag < 65536
-HasRoom w (adds_thing home sort xs) = count_in w.heap.counts home < 1048576
-HasRoom w (adds_copy n home) = (count_in w.heap.counts home < 1048576) × IsTrue (contains_key w.heap.slots n)
-HasRoom w (takes_monitor n) = takings w.monitors n < 1048576
+HasRoom w takes_tag = w.next_tag < most_tags
+HasRoom w (adds_thing home sort xs) = count_in w.heap.counts home < most_things
+HasRoom w (adds_copy n home) = (count_in w.heap.counts home < most_things) × IsTrue (contains_key w.heap.slots n)
+HasRoom w (takes_monitor n) = takings w.monitors n < most_takings
 HasRoom w (adds_file d text home) = first_fault w.files d text home ≡ None
 HasRoom w (adds_dir d text home) = first_fault w.files d text home ≡ None
-HasRoom w (adds_pipe home) = count_in w.pipes.counts home < 4096
-HasRoom w (adds_thread unit args caps) = length w.threads < 4096
+HasRoom w (adds_pipe home) = count_in w.pipes.counts home < most_pipes
+HasRoom w (adds_thread unit args caps) = length w.threads < most_threads
 HasRoom w e = Unit {0}
 
 abbrev Room : World → Deed → Type 0
 Room w d = HasRoom w d.effect
-
-lt_true : (a b : ℕ) → nat_lt a b ≡ true → a < b
-lt_true a b e = grind (arith, nat_tests)
-
-by_test : {X : Type 0} (b : Bool) (f : X) → cond b None (Some f) ≡ None → b ≡ true
-by_test true f e = refl
-by_test false f e = absurd cc
-
-pub not_full : (n limit : ℕ) (f : Fault) → full n limit f ≡ None → n < limit
-not_full n limit f e = lt_true n limit (by_test (nat_lt n limit) f e)
-
-pub no_fault : (x : Option FileFault) → file_faults x ≡ None → x ≡ None
-no_fault None e = refl
-no_fault (Some f) e = absurd cc
 
 pub unless_room : (P : Deed → Type 0) (x : Option Fault) (d : Deed) → (x ≡ None → P d) → ((f : Fault) → P (answers (Failed f))) → P (unless x d)
 unfolding unless
@@ -78,39 +67,21 @@ living w (Obj m) n e h = subst (λ k. IsTrue (contains_key w.heap.slots k)) e h
 living w (Arr m len) n e h = subst (λ k. IsTrue (contains_key w.heap.slots k)) e h
 living w v n e h = absurd e
 
-module _ (w : World) (c : Context) where
-  room_row : (a : Ask) → CopiesLiving w a → Room w (serve w c a)
-  room_row (ask.Read r at) h = on_thing_by (Room w) r _ (λ n e. under_by (Room w) _ _ (λ t. tt) (λ x. tt)) (λ f. tt)
-  room_row (ask.Write r at v) h = on_thing_by (Room w) r _ (λ n e. under_by (Room w) _ _ (λ t. tt) (λ x. tt)) (λ f. tt)
-  room_row (ask.New shape) h = unless_room (Room w) _ _ (λ e. not_full _ _ _ e) (λ f. tt)
-  room_row (ask.CopyTo r l) h =
-      on_thing_by (Room w) r _ (λ n e. under_by (Room w) _ _ (λ t. unless_room (Room w) _ _ (λ g. let k = not_full _ _ _ g in (k, living w r n e h)) (λ f. tt)) (λ x. tt)) (λ f. tt)
-  room_row ask.Mint h = under_by (Room w) _ _ (λ t. unless_room (Room w) _ _ (λ e. not_full _ _ _ e) (λ f. tt)) (λ x. tt)
-  room_row (ask.Enter l k region args) h = under_by (Room w) _ _ (λ t. unless_room (Room w) _ _ (λ e. tt) (λ f. tt)) (λ x. tt)
-  room_row ask.Leave h = tt
-  room_row (ask.Barred denied) h = tt
-  room_row (ask.Caught f) h = tt
-  room_row (ask.Suppressed f) h = tt
-  room_row (ask.End out) h = tt
-  room_row (ask.MonEnter r) h = on_thing_by (Room w) r _ (λ n e. under_by (Room w) _ _ (λ t. unless_room (Room w) _ _ (λ g. not_full _ _ _ g) (λ f. tt)) (λ x. tt)) (λ f. tt)
-  room_row (ask.MonLeave r) h = on_thing_by (Room w) r _ (λ n e. tt) (λ f. tt)
-  room_row (ask.MakeFile d text l) h = under_by (Room w) _ _ (λ t. unless_room (Room w) _ _ (λ e. no_fault _ e) (λ f. tt)) (λ x. tt)
-  room_row (ask.MakeDir d text l) h = under_by (Room w) _ _ (λ t. unless_room (Room w) _ _ (λ e. no_fault _ e) (λ f. tt)) (λ x. tt)
-  room_row (ask.OpenFile d text) h = under_by (Room w) _ _ (λ t. tt) (λ x. tt)
-  room_row (ask.OpenDir d text) h = under_by (Room w) _ _ (λ t. tt) (λ x. tt)
-  room_row (ask.Remove d text) h = under_by (Room w) _ _ (λ t. unless_room (Room w) _ _ (λ e. tt) (λ f. tt)) (λ x. tt)
-  room_row (ask.FileRead f at n) h = under_by (Room w) _ _ (λ t. tt) (λ x. tt)
-  room_row (ask.FileLength f) h = under_by (Room w) _ _ (λ t. tt) (λ x. tt)
-  room_row (ask.Append f bytes) h = under_by (Room w) _ _ (λ t. tt) (λ x. tt)
-  room_row (ask.Cut f len) h = under_by (Room w) _ _ (λ t. tt) (λ x. tt)
-  room_row (ask.MakePipe l) h = under_by (Room w) _ _ (λ t. unless_room (Room w) _ _ (λ e. not_full _ _ _ e) (λ f. tt)) (λ x. tt)
-  room_row (ask.Send p bytes) h = under_by (Room w) _ _ (λ t. tt) (λ x. tt)
-  room_row (ask.SendCaps p caps) h = under_by (Room w) _ _ (λ t. tt) (λ x. tt)
-  room_row (ask.Receive p) h = under_by (Room w) _ _ (λ t. tt) (λ x. tt)
-  room_row (ask.ReceiveCaps p) h = under_by (Room w) _ _ (λ t. tt) (λ x. tt)
-  room_row (ask.Spawn unit args caps) h = under_by (Room w) _ _ (λ t. unless_room (Room w) _ _ (λ e. not_full _ _ _ e) (λ f. tt)) (λ x. tt)
-  room_row (ask.Join t) h = under_by (Room w) _ _ (λ e. tt) (λ x. tt)
-  room_row (ask.Say bytes) h = tt
+done_room : (w : World) (c : Context) (a : Ask) → CopiesLiving w a → fault_by w c a ≡ None → Room w (deed_by w c a)
+done_room w c (ask.New shape) h g = not_full _ _ _ g
+done_room w c (ask.CopyTo r l) h g =
+    let fault = λ (n : Name). full (count_in w.heap.counts (home_of c.label l)) most_things HomeFull in
+    (not_full _ _ _ (followed r fault g), living w r (name_in r) (refers r fault g) h)
+done_room w c ask.Mint h g = not_full _ _ _ g
+done_room w c (ask.MonEnter r) h g = not_full _ _ _ (followed r (λ n. full (takings w.monitors n) most_takings Deep) g)
+done_room w c (ask.MakeFile d text l) h g = no_fault _ g
+done_room w c (ask.MakeDir d text l) h g = no_fault _ g
+done_room w c (ask.MakePipe l) h g = not_full _ _ _ g
+done_room w c (ask.Spawn unit args caps) h g = not_full _ _ _ g
+done_room w c a h g = tt
+
+room_row : (w : World) (c : Context) (a : Ask) → CopiesLiving w a → Room w (served_by w c a)
+room_row w c a h = judged_by (Room w) w c a (λ x e. tt) (λ f e g. tt) (λ e g. done_room w c a h g)
 
 -- ---- stores
 
@@ -122,7 +93,7 @@ copy_by h home x y =
       counts = counted h.counts home;
     }
 
-sound_copy : (h : Things) (n : Name) (home : Home) → heap.IsSound h → count_in h.counts home < 1048576 → IsTrue (contains_key h.slots n) → heap.IsSound (with_copy h n home)
+sound_copy : (h : Things) (n : Name) (home : Home) → heap.IsSound h → count_in h.counts home < most_things → IsTrue (contains_key h.slots n) → heap.IsSound (with_copy h n home)
 unfolding copy_by
 sound_copy h n home sound room_left lives = go (get h.slots n) (get h.sorts n) lives (sound.sorted n)
   where
@@ -147,13 +118,13 @@ with_tree w t s k r = record { stores = record { heap = s.stores.heap; monitors 
 with_lines : (w : World) (q : Queues) → IsSoundWorld w → pipes.IsSound q → IsSoundWorld (record w { pipes = q })
 with_lines w q s k = record { stores = record { heap = s.stores.heap; monitors = s.stores.monitors; files = s.stores.files; root = s.stores.root; pipes = k }; tags = s.tags; threads = s.threads }
 
-with_list : (w : World) (ths : List Thread) → IsSoundWorld w → length ths ≤ 4096 → IsSoundWorld (record w { threads = ths })
+with_list : (w : World) (ths : List Thread) → IsSoundWorld w → length ths ≤ most_threads → IsSoundWorld (record w { threads = ths })
 with_list w ths s k = record { stores = record { heap = s.stores.heap; monitors = s.stores.monitors; files = s.stores.files; root = s.stores.root; pipes = s.stores.pipes }; tags = s.tags; threads = k }
 
-with_next : (w : World) (n : ℕ) → IsSoundWorld w → n ≤ 65536 → IsSoundWorld (record w { next_tag = n })
+with_next : (w : World) (n : ℕ) → IsSoundWorld w → n ≤ most_tags → IsSoundWorld (record w { next_tag = n })
 with_next w n s k = record { stores = record { heap = s.stores.heap; monitors = s.stores.monitors; files = s.stores.files; root = s.stores.root; pipes = s.stores.pipes }; tags = k; threads = s.threads }
 
-one_longer : (ths : List Thread) (a : Thread) → length ths < 4096 → length (ths ++ a ∷ []) ≤ 4096
+one_longer : (ths : List Thread) (a : Thread) → length ths < most_threads → length (ths ++ a ∷ []) ≤ most_threads
 one_longer ths a h = let e : length (ths ++ a ∷ []) ≡ length ths + 1 = length-append ths (a ∷ []) in omega arith
 
 effect_sound : (code : CodeTree) (t : ℕ) (e : Effect) (w : World) → HasRoom w e → IsSoundWorld w → IsSoundWorld (effect_of code t e w)
@@ -182,11 +153,11 @@ effect_sound code t (adds_thread unit args caps) w h s = with_list w _ s (one_lo
 -- ---- turns
 
 thread_sound : (w : World) (t : ℕ) (to : Thread) → IsSoundWorld w → IsSoundWorld (with_thread w t to)
-thread_sound w t to s = with_list w (slice_set w.threads t to) s (subst (λ n. n ≤ 4096) (sym (length-set t w.threads to)) s.threads)
+thread_sound w t to s = with_list w (slice_set w.threads t to) s (subst (λ n. n ≤ most_threads) (sym (length-set t w.threads to)) s.threads)
 
 -- there is as much room after the acting thread took its answer
 room_moved : (w : World) (t : ℕ) (to : Thread) (e : Effect) → HasRoom w e → HasRoom (with_thread w t to) e
-room_moved w t to (adds_thread unit args caps) h = subst (λ n. n < 4096) (sym (length-set t w.threads to)) h
+room_moved w t to (adds_thread unit args caps) h = subst (λ n. n < most_threads) (sym (length-set t w.threads to)) h
 room_moved w t to e h = h
 
 sound_next : (code : CodeTree) (w : World) (t : ℕ) (th : Thread) (c : Context) (rest : List Context) (nx : Next) (m : Moment) → IsSoundWorld w → turn_by code w t th c rest nx ≡ Some m → FindsLiving w m.event.what → IsSoundWorld m.world
@@ -196,7 +167,7 @@ sound_next code w t th c rest (asks a i) m s h =
     let d = serve w c a in
     let to = takes code th c rest i a d.answer in
     subst (λ (n : Moment). FindsLiving w n.event.what → IsSoundWorld n.world) (only (is_ready w t c a) (served code w t th c rest a i d) m h).1
-    (λ f. effect_sound code t d.effect (with_thread w t to) (room_moved w t to d.effect (room_row w c a f)) (thread_sound w t to s))
+    (λ f. effect_sound code t d.effect (with_thread w t to) (room_moved w t to d.effect (room_row w (publicly w.public c) a f)) (thread_sound w t to s))
 sound_next code w t th c rest stuck m s h = absurd cc
 
 pub stay_sound : (code : CodeTree) → StaysSound code

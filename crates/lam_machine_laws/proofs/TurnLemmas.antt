@@ -19,6 +19,7 @@ use Rattle.lam_machine_laws.proofs.FlowLemmas.{both_true}
 use Rattle.lam_machine_laws.proofs.AlikeLemmas.{AlikeThreads, Alike, alike_refl, alike_sym, alike_trans, with_threads}
 use Rattle.lam_machine_laws.proofs.EffectLemmas.{IsHidden, hidden_shown, shown, shown_same, shown_kept, effect_same}
 use Rattle.lam_machine_laws.specs.Isolation.{IsWellLabelled, AreWellLabelled}
+use Rattle.lam_machine_laws.specs.Laws.{PublicStay}
 use Rattle.lam_machine_laws.proofs.ThreadLemmas.{some_inj, set_same, threads_set, filter-append, heir_inside, front, answered_front, new_contexts, front_hidden, AllSafe, safe_append, front_safe, result_kept}
 use Rattle.lam_machine_laws.proofs.RowLemmas.{served_proper}
 use Rattle.lam_machine_laws.proofs.SameLemmas.{serve_same}
@@ -115,6 +116,18 @@ turned code w t th c rest (asks a i) m h =
     let p = only (is_ready w t c a) (served code w t th c rest a i (serve w c a)) m h in
     subst (Turned code w t th c rest) p.1 (asked code w t th c rest a i (both_true (may_ask c a) (not (waits w t c a)) p.0).0)
 turned code w t th c rest stuck m h = absurd cc
+
+-- ---- what is public stays
+
+effect_public : (code : CodeTree) (t : ℕ) (e : Effect) (w : World) → (effect_of code t e w).public ≡ w.public
+effect_public code t nothing w = refl
+effect_public code t e w = refl
+
+pub public_stays : (code : CodeTree) → PublicStay code
+public_stays code w t m h =
+    let a = acts code w t m h in
+    let b = turned code w t a.thread a.top a.rest _ m a.gives in
+    ap (λ (v : World). v.public) b.world ∙ effect_public code t b.effect (with_thread w t b.to)
 
 -- ---- worlds stay well labelled
 

@@ -170,7 +170,7 @@ whole code o (suc n) w w' ts ts' v v' alike le le' e = go (λ u u' us us'. whole
 
 pub isolated : (code : CodeTree) (o : Label) → IsIsolated code o
 isolated code o s s' turns turns' n v v' same is is' le le' e =
-    let a = whole code o n s s' turns turns' v v' (alike_by_view o s s' same.views) le le' e in
+    let a = whole code o n s s' turns turns' v v' (alike_by_view o s s' same.public same.views) le le' e in
     record { traces = a.entries; states = a.states }
 
 -- ---- between entries

@@ -77,18 +77,19 @@ pub record FaultsAreHandled (code : CodeTree) : Type 0 where
 
 -- ---- releases
 
--- what is made, and that the acting context may change its label to what is made
-pub record IsAllowed (c : Context) (m : Moment) : Type 0 where
+-- what is made, and that the acting context, with the public capabilities beside its own, may change its label to what is
+-- made
+pub record IsAllowed (public : Caps) (c : Context) (m : Moment) : Type 0 where
   pub made : Made
   pub it : m.made ≡ Some made
-  pub may : MayChange c.caps c.label (made_label made)
+  pub may : MayChange (joined c.caps public) c.label (made_label made)
   pub by : (release_of m).by ≡ Some (used c.label (made_label made))
-  pub held : Covers c.caps (used c.label (made_label made))
+  pub held : Covers (joined c.caps public) (used c.label (made_label made))
 
 abbrev pub ReleasesAreAllowed : CodeTree → Type 0
 ReleasesAreAllowed code =
     (w : World) (t : ℕ) (m : Moment) → step code w t ≡ Some m → is_release m ≡ true →
-    (c : Context) × (rest : List Context) × IsActing w t c rest × IsAllowed c m
+    (c : Context) × (rest : List Context) × IsActing w t c rest × IsAllowed w.public c m
 
 -- ---- capabilities
 
@@ -105,22 +106,23 @@ left_after k (ask.Suppressed f) = []
 left_after k (ask.End outcome) = []
 left_after k a = k ∷ []
 
--- a region that is entered has the capabilities that were asked for, which the context below holds and keeps
-abbrev pub AreEntered : Caps → Ask → List Caps → Type 0
-AreEntered k (ask.Enter label caps region args) ks = (ks ≡ caps ∷ k ∷ []) × Covers k caps
-AreEntered k a ks = ks ≡ k ∷ []
+-- a region that is entered has the capabilities that were asked for. Each is held by the context below, or is public; that
+-- context keeps its own
+abbrev pub AreEntered : Caps → Caps → Ask → List Caps → Type 0
+AreEntered public k (ask.Enter label caps region args) ks = (ks ≡ caps ∷ k ∷ []) × Covers (joined k public) caps
+AreEntered public k a ks = ks ≡ k ∷ []
 
-abbrev pub AreAfter : Caps → Ask → Answer → List Caps → Type 0
-AreAfter k a Done ks = ks ≡ left_after k a
-AreAfter k a Entered ks = AreEntered k a ks
-AreAfter k a (Val v) ks = ks ≡ granted a v k ∷ []
-AreAfter k a (Refused denied) ks = ks ≡ k ∷ []
-AreAfter k a (Failed f) ks = ks ≡ k ∷ []
+abbrev pub AreAfter : Caps → Caps → Ask → Answer → List Caps → Type 0
+AreAfter public k a Done ks = ks ≡ left_after k a
+AreAfter public k a Entered ks = AreEntered public k a ks
+AreAfter public k a (Val v) ks = ks ≡ granted a v k ∷ []
+AreAfter public k a (Refused denied) ks = ks ≡ k ∷ []
+AreAfter public k a (Failed f) ks = ks ≡ k ∷ []
 
 -- the capabilities of the contexts that stand in place of the acting one after a turn, the new acting one's first
-abbrev pub AreHeld : Caps → What → List Caps → Type 0
-AreHeld k Private ks = ks ≡ k ∷ []
-AreHeld k (Asked a x) ks = AreAfter k a x ks
+abbrev pub AreHeld : Caps → Caps → What → List Caps → Type 0
+AreHeld public k Private ks = ks ≡ k ∷ []
+AreHeld public k (Asked a x) ks = AreAfter public k a x ks
 
 pub record KeepsCaps (w : World) (t : ℕ) (m : Moment) : Type 0 where
   pub top : Context
@@ -129,11 +131,15 @@ pub record KeepsCaps (w : World) (t : ℕ) (m : Moment) : Type 0 where
   -- in the acting thread the contexts below stay as they are
   pub new : List Context
   pub after : contexts_at m.world t ≡ new ++ rest
-  pub caps : AreHeld top.caps m.event.what (map (λ (d : Context). d.caps) new)
+  pub caps : AreHeld w.public top.caps m.event.what (map (λ (d : Context). d.caps) new)
   -- other threads stay as they are
   pub others : (j : ℕ) → (j ≡ t → ⊥) → is_some (thread_at w j) ≡ true → contexts_at m.world j ≡ contexts_at w j
-  -- a new thread has what the acting context holds
-  pub started : (j : ℕ) → thread_at w j ≡ None → AllByRecursion (λ (d : Context). Covers top.caps d.caps) (contexts_at m.world j)
+  -- a new thread has what the acting context holds or is public
+  pub started : (j : ℕ) → thread_at w j ≡ None → AllByRecursion (λ (d : Context). Covers (joined top.caps w.public) d.caps) (contexts_at m.world j)
 
 abbrev pub CapsDoNotGrow : CodeTree → Type 0
 CapsDoNotGrow code = (w : World) (t : ℕ) (m : Moment) → step code w t ≡ Some m → KeepsCaps w t m
+
+-- no turn changes what is public
+abbrev pub PublicStay : CodeTree → Type 0
+PublicStay code = (w : World) (t : ℕ) (m : Moment) → step code w t ≡ Some m → m.world.public ≡ w.public

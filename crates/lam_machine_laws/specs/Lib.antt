@@ -2,4 +2,5 @@ pub mod Isolation
 pub mod Sound
 pub mod Laws
 pub mod Tests
+pub mod Judged
 pub mod Own

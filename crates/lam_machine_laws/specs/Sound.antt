@@ -8,6 +8,7 @@ use Rattle.lam_asks.specs.declared.answer.What.TheVariants.{Private, Asked}
 use Rattle.lam_asks.specs.declared.ask.Ask.{Ask}
 use Rattle.lam_asks.specs.declared.ask.Ask.TheVariants.{CopyTo}
 use Rattle.lam_bytecode.specs.Codes.{CodeTree}
+use Rattle.lam_machine_terms.specs.Limits.{most_tags, most_threads}
 use Rattle.lam_machine_terms.specs.Worlds.{World}
 use Rattle.lam_machine_terms.specs.Turns.{Moment, step}
 use Rattle.lam_machine_terms.specs.Valid.{AreSoundStores}
@@ -15,8 +16,8 @@ use Rattle.lam_machine_terms.specs.Valid.{AreSoundStores}
 -- each store is sound, and there are no more tags and threads than there may be
 pub record IsSoundWorld (w : World) : Type 0 where
   pub stores : AreSoundStores w
-  pub tags : w.next_tag ≤ 65536
-  pub threads : length w.threads ≤ 4096
+  pub tags : w.next_tag ≤ most_tags
+  pub threads : length w.threads ≤ most_threads
 
 abbrev pub ThingLives : World → Value → Type 0
 ThingLives w (Obj n) = IsTrue (contains_key w.heap.slots n)

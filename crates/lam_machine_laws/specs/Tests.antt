@@ -17,7 +17,7 @@ use Rattle.lam_bytecode.specs.Codes.{CodeTree}
 use Rattle.thread_steps.specs.Threads.{Context, Thread}
 use Rattle.thread_steps.specs.Next.{with_inside, faulted}
 use Rattle.lam_machine_terms.specs.Worlds.{World, thread_at, with_thread}
-use Rattle.lam_machine_terms.specs.Serving.{serve}
+use Rattle.lam_machine_terms.specs.Serving.{publicly, serve}
 use Rattle.lam_machine_terms.specs.Turns.{Moment, step}
 
 -- a test of the thing that a reference leads to
@@ -52,9 +52,9 @@ tests_of c (Spawn unit args caps) = same_test c.label public_label ++ covers_tes
 tests_of c (Join t) = read_test c.label public_label
 tests_of c a = []
 
--- an ask is refused exactly where a test of it fails, and the answer is the first rule that does, with its least tag
+-- an ask is refused exactly where a test of it fails for a context that holds the public capabilities beside its own, and the answer is the first rule that does, with its least tag
 abbrev pub RefusalsNameTheFirst : Type 0
-RefusalsNameTheFirst = (w : World) (c : Context) (a : Ask) (x : Denied) → ((serve w c a).answer ≡ Refused x) ↔ (first_failing (tests_of c a) ≡ Some x)
+RefusalsNameTheFirst = (w : World) (c : Context) (a : Ask) (x : Denied) → ((serve w c a).answer ≡ Refused x) ↔ (first_failing (tests_of (publicly w.public c) a) ≡ Some x)
 
 -- the acting context has a fault, and nothing else changed
 pub record OnlyFaults (w : World) (t : ℕ) (f : Fault) (m : Moment) : Type 0 where

@@ -6,8 +6,9 @@
 //! - `specs/Isolation`: two runs that agree below an observer's label, and what their starts are asked for.
 //! - `specs/Sound`: what every turn keeps of the stores. Each stays sound, and no counter passes its limit.
 //! - `specs/Laws`, `specs/Tests`: contexts come back as they were, faults are handled where they were raised, releases are
-//!   allowed by capabilities that the acting context holds, and no context gets capabilities but by minting, receiving
-//!   and entering; what is refused, and by which rule.
+//!   allowed by capabilities that the acting context holds or that are public, no context gets capabilities but by minting,
+//!   receiving and entering, and no turn changes what is public; what is refused, and by which rule.
+//! - `specs/Judged`: each ask once, by its tests, its fault and what is done. Tables over all asks are read off from it.
 //! - `specs/Own`: a thread of a run is that thread with its own turns and the answers that it got.
 #![tactic(auto)]
 
@@ -16,7 +17,8 @@ ghost use Rattle.lam_bytecode.specs.Codes.{CodeTree};
 ghost use Rattle.lam_machine_laws.specs.Isolation.{ValidAreWellLabelled, StaysWellLabelled, IsIsolated, IsSteady, TwoAsksRelease};
 ghost use Rattle.lam_machine_laws.specs.Sound.{StaysSound};
 ghost use Rattle.lam_machine_laws.specs.Tests.{RefusalsNameTheFirst, RefusalsChangeNothing};
-ghost use Rattle.lam_machine_laws.specs.Laws.{ContextsComeBack, FaultsAreHandled, ReleasesAreAllowed, CapsDoNotGrow};
+ghost use Rattle.lam_machine_laws.specs.Judged.{AsksAreJudged};
+ghost use Rattle.lam_machine_laws.specs.Laws.{ContextsComeBack, FaultsAreHandled, ReleasesAreAllowed, CapsDoNotGrow, PublicStay};
 ghost use Rattle.lam_machine_laws.specs.Own.{TurnsTouchTheirThread, ThreadsFollowTheirTurns};
 
 /// In every valid world each first context is public, and the monitors that a context lists have its label. Every turn of
@@ -62,20 +64,32 @@ pub fn faults_are_handled()
     ensures { (code : CodeTree) → FaultsAreHandled code }
 {}
 
-/// Each release was allowed by capabilities that the acting context held, and names exactly those that it used.
+/// Each release was allowed by capabilities that the acting context held or that are public, and names exactly those that it
+/// used.
 pub fn releases_are_allowed()
     ensures { (code : CodeTree) → ReleasesAreAllowed code }
 {}
 
 /// After a turn the capabilities of each context are those before it, but for both of a tag just minted, those of a
-/// message just received, and those of a new context or thread, which the acting context holds. Where a region is entered,
-/// the new context has those that were asked for, and the one below keeps its own.
+/// message just received, and those of a new context or thread, each of them public or held by the acting context. Where a
+/// region is entered, the new context has those that were asked for, and the one below keeps its own.
 pub fn capabilities_do_not_grow()
     ensures { (code : CodeTree) → CapsDoNotGrow code }
 {}
 
-/// An ask is refused exactly where one of its tests fails, and the answer names the first rule that does, with its
-/// least tag.
+/// No turn changes what is public.
+pub fn public_stay()
+    ensures { (code : CodeTree) → PublicStay code }
+{}
+
+/// What an ask is served by is stated once: first its tests, then its fault, and where no test fails and there is no fault,
+/// what is done.
+pub fn asks_are_judged()
+    ensures { AsksAreJudged }
+{}
+
+/// An ask is refused exactly where one of its tests fails, in which the public capabilities count as held, and the answer
+/// names the first rule that does, with its least tag.
 pub fn refusals_name_the_first()
     ensures { RefusalsNameTheFirst }
 {}

@@ -1,4 +1,3 @@
 pub mod RowLemmas
 pub mod PartLemmas
 pub mod WaitLemmas
-pub mod PublicLemmas

@@ -3,11 +3,12 @@
 ghost use Rattle.std.specs.Prelude.{◌≡◌, ℕ, List, length, reverse, IfOk};
 ghost use Rattle.lam_value.specs.declared.values.Value.{Value as AValue};
 ghost use Rattle.std.specs.Option.{option_copied};
+ghost use Rattle.capabilities.specs.Changes.{joined};
 ghost use Rattle.lam_asks.specs.declared.ask.Ask.TheVariants as Ask;
 ghost use Rattle.thread_steps.specs.Threads.{Context};
 ghost use Rattle.lam_machine_terms.specs.Worlds.{World, result_at};
 ghost use Rattle.lam_machine_terms.specs.Deeds as told;
-ghost use Rattle.lam_machine_terms.specs.Serving.{joined, serve};
+ghost use Rattle.lam_machine_terms.specs.Serving.{ended_with, served_by};
 ghost use Rattle.lam_machine_effects.specs.Meaning.{DoesAs};
 ghost use Rattle.lam_machine_rows.specs.Rows.{Serves, any_world, at_label, acting_by, at_depth, with_tags};
 
@@ -40,10 +41,10 @@ pub fn mint(tags: u64, p: &Label) -> Deed
 }
 
 /// A region is entered: its label, its capabilities, its number and the values that it captures.
-pub fn enter(p: &Label, caps: &Caps, depth: u32, label: &Label, some: &Caps) -> Deed
-    ensures { (region : ℕ) (args : List AValue) → Serves any_world (at_depth p.now caps.now depth) (Ask.Enter label.now some.now region args) result }
+pub fn enter(p: &Label, caps: &Caps, public: &Caps, depth: u32, label: &Label, some: &Caps) -> Deed
+    ensures { (region : ℕ) (args : List AValue) → Serves any_world (at_depth p.now (joined caps.now public.now) depth) (Ask.Enter label.now some.now region args) result }
 {
-    if let Some(denied) = enter_rule(p, caps, label, some) {
+    if let Some(denied) = enter_rule(p, caps, public, label, some) {
         return Deed::refused(denied);
     }
     if let Some(fault) = full(u64::from(depth), DEPTH_LIMIT, Fault::Deep) {
@@ -74,13 +75,14 @@ pub fn spawn(
     threads: u32,
     p: &Label,
     caps: &Caps,
+    public: &Caps,
     unit: u32,
     args: &Values,
     some: &Caps,
 ) -> Result<Deed, NoMemory>
-    ensures { IfOk result (λ d. (w : World) (c : Context) → length w.threads ≡ threads → DoesAs d (serve w (acting_by p.now caps.now c) (Ask.Spawn unit args.now some.now))) }
+    ensures { IfOk result (λ d. (w : World) (c : Context) → length w.threads ≡ threads → DoesAs d (served_by w (acting_by p.now (joined caps.now public.now) c) (Ask.Spawn unit args.now some.now))) }
 {
-    if let Some(denied) = spawn_rule(p, caps, some) {
+    if let Some(denied) = spawn_rule(p, caps, public, some) {
         return Ok(Deed::refused(denied));
     }
     if let Some(fault) = full(u64::from(threads), THREAD_LIMIT, Fault::HomeFull) {
@@ -94,7 +96,7 @@ pub fn spawn(
 
 /// The value with which a thread ended.
 pub fn join(ended: Option<&Outcome>, p: &Label) -> Result<Deed, NoMemory>
-    ensures { IfOk result (λ d. (w : World) (c : Context) (thread : ℕ) → result_at w thread ≡ option_copied ended.entry → DoesAs d (serve w (at_label p.now c) (Ask.Join thread))) }
+    ensures { IfOk result (λ d. (w : World) (c : Context) (thread : ℕ) → result_at w thread ≡ option_copied ended.entry → DoesAs d (served_by w (at_label p.now c) (Ask.Join thread))) }
 {
     let public = Label::public(p.allocator());
     if let Some(denied) = read_rule(p, &public) {
@@ -102,7 +104,7 @@ pub fn join(ended: Option<&Outcome>, p: &Label) -> Result<Deed, NoMemory>
         return Ok(Deed::refused(denied));
     }
     drop(public);
-    let answer = joined(ended)?;
+    let answer = ended_with(ended)?;
     Ok(Deed {
         answer,
         effect: Effect::Nothing,
@@ -110,8 +112,8 @@ pub fn join(ended: Option<&Outcome>, p: &Label) -> Result<Deed, NoMemory>
 }
 
 /// What a joined thread ended with.
-fn joined(ended: Option<&Outcome>) -> Result<Answer, NoMemory>
-    ensures { IfOk result (λ a. a ≡ joined (option_copied ended.entry)) }
+fn ended_with(ended: Option<&Outcome>) -> Result<Answer, NoMemory>
+    ensures { IfOk result (λ a. a ≡ ended_with (option_copied ended.entry)) }
 {
     match ended {
         Some(Outcome::Value(v)) => Ok(Answer::Val(v.copy()?)),

@@ -2,6 +2,7 @@
 
 ghost use Rattle.std.specs.Prelude.{◌≡◌, pos, length, IfOk};
 ghost use Rattle.lam_value.specs.Homes.{home_of};
+ghost use Rattle.capabilities.specs.Changes.{joined};
 ghost use Rattle.labelled_files.specs.Trees as tree;
 ghost use Rattle.labelled_files.specs.Trees.{target_at, next_name};
 ghost use Rattle.lam_asks.specs.declared.ask.Ask.TheVariants as Ask;
@@ -23,13 +24,14 @@ pub fn make_file(
     files: &Files,
     p: &Label,
     caps: &Caps,
+    public: &Caps,
     dir: &Name,
     entry: &ByteText,
     own: &Label,
 ) -> Result<Deed, NoMemory>
-    ensures { IfOk result (Serves (with_files files.now) (acting_by p.now caps.now) (Ask.MakeFile dir.now entry.now own.now)) }
+    ensures { IfOk result (Serves (with_files files.now) (acting_by p.now (joined caps.now public.now)) (Ask.MakeFile dir.now entry.now own.now)) }
 {
-    if let Some(denied) = entry_rule(p, caps, dir.own(), own) {
+    if let Some(denied) = entry_rule(p, caps, public, dir.own(), own) {
         return Ok(Deed::refused(denied));
     }
     if let Some(fault) = first_fault(files, dir, entry, p, own) {
@@ -44,13 +46,14 @@ pub fn make_dir(
     files: &Files,
     p: &Label,
     caps: &Caps,
+    public: &Caps,
     dir: &Name,
     entry: &ByteText,
     own: &Label,
 ) -> Result<Deed, NoMemory>
-    ensures { IfOk result (Serves (with_files files.now) (acting_by p.now caps.now) (Ask.MakeDir dir.now entry.now own.now)) }
+    ensures { IfOk result (Serves (with_files files.now) (acting_by p.now (joined caps.now public.now)) (Ask.MakeDir dir.now entry.now own.now)) }
 {
-    if let Some(denied) = entry_rule(p, caps, dir.own(), own) {
+    if let Some(denied) = entry_rule(p, caps, public, dir.own(), own) {
         return Ok(Deed::refused(denied));
     }
     if let Some(fault) = first_fault(files, dir, entry, p, own) {

@@ -2,7 +2,8 @@
 //!
 //! [`serve`] has a row for each ask: its tests in their order, its fault, its effect and its answer. It reads the
 //! stores and the acting context, and changes nothing; `lam_machine_effects` applies the effect. A rule is tested by
-//! `flow_labels` and `capabilities`, and the first that fails is the answer.
+//! `flow_labels` and `capabilities`, and the first that fails is the answer. Where a rule asks for capabilities, the
+//! public ones of the stores count beside those of the context.
 //!
 //! - `rules` has the tests of more than one rule.
 //! - `things`, `files`, `pipes` and `contexts` have the rows of the asks about each.

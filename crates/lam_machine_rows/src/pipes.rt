@@ -2,6 +2,7 @@
 
 ghost use Rattle.std.specs.Prelude.{◌≡◌, IfOk};
 ghost use Rattle.std.specs.Option.{option_copied};
+ghost use Rattle.capabilities.specs.Changes.{joined};
 ghost use Rattle.lam_asks.specs.declared.ask.Ask.TheVariants as Ask;
 ghost use Rattle.lam_machine_terms.specs.Serving.{received};
 ghost use Rattle.lam_machine_rows.specs.Rows.{Serves, any_world, at_label, acting_by, with_pipes};
@@ -17,10 +18,16 @@ use lam_value::{ByteText, Name, Value};
 use want_of_memory::NoMemory;
 
 /// A new pipe.
-pub fn make_pipe(pipes: &Pipes, p: &Label, caps: &Caps, own: &Label) -> Result<Deed, NoMemory>
-    ensures { IfOk result (Serves (with_pipes pipes.now) (acting_by p.now caps.now) (Ask.MakePipe own.now)) }
+pub fn make_pipe(
+    pipes: &Pipes,
+    p: &Label,
+    caps: &Caps,
+    public: &Caps,
+    own: &Label,
+) -> Result<Deed, NoMemory>
+    ensures { IfOk result (Serves (with_pipes pipes.now) (acting_by p.now (joined caps.now public.now)) (Ask.MakePipe own.now)) }
 {
-    if let Some(denied) = make_rule(p, caps, own) {
+    if let Some(denied) = make_rule(p, caps, public, own) {
         return Ok(Deed::refused(denied));
     }
     let number = pipes.next(p, own);
@@ -42,10 +49,16 @@ pub fn send(p: &Label, pipe: &Name, bytes: &ByteText) -> Result<Deed, NoMemory>
 }
 
 /// Capabilities are sent.
-pub fn send_caps(p: &Label, caps: &Caps, pipe: &Name, sent: &Caps) -> Result<Deed, NoMemory>
-    ensures { IfOk result (Serves any_world (acting_by p.now caps.now) (Ask.SendCaps pipe.now sent.now)) }
+pub fn send_caps(
+    p: &Label,
+    caps: &Caps,
+    public: &Caps,
+    pipe: &Name,
+    sent: &Caps,
+) -> Result<Deed, NoMemory>
+    ensures { IfOk result (Serves any_world (acting_by p.now (joined caps.now public.now)) (Ask.SendCaps pipe.now sent.now)) }
 {
-    if let Some(denied) = send_rule(p, caps, pipe.own(), sent) {
+    if let Some(denied) = send_rule(p, caps, public, pipe.own(), sent) {
         return Ok(Deed::refused(denied));
     }
     did(Effect::sends_caps(pipe, sent))

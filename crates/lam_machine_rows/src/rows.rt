@@ -36,17 +36,18 @@ pub fn serve(
 {
     let p = who.label();
     let caps = who.caps();
+    let public = &stores.public;
     match ask {
         Ask::Read { r, at } => return read(&stores.heap, p, r, *at),
         Ask::Write { r, at, v } => return write(p, r, *at, v),
         Ask::New { shape } => return make_thing(&stores.heap, p, shape),
-        Ask::CopyTo { r, own } => return copy_to(&stores.heap, p, caps, r, own),
+        Ask::CopyTo { r, own } => return copy_to(&stores.heap, p, caps, public, r, own),
         Ask::Mint => return Ok(mint(stores.tags, p)),
         Ask::Enter {
             label,
             caps: some,
             ..
-        } => return Ok(enter(p, caps, who.depth(), label, some)),
+        } => return Ok(enter(p, caps, public, who.depth(), label, some)),
         Ask::Leave => return Ok(done()),
         Ask::Barred(_) => return Ok(done()),
         Ask::Say { .. } => return Ok(done()),
@@ -56,10 +57,10 @@ pub fn serve(
         Ask::MonEnter { r } => return enter_monitor(&stores.monitors, p, r),
         Ask::MonLeave { r } => return leave_monitor(r),
         Ask::MakeFile { dir, entry, own } => {
-            return make_file(&stores.files, p, caps, dir, entry, own);
+            return make_file(&stores.files, p, caps, public, dir, entry, own);
         }
         Ask::MakeDir { dir, entry, own } => {
-            return make_dir(&stores.files, p, caps, dir, entry, own);
+            return make_dir(&stores.files, p, caps, public, dir, entry, own);
         }
         Ask::OpenFile { dir, entry } => return open_file(&stores.files, p, dir, entry),
         Ask::OpenDir { dir, entry } => return open_dir(&stores.files, p, dir, entry),
@@ -68,16 +69,16 @@ pub fn serve(
         Ask::FileLength { file } => return Ok(file_length(&stores.files, p, file)),
         Ask::Append { file, bytes } => return append(p, file, bytes),
         Ask::Cut { file, len } => return cut(p, file, *len),
-        Ask::MakePipe { own } => return make_pipe(&stores.pipes, p, caps, own),
+        Ask::MakePipe { own } => return make_pipe(&stores.pipes, p, caps, public, own),
         Ask::Send { pipe, bytes } => return send(p, pipe, bytes),
-        Ask::SendCaps { pipe, caps: sent } => return send_caps(p, caps, pipe, sent),
+        Ask::SendCaps { pipe, caps: sent } => return send_caps(p, caps, public, pipe, sent),
         Ask::Receive { pipe } => return receive(&stores.pipes, p, pipe),
         Ask::ReceiveCaps { pipe } => return receive_caps(&stores.pipes, p, pipe),
         Ask::Spawn {
             unit,
             args,
             caps: some,
-        } => return spawn(threads, p, caps, *unit, args, some),
+        } => return spawn(threads, p, caps, public, *unit, args, some),
         Ask::Join { .. } => return join(ended, p),
     }
 }

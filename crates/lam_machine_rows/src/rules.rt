@@ -1,10 +1,12 @@
 //! Tests of more than one rule, limits, and references.
+//!
+//! Where a rule asks for capabilities, the public ones count beside those of the context.
 
 ghost use Rattle.std.specs.Prelude.{◌≡◌, ◌++◌};
 ghost use Rattle.std.specs.Option.{option_copied};
 ghost use Rattle.flow_labels.specs.Flow.{public_label};
 ghost use Rattle.flow_labels.specs.Failing.{first_failing, read_test, write_test, same_test};
-ghost use Rattle.capabilities.specs.Changes.{change_test, covers_test};
+ghost use Rattle.capabilities.specs.Changes.{joined, change_test, covers_test};
 ghost use Rattle.lam_machine_terms.specs.Deeds.{full};
 ghost use Rattle.lam_machine_rows.specs.Rows.{thing_of};
 
@@ -31,52 +33,37 @@ pub fn full(count: u64, limit: u64, fault: Fault) -> Option<Fault>
     if count < limit { None } else { Some(fault) }
 }
 
-/// The first rule that forbids a change of label, where no capability is public.
-fn change_rule(caps: &Caps, from: &Label, to: &Label) -> Option<Denied>
-    ensures { result ≡ first_failing (change_test caps.now from.now to.now) }
-{
-    let public = Caps::none(caps.allocator());
-    caps.change_rule(&public, from, to)
-}
-
-/// The first of some capabilities that is not held, where no capability is public.
-fn covers(caps: &Caps, some: &Caps) -> Option<Denied>
-    ensures { result ≡ first_failing (covers_test caps.now some.now) }
-{
-    let public = Caps::none(caps.allocator());
-    caps.covers(&public, some)
-}
-
 /// A thing at the label x is copied, and the copy has the label `own`.
-pub fn copy_rule(p: &Label, caps: &Caps, x: &Label, own: &Label) -> Option<Denied>
-    ensures { result ≡ first_failing (read_test p.now x.now ++ (change_test caps.now x.now own.now ++ change_test caps.now p.now own.now)) }
+pub fn copy_rule(p: &Label, caps: &Caps, public: &Caps, x: &Label, own: &Label) -> Option<Denied>
+    ensures { result ≡ first_failing (read_test p.now x.now ++ (change_test (joined caps.now public.now) x.now own.now ++ change_test (joined caps.now public.now) p.now own.now)) }
 {
     read_rule(p, x)
-        .or_else(|| change_rule(caps, x, own))
-        .or_else(|| change_rule(caps, p, own))
+        .or_else(|| caps.change_rule(public, x, own))
+        .or_else(|| caps.change_rule(public, p, own))
 }
 
 /// A region at the label l is entered with some of the capabilities.
-pub fn enter_rule(p: &Label, caps: &Caps, l: &Label, some: &Caps) -> Option<Denied>
-    ensures { result ≡ first_failing (change_test caps.now p.now l.now ++ covers_test caps.now some.now) }
+pub fn enter_rule(p: &Label, caps: &Caps, public: &Caps, l: &Label, some: &Caps) -> Option<Denied>
+    ensures { result ≡ first_failing (change_test (joined caps.now public.now) p.now l.now ++ covers_test (joined caps.now public.now) some.now) }
 {
-    change_rule(caps, p, l).or_else(|| covers(caps, some))
+    caps.change_rule(public, p, l)
+        .or_else(|| caps.covers(public, some))
 }
 
 /// An entry is made in a directory at the label `dir`, for a new file or directory at the label `own`.
-pub fn entry_rule(p: &Label, caps: &Caps, dir: &Label, own: &Label) -> Option<Denied>
-    ensures { result ≡ first_failing (read_test p.now dir.now ++ (write_test p.now dir.now ++ (write_test p.now own.now ++ change_test caps.now p.now own.now))) }
+pub fn entry_rule(p: &Label, caps: &Caps, public: &Caps, dir: &Label, own: &Label) -> Option<Denied>
+    ensures { result ≡ first_failing (read_test p.now dir.now ++ (write_test p.now dir.now ++ (write_test p.now own.now ++ change_test (joined caps.now public.now) p.now own.now))) }
 {
     read_rule(p, dir)
         .or_else(|| write_rule(p, dir))
-        .or_else(|| make_rule(p, caps, own))
+        .or_else(|| make_rule(p, caps, public, own))
 }
 
 /// A pipe at the label l is made.
-pub fn make_rule(p: &Label, caps: &Caps, l: &Label) -> Option<Denied>
-    ensures { result ≡ first_failing (write_test p.now l.now ++ change_test caps.now p.now l.now) }
+pub fn make_rule(p: &Label, caps: &Caps, public: &Caps, l: &Label) -> Option<Denied>
+    ensures { result ≡ first_failing (write_test p.now l.now ++ change_test (joined caps.now public.now) p.now l.now) }
 {
-    write_rule(p, l).or_else(|| change_rule(caps, p, l))
+    write_rule(p, l).or_else(|| caps.change_rule(public, p, l))
 }
 
 /// An entry is removed from a directory at the label d.
@@ -87,16 +74,16 @@ pub fn remove_rule(p: &Label, d: &Label) -> Option<Denied>
 }
 
 /// Capabilities are sent into a pipe at the label x.
-pub fn send_rule(p: &Label, caps: &Caps, x: &Label, some: &Caps) -> Option<Denied>
-    ensures { result ≡ first_failing (write_test p.now x.now ++ covers_test caps.now some.now) }
+pub fn send_rule(p: &Label, caps: &Caps, public: &Caps, x: &Label, some: &Caps) -> Option<Denied>
+    ensures { result ≡ first_failing (write_test p.now x.now ++ covers_test (joined caps.now public.now) some.now) }
 {
-    write_rule(p, x).or_else(|| covers(caps, some))
+    write_rule(p, x).or_else(|| caps.covers(public, some))
 }
 
 /// A thread is started with some of the capabilities.
-pub fn spawn_rule(p: &Label, caps: &Caps, some: &Caps) -> Option<Denied>
-    ensures { result ≡ first_failing (same_test p.now public_label ++ covers_test caps.now some.now) }
+pub fn spawn_rule(p: &Label, caps: &Caps, public: &Caps, some: &Caps) -> Option<Denied>
+    ensures { result ≡ first_failing (same_test p.now public_label ++ covers_test (joined caps.now public.now) some.now) }
 {
-    let public = Label::public(p.allocator());
-    same_rule(p, &public).or_else(|| covers(caps, some))
+    let label = Label::public(p.allocator());
+    same_rule(p, &label).or_else(|| caps.covers(public, some))
 }

@@ -1,6 +1,7 @@
 //! Objects, arrays and their monitors.
 
 ghost use Rattle.std.specs.Prelude.{◌≡◌, IfOk};
+ghost use Rattle.capabilities.specs.Changes.{joined};
 ghost use Rattle.lam_asks.specs.declared.ask.Ask.TheVariants as Ask;
 ghost use Rattle.lam_machine_terms.specs.Serving.{slot_at, reference, renamed};
 ghost use Rattle.lam_machine_rows.specs.Rows.{Serves, any_world, any_context, at_label, acting_by, with_heap, with_monitors};
@@ -80,15 +81,16 @@ pub fn copy_to(
     heap: &Heap,
     p: &Label,
     caps: &Caps,
+    public: &Caps,
     r: &Value,
     own: &Label,
 ) -> Result<Deed, NoMemory>
-    ensures { IfOk result (Serves (with_heap heap.now) (acting_by p.now caps.now) (Ask.CopyTo r.now own.now)) }
+    ensures { IfOk result (Serves (with_heap heap.now) (acting_by p.now (joined caps.now public.now)) (Ask.CopyTo r.now own.now)) }
 {
     let Some(name) = thing_of(r) else {
         return Ok(Deed::failed(Fault::Null));
     };
-    if let Some(denied) = copy_rule(p, caps, name.own(), own) {
+    if let Some(denied) = copy_rule(p, caps, public, name.own(), own) {
         return Ok(Deed::refused(denied));
     }
     let number = heap.next(p, own);

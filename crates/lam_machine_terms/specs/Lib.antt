@@ -1,3 +1,4 @@
+pub mod Limits
 pub mod Worlds
 pub mod Deeds
 pub mod Serving

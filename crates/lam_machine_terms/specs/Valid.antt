@@ -29,6 +29,7 @@ use Rattle.lam_asks.specs.declared.answer.Outcome.{Outcome}
 use Rattle.lam_asks.specs.declared.answer.Outcome.TheVariants as outcome
 use Rattle.thread_steps.specs.Threads.{Frame, Bottom, Context}
 use Rattle.thread_steps.specs.Threads as threads
+use Rattle.lam_machine_terms.specs.Limits.{most_tags, most_threads}
 use Rattle.lam_machine_terms.specs.Worlds.{World, thread_at}
 use Rattle.lam_machine_terms.specs.Turns.{is_bottom}
 
@@ -166,6 +167,7 @@ pub record IsValidThread (w : World) (t : ℕ) (th : threads.Thread) : Type 0 wh
 pub record IsValid (w : World) : Type 0 where
   pub sound : AreSoundStores w
   pub live : StoresLive w
+  pub public : AreKnown w w.public
   pub threads : (t : ℕ) (th : threads.Thread) → thread_at w t ≡ Some th → IsValidThread w t th
-  pub tags : w.next_tag ≤ 65536
-  pub number : length w.threads ≤ 4096
+  pub tags : w.next_tag ≤ most_tags
+  pub number : length w.threads ≤ most_threads

@@ -68,9 +68,10 @@ view o w =
       results = λ t. where_public o (result_at w t);
     }
 
--- two starts with equal tag names look the same
+-- two starts with equal tag names and equal public capabilities look the same
 pub record Agree (o : Label) (s s' : World) : Type 0 where
   pub names : s.names ≡ s'.names
+  pub public : s.public ≡ s'.public
   pub views : view o s ≡ view o s'
 
 -- ---- releases

@@ -1,5 +1,6 @@
 -- Worlds: what the stores are seen as, and the threads.
 use Rattle.std.specs.Prelude.{ℕ, List, [], Option, Some, None, slice_get, slice_set}
+use Rattle.capabilities.specs.declared.Caps.{Caps}
 use Rattle.labelled_heap.specs.Things.{Things}
 use Rattle.monitor_core.specs.Held.{Held}
 use Rattle.labelled_files.specs.Trees.{Tree}
@@ -10,6 +11,8 @@ use Rattle.thread_steps.specs.Threads.{Context, Thread}
 pub record World : Type 0 where
   -- the names of the first tags: that of tag n stands at place n
   pub names : List (List ℕ)
+  -- what every context counts as holding, by the kinds of the first tags; no context lists it for that reason
+  pub public : Caps
   -- the number of the next tag that is made
   pub next_tag : ℕ
   pub heap : Things

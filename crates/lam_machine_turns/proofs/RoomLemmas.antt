@@ -1,23 +1,30 @@
--- Each ask once: what its effect needs is what its tests found.
+-- What the effect of each ask needs is what its tests and its fault have found.
 use Rattle.std.proofs.Common.{◌≡◌, ℕ, Bool, true, false, not, ◌&&◌, Option, Some, None, refl, sym, subst}
 use Rattle.std.specs.Prelude.{is_none}
 use Rattle.flow_labels.specs.declared.Label.{Label}
 use Rattle.flow_labels.specs.declared.Denied.{Denied}
 use Rattle.flow_labels.specs.Failing.{first_failing, same_test}
+use Rattle.lam_value.specs.Homes.{home_of, count_in}
 use Rattle.lam_value.specs.declared.names.Name.{Name}
 use Rattle.lam_value.specs.declared.values.Value.{Value}
 use Rattle.lam_value.specs.declared.values.Value.TheVariants.{Obj, Arr}
-use Rattle.monitor_core.specs.Held.{Held, is_free}
+use Rattle.labelled_heap.specs.Things.{most_things}
+use Rattle.monitor_core.specs.Held.{Held, most_takings, is_free, takings}
 use Rattle.lam_asks.specs.declared.ask.Ask.{Ask}
 use Rattle.lam_asks.specs.declared.ask.Ask.TheVariants as ask
+use Rattle.lam_asks.specs.declared.fault.Fault.TheVariants.{Deep, HomeFull}
 use Rattle.thread_steps.specs.Threads.{Context}
 use Rattle.lam_machine_terms.specs.Worlds.{World}
-use Rattle.lam_machine_terms.specs.Deeds.{Deed}
-use Rattle.lam_machine_terms.specs.Serving.{serve}
+use Rattle.lam_machine_terms.specs.Deeds.{Deed, full}
+use Rattle.lam_machine_terms.specs.Serving.{publicly, serve}
 use Rattle.lam_machine_terms.specs.Turns.{is_taken, is_ready}
-use Rattle.lam_machine_laws.proofs.RowLemmas.{RefersTo, under_by, on_thing_by}
-use Rattle.lam_machine_laws.proofs.SoundSteps.{not_full, no_fault, unless_room, living}
+use Rattle.lam_machine_laws.proofs.Full.{not_full, no_fault}
+use Rattle.lam_machine_laws.proofs.JudgedLemmas.{judged_by, refers, followed, tested}
+use Rattle.lam_machine_laws.proofs.RowLemmas.{RefersTo}
+use Rattle.lam_machine_laws.proofs.SoundSteps.{living}
+use Rattle.lam_machine_laws.specs.Judged.{fault_by, name_in, deed_by}
 use Rattle.lam_machine_laws.specs.Sound.{CopiesLiving}
+use Rattle.lam_machine_laws.specs.Tests.{tests_of}
 use Rattle.lam_machine_effects.specs.Parts.{stores_of}
 use Rattle.lam_machine_effects.specs.Room.{HasRoom}
 
@@ -41,36 +48,23 @@ abbrev Room : ℕ → World → Deed → Type 0
 Room t w d = HasRoom t d.effect (stores_of w)
 
 module _ (w : World) (t : ℕ) (c : Context) where
+  -- the context as it is served: what is public counts as held
+  abbrev served : Context
+  served = publicly w.public c
+
+  done_room : (a : Ask) → is_ready w t c a ≡ true → CopiesLiving w a → first_failing (tests_of served a) ≡ None → fault_by w served a ≡ None → Room t w (deed_by w served a)
+  done_room (ask.New shape) r h e g = not_full _ _ _ g
+  done_room (ask.CopyTo v l) r h e g =
+      let fault = λ (n : Name). full (count_in w.heap.counts (home_of c.label l)) most_things HomeFull in
+      (living w v (name_in v) (refers v fault g) h, not_full _ _ _ (followed v fault g))
+  done_room ask.Mint r h e g = not_full _ _ _ g
+  done_room (ask.MonEnter v) r h e g =
+      let fault = λ (n : Name). full (takings w.monitors n) most_takings Deep in
+      (free w t c.label v (name_in v) (refers v fault g) r (tested v (λ n. same_test c.label n.own) fault g e), not_full _ _ _ (followed v fault g))
+  done_room (ask.MakeFile d text l) r h e g = no_fault _ g
+  done_room (ask.MakeDir d text l) r h e g = no_fault _ g
+  done_room (ask.MakePipe l) r h e g = not_full _ _ _ g
+  done_room a r h e g = tt
+
   pub room_row : (a : Ask) → is_ready w t c a ≡ true → CopiesLiving w a → Room t w (serve w c a)
-  room_row (ask.Read r at) g h = on_thing_by (Room t w) r _ (λ n e. under_by (Room t w) _ _ (λ f. tt) (λ x. tt)) (λ f. tt)
-  room_row (ask.Write r at v) g h = on_thing_by (Room t w) r _ (λ n e. under_by (Room t w) _ _ (λ f. tt) (λ x. tt)) (λ f. tt)
-  room_row (ask.New shape) g h = unless_room (Room t w) _ _ (λ e. not_full _ _ _ e) (λ f. tt)
-  room_row (ask.CopyTo r l) g h =
-      on_thing_by (Room t w) r _ (λ n e. under_by (Room t w) _ _ (λ f. unless_room (Room t w) _ _ (λ k. let room = not_full _ _ _ k in (living w r n e h, room)) (λ f. tt)) (λ x. tt)) (λ f. tt)
-  room_row ask.Mint g h = under_by (Room t w) _ _ (λ f. unless_room (Room t w) _ _ (λ e. not_full _ _ _ e) (λ f. tt)) (λ x. tt)
-  room_row (ask.Enter l k region args) g h = under_by (Room t w) _ _ (λ f. unless_room (Room t w) _ _ (λ e. tt) (λ f. tt)) (λ x. tt)
-  room_row ask.Leave g h = tt
-  room_row (ask.Barred denied) g h = tt
-  room_row (ask.Caught f) g h = tt
-  room_row (ask.Suppressed f) g h = tt
-  room_row (ask.End out) g h = tt
-  room_row (ask.MonEnter r) g h =
-      on_thing_by (Room t w) r _ (λ n e. under_by (Room t w) _ _ (λ f. unless_room (Room t w) _ _ (λ k. let room = not_full _ _ _ k in (free w t c.label r n e g f, room)) (λ f. tt)) (λ x. tt)) (λ f. tt)
-  room_row (ask.MonLeave r) g h = on_thing_by (Room t w) r _ (λ n e. tt) (λ f. tt)
-  room_row (ask.MakeFile d text l) g h = under_by (Room t w) _ _ (λ f. unless_room (Room t w) _ _ (λ e. no_fault _ e) (λ f. tt)) (λ x. tt)
-  room_row (ask.MakeDir d text l) g h = under_by (Room t w) _ _ (λ f. unless_room (Room t w) _ _ (λ e. no_fault _ e) (λ f. tt)) (λ x. tt)
-  room_row (ask.OpenFile d text) g h = under_by (Room t w) _ _ (λ f. tt) (λ x. tt)
-  room_row (ask.OpenDir d text) g h = under_by (Room t w) _ _ (λ f. tt) (λ x. tt)
-  room_row (ask.Remove d text) g h = under_by (Room t w) _ _ (λ f. unless_room (Room t w) _ _ (λ e. tt) (λ f. tt)) (λ x. tt)
-  room_row (ask.FileRead f at n) g h = under_by (Room t w) _ _ (λ f. tt) (λ x. tt)
-  room_row (ask.FileLength f) g h = under_by (Room t w) _ _ (λ f. tt) (λ x. tt)
-  room_row (ask.Append f bytes) g h = under_by (Room t w) _ _ (λ f. tt) (λ x. tt)
-  room_row (ask.Cut f len) g h = under_by (Room t w) _ _ (λ f. tt) (λ x. tt)
-  room_row (ask.MakePipe l) g h = under_by (Room t w) _ _ (λ f. unless_room (Room t w) _ _ (λ e. not_full _ _ _ e) (λ f. tt)) (λ x. tt)
-  room_row (ask.Send p bytes) g h = under_by (Room t w) _ _ (λ f. tt) (λ x. tt)
-  room_row (ask.SendCaps p caps) g h = under_by (Room t w) _ _ (λ f. tt) (λ x. tt)
-  room_row (ask.Receive p) g h = under_by (Room t w) _ _ (λ f. tt) (λ x. tt)
-  room_row (ask.ReceiveCaps p) g h = under_by (Room t w) _ _ (λ f. tt) (λ x. tt)
-  room_row (ask.Spawn unit args caps) g h = under_by (Room t w) _ _ (λ f. unless_room (Room t w) _ _ (λ e. tt) (λ f. tt)) (λ x. tt)
-  room_row (ask.Join u) g h = under_by (Room t w) _ _ (λ f. tt) (λ x. tt)
-  room_row (ask.Say bytes) g h = tt
+  room_row a r h = judged_by (Room t w) w served a (λ x e. tt) (λ f e g. tt) (λ e g. done_room a r h e g)

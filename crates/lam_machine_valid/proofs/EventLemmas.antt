@@ -4,6 +4,7 @@ use Rattle.std.specs.Prelude.{is_none, not, ◌&&◌}
 use Rattle.flow_labels.specs.declared.Denied.{Denied}
 use Rattle.flow_labels.specs.Flow.{public_label}
 use Rattle.flow_labels.specs.Failing.{first_failing, same_test, read_test}
+use Rattle.capabilities.specs.declared.Caps.{Caps}
 use Rattle.lam_value.specs.declared.values.Value.{Value}
 use Rattle.lam_value.specs.declared.values.Value.TheVariants.{Obj, Arr}
 use Rattle.monitor_core.specs.Held.{is_free}
@@ -15,13 +16,14 @@ use Rattle.lam_bytecode.specs.Codes.{CodeTree}
 use Rattle.thread_steps.specs.Threads.{Inside, Context, Thread}
 use Rattle.thread_steps.specs.Next.{asks, past, next_of}
 use Rattle.lam_machine_terms.specs.Worlds.{World, thread_at, contexts_in, contexts_at}
-use Rattle.lam_machine_terms.specs.Serving.{serve}
+use Rattle.lam_machine_terms.specs.Serving.{publicly, serve}
 use Rattle.lam_machine_terms.specs.Turns.{may_ask, is_taken, is_living, waits, served, turn_by, turn_on, turn_in, step}
 use Rattle.lam_machine_valid.proofs.NextLemmas.{what_it_may, barred_at}
 use Rattle.lam_machine_laws.specs.Tests.{tests_of}
+use Rattle.lam_machine_laws.specs.Judged.{fault_by}
 use Rattle.lam_machine_laws.proofs.RefusalLemmas.{change_nothing}
 use Rattle.lam_machine_valid.specs.Events.{IsDenied, FailingTestsAreEvents}
-use Rattle.lam_machine_valid.specs.Faults.{fault_by, Says}
+use Rattle.lam_machine_valid.specs.Faults.{Says}
 use Rattle.lam_machine_valid.proofs.AnswerLemmas.{follow_the_rows}
 
 -- ---- an ask that a test refuses does not wait
@@ -35,10 +37,10 @@ taken_not w t c (Obj n) d e = not_first (first_failing (same_test c.label n.own)
 taken_not w t c (Arr n len) d e = not_first (first_failing (same_test c.label n.own)) d (not (is_free w.monitors n t)) e
 taken_not w t c r d e = refl
 
-goes_at_once : (w : World) (t : ℕ) (c : Context) (a : Ask) (d : Denied) → first_failing (tests_of c a) ≡ Some d → waits w t c a ≡ false
-goes_at_once w t c (ask.MonEnter r) d e = taken_not w t c r d e
-goes_at_once w t c (ask.Join u) d e = not_first (first_failing (read_test c.label public_label)) d (is_living (thread_at w u)) e
-goes_at_once w t c a d e = refl
+goes_at_once : (w : World) (t : ℕ) (c : Context) (public : Caps) (a : Ask) (d : Denied) → first_failing (tests_of (publicly public c) a) ≡ Some d → waits w t c a ≡ false
+goes_at_once w t c public (ask.MonEnter r) d e = taken_not w t c r d e
+goes_at_once w t c public (ask.Join u) d e = not_first (first_failing (read_test c.label public_label)) d (is_living (thread_at w u)) e
+goes_at_once w t c public a d e = refl
 
 -- ---- turns
 
@@ -64,9 +66,9 @@ module _ (code : CodeTree) (w : World) (t : ℕ) (c : Context) (rest : List Cont
             ∙ ap (λ b. cond b (Some (served code w t th c rest a i (serve w c a))) None) (both (may_ask c a) (waits w t c a) (what_it_may code c a i e) quick),
       )
 
-  refused_turn : (a : Ask) (i : Inside) (d : Denied) → next_of code c ≡ asks a i → first_failing (tests_of c a) ≡ Some d → IsDenied code w t a (Refused d)
+  refused_turn : (a : Ask) (i : Inside) (d : Denied) → next_of code c ≡ asks a i → first_failing (tests_of (publicly w.public c) a) ≡ Some d → IsDenied code w t a (Refused d)
   refused_turn a i d e f =
-      let h = asked_turn a i e (goes_at_once w t c a d f) in
+      let h = asked_turn a i e (goes_at_once w t c w.public a d f) in
       let m = served code w t h.0 c rest a i (serve w c a) in
       let what : m.event.what ≡ Asked a (Refused d) = ap (Asked a) (subst (λ x. Says x (fault_by w c a) (serve w c a).answer) f (follow_the_rows w c a)) in
       (m, h.3, what, (change_nothing code).refused w t m a d h.3 what)

@@ -13,3 +13,4 @@ pub mod AnswerLemmas
 pub mod EventLemmas
 pub mod ReadyLemmas
 pub mod SuitLemmas
+pub mod FormLemmas

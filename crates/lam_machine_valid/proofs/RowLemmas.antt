@@ -44,7 +44,7 @@ use Rattle.thread_steps.specs.Threads as threads
 use Rattle.thread_steps.specs.Next.{gains, given, started}
 use Rattle.lam_machine_terms.specs.Worlds.{World, thread_at, result_in, result_at}
 use Rattle.lam_machine_terms.specs.Deeds.{adds_thing, adds_copy, takes_monitor, gives_back, drops, receives, effect_of, Deed, answers, does, under, unless, on_thing}
-use Rattle.lam_machine_terms.specs.Serving.{slot_at, reference, renamed, opened, received, joined, serve}
+use Rattle.lam_machine_terms.specs.Serving.{slot_at, reference, renamed, opened, received, ended_with, serve}
 use Rattle.lam_machine_terms.specs.Turns.{lists, may_ask, is_taken, waits}
 use Rattle.lam_machine_terms.specs.Valid.{IsKnown, IsKnownName, Lives, EntryLives, MessageLives, OutcomeLives, IsValid, all_listings}
 use Rattle.lam_machine_laws.proofs.RowLemmas.{RefersTo, under_by, unless_by, on_thing_by}
@@ -178,7 +178,7 @@ module _ (code : CodeTree) (t : ℕ) (w : World) (valid : IsValid w) (c : Contex
       by None e = tt
       by (Some th) e = (valid.threads u th e).result
 
-  joined_live : (x : Option Outcome) → OutcomeLives w x → LiveDeed (answers (joined x))
+  joined_live : (x : Option Outcome) → OutcomeLives w x → LiveDeed (answers (ended_with x))
   joined_live None h = (tt, tt)
   joined_live (Some (outcome.Value v)) h = (h, tt)
   joined_live (Some (outcome.Failed f)) h = (tt, tt)
@@ -294,7 +294,7 @@ module _ (code : CodeTree) (t : ℕ) (w : World) (c : Context) (i : Inside) wher
   opened_holds a refer None h = failed_as_before a NoEntry
   opened_holds a refer (Some n) h = h (refer n)
 
-  joined_holds : (a : Ask) (x : Option Outcome) → ((v : Value) → HoldsDeed a (answers (Val v))) → HoldsDeed a (answers (joined x))
+  joined_holds : (a : Ask) (x : Option Outcome) → ((v : Value) → HoldsDeed a (answers (Val v))) → HoldsDeed a (answers (ended_with x))
   joined_holds a None h = failed_as_before a Child
   joined_holds a (Some (outcome.Value v)) h = h v
   joined_holds a (Some (outcome.Failed f)) h = failed_as_before a Child

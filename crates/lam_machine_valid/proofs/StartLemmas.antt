@@ -9,6 +9,7 @@ use Rattle.lam_value.specs.declared.names.Name.{Name}
 use Rattle.lam_value.specs.Names.{name_cmp}
 use Rattle.lam_value.specs.Homes.{Home, home_cmp, name_of}
 use Rattle.lam_value.proofs.Keys.{home_total, home_exact}
+use Rattle.capabilities.specs.declared.Caps.{Caps}
 use Rattle.labelled_heap.proofs.ThingLemmas as thing
 use Rattle.monitor_core.specs.declared.Holder.{Holder}
 use Rattle.labelled_files.specs.Entries.{Entries}
@@ -17,8 +18,9 @@ use Rattle.labelled_files.proofs.SoundLemmas.{sound_root}
 use Rattle.labelled_pipes.proofs.QueueLemmas as queue
 use Rattle.lam_bytecode.specs.Codes.{CodeTree}
 use Rattle.thread_steps.specs.Threads.{Thread}
+use Rattle.lam_machine_terms.specs.Limits.{most_tags, most_threads}
 use Rattle.lam_machine_terms.specs.Worlds.{World, thread_at}
-use Rattle.lam_machine_terms.specs.Valid.{IsKnown, AreKnownNames, AreKnownHomes, EntryLives, all_listings, AreSoundStores, StoresLive, IsValidThread, IsValid}
+use Rattle.lam_machine_terms.specs.Valid.{IsKnown, AreKnown, AreKnownNames, AreKnownHomes, EntryLives, all_listings, AreSoundStores, StoresLive, IsValidThread, IsValid}
 use Rattle.lam_machine_laws.proofs.ThreadLemmas.{some_inj}
 use Rattle.lam_machine_valid.proofs.TagLemmas.{public_known}
 use Rattle.lam_machine_valid.specs.Steps.{MonitorsExclude, IsStart, bare, StartsAreValid}
@@ -50,9 +52,9 @@ start_valid code w (x ∷ ths) h t zero th e =
     subst (IsValidThread w t) (sym s.it ∙ some_inj x th e) (started_valid w t code s.unit s.args s.caps s.lives s.known)
 start_valid code w (x ∷ ths) h t (suc k) th e = start_valid code w ths h.1 t k th e
 
-started_world : (code : CodeTree) (w : World) → AreSoundStores w → StoresLive w → w.next_tag ≤ 65536 → length w.threads ≤ 4096 → AllByRecursion (IsStart code w) w.threads → IsValid w
-started_world code w s l tags number all =
-    record { sound = s; live = l; threads = λ t th e. start_valid code w w.threads all t t th e; tags = tags; number = number }
+started_world : (code : CodeTree) (w : World) → AreSoundStores w → StoresLive w → AreKnown w w.public → w.next_tag ≤ most_tags → length w.threads ≤ most_threads → AllByRecursion (IsStart code w) w.threads → IsValid w
+started_world code w s l public tags number all =
+    record { sound = s; live = l; public = public; threads = λ t th e. start_valid code w w.threads all t t th e; tags = tags; number = number }
 
 -- ---- nothing but an empty directory
 
@@ -72,13 +74,13 @@ one_home w h lives = by (eq_by_cmp home_cmp h public_home) refl (sym (ap is_some
     by true e l = subst (λ (k : Home). IsKnown w k.maker × IsKnown w k.own) (sym (home_exact h public_home ((Equal-is (home_cmp h public_home)).0 e))) (public_known w, public_known w)
     by false e l = no_homes w h l
 
-bare_sound : (names : List (List ℕ)) (n : ℕ) (ths : List Thread) → AreSoundStores (bare names n ths)
-bare_sound names n ths =
+bare_sound : (names : List (List ℕ)) (public : Caps) (n : ℕ) (ths : List Thread) → AreSoundStores (bare names public n ths)
+bare_sound names public n ths =
     record { heap = thing.sound_none; monitors = λ r h e. (let none = sym (get-empty name_cmp r) ∙ e in cc); files = sound_root; root = refl; pipes = queue.sound_none }
 
-bare_lives : (names : List (List ℕ)) (n : ℕ) (ths : List Thread) → StoresLive (bare names n ths)
-bare_lives names n ths =
-    let w = bare names n ths in
+bare_lives : (names : List (List ℕ)) (public : Caps) (n : ℕ) (ths : List Thread) → StoresLive (bare names public n ths)
+bare_lives names public n ths =
+    let w = bare names public n ths in
     let root = name_of public_home 0 in
     record {
       slots = no_each _;
@@ -98,5 +100,5 @@ pub valid_starts : (code : CodeTree) → StartsAreValid code
 valid_starts code =
     record {
       all = started_world code;
-      nothing_else = λ names n ths tags number all. started_world code (bare names n ths) (bare_sound names n ths) (bare_lives names n ths) tags number all;
+      nothing_else = λ names public n ths known tags number all. started_world code (bare names public n ths) (bare_sound names public n ths) (bare_lives names public n ths) known tags number all;
     }

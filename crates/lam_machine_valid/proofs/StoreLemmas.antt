@@ -219,7 +219,7 @@ joined_live u text k n known lives es h = all_append (EntryLives u) es ((text, r
 -- ---- lines
 
 sent_live : (u : World) (m : Message) → MessageLives u m → (ms : List Message) → AllByRecursion (MessageLives u) ms → AllByRecursion (MessageLives u) (line.joined m ms)
-sent_live u m here ms h = by (nat_lt (length ms) 1024)
+sent_live u m here ms h = by (nat_lt (length ms) line.most_messages)
   where
     by : (b : Bool) → AllByRecursion (MessageLives u) (cond b (ms ++ m ∷ []) ms)
     by true = all_append (MessageLives u) ms (m ∷ []) h (here, tt)

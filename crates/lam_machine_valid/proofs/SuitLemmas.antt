@@ -8,6 +8,8 @@ use Rattle.lam_value.specs.declared.values.Value.{Value}
 use Rattle.lam_value.specs.declared.values.Value.TheVariants.{Obj, Arr, File, Dir}
 use Rattle.lam_value.specs.declared.shapes.Shape.{Shape}
 use Rattle.lam_value.specs.declared.shapes.Shape.TheVariants.{Class, Array}
+use Rattle.labelled_heap.specs.Things.{most_things}
+use Rattle.monitor_core.specs.Held.{most_takings}
 use Rattle.labelled_files.specs.declared.directory.Target.{Target}
 use Rattle.labelled_files.specs.declared.files.FileFault.{FileFault}
 use Rattle.labelled_files.specs.declared.files.FileFault.TheVariants as file_fault
@@ -15,7 +17,7 @@ use Rattle.labelled_pipes.specs.declared.message.Message.{Message}
 use Rattle.labelled_pipes.specs.declared.message.Message.TheVariants as message
 use Rattle.labelled_pipes.specs.declared.message.MessageKind.TheVariants as sort_of_message
 use Rattle.labelled_pipes.specs.Messages.{front_of}
-use Rattle.labelled_pipes.specs.Queues.{waiting_at}
+use Rattle.labelled_pipes.specs.Queues.{most_pipes, waiting_at}
 use Rattle.lam_asks.specs.declared.fault.Fault.{Fault}
 use Rattle.lam_asks.specs.declared.fault.Fault.TheVariants.{HomeFull, Deep, BadName, Exists, DirFull, NoEntry}
 use Rattle.lam_asks.specs.declared.answer.Outcome.{Outcome}
@@ -25,10 +27,12 @@ use Rattle.lam_asks.specs.declared.ask.Ask.TheVariants as ask
 use Rattle.lam_asks.specs.Suits as suit
 use Rattle.lam_asks.specs.Suits.{Sort, Want, is_of, made_as, copied_as, want_of, is_among, fits}
 use Rattle.lam_bytecode.specs.Codes.{CodeTree}
+use Rattle.thread_steps.specs.Limits.{depth_limit}
 use Rattle.thread_steps.specs.Threads.{Context}
+use Rattle.lam_machine_terms.specs.Limits.{most_tags, most_threads}
 use Rattle.lam_machine_terms.specs.Worlds.{World, result_at}
 use Rattle.lam_machine_terms.specs.Deeds.{Deed, answers, does, gives_back, unless_denied, under, unless, full, on_thing}
-use Rattle.lam_machine_terms.specs.Serving.{reference, renamed, file_faults, opened, absent, received, joined, serve}
+use Rattle.lam_machine_terms.specs.Serving.{reference, renamed, file_faults, opened, absent, received, ended_with, serve}
 use Rattle.lam_machine_terms.specs.Turns.{lists}
 use Rattle.lam_machine_valid.specs.Laws.{LeadsTo}
 use Rattle.lam_machine_valid.proofs.EffectLemmas.{IsThing}
@@ -126,7 +130,7 @@ back_fits ns r h = absurd cc
 through : (k : Want) (r : Value) (go : Name → Deed) (h : IsThing r) → Fits k (go h.0) → Fits k (on_thing r go)
 through k r go h f = subst (Fits k) (sym (followed r h.0 go h.1)) f
 
-joined_suits : (x : Option Outcome) → Joined (joined x)
+joined_suits : (x : Option Outcome) → Joined (ended_with x)
 joined_suits None = without_value
 joined_suits (Some (outcome.Value v)) = with_value v
 joined_suits (Some (outcome.Failed f)) = without_value
@@ -144,16 +148,16 @@ module _ (code : CodeTree) (c : Context) (w : World) where
   suits_row (ask.Read r at) h = (_, ap (λ (d : Deed). d.answer) (gives_slot c r at h w h.0 h.1))
   suits_row (ask.Write r at v) h = λ s. ap (λ (d : Deed). fits (suit.always suit.is_done) d.answer) (sets_it c r v at h w h.0 h.1)
   suits_row (ask.New shape) h = λ s.
-      (unless_fits (want_of s (ask.New shape)) (full _ 1048576 HomeFull) _ (full_may (want_of s (ask.New shape)) _ 1048576 HomeFull refl) (record { it = shape_fits shape _ })).it
-  suits_row (ask.CopyTo r l) h = λ s. (through (want_of s (ask.CopyTo r l)) r _ h (limited (want_of s (ask.CopyTo r l)) _ _ 1048576 HomeFull _ refl refl (copy_fits r h.0 _ h.1))).it
-  suits_row ask.Mint h = λ s. (limited (want_of s ask.Mint) _ _ 65536 HomeFull _ refl refl refl).it
-  suits_row (ask.Enter l k region args) h = λ s. (limited (want_of s (ask.Enter l k region args)) _ _ 63 Deep _ refl refl refl).it
+      (unless_fits (want_of s (ask.New shape)) (full _ most_things HomeFull) _ (full_may (want_of s (ask.New shape)) _ most_things HomeFull refl) (record { it = shape_fits shape _ })).it
+  suits_row (ask.CopyTo r l) h = λ s. (through (want_of s (ask.CopyTo r l)) r _ h (limited (want_of s (ask.CopyTo r l)) _ _ most_things HomeFull _ refl refl (copy_fits r h.0 _ h.1))).it
+  suits_row ask.Mint h = λ s. (limited (want_of s ask.Mint) _ _ most_tags HomeFull _ refl refl refl).it
+  suits_row (ask.Enter l k region args) h = λ s. (limited (want_of s (ask.Enter l k region args)) _ _ depth_limit Deep _ refl refl refl).it
   suits_row ask.Leave h = λ s. refl
   suits_row (ask.Barred denied) h = λ s. refl
   suits_row (ask.Caught f) h = λ s. refl
   suits_row (ask.Suppressed f) h = λ s. refl
   suits_row (ask.End out) h = λ s. refl
-  suits_row (ask.MonEnter r) h = λ s. (through (want_of s (ask.MonEnter r)) r _ h (limited (want_of s (ask.MonEnter r)) _ _ 1048576 Deep _ refl refl refl)).it
+  suits_row (ask.MonEnter r) h = λ s. (through (want_of s (ask.MonEnter r)) r _ h (limited (want_of s (ask.MonEnter r)) _ _ most_takings Deep _ refl refl refl)).it
   suits_row (ask.MonLeave r) h = λ s. (back_fits c.held r h).it
   suits_row (ask.MakeFile d text l) h = λ s. (made_fits suit.files _ _ _ refl).it
   suits_row (ask.MakeDir d text l) h = λ s. (made_fits suit.directories _ _ _ refl).it
@@ -164,12 +168,12 @@ module _ (code : CodeTree) (c : Context) (w : World) where
   suits_row (ask.FileLength f) h = λ s. (under_fits (want_of s (ask.FileLength f)) _ _ refl (record { it = refl })).it
   suits_row (ask.Append f bytes) h = λ s. (under_fits (want_of s (ask.Append f bytes)) _ _ refl (record { it = refl })).it
   suits_row (ask.Cut f len) h = λ s. (under_fits (want_of s (ask.Cut f len)) _ _ refl (record { it = refl })).it
-  suits_row (ask.MakePipe l) h = λ s. (limited (want_of s (ask.MakePipe l)) _ _ 4096 HomeFull _ refl refl refl).it
+  suits_row (ask.MakePipe l) h = λ s. (limited (want_of s (ask.MakePipe l)) _ _ most_pipes HomeFull _ refl refl refl).it
   suits_row (ask.Send p bytes) h = λ s. (under_fits (want_of s (ask.Send p bytes)) _ _ refl (record { it = refl })).it
   suits_row (ask.SendCaps p caps) h = λ s. (under_fits (want_of s (ask.SendCaps p caps)) _ _ refl (record { it = refl })).it
   suits_row (ask.Receive p) h = λ s. (under_fits (want_of s (ask.Receive p)) _ _ refl (record { it = bytes_fit (waiting_at w.pipes p) })).it
   suits_row (ask.ReceiveCaps p) h = λ s. (under_fits (want_of s (ask.ReceiveCaps p)) _ _ refl (record { it = caps_fit (waiting_at w.pipes p) })).it
-  suits_row (ask.Spawn unit args caps) h = λ s. (limited (want_of s (ask.Spawn unit args caps)) _ _ 4096 HomeFull _ refl refl refl).it
+  suits_row (ask.Spawn unit args caps) h = λ s. (limited (want_of s (ask.Spawn unit args caps)) _ _ most_threads HomeFull _ refl refl refl).it
   suits_row (ask.Join u) h = under_joined _ _ (joined_suits (result_at w u))
   suits_row (ask.Say bytes) h = λ s. refl
 

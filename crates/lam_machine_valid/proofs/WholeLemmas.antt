@@ -204,6 +204,14 @@ beside code t w to (adds_pipe home) = thread_grows (effect_of code t (adds_pipe 
 beside code t w to (sends p m) = thread_grows (effect_of code t (sends p m) w) t to
 beside code t w to (receives p k) = thread_grows (effect_of code t (receives p k) w) t to
 
+-- what is public stays
+public_after : (code : CodeTree) (t : ℕ) (w : World) (e : Effect) → (effect_of code t e w).public ≡ w.public
+public_after code t w nothing = refl
+public_after code t w e = refl
+
+public_known_after : (code : CodeTree) (t : ℕ) (w : World) (e : Effect) → Grows w (effect_of code t e w) → AreKnown w w.public → AreKnown (effect_of code t e w) (effect_of code t e w).public
+public_known_after code t w e g h = subst (AreKnown (effect_of code t e w)) (sym (public_after code t w e)) (caps_on w (effect_of code t e w) g w.public h)
+
 -- ---- one turn
 
 -- an end is always done
@@ -277,6 +285,7 @@ module _ (code : CodeTree) (w : World) (valid : IsValid w) (t : ℕ) (th : threa
       record {
         sound = s.stores;
         live = moved_live w u g valid.live refl refl refl refl;
+        public = caps_on w u g w.public valid.public;
         threads = others u g (λ j apart n. refl) to acting;
         tags = s.tags;
         number = s.threads;
@@ -354,6 +363,7 @@ module _ (code : CodeTree) (w : World) (valid : IsValid w) (t : ℕ) (th : threa
         record {
           sound = s.stores;
           live = stores_live;
+          public = public_known_after code t between (serve w c a).effect two (caps_on w between one w.public valid.public);
           threads = new_threads_valid code t between (serve w c a).effect (effect_on w after both (serve w c a).effect row.1) (others after both same_monitors to acting_valid);
           tags = s.tags;
           number = s.threads;

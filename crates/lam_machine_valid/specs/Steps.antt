@@ -11,6 +11,7 @@ use Rattle.labelled_pipes.specs.Queues.{no_pipes}
 use Rattle.lam_bytecode.specs.Codes.{CodeTree, IsCode}
 use Rattle.thread_steps.specs.Threads.{Thread}
 use Rattle.thread_steps.specs.Next.{started}
+use Rattle.lam_machine_terms.specs.Limits.{most_tags, most_threads}
 use Rattle.lam_machine_terms.specs.Worlds.{World, thread_at}
 use Rattle.lam_machine_terms.specs.Turns.{Moment, step, moments, replay}
 use Rattle.lam_machine_terms.specs.Valid.{AreKnown, AllLive, all_listings, AreSoundStores, StoresLive, IsValid}
@@ -40,12 +41,14 @@ pub record IsStart (code : CodeTree) (w : World) (th : Thread) : Type 0 where
   pub known : AreKnown w caps
 
 -- an empty directory alone, and nothing else but threads
-abbrev pub bare : List (List ℕ) → ℕ → List Thread → World
-bare names n ths =
-    record { names = names; next_tag = n; heap = no_things; monitors = empty; files = root_alone; pipes = no_pipes; threads = ths }
+abbrev pub bare : List (List ℕ) → Caps → ℕ → List Thread → World
+bare names public n ths =
+    record { names = names; public = public; next_tag = n; heap = no_things; monitors = empty; files = root_alone; pipes = no_pipes; threads = ths }
 
 pub record StartsAreValid (code : CodeTree) : Type 0 where
-  -- where the stores are sound, what stands in them lives, and each thread just starts
-  pub all : (w : World) → AreSoundStores w → StoresLive w → w.next_tag ≤ 65536 → length w.threads ≤ 4096 → AllByRecursion (IsStart code w) w.threads → IsValid w
+  -- where the stores are sound, what stands in them lives, public capabilities are known, and each thread just starts
+  pub all : (w : World) → AreSoundStores w → StoresLive w → AreKnown w w.public → w.next_tag ≤ most_tags → length w.threads ≤ most_threads → AllByRecursion (IsStart code w) w.threads → IsValid w
   -- and so where there is nothing but an empty directory
-  pub nothing_else : (names : List (List ℕ)) (n : ℕ) (ths : List Thread) → n ≤ 65536 → length ths ≤ 4096 → AllByRecursion (IsStart code (bare names n ths)) ths → IsValid (bare names n ths)
+  pub nothing_else :
+      (names : List (List ℕ)) (public : Caps) (n : ℕ) (ths : List Thread) → AreKnown (bare names public n ths) public → n ≤ most_tags → length ths ≤ most_threads →
+      AllByRecursion (IsStart code (bare names public n ths)) ths → IsValid (bare names public n ths)

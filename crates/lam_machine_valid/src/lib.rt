@@ -5,6 +5,7 @@
 //! - `specs/Steps`: every turn of every code leads from a valid world to a valid one.
 //! - `specs/Suiting`, `specs/Faults`, `specs/Events`, `specs/Ready`: each answer suits its ask, which fault it may be, that
 //!   failing tests are events, and which threads are ready.
+//! - `specs/Threads`: the threads of a valid world are threads as the machine's code has them.
 #![tactic(auto)]
 
 ghost use Rattle.lam_bytecode.specs.Codes.{CodeTree};
@@ -14,6 +15,7 @@ ghost use Rattle.lam_machine_valid.specs.Living.{NamesWhatLives, LivingGoOn};
 ghost use Rattle.lam_machine_valid.specs.Faults.{AnswersFollowTheRows};
 ghost use Rattle.lam_machine_valid.specs.Events.{FailingTestsAreEvents};
 ghost use Rattle.lam_machine_valid.specs.Suiting.{AnswersSuit};
+ghost use Rattle.lam_machine_valid.specs.Threads.{ValidThreadsAreThreads};
 ghost use Rattle.lam_machine_valid.specs.Ready.{ReadyThreadsCanGo, EndedAreNotReady, StandsOneWay};
 
 /// A turn of any thread, whatever it asks, keeps all that a valid world is: what is named lives, counters stay within
@@ -32,8 +34,9 @@ pub fn monitors_exclude()
     ensures { MonitorsExclude }
 {}
 
-/// A world with sound stores, in which what stands in them lives, and whose threads stand at the entry of units with
-/// living arguments, is valid; one with nothing but an empty directory and such threads is.
+/// A world with sound stores, in which what stands in them lives, whose public capabilities are of known tags, and whose
+/// threads stand at the entry of units with living arguments, is valid; one with nothing but an empty directory and such
+/// threads is.
 pub fn starts_are_valid()
     ensures { (code : CodeTree) → StartsAreValid code }
 {}
@@ -67,8 +70,8 @@ pub fn living_go_on()
     ensures { (code : CodeTree) → LivingGoOn code }
 {}
 
-/// An ask is refused where a test of it fails, by the first rule that does; else it fails where it has a fault, with
-/// that fault; and else it is done.
+/// An ask is refused where a test of it fails for a context that holds the public capabilities beside its own, by the
+/// first rule that does; else it fails where it has a fault, with that fault; and else it is done.
 pub fn answers_follow_the_rows()
     ensures { AnswersFollowTheRows }
 {}
@@ -88,8 +91,9 @@ pub fn worlds_stand_one_way()
     ensures { (code : CodeTree) → StandsOneWay code }
 {}
 
-/// Where a test of an ask fails, or the rule of a barrier, the thread's turn is an event that names the first failing
-/// rule with its least tag, and all that it does is to raise Denied.
+/// Where a test of an ask fails for a context that holds the public capabilities beside its own, or the rule of a barrier,
+/// the thread's turn is an event that names the first failing rule with its least tag, and all that it does is to raise
+/// Denied.
 pub fn failing_tests_are_events()
     ensures { (code : CodeTree) → FailingTestsAreEvents code }
 {}
@@ -98,4 +102,10 @@ pub fn failing_tests_are_events()
 /// that the ask may have. Of a read and a join it is a value of some sort.
 pub fn answers_suit()
     ensures { (code : CodeTree) → AnswersSuit code }
+{}
+
+/// Each thread of a valid world is a thread as the machine's code has it: its last context is its first one, no other is,
+/// and it has a result exactly where it has no context.
+pub fn valid_threads_are_threads()
+    ensures { ValidThreadsAreThreads }
 {}

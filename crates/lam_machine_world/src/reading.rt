@@ -3,6 +3,7 @@
 ghost use Rattle.std.specs.Prelude.{◌≡◌, ◌≤◌, length, slice_get, IfOk};
 ghost use Rattle.std.specs.Option.{option_copied};
 ghost use Rattle.thread_core_state.specs.Seen.{phase_of};
+ghost use Rattle.lam_machine_terms.specs.Limits.{most_threads};
 ghost use Rattle.lam_machine_terms.specs.Worlds.{World, result_in};
 ghost use Rattle.lam_machine_terms.specs.Serving.{serve};
 ghost use Rattle.lam_machine_terms.specs.Turns as turns;
@@ -69,7 +70,7 @@ pub fn deed_of(
     c: &Context,
     ask: &Ask,
 ) -> Result<Deed, NoMemory>
-    requires { length threads.now ≤ 4096 }
+    requires { length threads.now ≤ most_threads }
     ensures { IfOk result (λ d. DoesAs d (serve (world_of stores.now threads.now) c.now ask.now)) }
 {
     let who = acting(c);

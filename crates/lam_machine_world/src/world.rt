@@ -1,6 +1,7 @@
 //! Worlds.
 
 ghost use Rattle.std.specs.Prelude.{◌≡◌, ◌≤◌, length, IfOk};
+ghost use Rattle.lam_machine_terms.specs.Limits.{most_threads};
 ghost use Rattle.lam_machine_effects.specs.Parts.{stores_of, world_of};
 
 use lam_machine_effects::Stores;
@@ -28,17 +29,18 @@ impl Model for World {
     ghost coded = { coded_world };
 
     ghost use Rattle.std.specs.Prelude.{◌≤◌, length};
+    ghost use Rattle.lam_machine_terms.specs.Limits.{most_threads};
     ghost use Rattle.lam_machine_effects.specs.Parts.{world_of};
 
     ghost view = { λ w. world_of w.stores w.threads.items };
 
-    ghost invariant = { λ w. length w.threads.items ≤ 4096 };
+    ghost invariant = { λ w. length w.threads.items ≤ most_threads };
 }
 
 impl World {
     /// The world of stores and threads.
     pub fn new(stores: Stores, threads: Vec<LamThread>) -> World
-        requires { length threads.items ≤ 4096 }
+        requires { length threads.items ≤ most_threads }
         ensures { result ≡ world_of stores threads.items }
     {
         World { stores, threads }
@@ -54,7 +56,7 @@ impl World {
     /// The threads.
     pub fn threads(&self) -> &[LamThread]
         ensures threads { result.now ≡ self.now.threads }
-        ensures few { length result.now ≤ 4096 }
+        ensures few { length result.now ≤ most_threads }
     {
         self.threads.as_slice()
     }

@@ -1,4 +1,5 @@
 use Rattle.std.proofs.Common.{refl}
+use Rattle.capabilities.specs.Changes.{joined}
 use Rattle.lam_machine_rows.specs.Rows.{any_world, any_context, with_tags, with_heap, with_monitors, with_files, with_pipes, at_label, acting_by, at_depth}
 use Rattle.lam_machine_rows.proofs.PartLemmas.{moved, moved_ok, one, each, tags_is, heap_is, monitors_is, files_is, pipes_is, label_is, caps_is, depth_is, released, among, joining}
 use Rattle.lam_machine_rows.proofs.rows.serve.Goals as goal
@@ -23,7 +24,7 @@ returns-in-New c =
 
 pub returns-in-CopyTo : goal.returns-in-CopyTo
 returns-in-CopyTo c =
-    moved_ok _ _ _ _ _ _ _ c.in-CopyTo.is (each _ _ _ _ _ (with_heap c.args.stores.now.heap) (acting_by c.label-p.result.now c.caps-caps.result.now) _
+    moved_ok _ _ _ _ _ _ _ c.in-CopyTo.is (each _ _ _ _ _ (with_heap c.args.stores.now.heap) (acting_by c.label-p.result.now (joined c.caps-caps.result.now c.args.stores.now.public)) _
     (λ w k h. (heap_is _ _ _ _ _ w k h, caps_is _ _ _ _ _ w k h _ _ c.label-p.ensures c.caps-caps.ensures))
     c.copy_to.ensures)
 
@@ -41,13 +42,13 @@ returns-in-MonLeave c =
 
 pub returns-in-MakeFile : goal.returns-in-MakeFile
 returns-in-MakeFile c =
-    moved_ok _ _ _ _ _ _ _ c.in-MakeFile.is (each _ _ _ _ _ (with_files c.args.stores.now.files) (acting_by c.label-p.result.now c.caps-caps.result.now) _
+    moved_ok _ _ _ _ _ _ _ c.in-MakeFile.is (each _ _ _ _ _ (with_files c.args.stores.now.files) (acting_by c.label-p.result.now (joined c.caps-caps.result.now c.args.stores.now.public)) _
     (λ w k h. (files_is _ _ _ _ _ w k h, caps_is _ _ _ _ _ w k h _ _ c.label-p.ensures c.caps-caps.ensures))
     c.make_file.ensures)
 
 pub returns-in-MakeDir : goal.returns-in-MakeDir
 returns-in-MakeDir c =
-    moved_ok _ _ _ _ _ _ _ c.in-MakeDir.is (each _ _ _ _ _ (with_files c.args.stores.now.files) (acting_by c.label-p.result.now c.caps-caps.result.now) _
+    moved_ok _ _ _ _ _ _ _ c.in-MakeDir.is (each _ _ _ _ _ (with_files c.args.stores.now.files) (acting_by c.label-p.result.now (joined c.caps-caps.result.now c.args.stores.now.public)) _
     (λ w k h. (files_is _ _ _ _ _ w k h, caps_is _ _ _ _ _ w k h _ _ c.label-p.ensures c.caps-caps.ensures))
     c.make_dir.ensures)
 
@@ -89,7 +90,7 @@ returns-in-Cut c =
 
 pub returns-in-MakePipe : goal.returns-in-MakePipe
 returns-in-MakePipe c =
-    moved_ok _ _ _ _ _ _ _ c.in-MakePipe.is (each _ _ _ _ _ (with_pipes c.args.stores.now.pipes) (acting_by c.label-p.result.now c.caps-caps.result.now) _
+    moved_ok _ _ _ _ _ _ _ c.in-MakePipe.is (each _ _ _ _ _ (with_pipes c.args.stores.now.pipes) (acting_by c.label-p.result.now (joined c.caps-caps.result.now c.args.stores.now.public)) _
     (λ w k h. (pipes_is _ _ _ _ _ w k h, caps_is _ _ _ _ _ w k h _ _ c.label-p.ensures c.caps-caps.ensures))
     c.make_pipe.ensures)
 
@@ -101,7 +102,7 @@ returns-in-Send c =
 
 pub returns-in-SendCaps : goal.returns-in-SendCaps
 returns-in-SendCaps c =
-    moved_ok _ _ _ _ _ _ _ c.in-SendCaps.is (each _ _ _ _ _ any_world (acting_by c.label-p.result.now c.caps-caps.result.now) _
+    moved_ok _ _ _ _ _ _ _ c.in-SendCaps.is (each _ _ _ _ _ any_world (acting_by c.label-p.result.now (joined c.caps-caps.result.now c.args.stores.now.public)) _
     (λ w k h. (refl, caps_is _ _ _ _ _ w k h _ _ c.label-p.ensures c.caps-caps.ensures))
     c.send_caps.ensures)
 
@@ -131,7 +132,7 @@ returns-in-FileLength c =
 
 pub returns-in-Enter : goal.returns-in-Enter
 returns-in-Enter c =
-    moved _ _ _ _ _ _ _ c.in-Enter.is (one _ _ _ _ _ any_world (at_depth c.label-p.result.now c.caps-caps.result.now c.depth.result) _
+    moved _ _ _ _ _ _ _ c.in-Enter.is (one _ _ _ _ _ any_world (at_depth c.label-p.result.now (joined c.caps-caps.result.now c.args.stores.now.public) c.depth.result) _
     (λ w k h. (refl, depth_is _ _ _ _ _ w k h _ _ _ c.label-p.ensures c.caps-caps.ensures c.depth.ensures))
     (c.enter.ensures _ _))
 
