@@ -6,7 +6,7 @@ use Rattle.lam_front.specs.declared.fault.ProgramFault.{ProgramFault}
 use Rattle.lam_front.specs.declared.fault.ProgramFault.TheVariants.{NotUtf8 as no_utf8, At, NoMemory as no_memory_of_it}
 use Rattle.barrier_compiler.specs.declared.emitting.CompileFault.{CompileFault}
 use Rattle.barrier_compiler.specs.declared.emitting.CompileFault.TheVariants.{CodeTooLong as too_long_code, NoMemory as no_memory_for_code}
-use Rattle.world_doc_terms.specs.Breaks as document
+use Rattle.world_doc_terms.specs.Breaks.{break_seen}
 use Rattle.turn_book.specs.declared.BookFault.TheVariants as book
 use Rattle.lam_main_words.specs.Words.{Text}
 use Rattle.lam_main_plan.specs.declared.Status.TheVariants.{Done, Book as book_status}
@@ -15,8 +15,6 @@ use Rattle.lam_main_plan.specs.Reading.{IsUnread}
 use Rattle.lam_main_plan.specs.Threads.{status_of}
 use Rattle.lam_main_plan.specs.Answer.{IsWritten}
 use Rattle.lam_machine_runs.specs.declared.How.TheVariants.{Done as all_ended}
-use Rattle.lam_main_files.specs.declared.halt.WorldBreak.{WorldBreak}
-use Rattle.lam_main_files.specs.declared.halt.WorldBreak.TheVariants.{NotJson, NoMember, BadMember, NoTag, BadPath, PathTwice}
 use Rattle.lam_main_files.specs.declared.halt.BookBreak.{BookBreak}
 use Rattle.lam_main_files.specs.declared.halt.BookBreak.TheVariants.{Head, Line, SameThread, TooMany}
 use Rattle.lam_main_files.specs.declared.halt.Refusal.{Refusal}
@@ -24,15 +22,6 @@ use Rattle.lam_main_files.specs.declared.halt.Refusal.TheVariants.{Word, Script,
 use Rattle.lam_main_files.specs.declared.report.Report.{Report}
 use Rattle.lam_main_files.specs.declared.halt.Halt.{Halt}
 use Rattle.lam_main_files.specs.declared.halt.Halt.TheVariants.{Refused, NoMemory, ShelfFailed}
-
--- the break of a document
-abbrev pub break_of : WorldBreak → document.Break
-break_of NotJson = document.NotJson
-break_of (NoMember name) = document.NoMember (string_bytes name)
-break_of (BadMember name) = document.BadMember (string_bytes name)
-break_of (NoTag name) = document.NoTag (string_bytes name)
-break_of (BadPath index) = document.BadPath index
-break_of (PathTwice index) = document.PathTwice index
 
 -- what is broken in a line of a book, as it is printed
 abbrev pub words_of : BookBreak → Text
@@ -48,7 +37,7 @@ refuses (Script number) = no_script number
 refuses NotUtf8 = no_program no_utf8
 refuses (Flawed flaw at) = no_program (At flaw at)
 refuses (CodeTooLong unit) = no_code unit
-refuses (World breach) = no_world (break_of breach)
+refuses (World breach) = no_world (break_seen breach)
 refuses (Book flaw number) = refused book_status (words_of flaw ∷ decimal number ∷ [])
 refuses (NotReady turn thread) = no_turn (record { turn = turn; thread = thread })
 refuses (Absent name) = absent (string_bytes name)

@@ -8,6 +8,7 @@ use lam_front::{Flaw, ProgramFault};
 use lam_main_plan::CompileFault;
 use std::alloc::AllocError;
 use want_of_memory::NoMemory;
+use world_doc_terms::WorldBreak;
 
 /// What is refused, by the line that is printed.
 #[derive(Drop)]
@@ -32,23 +33,6 @@ pub enum Refusal {
     Absent(String),
     /// The file of this name is longer than its limit.
     TooLong(String),
-}
-
-/// What is broken in the document of a world.
-#[derive(Drop)]
-pub enum WorldBreak {
-    /// It is no JSON text.
-    NotJson,
-    /// The member of this name is not there.
-    NoMember(String),
-    /// The member of this name is of another form.
-    BadMember(String),
-    /// No tag has this name.
-    NoTag(String),
-    /// The item of the tree at this index has no place, or no room there.
-    BadPath(u64),
-    /// The item of the tree at this index stands where another does.
-    PathTwice(u64),
 }
 
 /// What is broken in a line of a book.

@@ -12,7 +12,7 @@ mod report;
 mod script;
 
 pub use files::read_file;
-pub use halt::{BookBreak, Halt, Refusal, WorldBreak};
+pub use halt::{BookBreak, Halt, Refusal};
 pub use program::{check, code, compiled, format, read_code};
 pub use report::{Report, done};
 pub use script::play;

@@ -1,10 +1,8 @@
 -- How many arguments and threads there are.
-use Rattle.std.proofs.Common.{◌≡◌, ◌≢◌, ℕ, ◌≤◌, ◌&&◌, Bool, true, false, eqb, ltb, leb, List, length, Ok, Err, refl, sym, ap, ◌∙◌, arith}
+use Rattle.std.proofs.Common.{◌≡◌, ◌≢◌, ℕ, ◌≤◌, ◌&&◌, Bool, true, false, eqb, ltb, leb, List, length, Ok, Err, refl, sym, ◌∙◌, arith}
 use Rattle.std.specs.Prelude.{codes}
-use Rattle.std.specs.Option.{option_and_then}
 use Rattle.std.proofs.lemmas.Bool.Decides.{nat_tests}
-use Rattle.serde_json.specs.Data.{Items, Members}
-use Rattle.serde_json.specs.Events.{items_len}
+use Rattle.serde_json.specs.Data.{Members}
 use Rattle.serde_json.specs.Find.{as_array}
 use Rattle.serde_json.specs.View.{items_view}
 use Rattle.serde_json.specs.declared.value.Value.{Value as Json}
@@ -12,32 +10,11 @@ use Rattle.flow_labels.specs.TwoLists.{Text}
 use Rattle.lam_value.specs.declared.names.Name.{Name}
 use Rattle.lam_bytecode.specs.Codes.{CodeTree}
 use Rattle.lam_bytecode.specs.declared.unit.ArgKind.{ArgKind}
-use Rattle.world_doc_terms.specs.Breaks.{BadMember, Reading, ◌>>=◌, only_if, formed, member_as}
+use Rattle.world_doc_terms.specs.Breaks.{BadMember, member_as}
 use Rattle.world_doc_terms.specs.Entries.{arguments, args_in, threads_of, threads_in}
 use Rattle.world_doc_stores.specs.declared.fault.WorldFault.{WorldFault}
 use Rattle.world_doc_stores.specs.Meaning.{Fails}
-use Rattle.world_doc_stores.proofs.Steps.{fails_here}
-use Rattle.world_doc_stores.proofs.ListLemmas.{items_count}
-use Rattle.world_doc_stores.proofs.MemberOn.{member_on, member_off}
-
--- a list that is as long as it may be
-module _ (name : Text) (test : ℕ → Bool) (ms : Members) where
-  abbrev pub counted : Reading Items
-  counted = member_as name (λ d. option_and_then (λ items. only_if (test (items_len items)) items) (as_array d)) ms
-
-  by_test : (xs : List Json) (b : Bool) → member_as name as_array ms ≡ Ok (items_view xs) → test (length xs) ≡ b → counted ≡ formed name (only_if b (items_view xs))
-  by_test xs b e is =
-      member_on name as_array (λ items. only_if (test (items_len items)) items) ms (items_view xs) e ∙
-      ap (λ (n : ℕ). formed name (only_if (test n) (items_view xs))) (items_count xs) ∙ ap (λ (b : Bool). formed name (only_if b (items_view xs))) is
-
-  pub right_count : {X : Type 0} (f : Items → Reading X) (xs : List Json) → member_as name as_array ms ≡ Ok (items_view xs) → test (length xs) ≡ true → (counted >>= f) ≡ f (items_view xs)
-  right_count f xs e is = ap (λ r. r >>= f) (by_test xs true e is)
-
-  pub wrong_count : {X : Type 0} (f : Items → Reading X) (xs : List Json) → member_as name as_array ms ≡ Ok (items_view xs) → test (length xs) ≡ false → (counted >>= f) ≡ Err (BadMember name)
-  wrong_count f xs e is = ap (λ r. r >>= f) (by_test xs false e is)
-
-  pub no_list : {X : Type 0} (f : Items → Reading X) (e : WorldFault) → Fails e (member_as name as_array ms) → Fails e (counted >>= f)
-  no_list f e h = fails_here e counted f (member_off name as_array (λ items. only_if (test (items_len items)) items) e ms h)
+use Rattle.world_doc_stores.proofs.CountLemmas.{right_count, wrong_count, no_list}
 
 same_test : (n m : ℕ) → n ≡ m → eqb n m ≡ true
 same_test n m e = grind (arith, nat_tests)

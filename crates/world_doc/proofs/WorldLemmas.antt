@@ -1,11 +1,12 @@
 -- A document's members, one after another.
-use Rattle.std.proofs.Common.{◌≡◌, ℕ, List, [], length, Result, Ok, Err, refl, sym, ap, ◌∙◌}
+use Rattle.std.proofs.Common.{◌≡◌, List, [], length, Result, Ok, Err, refl, sym, ap, ◌∙◌}
 use Rattle.std.specs.Prelude.{codes}
 use Rattle.std.specs.FinMap.{empty}
 use Rattle.std.specs.Borrow.{Bor}
 use Rattle.serde_json.specs.Data.{Data, Members}
 use Rattle.serde_json.specs.Find.{as_object}
 use Rattle.flow_labels.specs.TwoLists.{Text}
+use Rattle.capabilities.specs.Kinds.{public_of}
 use Rattle.lam_value.specs.declared.names.Name.{Name}
 use Rattle.labelled_heap.specs.Things.{no_things}
 use Rattle.labelled_files.specs.Trees.{Tree}
@@ -15,7 +16,8 @@ use Rattle.lam_machine_terms.specs.Worlds.{World}
 use Rattle.lam_machine_effects.specs.declared.stores.Stores.{Stores}
 use Rattle.lam_machine_effects.specs.Parts.{first_stores}
 use Rattle.world_doc_terms.specs.Breaks.{Reading, ◌>>=◌, formed}
-use Rattle.world_doc_terms.specs.Tags.{tags_in}
+use Rattle.world_doc_terms.specs.declared.version.Version.{Version}
+use Rattle.world_doc_terms.specs.Tags.{FirstTags, tags_in}
 use Rattle.world_doc_terms.specs.Stores.{Pipes, tree_in, pipes_in}
 use Rattle.world_doc_terms.specs.Entries.{threads_in}
 use Rattle.world_doc_terms.specs.Start.{version_in, world_in, world_of}
@@ -52,40 +54,40 @@ module _ (code : CodeTree) (ms : Members) (s : Stores) (es : List (Bor Text × N
   pub onto : (p : Stores × List (Text × Name)) → filled s (called_of es) ms ≡ Ok p → with_threads code ms p ≡ world_onto code ms s (called_of es)
   onto p h = sym (ap (λ r. r >>= with_threads code ms) h)
 
-module _ (code : CodeTree) (ms : Members) (names : List Text) (s : Stores) (es : List (Bor Text × Name)) (first : s ≡ first_stores names) (none : es ≡ []) where
-  first_filled : filled (first_stores names) [] ms ≡ filled s (called_of es) ms
+module _ (code : CodeTree) (ms : Members) (tags : FirstTags) (s : Stores) (es : List (Bor Text × Name)) (first : s ≡ first_stores tags.names (public_of tags.kinds)) (none : es ≡ []) where
+  first_filled : filled (first_stores tags.names (public_of tags.kinds)) [] ms ≡ filled s (called_of es) ms
   first_filled = ap (λ (s : Stores). filled s [] ms) (sym first) ∙ ap (λ (es : List (Bor Text × Name)). filled s (called_of es) ms) (sym none)
 
-  pub from_first : world_onto code ms s (called_of es) ≡ after_tags code ms names
+  pub from_first : world_onto code ms s (called_of es) ≡ after_tags code ms tags
   from_first = ap (λ r. r >>= with_threads code ms) (sym first_filled)
 
 -- ---- from the version on
 
-abbrev then_tags : CodeTree → Members → List Text → Reading World
-then_tags code ms names =
-    tree_in names ms
-    >>= λ files. pipes_in names ms
-    >>= λ pipes. threads_in code names pipes.called ms
-    >>= λ threads. Ok (record { names = names; next_tag = length names; heap = no_things; monitors = empty; files = files; pipes = pipes.queues; threads = threads })
+abbrev then_tags : CodeTree → Members → FirstTags → Reading World
+then_tags code ms tags =
+    tree_in tags.names ms
+    >>= λ files. pipes_in tags.names ms
+    >>= λ pipes. threads_in code tags.names pipes.called ms
+    >>= λ threads. Ok (record { names = tags.names; public = public_of tags.kinds; next_tag = length tags.names; heap = no_things; monitors = empty; files = files; pipes = pipes.queues; threads = threads })
 
 joined : {A B C D : Type 0} (r : Reading A) (p : Reading B) (make : A → B → C) (f : C → Reading D) → (r >>= λ a. p >>= λ b. f (make a b)) ≡ ((r >>= λ a. p >>= λ b. Ok (make a b)) >>= f)
 joined (Ok a) (Ok b) make f = refl
 joined (Ok a) (Err e) make f = refl
 joined (Err e) p make f = refl
 
-tags_then : (code : CodeTree) (ms : Members) (names : List Text) → then_tags code ms names ≡ after_tags code ms names
-tags_then code ms names = joined (tree_in names ms) (pipes_in names ms) (λ files pipes. more_pipes (first_stores names) files pipes) (with_threads code ms)
+tags_then : (code : CodeTree) (ms : Members) (tags : FirstTags) → then_tags code ms tags ≡ after_tags code ms tags
+tags_then code ms tags = joined (tree_in tags.names ms) (pipes_in tags.names ms) (λ files pipes. more_pipes (first_stores tags.names (public_of tags.kinds)) files pipes) (with_threads code ms)
 
 module _ (d : Data) (code : CodeTree) (ms : Members) (is : formed (codes "version") (as_object d) ≡ Ok ms) where
   pub no_version : (e : WorldFault) → Fails e (version_in ms) → Fails e (world_of d code)
-  no_version e h = fails_same (sym (ap (λ r. r >>= world_in code) is)) (fails_here e (version_in ms) (λ version. tags_in ms >>= then_tags code ms) h)
+  no_version e h = fails_same (sym (ap (λ r. r >>= world_in code) is)) (fails_here e (version_in ms) (λ version. tags_in version ms >>= then_tags code ms) h)
 
-  module _ (n : ℕ) (v : version_in ms ≡ Ok n) where
-    to_tags : world_of d code ≡ (tags_in ms >>= then_tags code ms)
-    to_tags = ap (λ r. r >>= world_in code) is ∙ ap (λ r. r >>= λ version. tags_in ms >>= then_tags code ms) v
+  module _ (version : Version) (v : version_in ms ≡ Ok version) where
+    to_tags : world_of d code ≡ (tags_in version ms >>= then_tags code ms)
+    to_tags = ap (λ r. r >>= world_in code) is ∙ ap (λ r. r >>= λ version. tags_in version ms >>= then_tags code ms) v
 
-    pub no_tags : (e : WorldFault) → Fails e (tags_in ms) → Fails e (world_of d code)
-    no_tags e h = fails_same (sym to_tags) (fails_here e (tags_in ms) (then_tags code ms) h)
+    pub tags_broken : (e : WorldFault) → Fails e (tags_in version ms) → Fails e (world_of d code)
+    tags_broken e h = fails_same (sym to_tags) (fails_here e (tags_in version ms) (then_tags code ms) h)
 
-    pub of_tags : (names : List Text) → tags_in ms ≡ Ok names → after_tags code ms names ≡ world_of d code
-    of_tags names t = sym (to_tags ∙ ap (λ r. r >>= then_tags code ms) t ∙ tags_then code ms names)
+    pub of_tags : (tags : FirstTags) → tags_in version ms ≡ Ok tags → after_tags code ms tags ≡ world_of d code
+    of_tags tags t = sym (to_tags ∙ ap (λ r. r >>= then_tags code ms) t ∙ tags_then code ms tags)

@@ -4,10 +4,12 @@ use Rattle.serde_json.specs.Data.{Data, Members}
 use Rattle.flow_labels.specs.TwoLists.{Text}
 use Rattle.lam_value.specs.declared.names.Name.{Name}
 use Rattle.lam_bytecode.specs.Codes.{CodeTree}
+use Rattle.capabilities.specs.Kinds.{public_of}
 use Rattle.lam_machine_terms.specs.Worlds.{World}
 use Rattle.lam_machine_effects.specs.declared.stores.Stores.{Stores}
 use Rattle.lam_machine_effects.specs.Parts.{first_stores, world_of}
 use Rattle.world_doc_terms.specs.Breaks.{NotJson, Reading, ◌>>=◌}
+use Rattle.world_doc_terms.specs.Tags.{FirstTags}
 use Rattle.world_doc_terms.specs.Entries.{threads_in}
 use Rattle.world_doc_stores.specs.Contents.{tree_onto}
 use Rattle.world_doc.specs.Called.{pipes_onto}
@@ -32,6 +34,6 @@ with_threads code ms p = threads_in code p.0.names p.1 ms >>= λ threads. Ok (wo
 abbrev pub world_onto : CodeTree → Members → Stores → List (Text × Name) → Reading World
 world_onto code ms s called = filled s called ms >>= with_threads code ms
 
--- the members that are looked at after the names of tags
-abbrev pub after_tags : CodeTree → Members → List Text → Reading World
-after_tags code ms names = world_onto code ms (first_stores names) []
+-- the members that are looked at after the tags
+abbrev pub after_tags : CodeTree → Members → FirstTags → Reading World
+after_tags code ms tags = world_onto code ms (first_stores tags.names (public_of tags.kinds)) []

@@ -1,16 +1,20 @@
 //! The whole document, member after member.
 
+ghost use Rattle.std.specs.Prelude.{◌≡◌, IfOk};
 ghost use Rattle.serde_json.specs.View.{view};
 ghost use Rattle.serde_json.specs.Read.{read};
+ghost use Rattle.capabilities.specs.Kinds.{public_of};
+ghost use Rattle.lam_machine_effects.specs.Parts.{first_stores};
 ghost use Rattle.world_doc_terms.specs.Start.{version_in, world_of, world_or, start_of};
 ghost use Rattle.world_doc_stores.specs.Meaning.{Gives, GivesOnto};
-ghost use Rattle.world_doc_stores.specs.Seen.{members};
+ghost use Rattle.world_doc_stores.specs.Seen.{members, tags_seen};
 ghost use Rattle.world_doc.specs.Called.{called_of};
 ghost use Rattle.world_doc.specs.Document.{document_or, filled, with_threads, world_onto, after_tags};
 
 use crate::pipes::{PipeNames, read_pipes};
 use crate::threads::read_threads;
-use flow_labels::TagNames;
+use capabilities::public_of;
+use flow_labels::NoMemory;
 use indexmap::IndexMap;
 use lam_bytecode::Code;
 use lam_machine_effects::Stores;
@@ -19,14 +23,16 @@ use serde_json::Value;
 use serde_json::error::Category;
 use std::alloc::Global;
 use std::str;
-use world_doc_stores::{WorldFault, bad_member, member, object, read_tags, read_tree};
+use world_doc_stores::{FirstTags, WorldFault, bad_member, member, object, read_tags, read_tree};
+use world_doc_terms::{Version, WorldBreak};
 
-fn read_version(alloc: Global, document: &Value) -> Result<(), WorldFault>
-    ensures { Gives (λ _. 1) result (version_in (members (view document.now))) }
+fn read_version(alloc: Global, document: &Value) -> Result<Version, WorldFault>
+    ensures { Gives (λ v. v) result (version_in (members (view document.now))) }
 {
     let version = member(alloc, document, "version")?;
     match version.as_u64() {
-        Some(1) => Ok(()),
+        Some(1) => Ok(Version::One),
+        Some(2) => Ok(Version::Two),
         _ => Err(bad_member(alloc, "version")),
     }
 }
@@ -83,16 +89,25 @@ fn world_onto<'a>(
     }
 }
 
-// The world of the names of tags and of all that is looked at after them.
+// The stores of a world with these tags.
+fn first_stores(alloc: Global, tags: FirstTags) -> Result<Stores, NoMemory>
+    ensures { IfOk result (λ s. s ≡ first_stores tags.names (public_of tags.kinds.items)) }
+{
+    let FirstTags { names, kinds } = tags;
+    let public = public_of(alloc, kinds.as_slice())?;
+    Stores::new(alloc, names, public)
+}
+
+// The world of tags and of all that is looked at after them.
 fn after_tags(
     alloc: Global,
     document: &Value,
     code: &Code,
-    names: TagNames,
+    tags: FirstTags,
 ) -> Result<World, WorldFault>
-    ensures { Gives (λ w. w) result (after_tags code.now (members (view document.now)) names) }
+    ensures { Gives (λ w. w) result (after_tags code.now (members (view document.now)) (tags_seen tags)) }
 {
-    let stores = Stores::new(alloc, names)?;
+    let stores = first_stores(alloc, tags)?;
     let mut called: PipeNames = IndexMap::new(alloc);
     world_onto(alloc, document, code, stores, &mut called)
 }
@@ -101,9 +116,9 @@ fn read_world(alloc: Global, document: &Value, code: &Code) -> Result<World, Wor
     ensures { Gives (λ w. w) result (world_of (view document.now) code.now) }
 {
     object(alloc, document, "version")?;
-    read_version(alloc, document)?;
-    let names = read_tags(alloc, document)?;
-    after_tags(alloc, document, code, names)
+    let version = read_version(alloc, document)?;
+    let tags = read_tags(alloc, version, document)?;
+    after_tags(alloc, document, code, tags)
 }
 
 fn read_document(alloc: Global, text: &str) -> Result<Value, WorldFault>
@@ -113,7 +128,7 @@ fn read_document(alloc: Global, text: &str) -> Result<Value, WorldFault>
         Ok(document) => Ok(document),
         Err(error) => match error.classify() {
             Category::Memory => Err(WorldFault::NoMemory),
-            _ => Err(WorldFault::NotJson),
+            _ => Err(WorldFault::Broken(WorldBreak::NotJson)),
         },
     }
 }
@@ -137,6 +152,6 @@ pub fn start(alloc: Global, text: &[u8], code: &Code) -> Result<World, WorldFaul
 {
     match str::from_utf8(text) {
         Ok(text) => start_text(alloc, text, code),
-        Err(_) => Err(WorldFault::NotJson),
+        Err(_) => Err(WorldFault::Broken(WorldBreak::NotJson)),
     }
 }

@@ -1,8 +1,8 @@
 //! World documents: from a text to the world at the start of a run.
 //!
 //! [`start`] is the whole reading: the bytes are UTF-8 and a JSON text, and its members are `version`, `tags`, `tree`,
-//! `pipes` and `threads`, looked at in this order. What is said by tags is read, and the files are made, by
-//! `world_doc_stores`.
+//! `pipes` and `threads`, looked at in this order. The tags and what is said by their names are read, and the files are
+//! made, by `world_doc_stores`; what is public in the world is so by the kinds of the tags.
 //!
 //! Each thread runs a function of the code whose result is a number, with an argument of its kind for each parameter,
 //! and with capabilities. The threads are answered as they just started, or their first break, exactly as the definition
@@ -14,7 +14,7 @@
 //! - `args` has the arguments: of several contents that may be there, exactly one is.
 //! - `threads` has the threads.
 //!
-//! The answer is the world that the definition `start_of` of `world_doc_terms` reads, or its break, as a [`WorldFault`]: the
+//! The answer is the world that the definition `start_of` of `world_doc_terms` reads, or its break in a [`WorldFault`]: the
 //! first of the document. Only want of memory is tied to nothing.
 #![tactic(auto)]
 
@@ -26,3 +26,4 @@ mod threads;
 
 pub use document::start;
 pub use world_doc_stores::WorldFault;
+pub use world_doc_terms::WorldBreak;

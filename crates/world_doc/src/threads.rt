@@ -2,7 +2,7 @@
 
 ghost use Rattle.std.specs.Prelude.{◌≡◌, ◌≤◌, ◌&&◌, nat_lt, nat_le, length, IfOk};
 ghost use Rattle.serde_json.specs.View.{view, items_view};
-ghost use Rattle.world_doc_terms.specs.Entries.{threads_of, threads_in};
+ghost use Rattle.world_doc_terms.specs.Entries.{most_starting, threads_of, threads_in};
 ghost use Rattle.world_doc_stores.specs.Meaning.{Gives};
 ghost use Rattle.world_doc_stores.specs.Seen.{members};
 ghost use Rattle.world_doc.specs.Called.{called_of};
@@ -23,7 +23,7 @@ const THREAD_LIMIT: usize = 64;
 
 // Whether a document may have so many threads.
 fn may_be(count: usize) -> bool
-    ensures { result ≡ (nat_lt 0 count && nat_le count 64) }
+    ensures { result ≡ (nat_lt 0 count && nat_le count most_starting) }
 {
     count > 0 && count <= THREAD_LIMIT
 }
@@ -77,7 +77,7 @@ pub fn read_threads(
     called: &PipeNames,
 ) -> Result<Vec<LamThread>, WorldFault>
     ensures gives { Gives (λ v. v.items) result (threads_in code.now names.now (called_of called.now.entries) (members (view document.now))) }
-    ensures few { IfOk result (λ v. length v.items ≤ 64) }
+    ensures few { IfOk result (λ v. length v.items ≤ most_starting) }
 {
     let items = array_member(alloc, document, "threads")?;
     if may_be(items.len()) {

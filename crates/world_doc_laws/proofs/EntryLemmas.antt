@@ -18,13 +18,14 @@ use Rattle.lam_bytecode.specs.Codes.{CodeTree}
 use Rattle.lam_bytecode.specs.declared.unit.ArgKind.{ArgKind}
 use Rattle.thread_steps.specs.Threads.{Thread}
 use Rattle.thread_steps.specs.Next.{started}
+use Rattle.thread_steps.specs.Limits.{bytes_limit}
 use Rattle.lam_machine_terms.specs.Worlds.{World}
 use Rattle.lam_machine_terms.specs.Valid.{Lives, AllLive}
 use Rattle.lam_machine_valid.specs.Steps.{IsStart}
 use Rattle.world_doc_terms.specs.Breaks.{Reading, ◌>>=◌, only_if, formed, member_as}
-use Rattle.world_doc_terms.specs.Tags.{tag_of, caps_in}
+use Rattle.world_doc_terms.specs.Tags.{FirstTags, tag_of, caps_in}
 use Rattle.world_doc_terms.specs.Stores.{pipe_called}
-use Rattle.world_doc_terms.specs.Entries.{Entry, entry_named, int_of, bool_of, text_of, tag_value, pipe_of, if_there, contents, the_only, argument, fits, fitting, arguments, args_in, thread_in, threads_of, threads_in}
+use Rattle.world_doc_terms.specs.Entries.{most_starting, Entry, entry_named, int_of, bool_of, text_of, tag_value, pipe_of, if_there, contents, the_only, argument, fits, fitting, arguments, args_in, thread_in, threads_of, threads_in}
 use Rattle.world_doc_laws.proofs.ReadLemmas.{after, onward, formed_good, tested, option_good, tag_below, CapsBelow, caps_known}
 use Rattle.world_doc_laws.proofs.StoreLemmas.{staged, CalledLives}
 
@@ -59,9 +60,12 @@ looked P test (e ∷ es) h = by (test e.0) (looked P test es h.1)
     by true k = h.0
     by false k = k
 
-module _ (names : List Text) (t : Tree) (q : Queues) (called : List (Text × Name)) (pipes : AllByRecursion (CalledLives names t q) called) where
+module _ (tags : FirstTags) (t : Tree) (q : Queues) (called : List (Text × Name)) (pipes : AllByRecursion (CalledLives tags t q) called) where
+  abbrev names : List Text
+  names = tags.names
+
   abbrev w : World
-  w = staged names t q []
+  w = staged tags t q []
 
   abbrev Good : Value → Type 0
   Good v = Lives w v
@@ -76,8 +80,8 @@ module _ (names : List Text) (t : Tree) (q : Queues) (called : List (Text × Nam
 
   text_good : (d : Data) → IfOk (text_of d) Good
   text_good d =
-      formed_good Good (codes "text") (option_and_then (λ bytes. only_if (nat_le (length bytes) 65536) (Bytes bytes)) (as_str d))
-      (option_good Good (λ bytes. only_if (nat_le (length bytes) 65536) (Bytes bytes)) (as_str d) (λ bytes. tested Good (nat_le (length bytes) 65536) (Bytes bytes) (λ e. tt)))
+      formed_good Good (codes "text") (option_and_then (λ bytes. only_if (nat_le (length bytes) bytes_limit) (Bytes bytes)) (as_str d))
+      (option_good Good (λ bytes. only_if (nat_le (length bytes) bytes_limit) (Bytes bytes)) (as_str d) (λ bytes. tested Good (nat_le (length bytes) bytes_limit) (Bytes bytes) (λ e. tt)))
 
   tag_good : (d : Data) → IfOk (tag_value names d) Good
   tag_good d = onward (tag_of (codes "tag") names d) (λ (n : ℕ). n < length names) (tag_below names (codes "tag") d) (λ n. Ok (Tag n)) Good (λ n l. l)
@@ -146,5 +150,5 @@ module _ (names : List Text) (t : Tree) (q : Queues) (called : List (Text × Nam
 
     pub threads_good : (ms : Members) → IfOk (threads_in code names called ms) AllStart
     threads_good ms =
-        after (member_as (codes "threads") (λ d. option_and_then (λ items. only_if (nat_lt 0 (items_len items) && nat_le (items_len items) 64) items) (as_array d)) ms) (λ items. threads_of code names called items) AllStart
+        after (member_as (codes "threads") (λ d. option_and_then (λ items. only_if (nat_lt 0 (items_len items) && nat_le (items_len items) most_starting) items) (as_array d)) ms) (λ items. threads_of code names called items) AllStart
         (λ items. all_threads_good items)

@@ -1,5 +1,5 @@
--- What holds of what is read: names, labels, tags, capabilities.
-use Rattle.std.proofs.Common.{◌≡◌, ℕ, suc, ◌+◌, ◌<◌, ◌≤◌, Bool, true, false, List, [], ◌∷◌, ◌++◌, length, Option, Some, None, Result, Ok, Err, refl, arith, length-append}
+-- What holds of what is read: tags with their kinds, labels, capabilities.
+use Rattle.std.proofs.Common.{◌≡◌, ℕ, suc, ◌+◌, ◌<◌, ◌≤◌, Bool, true, false, List, [], ◌∷◌, length, Option, Some, None, Result, Ok, Err, refl, arith, length-append}
 use Rattle.std.specs.Prelude.{IfOk, IfSome, nat_le, codes, option_and_then, if◌then◌else◌}
 use Rattle.std.specs.List.{AllByRecursion}
 use Rattle.std.specs.FinSet.{from_list}
@@ -15,10 +15,16 @@ use Rattle.flow_labels.specs.TwoLists.{Text}
 use Rattle.flow_labels.specs.Names.{place_of}
 use Rattle.flow_labels.specs.LabelText.{label_of}
 use Rattle.capabilities.specs.declared.Caps.{Caps}
+use Rattle.capabilities.specs.declared.kinds.TagKind.{TagKind}
+use Rattle.capabilities.specs.declared.kinds.TagKind.TheVariants.{Read}
+use Rattle.capabilities.specs.Kinds.{adds_freely, drops_freely, places, public_of}
+use Rattle.lam_machine_terms.specs.Limits.{most_tags}
 use Rattle.lam_machine_terms.specs.Valid.{AreBelow}
 use Rattle.lam_machine_valid.proofs.TagLemmas.{below_list}
 use Rattle.world_doc_terms.specs.Breaks.{Reading, ◌>>=◌, only_if, formed, present, member_as}
-use Rattle.world_doc_terms.specs.Tags.{named, unless_there, names_after, names_of, tags_in, label_or, label_in, known, tag_of, tags_of, set_in, caps_in}
+use Rattle.world_doc_terms.specs.declared.version.Version.{Version}
+use Rattle.world_doc_terms.specs.declared.version.Version.TheVariants.{One, Two}
+use Rattle.world_doc_terms.specs.Tags.{FirstTags, no_tags, with_tag, named, fresh_name, with_name, kind_in, with_kind, with_tag_item, with_tags, few_items, tags_in, label_or, label_in, known, tag_of, tags_of, set_in, caps_in}
 use Rattle.world_doc_laws.proofs.LabelLemmas.{IsBelow, place_below, label_below}
 
 -- ---- readings
@@ -54,34 +60,85 @@ module _ {A : Type 0} (P : A → Type 0) where
   option_good f None h = tt
   option_good f (Some x) h = h x
 
-some_on : {A : Type 0} (P Q : A → Type 0) → ((x : A) → P x → Q x) → (o : Option A) → IfSome o P → IfSome o Q
-some_on P Q h None k = tt
-some_on P Q h (Some x) k = h x k
+-- ---- the tags
 
--- ---- names
+-- no more names than there may be tags, and a kind for each name
+pub record AreFew (tags : FirstTags) : Type 0 where
+  pub few : length tags.names ≤ most_tags
+  pub each : length tags.kinds ≡ length tags.names
 
-names_longer : (names : List Text) (ds : Items) → IfSome (names_after names ds) (λ out. length out ≡ length names + items_len ds)
-names_longer names no_items = omega arith
-names_longer names (item d ds) =
-    option_good (λ out. length out ≡ length names + suc (items_len ds)) (λ name. names_after (names ++ name ∷ []) ds) (option_and_then (unless_there names) (named d))
-    (λ name. some_on (λ out. length out ≡ length (names ++ name ∷ []) + items_len ds) (λ out. length out ≡ length names + suc (items_len ds))
-    (λ out e. (let more : length (names ++ name ∷ []) ≡ length names + 1 = length-append names (name ∷ []) in omega arith))
-    (names_after (names ++ name ∷ []) ds) (names_longer (names ++ name ∷ []) ds))
+-- so many more
+record AreMore (n : ℕ) (old new : FirstTags) : Type 0 where
+  names : length new.names ≡ length old.names + n
+  kinds : length new.kinds ≡ length old.kinds + n
 
-abbrev pub AreFew : List Text → Type 0
-AreFew names = length names ≤ 65536
+one_more : (tags : FirstTags) (name : Text) (kind : TagKind) → AreMore 1 tags (with_tag tags name kind)
+one_more tags name kind = record { names = length-append tags.names (name ∷ []); kinds = length-append tags.kinds (kind ∷ []) }
 
-names_few : (d : Data) → IfSome (names_of d) AreFew
-names_few d = option_good AreFew (λ items. if nat_le (items_len items) 65536 then names_after [] items else None) (as_array d) (λ items. by items (nat_le (items_len items) 65536) refl)
+name_more : (tags : FirstTags) (d : Data) → IfOk (with_name tags d) (AreMore 1 tags)
+name_more tags d =
+    after (formed (codes "tags") (named d)) (λ name. fresh_name tags.names name >>= λ new. Ok (with_tag tags new Read)) (AreMore 1 tags)
+    (λ name. after (fresh_name tags.names name) (λ new. Ok (with_tag tags new Read)) (AreMore 1 tags) (λ new. one_more tags new Read))
+
+kind_more : (tags : FirstTags) (ms : Members) → IfOk (with_kind tags ms) (AreMore 1 tags)
+kind_more tags ms =
+    after (member_as (codes "name") named ms) (λ name. fresh_name tags.names name >>= λ new. kind_in ms >>= λ kind. Ok (with_tag tags new kind)) (AreMore 1 tags)
+    (λ name. after (fresh_name tags.names name) (λ new. kind_in ms >>= λ kind. Ok (with_tag tags new kind)) (AreMore 1 tags)
+    (λ new. after (kind_in ms) (λ kind. Ok (with_tag tags new kind)) (AreMore 1 tags) (λ kind. one_more tags new kind)))
+
+item_more : (version : Version) (tags : FirstTags) (d : Data) → IfOk (with_tag_item version tags d) (AreMore 1 tags)
+item_more One tags d = name_more tags d
+item_more Two tags d = after (formed (codes "tags") (as_object d)) (with_kind tags) (AreMore 1 tags) (kind_more tags)
+
+ok_on : {A : Type 0} (P Q : A → Type 0) → ((x : A) → P x → Q x) → (r : Reading A) → IfOk r P → IfOk r Q
+ok_on P Q h (Ok x) k = h x k
+ok_on P Q h (Err e) k = tt
+
+items_more : (version : Version) (tags : FirstTags) (ds : Items) → IfOk (with_tags version tags ds) (AreMore (items_len ds) tags)
+items_more version tags no_items = record { names = omega arith; kinds = omega arith }
+items_more version tags (item d ds) =
+    onward (with_tag_item version tags d) (AreMore 1 tags) (item_more version tags d) (λ more. with_tags version more ds) (AreMore (suc (items_len ds)) tags)
+    (λ more m. ok_on (AreMore (items_len ds) more) (AreMore (suc (items_len ds)) tags) (both more m) (with_tags version more ds) (items_more version more ds))
   where
-    by : (items : Items) (b : Bool) → nat_le (items_len items) 65536 ≡ b → IfSome (if b then names_after [] items else None) AreFew
-    by items false e = tt
-    by items true e =
-        let few : items_len items ≤ 65536 = grind (arith, nat_tests) in
-        some_on (λ out. length out ≡ 0 + items_len items) AreFew (λ out is. omega arith) (names_after [] items) (names_longer [] items)
+    both : (more : FirstTags) → AreMore 1 tags more → (all : FirstTags) → AreMore (items_len ds) more all → AreMore (suc (items_len ds)) tags all
+    both more m all k =
+        let a = m.names in
+        let b = k.names in
+        let c = m.kinds in
+        let e = k.kinds in
+        record { names = omega arith; kinds = omega arith }
 
-pub tags_few : (ms : Members) → IfOk (tags_in ms) AreFew
-tags_few ms = member_good AreFew (codes "tags") names_of ms names_few
+abbrev InNumber : Items → Type 0
+InNumber items = nat_le (items_len items) most_tags ≡ true
+
+counted : (items : Items) → InNumber items → (tags : FirstTags) → AreMore (items_len items) no_tags tags → AreFew tags
+counted items e tags m =
+    let few : items_len items ≤ 65536 = grind (arith, nat_tests) in
+    let a = m.names in
+    let b = m.kinds in
+    record { few = omega arith; each = omega arith }
+
+pub tags_few : (version : Version) (ms : Members) → IfOk (tags_in version ms) AreFew
+tags_few version ms =
+    onward (member_as (codes "tags") few_items ms) InNumber
+    (member_good InNumber (codes "tags") few_items ms (λ d. option_good InNumber (λ items. only_if (nat_le (items_len items) most_tags) items) (as_array d) (λ items. tested InNumber (nat_le (items_len items) most_tags) items (λ e. e))))
+    (with_tags version no_tags) AreFew
+    (λ items e. ok_on (AreMore (items_len items) no_tags) AreFew (counted items e) (with_tags version no_tags items) (items_more version no_tags items))
+
+-- ---- what is public by the kinds of the tags
+
+below_on : (n : ℕ) (test : Bool) (t : ℕ) (ts : List ℕ) → t < n → AllByRecursion (λ (u : ℕ). u < n) ts → AllByRecursion (λ (u : ℕ). u < n) (if test then t ∷ ts else ts)
+below_on n true t ts l h = (l, h)
+below_on n false t ts l h = h
+
+places_below : (test : TagKind → Bool) (n at : ℕ) (ks : List TagKind) → at + length ks ≤ n → AllByRecursion (λ (u : ℕ). u < n) (places test at ks)
+places_below test n at [] h = tt
+places_below test n at (k ∷ ks) h = below_on n (test k) at (places test (at + 1) ks) (omega arith) (places_below test n (at + 1) ks (omega arith))
+
+-- the tags of what is public are those of the kinds
+pub public_below : (kinds : List TagKind) (n : ℕ) → length kinds ≤ n → AreBelow n (public_of kinds).plus × AreBelow n (public_of kinds).minus
+unfolding public_of
+public_below kinds n h = (below_list n (places adds_freely 0 kinds) (places_below adds_freely n 0 kinds (omega arith)), below_list n (places drops_freely 0 kinds) (places_below drops_freely n 0 kinds (omega arith)))
 
 -- ---- labels and tags
 

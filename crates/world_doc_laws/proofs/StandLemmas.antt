@@ -9,6 +9,7 @@ use Rattle.serde_json.specs.Find.{get_member, as_str, as_array, as_object}
 use Rattle.serde_json.specs.Events.{items_len}
 use Rattle.flow_labels.specs.TwoLists.{Text}
 use Rattle.capabilities.specs.declared.Caps.{Caps}
+use Rattle.capabilities.specs.Kinds.{public_of}
 use Rattle.lam_value.specs.declared.names.Name.{Name}
 use Rattle.lam_value.specs.declared.values.Value.{Value}
 use Rattle.labelled_heap.specs.Things.{no_things}
@@ -22,9 +23,9 @@ use Rattle.thread_steps.specs.Threads.{Thread}
 use Rattle.thread_steps.specs.Next.{started}
 use Rattle.lam_machine_terms.specs.Worlds.{World}
 use Rattle.world_doc_terms.specs.Breaks.{Reading, ◌>>=◌, only_if, formed, present, member_as}
-use Rattle.world_doc_terms.specs.Tags.{tags_in, caps_in}
+use Rattle.world_doc_terms.specs.Tags.{FirstTags, tags_in, caps_in}
 use Rattle.world_doc_terms.specs.Stores.{tree_in, Pipes, pipes_in}
-use Rattle.world_doc_terms.specs.Entries.{Entry, entry_by, entry_named, argument, fits, fitting, arguments, args_in, thread_in, threads_of, threads_in}
+use Rattle.world_doc_terms.specs.Entries.{most_starting, Entry, entry_by, entry_named, argument, fits, fitting, arguments, args_in, thread_in, threads_of, threads_in}
 use Rattle.world_doc_terms.specs.Start.{version_in, world_in}
 use Rattle.world_doc_laws.specs.Standing.{AreArguments, IsEntry, StandsAtEntry, ThreadsStand}
 
@@ -129,10 +130,10 @@ module _ (code : CodeTree) where
         (λ th h. onward (threads_of code names called ds) (Good (items_len ds)) (all_good ds) (λ ths. Ok (th ∷ ths)) (Good (suc (items_len ds))) (λ ths r. (ap suc r.0, (h, r.1)))))
 
     abbrev Stand : List Thread → Type 0
-    Stand ths = AllByRecursion (StandsAtEntry code) ths × ((0 < length ths) × (length ths ≤ 64))
+    Stand ths = AllByRecursion (StandsAtEntry code) ths × ((0 < length ths) × (length ths ≤ most_starting))
 
     abbrev InNumber : Items → Type 0
-    InNumber items = (nat_lt 0 (items_len items) && nat_le (items_len items) 64) ≡ true
+    InNumber items = (nat_lt 0 (items_len items) && nat_le (items_len items) most_starting) ≡ true
 
     two : (a b : Bool) → (a && b) ≡ true → (a ≡ true) × (b ≡ true)
     two true true e = (refl, refl)
@@ -141,7 +142,7 @@ module _ (code : CodeTree) where
 
     counted : (items : Items) → InNumber items → (ths : List Thread) → Good (items_len items) ths → Stand ths
     counted items e ths h =
-        let tests = two (nat_lt 0 (items_len items)) (nat_le (items_len items) 64) e in
+        let tests = two (nat_lt 0 (items_len items)) (nat_le (items_len items) most_starting) e in
         let first : nat_lt 0 (items_len items) ≡ true = tests.0 in
         let second : nat_le (items_len items) 64 ≡ true = tests.1 in
         let a : 0 < items_len items = grind (arith, nat_tests) in
@@ -150,13 +151,13 @@ module _ (code : CodeTree) where
         (h.1, (omega arith, omega arith))
 
     abbrev in_number : Data → Option Items
-    in_number d = option_and_then (λ items. only_if (nat_lt 0 (items_len items) && nat_le (items_len items) 64) items) (as_array d)
+    in_number d = option_and_then (λ items. only_if (nat_lt 0 (items_len items) && nat_le (items_len items) most_starting) items) (as_array d)
 
     threads_good : (ms : Members) → IfOk (threads_in code names called ms) Stand
     threads_good ms =
         onward (member_as (codes "threads") in_number ms) InNumber
         (member_good InNumber (codes "threads") in_number ms
-        (λ d. option_good InNumber (λ items. only_if (nat_lt 0 (items_len items) && nat_le (items_len items) 64) items) (as_array d) (λ items. tested InNumber (nat_lt 0 (items_len items) && nat_le (items_len items) 64) items (λ e. e))))
+        (λ d. option_good InNumber (λ items. only_if (nat_lt 0 (items_len items) && nat_le (items_len items) most_starting) items) (as_array d) (λ items. tested InNumber (nat_lt 0 (items_len items) && nat_le (items_len items) most_starting) items (λ e. e))))
         (λ items. threads_of code names called items) Stand
         (λ items e. ok_on (Good (items_len items)) Stand (counted items e) (threads_of code names called items) (all_good items))
 
@@ -164,30 +165,30 @@ module _ (code : CodeTree) where
 
   module _ (ms : Members) where
     abbrev WorldStands : World → Type 0
-    WorldStands w = AllByRecursion (StandsAtEntry code) w.threads × ((0 < length w.threads) × (length w.threads ≤ 64))
+    WorldStands w = AllByRecursion (StandsAtEntry code) w.threads × ((0 < length w.threads) × (length w.threads ≤ most_starting))
 
-    abbrev whole : List Text → Tree → Pipes → List Thread → Reading World
-    whole names t p ths = Ok (record { names = names; next_tag = length names; heap = no_things; monitors = empty; files = t; pipes = p.queues; threads = ths })
+    abbrev whole : FirstTags → Tree → Pipes → List Thread → Reading World
+    whole tags t p ths = Ok (record { names = tags.names; public = public_of tags.kinds; next_tag = length tags.names; heap = no_things; monitors = empty; files = t; pipes = p.queues; threads = ths })
 
-    abbrev with_pipes : List Text → Tree → Pipes → Reading World
-    with_pipes names t p = threads_in code names p.called ms >>= λ ths. whole names t p ths
+    abbrev with_pipes : FirstTags → Tree → Pipes → Reading World
+    with_pipes tags t p = threads_in code tags.names p.called ms >>= λ ths. whole tags t p ths
 
-    abbrev with_tree : List Text → Tree → Reading World
-    with_tree names t = pipes_in names ms >>= λ p. with_pipes names t p
+    abbrev with_tree : FirstTags → Tree → Reading World
+    with_tree tags t = pipes_in tags.names ms >>= λ p. with_pipes tags t p
 
-    abbrev with_names : List Text → Reading World
-    with_names names = tree_in names ms >>= λ t. with_tree names t
+    abbrev with_names : FirstTags → Reading World
+    with_names tags = tree_in tags.names ms >>= λ t. with_tree tags t
 
     members_stand : IfOk (world_in code ms) WorldStands
     members_stand =
-        after (version_in ms) (λ version. tags_in ms >>= λ names. with_names names) WorldStands
-        (λ version. after (tags_in ms) (λ names. with_names names) WorldStands
-        (λ names. after (tree_in names ms) (λ t. with_tree names t) WorldStands
-        (λ t. after (pipes_in names ms) (λ p. with_pipes names t p) WorldStands
-        (λ p. onward (threads_in code names p.called ms) (Stand names p.called) (threads_good names p.called ms) (λ ths. whole names t p ths) WorldStands (λ ths h. h)))))
+        after (version_in ms) (λ version. tags_in version ms >>= λ tags. with_names tags) WorldStands
+        (λ version. after (tags_in version ms) (λ tags. with_names tags) WorldStands
+        (λ tags. after (tree_in tags.names ms) (λ t. with_tree tags t) WorldStands
+        (λ t. after (pipes_in tags.names ms) (λ p. with_pipes tags t p) WorldStands
+        (λ p. onward (threads_in code tags.names p.called ms) (Stand tags.names p.called) (threads_good tags.names p.called ms) (λ ths. whole tags t p ths) WorldStands (λ ths h. h)))))
 
   abbrev DocumentStands : World → Type 0
-  DocumentStands w = AllByRecursion (StandsAtEntry code) w.threads × ((0 < length w.threads) × (length w.threads ≤ 64))
+  DocumentStands w = AllByRecursion (StandsAtEntry code) w.threads × ((0 < length w.threads) × (length w.threads ≤ most_starting))
 
   pub stand : ThreadsStand code
   stand d w e =

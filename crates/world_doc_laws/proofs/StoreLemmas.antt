@@ -8,6 +8,7 @@ use Rattle.serde_json.specs.Data.{Items, no_items, item, Members}
 use Rattle.serde_json.specs.Find.{get_member, as_str, as_array, as_object}
 use Rattle.flow_labels.specs.declared.Label.{Label}
 use Rattle.flow_labels.specs.TwoLists.{Text}
+use Rattle.capabilities.specs.Kinds.{public_of}
 use Rattle.lam_value.specs.declared.names.Name.{Name}
 use Rattle.lam_value.specs.declared.values.Value.TheVariants.{Pipe}
 use Rattle.lam_value.specs.Homes.{home_of, name_of, count_in}
@@ -16,54 +17,61 @@ use Rattle.labelled_files.specs.declared.files.FileFault.{FileFault}
 use Rattle.labelled_files.specs.Trees.{Tree, root_alone, first_fault, next_name, with_file, with_dir, with_more, appended}
 use Rattle.labelled_files.proofs.SoundLemmas.{sound_file, sound_dir, sound_bytes}
 use Rattle.labelled_files.proofs.MakeLemmas.{fine, new, room, free}
-use Rattle.labelled_pipes.specs.Queues.{Queues, no_pipes, with_pipe}
+use Rattle.labelled_pipes.specs.Queues.{most_pipes, Queues, no_pipes, with_pipe}
 use Rattle.labelled_pipes.proofs.QueueLemmas.{sound_pipe}
 use Rattle.lam_bytecode.specs.Codes.{CodeTree}
 use Rattle.thread_steps.specs.Threads.{Thread}
 use Rattle.lam_machine_terms.specs.Worlds.{World}
 use Rattle.lam_machine_terms.specs.Deeds.{adds_file, adds_dir, appends, adds_pipe}
-use Rattle.lam_machine_terms.specs.Valid.{Lives, AreSoundStores, StoresLive}
+use Rattle.lam_machine_terms.specs.Valid.{AreBelow, Lives, AreSoundStores, StoresLive}
 use Rattle.lam_machine_valid.proofs.GrowLemmas.{lives_on, effect_grows}
 use Rattle.lam_machine_valid.proofs.StoreLemmas.{all_on, all_append, there_now, effect_live}
 use Rattle.lam_machine_valid.proofs.StartLemmas.{valid_starts}
 use Rattle.world_doc_terms.specs.Breaks.{BadMember, Reading, ◌>>=◌, formed, member_as}
-use Rattle.world_doc_terms.specs.Tags.{label_in}
+use Rattle.world_doc_terms.specs.Tags.{FirstTags, label_in}
 use Rattle.world_doc_terms.specs.Stores.{Spot, spot_of, Content, a_dir, a_text, content_of, with_content, unless_full, with_item, with_items, tree_in, Pipes, new_name, with_called, with_pipe_item, with_pipes, pipes_in}
 use Rattle.world_doc_laws.proofs.LabelLemmas.{IsBelow}
-use Rattle.world_doc_laws.proofs.ReadLemmas.{after, onward, AreFew, label_known}
+use Rattle.world_doc_laws.proofs.ReadLemmas.{after, onward, AreFew, public_below, label_known}
 
--- a world of a document, with these names, files, pipes and threads
-abbrev pub staged : List Text → Tree → Queues → List Thread → World
-staged names t q ths = record { names = names; next_tag = length names; heap = no_things; monitors = empty; files = t; pipes = q; threads = ths }
+-- a world of a document, with these tags, files, pipes and threads
+abbrev pub staged : FirstTags → Tree → Queues → List Thread → World
+staged tags t q ths = record { names = tags.names; public = public_of tags.kinds; next_tag = length tags.names; heap = no_things; monitors = empty; files = t; pipes = q; threads = ths }
+
+-- what is public in it is known
+pub public_known : (tags : FirstTags) → AreFew tags → AreBelow (length tags.names) (public_of tags.kinds).plus × AreBelow (length tags.names) (public_of tags.kinds).minus
+public_known tags h = let each = h.each in public_below tags.kinds (length tags.names) (omega arith)
 
 pub record IsGood (w : World) : Type 0 where
   pub sound : AreSoundStores w
   pub live : StoresLive w
 
-abbrev pub CalledLives : List Text → Tree → Queues → Text × Name → Type 0
-CalledLives names t q e = Lives (staged names t q []) (Pipe e.1)
+abbrev pub CalledLives : FirstTags → Tree → Queues → Text × Name → Type 0
+CalledLives tags t q e = Lives (staged tags t q []) (Pipe e.1)
 
-pub record GoodPipes (names : List Text) (t : Tree) (p : Pipes) : Type 0 where
-  pub good : IsGood (staged names t p.queues [])
-  pub live : AllByRecursion (CalledLives names t p.queues) p.called
+pub record GoodPipes (tags : FirstTags) (t : Tree) (p : Pipes) : Type 0 where
+  pub good : IsGood (staged tags t p.queues [])
+  pub live : AllByRecursion (CalledLives tags t p.queues) p.called
 
 abbrev one_more : Pipes → Text → Label → Pipes
 one_more p text l = record { queues = with_pipe p.queues (home_of l l); called = p.called ++ (text, name_of (home_of l l) (count_in p.queues.counts (home_of l l))) ∷ [] }
 
-module _ (code : CodeTree) (names : List Text) where
+module _ (code : CodeTree) (tags : FirstTags) where
+  abbrev names : List Text
+  names = tags.names
+
   -- ---- the tree
 
   abbrev pub GoodTree : Tree → Type 0
-  GoodTree t = IsGood (staged names t no_pipes [])
+  GoodTree t = IsGood (staged tags t no_pipes [])
 
-  pub root_good : AreFew names → GoodTree root_alone
-  root_good few =
-      let v = (valid_starts code).nothing_else names (length names) [] few (omega arith) tt in
+  pub root_good : AreFew tags → GoodTree root_alone
+  root_good h =
+      let v = (valid_starts code).nothing_else names (public_of tags.kinds) (length names) [] (public_known tags h) h.few (omega arith) tt in
       record { sound = v.sound; live = v.live }
 
   module _ (t : Tree) (g : GoodTree t) where
     abbrev here : World
-    here = staged names t no_pipes []
+    here = staged tags t no_pipes []
 
     module _ (s : Spot) (l : Label) (below : IsBelow (length names) l) (clear : first_fault t s.dir s.text (home_of l l) ≡ None) where
       dir_good : GoodTree (with_dir t s.dir s.text (home_of l l))
@@ -138,37 +146,37 @@ module _ (code : CodeTree) (names : List Text) where
       after (formed (codes "tree") (as_object d)) (λ ms. with_item names index t ms >>= λ u. with_items names (suc index) u ds) GoodTree
       (λ ms. onward (with_item names index t ms) GoodTree (item_good index t g ms) (λ u. with_items names (suc index) u ds) GoodTree (λ u h. items_good (suc index) u h ds))
 
-  pub tree_good : AreFew names → (ms : Members) → IfOk (tree_in names ms) GoodTree
+  pub tree_good : AreFew tags → (ms : Members) → IfOk (tree_in names ms) GoodTree
   tree_good few ms = after (member_as (codes "tree") as_array ms) (λ items. with_items names 0 root_alone items) GoodTree (λ items. items_good 0 root_alone (root_good few) items)
 
   -- ---- pipes
 
   module _ (t : Tree) where
     abbrev with_lines : Queues → World
-    with_lines q = staged names t q []
+    with_lines q = staged tags t q []
 
     abbrev Good : Pipes → Type 0
-    Good p = GoodPipes names t p
+    Good p = GoodPipes tags t p
 
-    pipe_good : (p : Pipes) → Good p → (text : Text) (l : Label) → IsBelow (length names) l → count_in p.queues.counts (home_of l l) < 4096 → Good (one_more p text l)
+    pipe_good : (p : Pipes) → Good p → (text : Text) (l : Label) → IsBelow (length names) l → count_in p.queues.counts (home_of l l) < most_pipes → Good (one_more p text l)
     pipe_good p g text l below less =
         let s = g.good.sound in
         let q = with_pipe p.queues (home_of l l) in
         let n = name_of (home_of l l) (count_in p.queues.counts (home_of l l)) in
         let grows = effect_grows code 0 (adds_pipe (home_of l l)) (with_lines p.queues) s in
-        let old : AllByRecursion (CalledLives names t q) p.called = all_on (λ (e : Text × Name) h. lives_on (with_lines p.queues) (with_lines q) grows (Pipe e.1) h) p.called g.live in
+        let old : AllByRecursion (CalledLives tags t q) p.called = all_on (λ (e : Text × Name) h. lives_on (with_lines p.queues) (with_lines q) grows (Pipe e.1) h) p.called g.live in
         record {
           good = record {
             sound = record { heap = s.heap; monitors = s.monitors; files = s.files; root = s.root; pipes = sound_pipe p.queues (home_of l l) s.pipes less };
             live = effect_live code 0 (with_lines p.queues) s g.good.live (adds_pipe (home_of l l)) (below, below);
           };
-          live = all_append (CalledLives names t q) p.called ((text, n) ∷ []) old (((below, below), ap is_some (there_now p.queues.waiting n [])), tt);
+          live = all_append (CalledLives tags t q) p.called ((text, n) ∷ []) old (((below, below), ap is_some (there_now p.queues.waiting n [])), tt);
         }
 
     called_good : (p : Pipes) → Good p → (text : Text) (l : Label) → IsBelow (length names) l → IfOk (with_called p text (home_of l l)) Good
-    called_good p g text l below = by (nat_lt (count_in p.queues.counts (home_of l l)) 4096) refl
+    called_good p g text l below = by (nat_lt (count_in p.queues.counts (home_of l l)) most_pipes) refl
       where
-        by : (b : Bool) → nat_lt (count_in p.queues.counts (home_of l l)) 4096 ≡ b → IfOk (if b then Ok (one_more p text l) else Err (BadMember (codes "pipes"))) Good
+        by : (b : Bool) → nat_lt (count_in p.queues.counts (home_of l l)) most_pipes ≡ b → IfOk (if b then Ok (one_more p text l) else Err (BadMember (codes "pipes"))) Good
         by true e = pipe_good p g text l below (grind (arith, nat_tests))
         by false e = tt
 

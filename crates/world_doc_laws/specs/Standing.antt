@@ -12,7 +12,7 @@ use Rattle.lam_bytecode.specs.declared.unit.UnitKind.TheVariants.{Function}
 use Rattle.thread_steps.specs.Threads.{Thread}
 use Rattle.thread_steps.specs.Next.{started}
 use Rattle.lam_machine_terms.specs.Worlds.{World}
-use Rattle.world_doc_terms.specs.Entries.{fits}
+use Rattle.world_doc_terms.specs.Entries.{most_starting, fits}
 use Rattle.world_doc_terms.specs.Start.{world_of}
 
 -- an argument of its kind for each parameter
@@ -40,4 +40,4 @@ pub record StandsAtEntry (code : CodeTree) (th : Thread) : Type 0 where
 
 -- the threads of a document's world stand at entries, and are one to 64
 abbrev pub ThreadsStand : CodeTree → Type 0
-ThreadsStand code = (d : Data) (w : World) → world_of d code ≡ Ok w → AllByRecursion (StandsAtEntry code) w.threads × ((0 < length w.threads) × (length w.threads ≤ 64))
+ThreadsStand code = (d : Data) (w : World) → world_of d code ≡ Ok w → AllByRecursion (StandsAtEntry code) w.threads × ((0 < length w.threads) × (length w.threads ≤ most_starting))

@@ -6,6 +6,7 @@ use Rattle.flow_labels.specs.TwoLists.{Text}
 use Rattle.lam_bytecode.specs.Codes.{CodeTree}
 use Rattle.lam_machine_terms.specs.Worlds.{World}
 use Rattle.lam_machine_terms.specs.Valid.{IsValid}
+use Rattle.world_doc_terms.specs.Entries.{most_starting}
 use Rattle.world_doc_terms.specs.Start.{world_of, start_of}
 use Rattle.world_doc_laws.specs.Standing.{StandsAtEntry}
 
@@ -14,7 +15,7 @@ pub record IsStartOf (code : CodeTree) (w : World) : Type 0 where
   pub valid : IsValid w
   pub entries : AllByRecursion (StandsAtEntry code) w.threads
   pub some : 0 < length w.threads
-  pub few : length w.threads ≤ 64
+  pub few : length w.threads ≤ most_starting
 
 -- the world of a document is one
 abbrev pub WorldsStart : CodeTree → Type 0

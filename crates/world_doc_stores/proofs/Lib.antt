@@ -4,3 +4,5 @@ pub mod MemberOn
 pub mod Steps
 pub mod MemberLemmas
 pub mod ListLemmas
+pub mod CountLemmas
+pub mod TagLemmas

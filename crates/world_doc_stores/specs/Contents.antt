@@ -9,12 +9,13 @@ use Rattle.flow_labels.specs.TwoLists.{Text}
 use Rattle.labelled_files.specs.declared.files.FileFault.{FileFault}
 use Rattle.labelled_files.specs.declared.files.FileFault.TheVariants as file
 use Rattle.labelled_files.specs.Trees.{Tree, first_fault}
+use Rattle.world_doc_terms.specs.declared.breaks.WorldBreak.TheVariants.{BadPath}
 use Rattle.world_doc_terms.specs.Breaks.{Reading, ◌>>=◌, formed, member_as}
 use Rattle.world_doc_terms.specs.Tags.{label_in}
 use Rattle.world_doc_terms.specs.Stores as stores
 use Rattle.world_doc_terms.specs.Stores.{Spot, a_dir, a_text, content_of, with_content, unless_full, spot_of, with_item, with_items}
 use Rattle.world_doc_stores.specs.declared.fault.WorldFault.{WorldFault}
-use Rattle.world_doc_stores.specs.declared.fault.WorldFault.TheVariants.{BadPath, NoMemory}
+use Rattle.world_doc_stores.specs.declared.fault.WorldFault.TheVariants.{Broken, NoMemory}
 use Rattle.world_doc_stores.specs.declared.tree.Content.{Content}
 use Rattle.world_doc_stores.specs.declared.tree.Content.TheVariants.{Dir, Text as Bytes}
 
@@ -31,7 +32,7 @@ content_seen (Bytes s) = a_text s.now
 -- want of memory stays, and every other fault is one of the item's path
 abbrev pub path_fault : FileFault → ℕ → WorldFault
 path_fault file.NoMemory index = NoMemory
-path_fault _ index = BadPath index
+path_fault _ index = Broken (BadPath index)
 
 -- the label and the content of an item, put at its place
 abbrev pub filled : List Text → ℕ → Tree → Members → Spot → Reading Tree

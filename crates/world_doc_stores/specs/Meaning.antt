@@ -1,19 +1,13 @@
 -- What a reading in code gave, beside what the definition reads: the same value, or a fault that is the same break.
 -- Want of memory is no break, and says nothing.
-use Rattle.std.specs.Prelude.{◌≡◌, Option, Some, None, Result, Ok, Err, string_bytes, MatchOption}
-use Rattle.world_doc_terms.specs.Breaks.{Break, Reading}
-use Rattle.world_doc_terms.specs.Breaks as broken
+use Rattle.std.specs.Prelude.{◌≡◌, Option, Some, None, Result, Ok, Err, MatchOption}
+use Rattle.world_doc_terms.specs.Breaks.{Break, break_seen, Reading}
 use Rattle.world_doc_stores.specs.declared.fault.WorldFault.{WorldFault}
-use Rattle.world_doc_stores.specs.declared.fault.WorldFault.TheVariants.{NotJson, NoMember, BadMember, NoTag, BadPath, PathTwice, NoMemory}
+use Rattle.world_doc_stores.specs.declared.fault.WorldFault.TheVariants.{Broken, NoMemory}
 
 -- the break that a fault is
 abbrev pub break_of : WorldFault → Option Break
-break_of NotJson = Some broken.NotJson
-break_of (NoMember name) = Some (broken.NoMember (string_bytes name))
-break_of (BadMember name) = Some (broken.BadMember (string_bytes name))
-break_of (NoTag name) = Some (broken.NoTag (string_bytes name))
-break_of (BadPath index) = Some (broken.BadPath index)
-break_of (PathTwice index) = Some (broken.PathTwice index)
+break_of (Broken breach) = Some (break_seen breach)
 break_of NoMemory = None
 
 -- a fault is this break, or want of memory

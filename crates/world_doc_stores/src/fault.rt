@@ -1,4 +1,4 @@
-//! Why a document is no world.
+//! Why a document gives no world: it is broken, or memory ran out.
 
 ghost use Rattle.std.specs.Prelude.{◌≡◌};
 ghost use Rattle.world_doc_terms.specs.Breaks.{NoMember, BadMember, NoTag};
@@ -7,22 +7,13 @@ ghost use Rattle.world_doc_stores.specs.declared.fault.WorldFault.TheVariants.{N
 
 use std::alloc::{AllocError, AllocFailed, Global};
 use want_of_memory::NoMemory;
+use world_doc_terms::WorldBreak;
 
-/// The first break of a document, in the order in which its members are looked at.
+/// Why a document gives no world.
 #[derive(Debug, Drop)]
 pub enum WorldFault {
-    /// The text is no JSON text.
-    NotJson,
-    /// A member is not there.
-    NoMember { name: String },
-    /// A member is of another form than it must be.
-    BadMember { name: String },
-    /// No tag has the name.
-    NoTag { name: String },
-    /// An item of the tree has no place, or no room there.
-    BadPath { index: u64 },
-    /// An item of the tree stands where another does.
-    PathTwice { index: u64 },
+    /// It is broken.
+    Broken(WorldBreak),
     /// Memory ran out.
     NoMemory,
 }
@@ -56,7 +47,7 @@ pub fn no_member(alloc: Global, name: &str) -> WorldFault
     ensures { Says result (NoMember name.now) }
 {
     match String::from_str(alloc, name) {
-        Ok(name) => WorldFault::NoMember { name },
+        Ok(name) => WorldFault::Broken(WorldBreak::NoMember(name)),
         Err(_) => WorldFault::NoMemory,
     }
 }
@@ -66,7 +57,7 @@ pub fn bad_member(alloc: Global, name: &str) -> WorldFault
     ensures { Says result (BadMember name.now) }
 {
     match String::from_str(alloc, name) {
-        Ok(name) => WorldFault::BadMember { name },
+        Ok(name) => WorldFault::Broken(WorldBreak::BadMember(name)),
         Err(_) => WorldFault::NoMemory,
     }
 }
@@ -76,7 +67,7 @@ pub fn no_tag(alloc: Global, name: &str) -> WorldFault
     ensures { Says result (NoTag name.now) }
 {
     match String::from_str(alloc, name) {
-        Ok(name) => WorldFault::NoTag { name },
+        Ok(name) => WorldFault::Broken(WorldBreak::NoTag(name)),
         Err(_) => WorldFault::NoMemory,
     }
 }

@@ -1,11 +1,11 @@
 //! Reading a world document up to its pipes: its members, what it says by tags, and its files and directories.
 //!
 //! A document is a JSON value of `serde_json`. Each reader here is the definition of the same name in `world_doc_terms` in
-//! code: it answers the value that the definition reads, or a [`WorldFault`] that is the definition's break. Members are
+//! code: it answers the value that the definition reads, or the definition's break, as a [`WorldFault`]. Members are
 //! looked at in the order of the calls, so the first break of the document is the one that is named.
 //!
-//! - `fault` has the faults, `members` a member of an object in the form that it must have, and `tags` the tags' names,
-//!   labels, tags by their names, and capabilities. `specs/Meaning` says what a result means.
+//! - `fault` has the faults, `members` a member of an object in the form that it must have, and `tags` the tags with their
+//!   names and kinds, labels, tags by their names, and capabilities. `specs/Meaning` says what a result means.
 //! - `path` walks a path from the root down, over the entries of directories.
 //! - `tree` reads the items of the tree, and puts each into the files by their own call ([`read_tree`]).
 #![tactic(auto)]
@@ -18,5 +18,5 @@ mod tree;
 
 pub use fault::{WorldFault, bad_member, no_member, no_tag};
 pub use members::{array_member, member, object, object_member, str_member};
-pub use tags::{read_caps, read_label, read_tag, read_tags};
+pub use tags::{FirstTags, read_caps, read_label, read_tag, read_tags};
 pub use tree::read_tree;

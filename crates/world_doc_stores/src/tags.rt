@@ -1,73 +1,151 @@
-//! The names of a world's tags, and what the other members say by them.
+//! The tags of a world, and what the other members say by their names.
 
-ghost use Rattle.std.specs.Prelude.{◌≡◌, ◌++◌, ◌∷◌, [], ◌≤◌, length, codes, option_map, option_and_then};
+ghost use Rattle.std.specs.Prelude.{◌≡◌, ◌++◌, ◌∷◌, [], ◌≤◌, true, length, codes, option_and_then, OnOk, IfOk};
 ghost use Rattle.serde_json.specs.View.{view, items_view};
 ghost use Rattle.std.specs.List.{prefix_len};
-ghost use Rattle.flow_labels.specs.Names.{is_word};
+ghost use Rattle.serde_json.specs.Find.{as_str};
+ghost use Rattle.flow_labels.specs.Names.{is_name, is_word};
 ghost use Rattle.flow_labels.specs.LabelText.{label_of};
-ghost use Rattle.world_doc_terms.specs.Breaks.{formed};
-ghost use Rattle.world_doc_terms.specs.Tags.{named, unless_there, names_after, names_of, tags_in, word_at, label_or, label_in, tag_of, tags_of, set_in, caps_in};
+ghost use Rattle.capabilities.specs.Kinds.{kind_of};
+ghost use Rattle.world_doc_terms.specs.Breaks.{formed, member_as};
+ghost use Rattle.world_doc_terms.specs.declared.version.Version.TheVariants.{Two};
+ghost use Rattle.world_doc_terms.specs.Tags.{named, fresh_name, no_tags, with_name, kind_in, with_tag_item, with_tags, tags_in, word_at, label_or, label_in, tag_of, tags_of, set_in, caps_in};
 ghost use Rattle.world_doc_stores.specs.Meaning.{Gives, GivesOnto};
-ghost use Rattle.world_doc_stores.specs.Seen.{members};
+ghost use Rattle.world_doc_stores.specs.Seen.{members, tags_seen};
 
 use crate::fault::{WorldFault, bad_member, no_tag};
-use crate::members::{array_member, member, object_member, str_member};
-use capabilities::Caps;
+use crate::members::{array_member, member, object, object_member, str_member};
+use capabilities::{Caps, TagKind, kind_of};
 use flow_labels::{
     Label, LabelFault, NameFault, TagId, TagNames, TagSet, is_name, is_word, parse_label,
 };
 use serde_json::Value;
 use std::alloc::Global;
 use std::str;
+use world_doc_terms::Version;
 
 /// The number of tags that a document may name.
 const TAG_LIMIT: usize = 65_536;
 
-/// The names of the tags, by the member `tags` of a document.
+/// The first tags of a world: tag n has the n-th name and is of the n-th kind.
+#[derive(Drop)]
+pub struct FirstTags {
+    pub names: TagNames,
+    pub kinds: Vec<TagKind>,
+}
+
+fn no_tags(alloc: Global) -> FirstTags
+    ensures { tags_seen result ≡ no_tags }
+{
+    FirstTags {
+        names: TagNames::new(alloc),
+        kinds: Vec::new(alloc),
+    }
+}
+
+/// The tags with their names and kinds, by the member `tags` of a document of a version.
 ///
 /// # Errors
 ///
-/// `NoMember` where it is not there, and `BadMember` where it is no list of at most 65,536 names, all different.
-pub fn read_tags(alloc: Global, document: &Value) -> Result<TagNames, WorldFault>
-    ensures { Gives (λ names. names) result (tags_in (members (view document.now))) }
+/// `NoMember` with `tags` where the member is not there; `BadMember` with `tags` where it is no list of at most 65,536
+/// items, where an item is no name, or in version 2 no object, and where a name comes again. In version 2 `NoMember` or
+/// `BadMember` with `name` or `kind`, where one of them is not there or is of another form.
+pub fn read_tags(alloc: Global, version: Version, document: &Value) -> Result<FirstTags, WorldFault>
+    ensures { Gives tags_seen result (tags_in version (members (view document.now))) }
 {
-    let tags = member(alloc, document, "tags")?;
-    names_of(alloc, tags)
-}
-
-fn names_of(alloc: Global, tags: &Value) -> Result<TagNames, WorldFault>
-    ensures { Gives (λ names. names) result (formed (codes "tags") (names_of (view tags.now))) }
-{
-    let Some(items) = tags.as_array() else {
-        return Err(bad_member(alloc, "tags"));
-    };
-    let items = items.as_slice();
+    let items = array_member(alloc, document, "tags")?;
     if items.len() > TAG_LIMIT {
         return Err(bad_member(alloc, "tags"));
     }
-    all_names(alloc, items)
+    all_tags(alloc, version, items)
 }
 
-fn all_names(alloc: Global, items: &[Value]) -> Result<TagNames, WorldFault>
-    ensures { Gives (λ names. names) result (formed (codes "tags") (names_after [] (items_view items.now))) }
+fn all_tags(alloc: Global, version: Version, items: &[Value]) -> Result<FirstTags, WorldFault>
+    ensures { Gives tags_seen result (with_tags version no_tags (items_view items.now)) }
 {
-    let mut names = TagNames::new(alloc);
+    let mut tags = no_tags(alloc);
     for item in items {
-        add_name(alloc, &mut names, item)?;
+        add_tag(alloc, version, &mut tags, item)?;
     }
-    Ok(names)
+    Ok(tags)
 }
 
-fn add_name(alloc: Global, names: &mut TagNames, item: &Value) -> Result<(), WorldFault>
-    ensures { GivesOnto result names.new (formed (codes "tags") (option_map (λ name. names.old ++ name ∷ []) (option_and_then (unless_there names.old) (named (view item.now))))) }
+// One more tag.
+fn add_tag(
+    alloc: Global,
+    version: Version,
+    tags: &mut FirstTags,
+    item: &Value,
+) -> Result<(), WorldFault>
+    ensures { GivesOnto result (tags_seen tags.new) (with_tag_item version (tags_seen tags.old) (view item.now)) }
 {
-    let Some(name) = item.as_str() else {
-        return Err(bad_member(alloc, "tags"));
-    };
+    match version {
+        Version::One => add_by_name(alloc, tags, item),
+        Version::Two => add_by_kind(alloc, tags, item),
+    }
+}
+
+// One more tag, that is said by its name alone.
+fn add_by_name(alloc: Global, tags: &mut FirstTags, item: &Value) -> Result<(), WorldFault>
+    ensures { GivesOnto result (tags_seen tags.new) (with_name (tags_seen tags.old) (view item.now)) }
+{
+    let name = named(alloc, "tags", item)?;
+    add_name(alloc, &mut tags.names, name)?;
+    tags.kinds.push(TagKind::Read)?;
+    Ok(())
+}
+
+// One more tag, that is said by its name and its kind.
+fn add_by_kind(alloc: Global, tags: &mut FirstTags, item: &Value) -> Result<(), WorldFault>
+    ensures { GivesOnto result (tags_seen tags.new) (with_tag_item Two (tags_seen tags.old) (view item.now)) }
+{
+    object(alloc, item, "tags")?;
+    let name = read_name(alloc, item)?;
+    add_name(alloc, &mut tags.names, name)?;
+    let kind = read_kind(alloc, item)?;
+    tags.kinds.push(kind)?;
+    Ok(())
+}
+
+// Puts a name after the others, where it is none of them.
+fn add_name(alloc: Global, names: &mut TagNames, name: &str) -> Result<(), WorldFault>
+    requires { is_name name.now ≡ true }
+    ensures gives { Gives (λ _. name.now) result (fresh_name names.old name.now) }
+    ensures ok { OnOk result (names.new ≡ names.old ++ name.now ∷ []) }
+{
     match names.add(name) {
         Ok(_) => Ok(()),
         Err(NameFault::NoMemory) => Err(WorldFault::NoMemory),
         Err(_) => Err(bad_member(alloc, "tags")),
+    }
+}
+
+// The member `name` of a tag.
+fn read_name<'a>(alloc: Global, item: &'a Value) -> Result<&'a str, WorldFault>
+    ensures gives { Gives (λ s. s.now) result (member_as (codes "name") named (members (view item.now))) }
+    ensures form { IfOk result (λ s. is_name s.now ≡ true) }
+{
+    let name = member(alloc, item, "name")?;
+    named(alloc, "name", name)
+}
+
+// The member `kind` of a tag.
+fn read_kind(alloc: Global, item: &Value) -> Result<TagKind, WorldFault>
+    ensures { Gives (λ k. k) result (kind_in (members (view item.now))) }
+{
+    let kind = member(alloc, item, "kind")?;
+    kind_named(alloc, kind)
+}
+
+fn kind_named(alloc: Global, kind: &Value) -> Result<TagKind, WorldFault>
+    ensures { Gives (λ k. k) result (formed (codes "kind") (option_and_then kind_of (as_str (view kind.now)))) }
+{
+    let Some(word) = kind.as_str() else {
+        return Err(bad_member(alloc, "kind"));
+    };
+    match kind_of(word) {
+        Some(kind) => Ok(kind),
+        None => Err(bad_member(alloc, "kind")),
     }
 }
 
@@ -135,7 +213,8 @@ pub fn read_tag(
 }
 
 fn named<'a>(alloc: Global, at: &str, value: &'a Value) -> Result<&'a str, WorldFault>
-    ensures { Gives (λ s. s.now) result (formed at.now (named (view value.now))) }
+    ensures gives { Gives (λ s. s.now) result (formed at.now (named (view value.now))) }
+    ensures form { IfOk result (λ s. is_name s.now ≡ true) }
 {
     match value.as_str() {
         Some(name) if is_name(name.as_bytes()) => Ok(name),

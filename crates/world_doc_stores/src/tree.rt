@@ -19,6 +19,7 @@ use labelled_files::{FILE_LIMIT, FileFault, Files};
 use lam_value::Name;
 use serde_json::Value;
 use std::alloc::Global;
+use world_doc_terms::WorldBreak;
 
 // What an item of the tree has.
 #[derive(Clone, Copy)]
@@ -62,7 +63,7 @@ fn path_fault(fault: FileFault, index: u64) -> WorldFault
 {
     match fault {
         FileFault::NoMemory => WorldFault::NoMemory,
-        _ => WorldFault::BadPath { index },
+        _ => WorldFault::Broken(WorldBreak::BadPath(index)),
     }
 }
 
@@ -134,10 +135,10 @@ fn place(
     ensures { GivesOnto result files.new (placed names.now index files.old (members (view item.now)) path.now) }
 {
     let Some((dir, text)) = find_spot(files, path) else {
-        return Err(WorldFault::BadPath { index });
+        return Err(WorldFault::Broken(WorldBreak::BadPath(index)));
     };
     if is_taken(files, dir, text) {
-        return Err(WorldFault::PathTwice { index });
+        return Err(WorldFault::Broken(WorldBreak::PathTwice(index)));
     }
     let dir = dir.copy()?;
     fill(alloc, names, files, index, &dir, text, item)

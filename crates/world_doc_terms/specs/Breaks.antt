@@ -1,8 +1,10 @@
 -- Why a document is no world, and how its members are looked at. What is looked at first breaks first.
-use Rattle.std.specs.Prelude.{◌≡◌, ℕ, Bool, true, if◌then◌else◌, Option, Some, None, Result, Ok, Err, codes, refl}
+use Rattle.std.specs.Prelude.{◌≡◌, ℕ, Bool, true, if◌then◌else◌, Option, Some, None, Result, Ok, Err, codes, string_bytes, refl}
 use Rattle.serde_json.specs.Data.{Data, null, boolean, string, Members, no_members, member}
 use Rattle.serde_json.specs.Find.{get_member, as_str, as_bool}
 use Rattle.flow_labels.specs.TwoLists.{Text}
+use Rattle.world_doc_terms.specs.declared.breaks.WorldBreak.{WorldBreak}
+use Rattle.world_doc_terms.specs.declared.breaks.WorldBreak.TheVariants as code
 
 pub data Break : Type 0 where
   NotJson : Break
@@ -16,6 +18,15 @@ pub data Break : Type 0 where
   BadPath : (index : ℕ) → Break
   -- an item of the tree stands where another does
   PathTwice : (index : ℕ) → Break
+
+-- what a break in code is seen as
+abbrev pub break_seen : WorldBreak → Break
+break_seen code.NotJson = NotJson
+break_seen (code.NoMember name) = NoMember (string_bytes name)
+break_seen (code.BadMember name) = BadMember (string_bytes name)
+break_seen (code.NoTag name) = NoTag (string_bytes name)
+break_seen (code.BadPath index) = BadPath index
+break_seen (code.PathTwice index) = PathTwice index
 
 -- what is read, or the first break
 abbrev pub Reading : Type 0 → Type 0

@@ -18,6 +18,7 @@ use Rattle.lam_bytecode.specs.declared.unit.UnitKind.{UnitKind}
 use Rattle.lam_bytecode.specs.declared.unit.UnitKind.TheVariants.{Function, Region}
 use Rattle.thread_steps.specs.Threads.{Thread}
 use Rattle.thread_steps.specs.Next.{started}
+use Rattle.thread_steps.specs.Limits.{bytes_limit}
 use Rattle.world_doc_terms.specs.Breaks.{BadMember, NoTag, Reading, ◌>>=◌, only_if, formed, member_as}
 use Rattle.world_doc_terms.specs.Tags.{tag_of, caps_in}
 use Rattle.world_doc_terms.specs.Stores.{pipe_called}
@@ -46,7 +47,7 @@ abbrev pub bool_of : Data → Reading Value
 bool_of d = formed (codes "bool") (option_map Truth (as_bool d))
 
 abbrev pub text_of : Data → Reading Value
-text_of d = formed (codes "text") (option_and_then (λ bytes. only_if (nat_le (length bytes) 65536) (Bytes bytes)) (as_str d))
+text_of d = formed (codes "text") (option_and_then (λ bytes. only_if (nat_le (length bytes) bytes_limit) (Bytes bytes)) (as_str d))
 
 abbrev pub tag_value : List Text → Data → Reading Value
 tag_value names d = tag_of (codes "tag") names d >>= λ t. Ok (Tag t)
@@ -115,10 +116,14 @@ threads_of code names called (item d ds) =
     >>= λ ms. thread_in code names called ms
     >>= λ th. threads_of code names called ds >>= λ ths. Ok (th ∷ ths)
 
--- one to 64
+-- a run starts with no more threads than this
+abbrev pub most_starting : ℕ
+most_starting = 64
+
+-- one at least, and no more than may start
 abbrev pub threads_in : CodeTree → List Text → List (Text × Name) → Members → Reading (List Thread)
 threads_in code names called ms =
-    member_as (codes "threads") (λ d. option_and_then (λ items. only_if (nat_lt 0 (items_len items) && nat_le (items_len items) 64) items) (as_array d)) ms
+    member_as (codes "threads") (λ d. option_and_then (λ items. only_if (nat_lt 0 (items_len items) && nat_le (items_len items) most_starting) items) (as_array d)) ms
     >>= λ items. threads_of code names called items
 
 -- ---- worked examples

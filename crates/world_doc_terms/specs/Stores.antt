@@ -12,8 +12,8 @@ use Rattle.flow_labels.specs.TwoLists.{Text}
 use Rattle.labelled_files.specs.declared.directory.EntryKind.TheVariants.{Dir}
 use Rattle.labelled_files.specs.declared.files.FileFault.{FileFault}
 use Rattle.labelled_files.specs.Entries.{text_eq, is_entry_name, name_of_kind}
-use Rattle.labelled_files.specs.Trees.{Tree, root_alone, target_at, first_fault, next_name, with_file, with_dir, with_more}
-use Rattle.labelled_pipes.specs.Queues.{Queues, no_pipes, with_pipe}
+use Rattle.labelled_files.specs.Trees.{most_bytes, Tree, root_alone, target_at, first_fault, next_name, with_file, with_dir, with_more}
+use Rattle.labelled_pipes.specs.Queues.{most_pipes, Queues, no_pipes, with_pipe}
 use Rattle.world_doc_terms.specs.Breaks.{NoMember, BadMember, BadPath, PathTwice, Reading, ◌>>=◌, only_if, formed, member_as}
 use Rattle.world_doc_terms.specs.Tags.{label_in}
 
@@ -59,7 +59,7 @@ abbrev pub as_dir : Data → Option Content
 as_dir d = option_and_then (λ b. only_if b a_dir) (as_bool d)
 
 abbrev pub as_text : Data → Option Content
-as_text d = option_and_then (λ bytes. only_if (nat_le (length bytes) 1048576) (a_text bytes)) (as_str d)
+as_text d = option_and_then (λ bytes. only_if (nat_le (length bytes) most_bytes) (a_text bytes)) (as_str d)
 
 -- by the members `dir` and `text`, of which one is there
 abbrev pub content_of : Option Data → Option Data → Reading Content
@@ -109,7 +109,7 @@ new_name called d = option_and_then (λ text. only_if (not (is_some (pipe_called
 -- one more pipe, where its home has room
 abbrev pub with_called : Pipes → Text → Home → Reading Pipes
 with_called p text home =
-    if nat_lt (count_in p.queues.counts home) 4096
+    if nat_lt (count_in p.queues.counts home) most_pipes
     then Ok (record { queues = with_pipe p.queues home; called = p.called ++ (text, name_of home (count_in p.queues.counts home)) ∷ [] })
     else Err (BadMember (codes "pipes"))
 

@@ -1,8 +1,9 @@
--- The names of a world's tags, and what the other members say by them: labels, tags, capabilities.
+-- The tags of a document, and what the other members say by their names: labels, tags, capabilities.
 --
--- With the names a and b: the label `{b}/{a}` is that of the secret 1 that 0 vouches for, and in `{a,c}/{}` the name c
+-- In version 1 the tags are `["a","b"]`, and in version 2 `[{"name":"a","kind":"export"},{"name":"b","kind":"read"}]`. With the
+-- names a and b: the label `{b}/{a}` is that of the secret 1 that 0 vouches for, and in `{a,c}/{}` the name c
 -- breaks it.
-use Rattle.std.specs.Prelude.{◌≡◌, ℕ, not, nat_le, if◌then◌else◌, List, [], ◌∷◌, ◌++◌, take, drop, is_some, Option, Some, None, Result, Ok, Err, codes, option_and_then, refl}
+use Rattle.std.specs.Prelude.{◌≡◌, ℕ, not, nat_le, List, [], ◌∷◌, ◌++◌, take, drop, is_some, Option, Some, None, Result, Ok, Err, codes, option_and_then, refl}
 use Rattle.std.specs.List.{prefix_len}
 use Rattle.std.specs.FinSet.{from_list}
 use Rattle.serde_json.specs.Data.{Data, null, string, array, object, Items, no_items, item, Members, no_members, member}
@@ -16,9 +17,26 @@ use Rattle.flow_labels.specs.TwoLists.{Text}
 use Rattle.flow_labels.specs.Names.{is_name, is_word, place_of}
 use Rattle.flow_labels.specs.LabelText.{label_of}
 use Rattle.capabilities.specs.declared.Caps.{Caps}
+use Rattle.capabilities.specs.declared.kinds.TagKind.{TagKind}
+use Rattle.capabilities.specs.declared.kinds.TagKind.TheVariants.{Read, Export, Integrity}
+use Rattle.capabilities.specs.Kinds.{kind_of}
+use Rattle.lam_machine_terms.specs.Limits.{most_tags}
+use Rattle.world_doc_terms.specs.declared.version.Version.{Version}
+use Rattle.world_doc_terms.specs.declared.version.Version.TheVariants.{One, Two}
 use Rattle.world_doc_terms.specs.Breaks.{NoMember, BadMember, NoTag, Reading, ◌>>=◌, only_if, formed, member_as}
 
--- ---- the names
+-- ---- the tags
+
+-- the first tags of a world: tag n has the n-th name and is of the n-th kind
+pub record FirstTags : Type 0 where
+  pub names : List Text
+  pub kinds : List TagKind
+
+abbrev pub no_tags : FirstTags
+no_tags = record { names = []; kinds = [] }
+
+abbrev pub with_tag : FirstTags → Text → TagKind → FirstTags
+with_tag tags name kind = record { names = tags.names ++ name ∷ []; kinds = tags.kinds ++ kind ∷ [] }
 
 abbrev pub named : Data → Option Text
 named d = option_and_then (λ text. only_if (is_name text) text) (as_str d)
@@ -27,16 +45,41 @@ named d = option_and_then (λ text. only_if (is_name text) text) (as_str d)
 abbrev pub unless_there : List Text → Text → Option Text
 unless_there names name = only_if (not (is_some (place_of names name))) name
 
-abbrev pub names_after : List Text → Items → Option (List Text)
-names_after names no_items = Some names
-names_after names (item d ds) = option_and_then (λ name. names_after (names ++ name ∷ []) ds) (option_and_then (unless_there names) (named d))
+-- a name that comes again is a break of the list, in each version
+abbrev pub fresh_name : List Text → Text → Reading Text
+fresh_name names name = formed (codes "tags") (unless_there names name)
 
--- a list of at most 65,536 names, all different
-abbrev pub names_of : Data → Option (List Text)
-names_of d = option_and_then (λ items. if nat_le (items_len items) 65536 then names_after [] items else None) (as_array d)
+-- a tag that is said by its name alone is of kind read
+abbrev pub with_name : FirstTags → Data → Reading FirstTags
+with_name tags d = formed (codes "tags") (named d) >>= λ name. fresh_name tags.names name >>= λ new. Ok (with_tag tags new Read)
 
-abbrev pub tags_in : Members → Reading (List Text)
-tags_in ms = member_as (codes "tags") names_of ms
+abbrev pub kind_in : Members → Reading TagKind
+kind_in ms = member_as (codes "kind") (λ d. option_and_then kind_of (as_str d)) ms
+
+-- A tag that is said by its name and its kind. The name is looked at before the kind, all of it: one that is not there, one
+-- that has another form, and one that comes again.
+abbrev pub with_kind : FirstTags → Members → Reading FirstTags
+with_kind tags ms =
+    member_as (codes "name") named ms
+    >>= λ name. fresh_name tags.names name
+    >>= λ new. kind_in ms >>= λ kind. Ok (with_tag tags new kind)
+
+abbrev pub with_tag_item : Version → FirstTags → Data → Reading FirstTags
+with_tag_item One tags d = with_name tags d
+with_tag_item Two tags d = formed (codes "tags") (as_object d) >>= with_kind tags
+
+-- one item after another: all of an item is looked at before the next
+abbrev pub with_tags : Version → FirstTags → Items → Reading FirstTags
+with_tags version tags no_items = Ok tags
+with_tags version tags (item d ds) = with_tag_item version tags d >>= λ more. with_tags version more ds
+
+-- a list of no more items than there may be tags
+abbrev pub few_items : Data → Option Items
+few_items d = option_and_then (λ items. only_if (nat_le (items_len items) most_tags) items) (as_array d)
+
+-- the length of the list is looked at before its items
+abbrev pub tags_in : Version → Members → Reading FirstTags
+tags_in version ms = member_as (codes "tags") few_items ms >>= with_tags version no_tags
 
 -- ---- labels
 
@@ -76,17 +119,53 @@ caps_in names ms =
     >>= λ inside. set_in (codes "plus") names inside >>= λ plus. set_in (codes "minus") names inside >>= λ minus. Ok (record { plus = plus; minus = minus })
 
 -- ---- worked examples
-two_names : names_of (array (item (string (codes "a")) (item (string (codes "b_1")) no_items))) ≡ Some (codes "a" ∷ codes "b_1" ∷ [])
+-- the tags of a document whose member `tags` is this
+abbrev of_list : Version → Items → Reading FirstTags
+of_list version items = tags_in version (member (codes "tags") (array items) no_members)
+
+-- an item with a name and a kind
+abbrev kinded : Text → Text → Data
+kinded name kind = object (member (codes "name") (string name) (member (codes "kind") (string kind) no_members))
+
+two_names : of_list One (item (string (codes "a")) (item (string (codes "b_1")) no_items)) ≡ Ok (record { names = codes "a" ∷ codes "b_1" ∷ []; kinds = Read ∷ Read ∷ [] })
 two_names = refl
 
-repeated : names_of (array (item (string (codes "a")) (item (string (codes "a")) no_items))) ≡ None
+repeated : of_list One (item (string (codes "a")) (item (string (codes "a")) no_items)) ≡ Err (BadMember (codes "tags"))
 repeated = refl
 
-no_name : names_of (array (item (string (codes "1")) no_items)) ≡ None
+no_name : of_list One (item (string (codes "1")) no_items) ≡ Err (BadMember (codes "tags"))
 no_name = refl
 
-no_list : names_of (string (codes "a")) ≡ None
+no_kinds_in_version_1 : of_list One (item (kinded (codes "a") (codes "read")) no_items) ≡ Err (BadMember (codes "tags"))
+no_kinds_in_version_1 = refl
+
+no_list : tags_in One (member (codes "tags") (string (codes "a")) no_members) ≡ Err (BadMember (codes "tags"))
 no_list = refl
+
+three_kinds : of_list Two (item (kinded (codes "a") (codes "export")) (item (kinded (codes "b") (codes "read")) (item (kinded (codes "c") (codes "integrity")) no_items))) ≡ Ok (record { names = codes "a" ∷ codes "b" ∷ codes "c" ∷ []; kinds = Export ∷ Read ∷ Integrity ∷ [] })
+three_kinds = refl
+
+name_alone_in_version_2 : of_list Two (item (string (codes "a")) no_items) ≡ Err (BadMember (codes "tags"))
+name_alone_in_version_2 = refl
+
+name_not_there : of_list Two (item (object (member (codes "kind") (string (codes "write")) no_members)) no_items) ≡ Err (NoMember (codes "name"))
+name_not_there = refl
+
+name_of_another_form : of_list Two (item (kinded (codes "1") (codes "read")) no_items) ≡ Err (BadMember (codes "name"))
+name_of_another_form = refl
+
+kind_not_there : of_list Two (item (object (member (codes "name") (string (codes "a")) no_members)) no_items) ≡ Err (NoMember (codes "kind"))
+kind_not_there = refl
+
+no_such_kind : of_list Two (item (kinded (codes "a") (codes "write")) no_items) ≡ Err (BadMember (codes "kind"))
+no_such_kind = refl
+
+-- a name that comes again, before its kind, and a kind before the next name
+repeated_before_kind : of_list Two (item (kinded (codes "a") (codes "read")) (item (kinded (codes "a") (codes "write")) no_items)) ≡ Err (BadMember (codes "tags"))
+repeated_before_kind = refl
+
+kind_before_the_next_name : of_list Two (item (kinded (codes "a") (codes "write")) (item (kinded (codes "1") (codes "read")) no_items)) ≡ Err (BadMember (codes "kind"))
+kind_before_the_next_name = refl
 
 unknown_tag : label_in (codes "a" ∷ []) (member (codes "label") (string (codes "{a,b}/{}")) no_members) ≡ Err (NoTag (codes "b"))
 unknown_tag = refl

@@ -1,10 +1,19 @@
 //! World documents as definitions: from what is read of a JSON text to the world at the start of a run.
 //!
 //! Each reader of `specs/` is a row of the format: it answers a value, or the first break of the document
-//! (`specs/Breaks`). `specs/Tags` has the tags' names and what is said by them, `specs/Stores` files, directories and
-//! pipes, `specs/Entries` the threads, and `specs/Start` puts them together: `world_of` of a document that was read,
-//! and `start_of` of a text. The order in which members are looked at is the order of the readers' calls.
+//! (`specs/Breaks`). `specs/Tags` has the tags with their names and kinds and what is said by them, `specs/Stores` files,
+//! directories and pipes, `specs/Entries` the threads, and `specs/Start` puts them together: `world_of` of a document that
+//! was read, and `start_of` of a text. The order in which members are looked at is the order of the readers' calls.
 //!
 //! Stores are made by their own definitions, and threads are those that just started, so there is no second account of
 //! what a file, a pipe or a thread is.
+//!
+//! In code there are the two types that those who read documents and those who print their breaks share: [`Version`] and
+//! [`WorldBreak`].
 #![tactic(auto)]
+
+mod breaks;
+mod version;
+
+pub use breaks::WorldBreak;
+pub use version::Version;
