@@ -7,10 +7,11 @@
 --
 -- An auditor reads the turn, who acted at which label, and what was released or why it was refused:
 -- 12 t0 {a}/{} enter {}/{} by +{}-{a}
--- 44 t0 {a}/{} copy arr<{a}/{}|{}/{}|0>[2] by +{}-{a}
+-- 44 t0 {a}/{} copy arr<{a}/{}|{}/{}|0>[2] by +{}-{a} public
 -- 8 t0 {}/{} refused AddS a
-use Rattle.std.specs.Prelude.{◌≡◌, ℕ, ◌+◌, cond, List, [], ◌∷◌, ◌++◌, codes, decimal, Option, Some, None, refl}
+use Rattle.std.specs.Prelude.{◌≡◌, ℕ, ◌+◌, Bool, true, false, ◌&&◌, cond, List, [], ◌∷◌, ◌++◌, codes, decimal, Option, Some, None, refl}
 use Rattle.std.specs.List.{flat_map}
+use Rattle.std.specs.FinSet.{is_subset}
 use Rattle.flow_labels.specs.TwoLists.{Text}
 use Rattle.flow_labels.specs.LabelText.{label_text}
 use Rattle.flow_labels.specs.declared.Label.{Label}
@@ -75,29 +76,42 @@ view_lines names o ms = flat_map (entry_line names) (trace o ms)
 abbrev pub turn_text : List Text → ℕ → Event → Text
 turn_text names turn e = spaced (decimal turn ∷ head_text names e.thread e.label ∷ [])
 
+-- each capability of `by` is a public one
+abbrev pub are_public : Caps → Caps → Bool
+are_public public by = is_subset by.plus public.plus && is_subset by.minus public.minus
+
+abbrev pub public_mark : Bool → Text
+public_mark true = codes " public"
+public_mark false = []
+
+-- the capabilities that a release took, marked where all of them are public
+abbrev pub taken_text : List Text → Caps → Caps → Text
+taken_text names public by = codes "by " ++ (caps_text names by ++ public_mark (are_public public by))
+
 -- what was released, after the turn
-abbrev pub release_note : List Text → Text → What → Caps → Text
-release_note names turn (Asked (Enter label caps region args) answer) by =
-    line (turn ∷ codes "enter" ∷ label_text names label ∷ codes "by" ∷ caps_text names by ∷ [])
-release_note names turn (Asked (CopyTo r own) (Val v)) by = line (turn ∷ codes "copy" ∷ value_text names v ∷ codes "by" ∷ caps_text names by ∷ [])
-release_note names turn what by = []
+abbrev pub release_note : List Text → Caps → Text → What → Caps → Text
+release_note names public turn (Asked (Enter label caps region args) answer) by =
+    line (turn ∷ codes "enter" ∷ label_text names label ∷ taken_text names public by ∷ [])
+release_note names public turn (Asked (CopyTo r own) (Val v)) by = line (turn ∷ codes "copy" ∷ value_text names v ∷ taken_text names public by ∷ [])
+release_note names public turn what by = []
 
 -- by what it was refused, after the turn
 abbrev pub refusal_note : List Text → Text → Option Denied → Text
 refusal_note names turn None = []
 refusal_note names turn (Some d) = line (turn ∷ codes "refused" ∷ denied_text names d ∷ [])
 
-abbrev pub note_line : List Text → ℕ → Event → Option Caps → Text
-note_line names turn e (Some by) = release_note names (turn_text names turn e) e.what by
-note_line names turn e None = refusal_note names (turn_text names turn e) (refusal_of e.what)
+abbrev pub note_line : List Text → Caps → ℕ → Event → Option Caps → Text
+note_line names public turn e (Some by) = release_note names public (turn_text names turn e) e.what by
+note_line names public turn e None = refusal_note names (turn_text names turn e) (refusal_of e.what)
 
-abbrev pub noted_lines : List Text → List Noted → Text
-noted_lines names [] = []
-noted_lines names (n ∷ ns) = note_line names n.turn n.event n.by ++ noted_lines names ns
+-- the lines of what was noted, where these capabilities are public
+abbrev pub noted_lines : List Text → Caps → List Noted → Text
+noted_lines names public [] = []
+noted_lines names public (n ∷ ns) = note_line names public n.turn n.event n.by ++ noted_lines names public ns
 
--- the line of a moment: a release with what it used, or a refusal
+-- the line of a moment: a release with what it used, by what is public in the moment's world, or a refusal
 abbrev pub moment_line : List Text → ℕ → Moment → Text
-moment_line names turn m = note_line names turn m.event (cond (is_release m) (used_by m.event.label m.made) None)
+moment_line names turn m = note_line names m.world.public turn m.event (cond (is_release m) (used_by m.event.label m.made) None)
 
 abbrev pub lines_from : List Text → ℕ → List Moment → Text
 lines_from names turn [] = []

@@ -6,17 +6,19 @@
 //! ```
 //!
 //! are two lines of an observer's text ([`view_text`]): an event that it sees, and a release past it. The release's line
-//! in the audit ([`audit_text`]) is `12 t0 {a}/{} enter {}/{} by +{}-{a}`, with the turn and the acting label; a refusal's
-//! is `8 t0 {}/{} refused AddS a`.
+//! in the audit ([`audit_text`]) is `12 t0 {a}/{} enter {}/{} by +{}-{a}`, with the turn and the acting label, and ends with
+//! ` public` where all that it took is public ([`marks_are_exact`]); a refusal's is `8 t0 {}/{} refused AddS a`.
 //!
 //! Both are written line by line into one text. `specs/Log.antt` says what the lines are, of the kept lists and of the
-//! moments of a run themselves, and [`views_are_read`] and [`audits_are_read`] that these are the same.
+//! moments of a run themselves, and [`views_are_read`] and [`audits_are_read`] that these are the same. A moment's line
+//! speaks of what is public in the moment's world. No turn changes that (`lam_machine_laws`), so that the text is written
+//! with what is public at the start.
 #![tactic(auto)]
 
 mod audit;
 mod view;
 
-ghost use Rattle.audit_log.specs.Laws.{ViewsAreRead, AuditsAreRead};
+ghost use Rattle.audit_log.specs.Laws.{ViewsAreRead, AuditsAreRead, MarksAreExact};
 
 pub use audit::{audit_text, push_noted};
 pub use view::{push_release, push_seen, view_text};
@@ -26,7 +28,13 @@ pub fn views_are_read()
     ensures { ViewsAreRead }
 {}
 
-/// A law: the list of what is noted of a run's moments has the audit lines of them.
+/// A law: the list of what is noted of a run's moments has the audit lines of them, where the same is public in the worlds
+/// of all of them.
 pub fn audits_are_read()
     ensures { AuditsAreRead }
+{}
+
+/// A law: the line of a release is marked as public exactly where the public capabilities cover what it took.
+pub fn marks_are_exact()
+    ensures { MarksAreExact }
 {}
