@@ -19,20 +19,20 @@ use Rattle.barrier_compiler_units.proofs.Joins.{joins}
 use Rattle.barrier_compiler.proofs.Given.{AllGiven, all_given}
 use Rattle.barrier_compiler.proofs.Numbered.{are_counted}
 
-length-numbered : (vs : List Value) (fs : List Flat) → length (numbered vs fs) ≡ length fs
+pub length-numbered : (vs : List Value) (fs : List Flat) → length (numbered vs fs) ≡ length fs
 length-numbered vs [] = refl
 length-numbered vs (an_op o ∷ fs) = omega (arith, length-numbered vs fs)
 length-numbered vs (a_constant v ∷ fs) = omega (arith, length-numbered vs fs)
 
 -- a draft that is not too long, and then the others
-short_first : (n : ℕ) (d : Draft) (ds : List Draft) → long_from n (d ∷ ds) ≡ None → (length d.code ≤ 65535) × (long_from (n + 1) ds ≡ None)
+pub short_first : (n : ℕ) (d : Draft) (ds : List Draft) → long_from n (d ∷ ds) ≡ None → (length d.code ≤ 65535) × (long_from (n + 1) ds ≡ None)
 short_first n d ds h = by (nat_lt 65535 (length d.code)) refl h
   where
     by : (b : Bool) → nat_lt 65535 (length d.code) ≡ b → (if b then Some n else long_from (n + 1) ds) ≡ None → (length d.code ≤ 65535) × (long_from (n + 1) ds ≡ None)
     by true e h = let no : ⊥ = cc in absurd no
     by false e h = (grind (arith, e), h)
 
-each_unit : (vs : List Value) (n : ℕ) (ds : List Draft) → AllGiven ds → long_from n ds ≡ None → AllByRecursion IsUnit (map (unit_of vs) ds)
+pub each_unit : (vs : List Value) (n : ℕ) (ds : List Draft) → AllGiven ds → long_from n ds ≡ None → AllByRecursion IsUnit (map (unit_of vs) ds)
 each_unit vs n [] g h = tt
 each_unit vs n (d ∷ ds) g h =
     let s = short_first n d ds h in

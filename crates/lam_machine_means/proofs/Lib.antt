@@ -4,11 +4,7 @@ pub mod HeapLemmas
 pub mod ServedLemmas
 pub mod Typings
 pub mod Values
-pub mod Rows
-pub mod Locals
-pub mod Trees
-pub mod Expressions
-pub mod Statements
+pub mod Sorts
 pub mod Threads
 pub mod Alone
 pub mod Following

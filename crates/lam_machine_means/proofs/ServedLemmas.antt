@@ -30,7 +30,7 @@ use Rattle.thread_steps.specs.Threads.{Inside, Context, Thread}
 use Rattle.thread_steps.specs.Next.{Next, goes, asks, stuck, next_of, with_inside, started, result_after, takes}
 use Rattle.lam_machine_terms.specs.Worlds.{World, thread_at, result_in, result_at, with_thread}
 use Rattle.lam_machine_terms.specs.Deeds.{Effect, sets_slot, adds_thing, adds_copy, adds_thread, effect_of, Deed, answers, under, unless, on_thing}
-use Rattle.lam_machine_terms.specs.Serving.{slot_at, renamed, opened, received, joined, serve}
+use Rattle.lam_machine_terms.specs.Serving.{slot_at, renamed, opened, received, ended_with, serve}
 use Rattle.lam_machine_terms.specs.Turns.{is_ready, Moment, goes_on, served, turn_by}
 use Rattle.lam_machine_terms.specs.Valid.{AreSoundStores}
 use Rattle.lam_machine_laws.proofs.ThreadLemmas.{some_inj}
@@ -125,7 +125,7 @@ module _ (classes : Classes) (G : Typing) (code : CodeTree) (t : ℕ) (w : World
   number_typed : (v : Value) → IsNumber (outcome.Value v) → Is G int v
   number_typed v h = subst (Is G int) (sym h.1) refl
 
-  joined_typed : (x : Option Outcome) → ((r : Outcome) → x ≡ Some r → IsNumber r) → IsAnswer G int (joined x)
+  joined_typed : (x : Option Outcome) → ((r : Outcome) → x ≡ Some r → IsNumber r) → IsAnswer G int (ended_with x)
   joined_typed None h = tt
   joined_typed (Some (outcome.Value v)) h = number_typed v (h (outcome.Value v) refl)
   joined_typed (Some (outcome.Failed f)) h = tt

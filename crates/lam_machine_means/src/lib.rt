@@ -17,7 +17,8 @@
 //! (`answers_suit_in_runs`): each thread's asks so far are those that its source means with the answers that it got, so its
 //! next ask is typed, so its answer suits.
 //!
-//! `proofs/Steps` has one turn, and `proofs/Whole` the run.
+//! That threads ask typed asks is the proof of `lam_meaning_typed`, with values of types under a typing in place of values of
+//! their types' sorts: `proofs/Sorts` has what it takes of them. `proofs/Steps` has one turn, and `proofs/Whole` the run.
 #![tactic(auto)]
 
 ghost use Rattle.lam_bytecode.specs.Codes.{CodeTree};

@@ -1,4 +1,6 @@
 pub mod Values
+pub mod Sorts
+pub mod Places
 pub mod Rows
 pub mod Locals
 pub mod Trees

@@ -4,6 +4,8 @@
 //! a typed program never comes to an operand of another kind than its place takes. It ends, it waits for an answer, or
 //! its units are spent. The answers may be any: one that does not suit its ask ends the asks there.
 //!
+//! The proof takes of values of types only what `proofs/Sorts` lists, so it is made once: here values are of their types'
+//! sorts and any ask may be made; `lam_machine_means` has values of types by what stands on the heap, and typed asks.
 //! `proofs/Rows` has a line for each operator and built-in call, `proofs/Locals` the locals of a unit, each of the type
 //! of its slot while the slot is in scope.
 //!
