@@ -1,4 +1,9 @@
 pub mod LivingLemmas
-pub mod RunLemmas
-pub mod PrivateLemmas
+mod RunLemmas
+mod PrivateLemmas
 pub mod ProductLemmas
+mod PublicLemmas
+mod FrontLemmas
+mod SeenLemmas
+mod NotedLemmas
+mod CountLemmas

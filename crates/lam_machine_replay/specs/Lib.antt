@@ -1,7 +1,10 @@
 pub mod Stops
-pub mod Turns
+pub mod Told
 pub mod Laws
+pub mod Keeping
+pub mod Viewed
+pub mod Audited
+pub mod Counted
 pub use Rattle.lam_machine.specs.Machine
 pub use Rattle.lam_machine.specs.Privately
 pub use Rattle.lam_machine.specs.Turned
-pub mod Told

@@ -1,27 +1,39 @@
-//! Runs: a start, and a list of turns, each of a thread that is ready.
+//! Runs: a start, and a list of turns, each of a thread that is ready; and what is kept of the turns of a book.
 //!
-//! What is kept of the turns of a schedule, which are taken one by one, stands in crates above: what an observer sees
-//! (`turns_seen`), what an auditor looks at and what is counted (`turns_noted`). Each stops at the first turn whose
-//! thread is not ready, and names it in a [`RunFault`].
+//! `keeping` takes the turns of a start one by one, and keeps what somebody looks for in them: [`keep_turns`] over
+//! [`Keeps`]. It stops at the first turn whose thread is not ready, and names it in a [`RunFault`]; `specs/Stops` says
+//! where turns stop to be a run, `specs/Keeping` what it is to keep something of a turn. Three look for something:
 //!
-//! `specs/Stops` says where turns stop to be a run, `specs/Turns` what it is to take one and to keep something of it.
+//! - an observer for what it sees ([`seen_by`], `specs/Viewed`);
+//! - an auditor for each release and each refusal ([`noted_in`], `specs/Audited`);
+//! - and [`sums_of`] counts how often something is said, released and refused (`specs/Counted`).
 //!
 //! `telling` has what a turn made: a region that was entered, or a copy, with all that is in it. It is read from the
 //! turn's event and the world after it, by [`product_label`] and [`product`], so that no turn copies more than what is
 //! kept of it; that they tell it whole is the law [`products_are_told`]. `specs/Told` has the definitions.
 #![tactic(auto)]
 
+mod auditing;
+mod counting;
+mod events;
 mod fault;
+mod keeping;
 mod telling;
+mod viewing;
 
 ghost use Rattle.lam_bytecode.specs.Codes.{CodeTree};
 ghost use Rattle.lam_machine_replay.specs.Stops.{RunsAreWhole};
-ghost use Rattle.lam_machine_replay.specs.Laws.{CopiesAreLiving};
+ghost use Rattle.lam_machine_replay.specs.Laws.{CopiesAreLiving, PublicStayInRuns};
 ghost use Rattle.lam_machine_replay.specs.Told.{ProductsAreTold};
 
+pub use auditing::noted_in;
+pub use counting::sums_of;
 pub use fault::RunFault;
-pub use lam_machine::{World, step, step_privately};
+pub use keeping::{Keeps, keep_turns};
+pub use lam_machine::World;
+use lam_machine_laws::public_stay;
 pub use telling::{product, product_label};
+pub use viewing::seen_by;
 
 /// A law: turns are a run exactly where they do not stop at one whose thread is not ready.
 pub fn runs_are_whole()
@@ -37,3 +49,10 @@ pub fn copies_are_living()
 pub fn products_are_told()
     ensures { (code : CodeTree) → ProductsAreTold code }
 {}
+
+/// A law: what is public at the start of a run is public in the world of each of its moments.
+pub fn public_stay_in_runs()
+    ensures { (code : CodeTree) → PublicStayInRuns code }
+{
+    public_stay();
+}

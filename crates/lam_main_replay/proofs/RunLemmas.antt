@@ -10,7 +10,7 @@ use Rattle.lam_io.specs.Outside.{Files, AllStay, Rose}
 use Rattle.lam_bytecode.specs.Codes.{CodeTree}
 use Rattle.lam_machine_terms.specs.Worlds.{World}
 use Rattle.lam_machine_terms.specs.Turns.{Moment, moments}
-use Rattle.world_doc_terms.specs.Breaks.{Break, Reading}
+use Rattle.world_doc_terms.specs.Breaks.{Break, break_seen, Reading}
 use Rattle.world_doc_terms.specs.Start.{start_of}
 use Rattle.turn_book.specs.Reading.{turns_of}
 use Rattle.turn_book.specs.Reading as book_reading
@@ -18,11 +18,11 @@ use Rattle.turn_book.specs.declared.BookFault.{BookFault}
 use Rattle.turn_book.specs.declared.BookFault.TheVariants.{BadHead, BadLine, SameThread, TooMany, NoMemory as no_memory_of_book}
 use Rattle.world_doc_stores.specs.Meaning as document_reading
 use Rattle.world_doc_stores.specs.declared.fault.WorldFault.{WorldFault}
-use Rattle.world_doc_stores.specs.declared.fault.WorldFault.TheVariants.{NotJson, NoMember, BadMember, NoTag, BadPath, PathTwice, NoMemory as no_memory_of_world}
+use Rattle.world_doc_stores.specs.declared.fault.WorldFault.TheVariants.{Broken, NoMemory as no_memory_of_world}
 use Rattle.lam_machine_runs.specs.Stops.{NotReady, stopped_at}
-use Rattle.turns_seen.specs.Stops.{IsStop}
-use Rattle.turns_seen.specs.RunFault.{RunFault}
-use Rattle.turns_seen.specs.RunFault.TheVariants.{NotReady as not_ready, NoMemory as no_memory_of_run}
+use Rattle.lam_machine_replay.specs.Stops.{IsStop}
+use Rattle.lam_machine_replay.specs.declared.fault.RunFault.{RunFault}
+use Rattle.lam_machine_replay.specs.declared.fault.RunFault.TheVariants.{NotReady as not_ready, NoMemory as no_memory_of_run}
 use Rattle.lam_main_words.specs.Words.{Text}
 use Rattle.lam_main_plan.specs.Refusals.{Plan, prints, no_word, no_world}
 use Rattle.lam_main_plan.specs.Reading.{HasFile, WithFile, Never, Compiles, IsCompiled, program_limit, world_limit, book_limit, of_file, unread}
@@ -42,12 +42,7 @@ by_break read b is = subst (λ (r : Reading World). ByWorld Never r (no_world b)
 
 module _ {X : Type 0} (IsIt : X → Type 0) (tree : CodeTree) (bytes : Text) where
   broken_start : (f : WorldFault) → document_reading.Fails f (start_of bytes tree) → Finds {X = X} (Err (halt_of_world f)) IsIt (NoStart tree bytes)
-  broken_start NotJson h = by_break (start_of bytes tree) _ h.breaks
-  broken_start (NoMember name) h = by_break (start_of bytes tree) _ h.breaks
-  broken_start (BadMember name) h = by_break (start_of bytes tree) _ h.breaks
-  broken_start (NoTag name) h = by_break (start_of bytes tree) _ h.breaks
-  broken_start (BadPath index) h = by_break (start_of bytes tree) _ h.breaks
-  broken_start (PathTwice index) h = by_break (start_of bytes tree) _ h.breaks
+  broken_start (Broken breach) h = by_break (start_of bytes tree) (break_seen breach) h.breaks
   broken_start no_memory_of_world h = tt
 
   pub no_start_found : (f : WorldFault) (halt : Halt) → document_reading.Fails f (start_of bytes tree) → halt ≡ halt_of_world f → Finds {X = X} (Err halt) IsIt (NoStart tree bytes)
@@ -55,12 +50,7 @@ module _ {X : Type 0} (IsIt : X → Type 0) (tree : CodeTree) (bytes : Text) whe
 
 -- no fault of a document is one of the shelf
 pub no_shelf_world : (f : WorldFault) (halt : Halt) → halt ≡ halt_of_world f → halt ≡ ShelfFailed → ⊥
-no_shelf_world NotJson halt is e = cc
-no_shelf_world (NoMember name) halt is e = cc
-no_shelf_world (BadMember name) halt is e = cc
-no_shelf_world (NoTag name) halt is e = cc
-no_shelf_world (BadPath index) halt is e = cc
-no_shelf_world (PathTwice index) halt is e = cc
+no_shelf_world (Broken breach) halt is e = cc
 no_shelf_world no_memory_of_world halt is e = cc
 
 -- ---- who reads

@@ -7,11 +7,10 @@ use Rattle.turn_book.specs.declared.BookFault.TheVariants as book
 use Rattle.world_doc_stores.specs.declared.fault.WorldFault.{WorldFault}
 use Rattle.world_doc_stores.specs.declared.fault.WorldFault.TheVariants as document
 use Rattle.lam_machine_runs.specs.Stops.{NotReady as NotReadyAt}
-use Rattle.turns_seen.specs.RunFault.{RunFault}
-use Rattle.turns_seen.specs.RunFault.TheVariants as run
+use Rattle.lam_machine_replay.specs.declared.fault.RunFault.{RunFault}
+use Rattle.lam_machine_replay.specs.declared.fault.RunFault.TheVariants as run
 use Rattle.lam_main_words.specs.Words.{Text}
 use Rattle.lam_main_plan.specs.Replays.{Reader as Plain, an_observer, an_auditor, RunFiles as PlainFiles}
-use Rattle.lam_main_files.specs.declared.halt.WorldBreak.TheVariants as breach
 use Rattle.lam_main_files.specs.declared.halt.BookBreak.TheVariants.{Head, Line, SameThread, TooMany}
 use Rattle.lam_main_files.specs.declared.halt.Refusal.TheVariants.{World as OfWorld, Book, NotReady}
 use Rattle.lam_main_files.specs.declared.halt.Halt.{Halt}
@@ -39,12 +38,7 @@ lines_for Auditor names = audit_lines names
 -- ---- what the faults halt with
 
 abbrev pub halt_of_world : WorldFault → Halt
-halt_of_world document.NotJson = Refused (OfWorld breach.NotJson)
-halt_of_world (document.NoMember name) = Refused (OfWorld (breach.NoMember name))
-halt_of_world (document.BadMember name) = Refused (OfWorld (breach.BadMember name))
-halt_of_world (document.NoTag name) = Refused (OfWorld (breach.NoTag name))
-halt_of_world (document.BadPath index) = Refused (OfWorld (breach.BadPath index))
-halt_of_world (document.PathTwice index) = Refused (OfWorld (breach.PathTwice index))
+halt_of_world (document.Broken breach) = Refused (OfWorld breach)
 halt_of_world document.NoMemory = NoMemory
 
 abbrev pub halt_of_book : BookFault → Halt

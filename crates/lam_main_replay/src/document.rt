@@ -11,9 +11,9 @@ ghost use Rattle.lam_main_replay.specs.Asked.{halt_of_world};
 
 use lam_bytecode::Code;
 use lam_io::Shelf;
-use lam_main_files::{Halt, Refusal, WorldBreak, read_file};
+use lam_machine_replay::World;
+use lam_main_files::{Halt, Refusal, read_file};
 use std::alloc::Global;
-use turns_seen::World;
 use world_doc::start;
 use world_doc_laws::texts_start;
 use world_doc_stores::WorldFault;
@@ -67,16 +67,7 @@ fn world_halt(fault: WorldFault) -> Halt
     ensures { result ≡ halt_of_world fault }
 {
     match fault {
-        WorldFault::NotJson => Halt::Refused(Refusal::World(WorldBreak::NotJson)),
-        WorldFault::NoMember { name } => Halt::Refused(Refusal::World(WorldBreak::NoMember(name))),
-        WorldFault::BadMember { name } => Halt::Refused(Refusal::World(WorldBreak::BadMember(
-            name,
-        ))),
-        WorldFault::NoTag { name } => Halt::Refused(Refusal::World(WorldBreak::NoTag(name))),
-        WorldFault::BadPath { index } => Halt::Refused(Refusal::World(WorldBreak::BadPath(index))),
-        WorldFault::PathTwice { index } => Halt::Refused(Refusal::World(WorldBreak::PathTwice(
-            index,
-        ))),
+        WorldFault::Broken(breach) => Halt::Refused(Refusal::World(breach)),
         WorldFault::NoMemory => Halt::NoMemory,
     }
 }

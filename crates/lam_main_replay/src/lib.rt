@@ -3,7 +3,7 @@
 //! The files are read one after another, and the first refusal ends the call: the program, which is compiled
 //! (`lam_main_files`); the document of the world that the run starts from (`world_doc`); then the observer's label, whose
 //! tags that world names; and the book, which says whose turn comes when (`turn_book`). The turns are taken on the machine,
-//! and what is seen of them (`turns_seen`), or noted (`turns_noted`), is printed (`audit_log`). What a call answers is what the
+//! and what is seen of them, or noted (`lam_machine_replay`), is printed (`audit_log`). What a call answers is what the
 //! plan of these files says (`lam_main_plan`). The command `run` reads its files by the same calls.
 #![tactic(auto)]
 
@@ -26,10 +26,10 @@ use crate::run_text::shown;
 pub use crate::run_text::shown_turns;
 use lam_bytecode::Code;
 use lam_io::Shelf;
+use lam_machine_replay::World;
 pub use lam_machine_world::let_go_world;
 use lam_main_files::{Halt, read_code, read_file};
 use std::alloc::Global;
-use turns_seen::World;
 
 /// The most bytes of a book.
 const BOOK_LIMIT: u64 = 16_777_216;

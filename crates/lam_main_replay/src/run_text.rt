@@ -14,15 +14,15 @@ ghost use Rattle.lam_main_replay.specs.Asked.{lines_for, halt_of_book, halt_of_r
 use crate::eye::{Eye, Viewer};
 use audit_log::{audit_text, audits_are_read, view_text, views_are_read};
 use audit_log_notes::{Noted, Seen};
+use capabilities::Caps;
 use flow_labels::{Label, TagNames};
 use lam_bytecode::Code;
+use lam_machine_replay::{RunFault, World, noted_in, public_stay_in_runs, seen_by};
 use lam_machine_world::let_go_world;
 use lam_main_files::{BookBreak, Halt, Refusal};
 use std::alloc::Global;
 use std::mem::forget;
 use turn_book::{BookFault, read_book};
-use turns_noted::noted_in;
-use turns_seen::{RunFault, World, seen_by};
 
 /// What the reader is shown of the run of a book, by its bytes.
 pub(crate) fn shown(
@@ -103,9 +103,34 @@ fn audit(
     ensures says { Says result (IsOfTurns code.now start (audit_lines names.now) turns.now) }
     ensures no_fault { IfErr result (λ halt. halt ≢ Halt.ShelfFailed) }
 {
+    match start.stores().public.copy() {
+        Ok(public) => audit_with(alloc, code, start, turns, names, &public),
+        Err(_) => {
+            let_go_world(start);
+            Err(Halt::NoMemory)
+        }
+    }
+}
+
+/// What an auditor notes of turns, by what is public at their start: it is so throughout their run.
+fn audit_with(
+    alloc: Global,
+    code: &Code,
+    start: World,
+    turns: &[u32],
+    names: &TagNames,
+    public: &Caps,
+) -> Result<String, Halt>
+    requires code { IsCode code.now }
+    requires valid { IsValid start }
+    requires public { public.now ≡ start.public }
+    ensures says { Says result (IsOfTurns code.now start (audit_lines names.now) turns.now) }
+    ensures no_fault { IfErr result (λ halt. halt ≢ Halt.ShelfFailed) }
+{
     audits_are_read();
+    public_stay_in_runs();
     match notes_of(alloc, code, start, turns) {
-        Ok(noted) => noted_text(alloc, noted, names),
+        Ok(noted) => noted_text(alloc, noted, names, public),
         Err(halt) => Err(halt),
     }
 }
@@ -149,11 +174,16 @@ fn seen_text(alloc: Global, seen: Vec<Seen>, names: &TagNames) -> Result<String,
 }
 
 /// The text of what was noted. The list is left as that of what was seen.
-fn noted_text(alloc: Global, noted: Vec<Noted>, names: &TagNames) -> Result<String, Halt>
-    ensures ok { IfOk result (λ text. string_bytes text ≡ noted_lines names.now noted.items) }
+fn noted_text(
+    alloc: Global,
+    noted: Vec<Noted>,
+    names: &TagNames,
+    public: &Caps,
+) -> Result<String, Halt>
+    ensures ok { IfOk result (λ text. string_bytes text ≡ noted_lines names.now public.now noted.items) }
     ensures err { IfErr result (λ halt. halt ≡ Halt.NoMemory) }
 {
-    let text = audit_text(alloc, noted.as_slice(), names);
+    let text = audit_text(alloc, noted.as_slice(), names, public);
     forget(noted);
     Ok(text?)
 }

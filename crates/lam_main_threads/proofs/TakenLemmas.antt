@@ -12,8 +12,8 @@ use Rattle.turn_book.specs.Book.{AreTurns, book}
 use Rattle.lam_machine_runs.specs.Ends.{HasEnded, Runs}
 use Rattle.lam_machine_runs.specs.declared.How.{How}
 use Rattle.lam_machine_runs.specs.Stops.{NotReady, stopped_at}
-use Rattle.turns_noted.specs.Stops.{RunsAreWhole, IsStop}
-use Rattle.turns_noted.specs.RunFault.TheVariants.{NotReady as not_ready}
+use Rattle.lam_machine_replay.specs.Stops.{RunsAreWhole, IsStop}
+use Rattle.lam_machine_replay.specs.declared.fault.RunFault.TheVariants.{NotReady as not_ready}
 use Rattle.thread_host.specs.Runs.{Ran, IsWhole}
 use Rattle.thread_host.specs.declared.Finished.{Finished}
 use Rattle.lam_make.specs.Made.{program_text, world_text}
@@ -24,7 +24,7 @@ use Rattle.lam_main_plan.specs.Reading.{Never, IsCompiled, Compiles, fine}
 use Rattle.lam_main_plan.specs.Replays.{by_turns, IsOfTurns, ByReader, ByWorld}
 use Rattle.lam_main_plan.specs.Threads.{status_of, IsOfThreads, made_budget, Makes}
 use Rattle.lam_main_plan.proofs.ReadLemmas.{no_code_then, by_no_world, by_this_world, by_no_reader, by_this_reader}
-use Rattle.lam_main_files.specs.declared.halt.WorldBreak.TheVariants.{NotJson, NoMember, BadMember, NoTag, BadPath, PathTwice}
+use Rattle.world_doc_terms.specs.declared.breaks.WorldBreak.TheVariants.{NotJson, NoMember, BadMember, NoTag, BadPath, PathTwice}
 use Rattle.lam_main_files.specs.declared.halt.Refusal.{Refusal}
 use Rattle.lam_main_files.specs.declared.halt.Refusal.TheVariants.{Word, Script, NotUtf8, Flawed, CodeTooLong, World as OfWorld, Book, NotReady as NotReadyAt, Absent, TooLong}
 use Rattle.lam_main_files.specs.declared.halt.Halt.{Halt}
@@ -32,7 +32,7 @@ use Rattle.lam_main_files.specs.declared.halt.Halt.TheVariants.{Refused, NoMemor
 use Rattle.lam_main_files.specs.Halts.{refuses, Finds, Says}
 use Rattle.lam_main_threads.specs.declared.taking.Ended.{Ended}
 use Rattle.lam_main_threads.specs.declared.showing.Taken.{Taken}
-use Rattle.lam_main_threads.specs.Taken.{IsParted, IsRunOf, CanBeShown, IsShown, planned, Offers}
+use Rattle.lam_main_threads.specs.Taken.{IsParted, IsEndedRun, CanBeShown, IsShown, planned, Offers}
 
 -- ---- the turns
 
@@ -47,7 +47,7 @@ same_runs a code b start budget ts turns h how code_is start_is turns_are how_is
     (subst (λ (x : How). Runs a b budget ts x) (sym how_is) runs)))
 
 module _ (finished : Finished) (ended : Ended) (parted : IsParted finished ended) where
-  pub parted_run : (code : CodeTree) (start : World) (budget : ℕ) → (finished.run.code ≡ code) × (finished.run.start ≡ start) → length finished.run.turns ≤ budget → HasEnded finished.run.code finished.run.world (length finished.run.turns) budget finished.how → IsRunOf code start budget ended
+  pub parted_run : (code : CodeTree) (start : World) (budget : ℕ) → (finished.run.code ≡ code) × (finished.run.start ≡ start) → length finished.run.turns ≤ budget → HasEnded finished.run.code finished.run.world (length finished.run.turns) budget finished.how → IsEndedRun code start budget ended
   parted_run code start budget same few how =
       record {
         code_is = parted.code ∙ same.0;
@@ -80,12 +80,12 @@ pub same_plan : (out : Text) (a b : How) (s t u v : Text) → a ≡ b → s ≡ 
 same_plan out a b s t u v how text bytes = ap (λ (h : How). plan_of out h s u) how ∙ ap (λ (x : Text). plan_of out b x u) text ∙ ap (λ (x : Text). plan_of out b t x) bytes
 
 module _ (code : CodeTree) (start : World) (budget : ℕ) (shown : List Moment → Text) (ended : Ended) (taken : Taken) where
-  same_text : IsRunOf code start budget ended → shown (moments ended.parts.code ended.parts.turns.items ended.parts.start) ≡ shown (moments code ended.parts.turns.items start)
+  same_text : IsEndedRun code start budget ended → shown (moments ended.parts.code ended.parts.turns.items ended.parts.start) ≡ shown (moments code ended.parts.turns.items start)
   same_text run =
       ap (λ (c : CodeTree). shown (moments c ended.parts.turns.items ended.parts.start)) run.code_is
       ∙ ap (λ (s : World). shown (moments code ended.parts.turns.items s)) run.start_is
 
-  pub of_threads : IsRunOf code start budget ended → IsShown (shown (moments ended.parts.code ended.parts.turns.items ended.parts.start)) ended taken → (out : Text) → IsOfThreads code start out budget shown (planned out taken)
+  pub of_threads : IsEndedRun code start budget ended → IsShown (shown (moments ended.parts.code ended.parts.turns.items ended.parts.start)) ended taken → (out : Text) → IsOfThreads code start out budget shown (planned out taken)
   of_threads run is out =
       record {
         turns = ended.parts.turns.items;
@@ -95,7 +95,7 @@ module _ (code : CodeTree) (start : World) (budget : ℕ) (shown : List Moment �
       }
 
 -- what is made of the turns, where memory does not run out
-pub threads_shown : (code : CodeTree) (start : World) (budget : ℕ) (shown : List Moment → Text) (ended : Ended) (answer : Result Taken NoMem) → IsRunOf code start budget ended → IfOk answer (λ taken. IsShown (shown (moments ended.parts.code ended.parts.turns.items ended.parts.start)) ended taken) → IfOk answer (λ taken. (out : Text) → IsOfThreads code start out budget shown (planned out taken))
+pub threads_shown : (code : CodeTree) (start : World) (budget : ℕ) (shown : List Moment → Text) (ended : Ended) (answer : Result Taken NoMem) → IsEndedRun code start budget ended → IfOk answer (λ taken. IsShown (shown (moments ended.parts.code ended.parts.turns.items ended.parts.start)) ended taken) → IfOk answer (λ taken. (out : Text) → IsOfThreads code start out budget shown (planned out taken))
 threads_shown code start budget shown ended (Ok taken) run is = of_threads code start budget shown ended taken run is
 threads_shown code start budget shown ended (Err error) run is = tt
 

@@ -28,7 +28,7 @@ pub record IsParted (finished : Finished) (ended : Ended) : Type 0 where
   pub whole : IsWhole finished.run
 
 -- the turns are a run of this code from this start, within a budget, and it ended as is told
-pub record IsRunOf (code : CodeTree) (start : World) (budget : ℕ) (ended : Ended) : Type 0 where
+pub record IsEndedRun (code : CodeTree) (start : World) (budget : ℕ) (ended : Ended) : Type 0 where
   pub code_is : ended.parts.code ≡ code
   pub start_is : ended.parts.start ≡ start
   pub runs : Runs code start budget ended.parts.turns.items ended.how

@@ -28,13 +28,13 @@ use crate::showing::shown;
 use crate::writing::written;
 use lam_bytecode::Code;
 use lam_io::{Gate, Shelf};
+use lam_machine_replay::World;
 use lam_main_files::{Halt, Report, read_code};
 use lam_main_replay::read_start;
 pub use lam_main_replay::{Reader, RunFiles, replay};
 use std::alloc::Global;
 use std::sync::Wait;
 use std::thread::Threads;
-use turns_noted::World;
 
 /// The files of a run whose turns threads take, but for its program.
 #[derive(Drop)]

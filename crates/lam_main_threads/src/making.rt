@@ -23,6 +23,7 @@ use crate::writing::written;
 use audit_log_notes::summary_text;
 use lam_bytecode::Code;
 use lam_io::{Gate, Shelf};
+use lam_machine_replay::{RunFault, World, sums_of};
 use lam_main_files::{Halt, Report, compiled};
 use lam_main_replay::start_in;
 use std::alloc::Global;
@@ -30,7 +31,6 @@ use std::sync::Wait;
 use std::thread::Threads;
 use thread_host::RunParts;
 use turn_book::write_book;
-use turns_noted::{RunFault, World, sums_of};
 use want_of_memory::NoMemory;
 
 /// How many workers take the turns of a made run.

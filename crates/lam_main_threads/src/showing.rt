@@ -14,6 +14,7 @@ use crate::Bounds;
 use crate::taking::{Ended, taken_turns};
 use lam_bytecode::Code;
 use lam_io::Gate;
+use lam_machine_replay::World;
 use lam_machine_runs::How;
 use lam_main_files::Halt;
 use lam_main_replay::{Reader, Viewer, let_go_world, shown_turns, viewer_of};
@@ -22,7 +23,6 @@ use std::sync::Wait;
 use std::thread::Threads;
 use thread_host::RunParts;
 use turn_book::write_book;
-use turns_noted::World;
 use want_of_memory::NoMemory;
 
 /// What is made of a run: how it ended, what is printed of it, and the bytes of its book.

@@ -3,17 +3,17 @@
 ghost use Rattle.std.specs.Prelude.{◌<◌, ◌≤◌, IfOk};
 ghost use Rattle.lam_bytecode.specs.Codes.{IsCode};
 ghost use Rattle.lam_machine_terms.specs.Valid.{IsValid};
-ghost use Rattle.lam_main_threads.specs.Taken.{IsParted, IsRunOf, CanBeShown};
+ghost use Rattle.lam_main_threads.specs.Taken.{IsParted, IsEndedRun, CanBeShown};
 
 use crate::Bounds;
 use lam_bytecode::Code;
 use lam_io::Gate;
+use lam_machine_replay::{World, runs_are_whole};
 use lam_machine_runs::How;
 use std::alloc::Global;
 use std::sync::Wait;
 use std::thread::Threads;
 use thread_host::{Finished, RunParts, run_on};
-use turns_noted::{World, runs_are_whole};
 use want_of_memory::NoMemory;
 
 /// The turns that were taken, with the code and the start that they are of, and how their run ended.
@@ -35,7 +35,7 @@ pub(crate) fn taken_turns<R: Threads + Wait + Sync, G: Gate + Sync>(
     requires valid { IsValid start }
     requires workers { (0 < bounds.workers) × (bounds.workers ≤ 16) }
     requires turns { (0 < bounds.turns) × (bounds.turns ≤ 1000000) }
-    ensures run { IfOk result (IsRunOf code start bounds.turns) }
+    ensures run { IfOk result (IsEndedRun code start bounds.turns) }
     ensures shows { IfOk result CanBeShown }
 {
     runs_are_whole();

@@ -17,12 +17,12 @@ abbrev pub EndsAs : ℕ → Ran → How → Type 0
 EndsAs budget r how = length r.turns ≤ budget → HasEnded r.code r.world (length r.turns) budget how
 
 -- a thread was ready and took a turn, within the budget
-pub record TookTurn (budget : ℕ) (r s : Ran) (t : ℕ) : Type 0 where
+pub record TookReady (budget : ℕ) (r s : Ran) (t : ℕ) : Type 0 where
   pub ready : turns.ready r.code r.world t ≡ true
   pub left : length r.turns < budget
   pub after : s ≡ with_turn r t s.world
 
 -- a turn was taken, or the run had ended and is as it was
 abbrev pub Visits : ℕ → Ran → Ran → Visit → Type 0
-Visits budget r s (Took t) = TookTurn budget r s t
+Visits budget r s (Took t) = TookReady budget r s t
 Visits budget r s (Ended how) = (s ≡ r) × EndsAs budget r how

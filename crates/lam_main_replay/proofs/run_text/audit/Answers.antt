@@ -1,17 +1,6 @@
 use Rattle.std.proofs.Common.{◌∙◌, ap}
-use Rattle.lam_machine_terms.specs.Turns.{moments}
-use Rattle.lam_machine_runs.specs.Stops.{stopped_at}
-use Rattle.audit_log.specs.Log.{noted_lines, audit_lines}
-use Rattle.lam_main_replay.proofs.RunLemmas.{run_says, no_run_says, no_shelf_run}
+use Rattle.lam_machine_effects.specs.declared.stores.Stores.{Stores}
 use Rattle.lam_main_replay.proofs.run_text.audit.Goals as goal
 
-pub returns-in-Ok-clause-says : goal.returns-in-Ok-clause-says
-returns-in-Ok-clause-says c =
-    run_says c.args.code.now c.args.start (audit_lines c.args.names.now) c.args.turns.now (noted_lines c.args.names.now c.in-Ok.noted.items) c.noted_text.result c.noted_text.ensures.ok c.noted_text.ensures.err
-    (ap (noted_lines c.args.names.now) c.in-Ok.ensures.ok ∙ c.audits_are_read.ensures c.args.names.now (moments c.args.code.now c.args.turns.now c.args.start)) c.in-Ok.ensures.run
-
-pub returns-in-Err-clause-says : goal.returns-in-Err-clause-says
-returns-in-Err-clause-says c = no_run_says c.args.code.now c.args.start (audit_lines c.args.names.now) c.args.turns.now c.in-Err.halt c.in-Err.ensures.stops
-
-pub returns-in-Err-clause-no_fault : goal.returns-in-Err-clause-no_fault
-returns-in-Err-clause-no_fault c = no_shelf_run c.in-Err.halt (stopped_at c.args.code.now c.args.turns.now c.args.start) c.in-Err.ensures.stops
+pub audit_with-requires-clause-public : goal.audit_with-requires-clause-public
+audit_with-requires-clause-public c = c.in-Ok.ensures ∙ ap (λ (s : Stores). s.public) c.stores.ensures

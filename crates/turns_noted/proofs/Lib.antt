@@ -1,6 +1,0 @@
-mod TurnLemmas
-mod RunLemmas
-mod PrivateLemmas
-pub mod CountLemmas
-pub mod FrontLemmas
-mod UncountedLemmas

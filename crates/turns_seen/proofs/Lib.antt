@@ -1,3 +1,0 @@
-mod TurnLemmas
-mod RunLemmas
-mod PrivateLemmas
