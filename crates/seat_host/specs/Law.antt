@@ -6,6 +6,7 @@ use mathlib.Core.List.{IsPrefix}
 use lib.ListN.{get_elem?}
 use Rattle.atomic_table.specs.Table.{State, Me, Step}
 use Rattle.lam_bytecode.specs.Codes.{code_of}
+use Rattle.capabilities.specs.Changes.{no_caps}
 use Rattle.labelled_heap.specs.Things.{no_things}
 use Rattle.labelled_files.specs.Trees.{root_alone}
 use Rattle.labelled_pipes.specs.Queues.{no_pipes}
@@ -47,7 +48,7 @@ newcomer g = record { alive = true; code = g.code; start = g.start; seen = []; t
 
 -- no seat is any more one that was joined to another; what it would be told is nothing
 abbrev pub no_world : World
-no_world = record { names = []; next_tag = 0; heap = no_things; monitors = map.empty; files = root_alone; pipes = no_pipes; threads = [] }
+no_world = record { names = []; public = no_caps; next_tag = 0; heap = no_things; monitors = map.empty; files = root_alone; pipes = no_pipes; threads = [] }
 
 abbrev pub nobody : View
 nobody = record { alive = false; code = code_of [] [] []; start = no_world; seen = []; told = []; mine = []; drawn = 0; waits = false; ticket = 0; acts = false }

@@ -1,7 +1,7 @@
 //! What a caller's turn answers, and what a shared run is closed into.
 
-use lam_asks::Event;
-use thread_host_run::Run;
+use lam_asks::{Event, let_go_event};
+use thread_host_run::{Run, let_go_run};
 
 /// What a caller's turn answers. A place is one ticket's use, counted from 0.
 #[derive(Drop)]
@@ -34,4 +34,23 @@ pub enum CloseFault {
 pub struct Closed {
     pub run: Run,
     pub places: Vec<Option<u32>>,
+}
+
+/// Lets a closed run go.
+pub fn let_go_closed(closed: Closed) {
+    let Closed { run, places } = closed;
+    drop(places);
+    let_go_run(run);
+}
+
+/// Lets an answer go.
+pub fn let_go_answer(answer: TurnAnswer) {
+    match answer {
+        TurnAnswer::Took { event, .. } => let_go_event(event),
+        TurnAnswer::Worn { .. }
+        | TurnAnswer::Stale { .. }
+        | TurnAnswer::Full { .. }
+        | TurnAnswer::NotReady { .. }
+        | TurnAnswer::NoMemory { .. } => {}
+    }
 }

@@ -12,7 +12,7 @@ ghost use Rattle.seat_host.specs.Answers.{holding, Comes};
 use crate::answer::{CloseFault, Closed, TurnAnswer};
 use std::alloc::Global;
 use std::marker::Model;
-use thread_host_run::{Run, TURN_LIMIT};
+use thread_host_run::{Run, TURN_LIMIT, let_go_run};
 use want_of_memory::NoMemory;
 
 /// A run and its places. A place that holds nothing takes no memory.
@@ -82,12 +82,37 @@ impl Book {
         let Book {
             run,
             held,
-            last: _,
+            last,
             count,
         } = self;
-        match places_in(alloc, held.as_slice(), run.turns(), count) {
-            Ok(places) => Ok(Closed { run, places }),
-            Err(_) => Err(CloseFault::NoMemory),
+        drop(last);
+        parted(alloc, run, held, count)
+    }
+}
+
+/// Lets a book go.
+pub fn let_go_book(book: Book) {
+    let Book {
+        run,
+        held,
+        last,
+        ..
+    } = book;
+    drop(last);
+    drop(held);
+    let_go_run(run);
+}
+
+/// A run, and what each place holds, where so many stand.
+fn parted(alloc: Global, run: Run, held: Vec<u64>, count: u64) -> Result<Closed, CloseFault>
+    ensures ok { IfOk result (λ p. (p.run ≡ run) × (p.places.items ≡ spread 0 count held.items run.turns)) }
+    ensures err { IfErr result (λ e. e ≡ OutOfMemory) }
+{
+    match places_in(alloc, held.as_slice(), run.turns(), count) {
+        Ok(places) => Ok(Closed { run, places }),
+        Err(_) => {
+            let_go_run(run);
+            Err(CloseFault::NoMemory)
         }
     }
 }

@@ -11,7 +11,7 @@ ghost use Rattle.seat_host.specs.Law.{newcomer, fresh, learned, joined};
 ghost use Rattle.seat_host.specs.Seats.{IsIdle, IsWaiting, Drew, Came, sitting, TookTurn, Closes, StaysOpen};
 
 use crate::answer::{CloseFault, Closed, TurnAnswer};
-use crate::book::Book;
+use crate::book::{Book, let_go_book};
 use crate::law::{Draw, Finish, Fork, Given, Glue, Law, Learn, Look, Serve, View};
 use atomic_table::{Refused, Seat, Table};
 use lam_bytecode::Code;
@@ -83,6 +83,7 @@ impl Desk {
         let book = closed.take(0);
         closed.free();
         if served != drawn {
+            let_go_book(book);
             return Err(CloseFault::Open { served, drawn });
         }
         book.into_parts(alloc)
@@ -233,9 +234,14 @@ fn let_go_refused(refused: Refused<Book, Global>) {
 fn one_slot(alloc: Global, book: Book) -> Result<Vec<Book>, NoMemory>
     ensures { IfOk result (λ v. v.items ≡ book ∷ []) }
 {
-    let mut slots = Vec::new(alloc);
-    match slots.push(book) {
-        Ok(()) => Ok(slots),
-        Err(_) => Err(NoMemory),
+    match Vec::with_capacity(alloc, 1) {
+        Ok(mut slots) => {
+            slots.push_reserved(book);
+            Ok(slots)
+        }
+        Err(_) => {
+            let_go_book(book);
+            Err(NoMemory)
+        }
     }
 }

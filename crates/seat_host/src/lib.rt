@@ -15,6 +15,6 @@ mod law;
 mod places;
 mod seat;
 
-pub use answer::{CloseFault, Closed, TurnAnswer};
+pub use answer::{CloseFault, Closed, TurnAnswer, let_go_answer, let_go_closed};
 pub use places::places_differ;
-pub use seat::{Seat, SeatRun};
+pub use seat::{Seat, SeatRun, let_go_seat, let_go_seat_run};
