@@ -28,16 +28,19 @@ impl<'a> Given<'a> {
     }
 }
 
-/// An output: its room, and the numbers of its calls that fail, from 1.
+/// An output: its room, how many bytes it takes by a call at most, but at least one, and the numbers of its calls that
+/// fail, from 1.
 #[derive(Clone, Copy)]
 pub struct Output<'a> {
     pub room: u64,
+    pub most: u64,
     pub failing: &'a [u64],
 }
 
 /// An output that takes all.
 pub const WIDE: Output<'static> = Output {
     room: 65_536,
+    most: 65_536,
     failing: &[],
 };
 
@@ -67,7 +70,8 @@ pub fn tell<R: Calls>(
 ) -> Result<Told, Fail> {
     let alloc = rt.alloc();
     let words = texts_of(alloc, words)?;
-    let mut sink = MemSink::new(alloc, output.room, output.failing.to_vec(alloc)?)?;
+    let failing = output.failing.to_vec(alloc)?;
+    let mut sink = MemSink::short(alloc, output.room, output.most.max(1), failing)?;
     let status = lam(rt, alloc, &words, shelf, &mut sink, &gate);
     let text = String::from_str(alloc, from_utf8(sink.bytes())?)?;
     Ok(Told { status, text })

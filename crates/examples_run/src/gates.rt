@@ -1,6 +1,6 @@
 //! Hooks of the scheduler.
 
-use lam_io::{Gate, OpenGate};
+use lam_io::{Gate, OpenGate, TableGate};
 use std::sync::atomic::{AtomicU64, Ordering};
 
 /// The hook of an example. All hooks are one type, so that the tool is compiled once for all examples.
@@ -8,6 +8,8 @@ use std::sync::atomic::{AtomicU64, Ordering};
 pub enum Hook<'a> {
     /// The one that the program has.
     Open,
+    /// What a table lists, turn by turn.
+    Table(&'a TableGate),
     /// The ready threads one after another.
     InTurn,
     /// A thread that depends on the worker.
@@ -22,6 +24,7 @@ impl<'a> Gate for Hook<'a> {
     fn pick(&self, worker: u64, turn: u64, ready: &[u32]) -> u64 {
         match self {
             Hook::Open => OpenGate.pick(worker, turn, ready),
+            Hook::Table(table) => table.pick(worker, turn, ready),
             Hook::InTurn | Hook::Meets(_) => turn,
             Hook::Mixes => mixed(worker, turn),
             Hook::Notes(notes) => notes.pick(worker, turn, ready),

@@ -1,8 +1,8 @@
 //! What an observer sees of a run, whoever took its turns.
 
-use crate::call::{Calls, Given, Told, WIDE, Wanted, comes_to, store, tell};
+use crate::call::{Calls, Given, Output, Told, WIDE, Wanted, comes_to, store, tell, wrote};
 use crate::gates::Hook;
-use lam_io::MemShelf;
+use lam_io::{MemShelf, TableGate};
 use lam_main::Status;
 use std::test::Fail;
 
@@ -43,19 +43,61 @@ const HOUR_RELEASED: &str =
 
 const HOUR_SAID: &str = "t3 {}/{} say \"2\" = done";
 
-/// Only the hour leaves the two calendars, by one release; and the book shows the same run again.
+/// An output that takes what is seen of all turns of the budget.
+const WIDEST: Output<'static> = Output {
+    room: 1_048_576,
+    most: 1_048_576,
+    failing: &[],
+};
+
+/// Only the hour leaves the two calendars, by one release, and the book shows the same run again: whether the gate is the
+/// program's own or always picks the first ready thread. Where it always picks the last, no hour is found.
 #[test]
 fn calendar(rt: HostRuntime) -> Result<(), Fail> {
+    let first = TableGate {
+        picks: [0u64].to_vec(rt.alloc())?,
+    };
+    let last = TableGate {
+        picks: [u64::MAX].to_vec(rt.alloc())?,
+    };
     let mut shelf = store(&rt, &CALENDAR.files(), &[])?;
-    let well = runs_and_replays(&rt, &mut shelf);
+    let well = by_each(&rt, &mut shelf, Hook::Table(&first), Hook::Table(&last));
     drop(shelf);
     well
 }
 
+/// Runs what a store has by the program's gate and by two others.
+fn by_each<R: Calls>(
+    rt: &R,
+    shelf: &mut MemShelf,
+    first: Hook<'_>,
+    last: Hook<'_>,
+) -> Result<(), Fail> {
+    runs_and_replays(rt, shelf, Hook::Open)?;
+    runs_and_replays(rt, shelf, first)?;
+    last_alone_runs(rt, shelf, last)
+}
+
+/// The last thread, which waits for the hour, takes all turns.
+fn last_alone_runs<R: Calls>(rt: &R, shelf: &mut MemShelf, gate: Hook<'_>) -> Result<(), Fail> {
+    let Told { status, text } = tell(rt, shelf, &WORDS, WIDEST, gate)?;
+    drop(text);
+    if status != Status::Budget {
+        return Err(Fail::new(format_args!("{status:?}, and not the budget")));
+    }
+    wrote(
+        rt,
+        shelf,
+        "the last thread takes all turns",
+        "lam book 1\n3 100000\n",
+    )
+}
+
+const WORDS: [&str; 5] = ["run", "P", "W", "{}/{}", "B"];
+
 /// Runs what a store has, and replays the book that the run wrote.
-fn runs_and_replays<R: Calls>(rt: &R, shelf: &mut MemShelf) -> Result<(), Fail> {
-    let words = ["run", "P", "W", "{}/{}", "B"];
-    let Told { status, text } = tell(rt, shelf, &words, WIDE, Hook::Open)?;
+fn runs_and_replays<R: Calls>(rt: &R, shelf: &mut MemShelf, gate: Hook<'_>) -> Result<(), Fail> {
+    let Told { status, text } = tell(rt, shelf, &WORDS, WIDE, gate)?;
     let well = tells_the_hour(rt, shelf, status, text.as_str());
     drop(text);
     well

@@ -1,6 +1,6 @@
 -- A shelf and a sink in memory, as a caller sees them: what they hold, how many calls were made, which calls
--- are to fail, and how many did.
-use Rattle.std.specs.Prelude.{◌≡◌, ℕ, ◌-◌, nat_eq, string_bytes, String, Vec, ◌&&◌, ◌||◌, Bool, false, nat_le, if◌then◌else◌, List, [], ◌∷◌, ◌++◌, length, take, Some, None, Result, Ok, Err, min}
+-- are to fail, and how many did. What a gate picks by a table.
+use Rattle.std.specs.Prelude.{◌≡◌, ℕ, ◌-◌, ◌%◌, get_or, nat_eq, string_bytes, String, Vec, ◌&&◌, ◌||◌, Bool, false, nat_le, if◌then◌else◌, List, [], ◌∷◌, ◌++◌, length, take, Some, None, Result, Ok, Err, min}
 use Rattle.std.specs.Str.{bytes_eq}
 use Rattle.std.specs.List.{list_any}
 use Rattle.lam_io.specs.Outside.{Files, one_more}
@@ -49,10 +49,12 @@ shelf_after shelf files refusals = record {
   refusals = refusals;
 }
 
--- a sink: the bytes that it took, how many it can hold, and its calls and faults as those of a shelf
+-- a sink: the bytes that it took, how many it can hold, how many it takes by one call at most, and its calls and faults as
+-- those of a shelf
 pub record SinkState : Type 0 where
   pub bytes : List ℕ
   pub room : ℕ
+  pub most : ℕ
   pub calls : ℕ
   pub failing : List ℕ
   pub faults : ℕ
@@ -61,9 +63,10 @@ pub record SinkState : Type 0 where
 abbrev pub sink_fails : SinkState → List ℕ → Bool
 sink_fails sink piece = is_listed sink.calls sink.failing || (nat_le sink.room (length sink.bytes) && nat_le 1 (length piece))
 
--- how much of a piece fits: of `abcd` the front `abc`, where there is room for 3 and nothing is held
+-- how much of a piece fits: of `abcd` the front `abc`, where there is room for 3 and nothing is held; of `abc` the front
+-- `a`, where a call takes one byte at most
 abbrev pub fitting : SinkState → List ℕ → ℕ
-fitting sink piece = min (sink.room - length sink.bytes) (length piece)
+fitting sink piece = min (min (sink.room - length sink.bytes) (length piece)) sink.most
 
 -- a sink takes what fits; where nothing fits, only an empty piece is no fault
 abbrev pub sink_answer : SinkState → List ℕ → Result ℕ SinkFault
@@ -73,7 +76,12 @@ abbrev pub sink_after : SinkState → List ℕ → SinkState
 sink_after sink piece = record {
   bytes = if sink_fails sink piece then sink.bytes else sink.bytes ++ take (fitting sink piece) piece;
   room = sink.room;
+  most = sink.most;
   calls = one_more sink.calls;
   failing = sink.failing;
   faults = if sink_fails sink piece then one_more sink.faults else sink.faults;
 }
+
+-- what a table picks at a turn: its entries one after another and again from the first, and 0 where it has none
+abbrev pub picked : List ℕ → ℕ → ℕ
+picked picks turn = get_or picks (turn % length picks) 0

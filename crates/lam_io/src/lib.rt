@@ -5,7 +5,7 @@
 //! in them can not raise the count, so it can not make a fault up. [`MemShelf`] and [`MemSink`] hold their contents
 //! in memory and fail at the calls that a test lists. [`DirShelf`] and [`StdSink`] are the current folder and
 //! standard output: the trusted edge, which tells nothing of contents. A [`Gate`] is a hook that a scheduler asks
-//! which thread goes on; [`OpenGate`] is the program's own.
+//! which thread goes on; [`OpenGate`] is the program's own, and a [`TableGate`] picks what a test lists.
 #![tactic(auto)]
 
 mod device;
@@ -17,7 +17,7 @@ ghost use Rattle.lam_io.specs.declared.SinkFault.{SinkFault};
 ghost use Rattle.lam_io.specs.Outside.{Rose, AllStay, OthersStay, IsRead, refusals_after, Took, TookFront, IsCount, Writes};
 
 pub use device::{DirShelf, StdSink};
-pub use memory::{MemShelf, MemSink, OpenGate};
+pub use memory::{MemShelf, MemSink, OpenGate, TableGate};
 use std::alloc::{AllocError, AllocFailed, Global};
 use want_of_memory::NoMemory;
 

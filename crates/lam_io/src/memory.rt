@@ -1,11 +1,11 @@
-//! A shelf and a sink in memory, whose calls fail where a test wants it.
+//! A shelf and a sink in memory, whose calls fail where a test wants it, and the gates.
 
-ghost use Rattle.std.specs.Prelude.{if◌then◌else◌, ◌≡◌, ◌≤◌, Some, Ok, map, IfOk, OnOk, OnErr, IsErrOf, length, take, [], ◌/◌, true, string_bytes, not, IsTrue, ◌↔◌};
+ghost use Rattle.std.specs.Prelude.{if◌then◌else◌, ◌≡◌, ◌≤◌, ◌^◌, ◌-◌, Some, Ok, map, IfOk, OnOk, OnErr, IsErrOf, length, take, [], ◌/◌, true, string_bytes, not, IsTrue, ◌↔◌};
 ghost use Rattle.std.specs.Option.{option_copied};
 ghost use Rattle.std.specs.Str.{bytes_eq};
 ghost use Rattle.std.specs.List.{prefix_len};
 ghost use Rattle.lam_io.specs.Outside.{Rose, AllStay, OthersStay, IsRead, refusals_after, IsCount, Took, one_more};
-ghost use Rattle.lam_io.specs.Memory.{NamesDiffer, file_in, is_listed, shelf_fails, shelf_after, sink_answer, sink_after, seen};
+ghost use Rattle.lam_io.specs.Memory.{NamesDiffer, file_in, is_listed, shelf_fails, shelf_after, sink_answer, sink_after, picked, seen};
 
 use crate::{Gate, Got, Shelf, ShelfFault, Sink, SinkFault};
 use std::alloc::Global;
@@ -29,11 +29,13 @@ fn next_fails(calls: &mut u64, failing: &[u64], faults: &mut u64) -> bool
 
 /// A sink that holds what it took.
 ///
-/// A caller sees its bytes, its room, the number of its calls, the numbers of those that fail, and its faults.
+/// A caller sees its bytes, its room, how many bytes it takes by a call at most, the number of its calls, the numbers of
+/// those that fail, and its faults.
 #[derive(Debug, Drop)]
 pub struct MemSink {
     held: Vec<u8>,
     room: usize,
+    most: u64,
     calls: u64,
     failing: Vec<u64>,
     faults: u64,
@@ -45,22 +47,36 @@ impl Model for MemSink {
 
     ghost Value = { SinkState };
 
-    ghost view = { λ s. record { bytes = s.held.items; room = s.room; calls = s.calls; failing = s.failing.items; faults = s.faults } };
+    ghost view = { λ s. record { bytes = s.held.items; room = s.room; most = s.most; calls = s.calls; failing = s.failing.items; faults = s.faults } };
 
-    ghost invariant = { λ s. (vec_len s.held ≤ s.room) × (s.room ≤ vec_capacity s.held) };
+    ghost invariant = { λ s. (vec_len s.held ≤ s.room) × (s.room ≤ vec_capacity s.held) × (1 ≤ s.most) };
 }
 
 impl MemSink {
     /// A sink with room for so many bytes, which it takes at once. Its calls with the given numbers, counted from 1,
     /// fail.
     pub fn new(alloc: Global, room: u64, failing: Vec<u64>) -> Result<MemSink, NoMemory>
-        ensures { IfOk result (λ s. s ≡ record { bytes = []; room = room; calls = 0; failing = failing.items; faults = 0 }) }
+        ensures { IfOk result (λ s. s ≡ record { bytes = []; room = room; most = 2 ^ 64 - 1; calls = 0; failing = failing.items; faults = 0 }) }
+    {
+        MemSink::short(alloc, room, u64::MAX, failing)
+    }
+
+    /// The same, but it takes no more than `most` bytes by a call.
+    pub fn short(
+        alloc: Global,
+        room: u64,
+        most: u64,
+        failing: Vec<u64>,
+    ) -> Result<MemSink, NoMemory>
+        requires { 1 ≤ most }
+        ensures { IfOk result (λ s. s ≡ record { bytes = []; room = room; most = most; calls = 0; failing = failing.items; faults = 0 }) }
     {
         let room = room as usize;
         let held = Vec::with_capacity(alloc, room)?;
         Ok(MemSink {
             held,
             room,
+            most,
             calls: 0,
             failing,
             faults: 0,
@@ -82,7 +98,7 @@ impl Sink for MemSink {
 
     ghost gives = { λ s piece answer after. (answer ≡ sink_answer s piece) × (after ≡ sink_after s piece) };
 
-    /// Takes what fits. It fails exactly where the call's number is listed, and where there is a piece and no room.
+    /// Takes what fits, and no more than a call may. It fails exactly where the call's number is listed, and where there is a piece and no room.
     fn write(&mut self, piece: &[u8]) -> Result<u64, SinkFault>
         ensures later { self.old.faults ≤ self.new.faults }
         ensures failed { OnErr result (Rose self.old.faults self.new.faults) }
@@ -99,7 +115,7 @@ impl Sink for MemSink {
             self.faults = self.faults.saturating_add(1);
             return Err(SinkFault::Failed);
         }
-        let count = left.min(piece.len());
+        let count = left.min(piece.len()).min(self.most as usize);
         match self.held.extend_from_slice(&piece[..count]) {
             Ok(()) => Ok(count as u64),
             Err(_) => unreachable!(),
@@ -262,6 +278,27 @@ impl Gate for OpenGate {
         ensures { result ≡ turn / 64 }
     {
         turn / 64
+    }
+
+    fn between(&self, _worker: u64, _thread: u32) {}
+}
+
+/// A gate that picks by a table: its entries one after another, and again from the first. It picks 0 where the table is
+/// empty, and does nothing between.
+#[derive(Debug, Drop)]
+pub struct TableGate {
+    pub picks: Vec<u64>,
+}
+
+impl Gate for TableGate {
+    fn pick(&self, _worker: u64, turn: u64, _ready: &[u32]) -> u64
+        ensures { result ≡ picked self.now.picks.items turn }
+    {
+        let picks = self.picks.as_slice();
+        if picks.is_empty() {
+            return 0;
+        }
+        picks[(turn % picks.len() as u64) as usize]
     }
 
     fn between(&self, _worker: u64, _thread: u32) {}

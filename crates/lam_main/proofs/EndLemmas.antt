@@ -15,10 +15,11 @@ use Rattle.lam_main_files.specs.declared.halt.Refusal.{Refusal}
 use Rattle.lam_main_files.specs.declared.halt.Refusal.TheVariants.{Word, Script, NotUtf8, Flawed, CodeTooLong, World, Book, NotReady, Absent, TooLong}
 use Rattle.lam_main_files.specs.declared.halt.Halt.{Halt}
 use Rattle.lam_main_files.specs.declared.halt.Halt.TheVariants.{Refused, NoMemory as no_memory, ShelfFailed}
-use Rattle.lam_main_files.specs.declared.halt.WorldBreak.{WorldBreak}
-use Rattle.lam_main_files.specs.declared.halt.WorldBreak.TheVariants.{NotJson, NoMember, BadMember, NoTag, BadPath, PathTwice}
+use Rattle.world_doc_terms.specs.Breaks.{break_seen}
+use Rattle.world_doc_terms.specs.declared.breaks.WorldBreak.{WorldBreak}
+use Rattle.world_doc_terms.specs.declared.breaks.WorldBreak.TheVariants.{NotJson, NoMember, BadMember, NoTag, BadPath, PathTwice}
 use Rattle.lam_main_files.specs.declared.report.Report.{Report}
-use Rattle.lam_main_files.specs.Halts.{break_of, refuses, Reports}
+use Rattle.lam_main_files.specs.Halts.{refuses, Reports}
 use Rattle.lam_main.specs.Ends.{Ends}
 use Rattle.lam_main.specs.Lines.{Prints, ended}
 
@@ -38,7 +39,7 @@ pub record IsRefusal (plan : Plan) : Type 0 where
   pub plain : IsPlain plan.status
   pub no_file : plan.writes ≡ None
 
-breaks : (breach : WorldBreak) → IsRefusal (no_world (break_of breach))
+breaks : (breach : WorldBreak) → IsRefusal (no_world (break_seen breach))
 breaks NotJson = record { plain = record { memory = λ e. cc; shelf = λ e. cc; sink = λ e. cc }; no_file = refl }
 breaks (NoMember name) = record { plain = record { memory = λ e. cc; shelf = λ e. cc; sink = λ e. cc }; no_file = refl }
 breaks (BadMember name) = record { plain = record { memory = λ e. cc; shelf = λ e. cc; sink = λ e. cc }; no_file = refl }

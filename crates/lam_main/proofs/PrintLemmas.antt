@@ -4,16 +4,12 @@ use Rattle.std.specs.Borrow.{Bor}
 use Rattle.std.proofs.Math.Seq.{take-append-add}
 use Rattle.std.proofs.lemmas.List.{take-append-le}
 use Rattle.lam_io.specs.Outside.{Took, TookFront}
+use Rattle.lam_io.proofs.TookLemmas.{took_more}
 use Rattle.lam_main_words.specs.Words.{Text}
 use Rattle.lam_main_plan.specs.declared.Status.{Status}
 use Rattle.lam_main_plan.specs.Codes.{code_of}
 use Rattle.lam_main_plan.specs.Refusals.{line, refused}
 use Rattle.lam_main.specs.Lines.{texts, joined}
-
-took_more : (start old new : Option (List ℕ)) (a b : List ℕ) → Took start old a → Took old new b → Took start new (a ++ b)
-took_more None old new a b h k = tt
-took_more (Some s) None new a b h k = cc
-took_more (Some s) (Some o) new a b h k = let same : o ≡ s ++ a = cc in k ∙ ap Some (ap (λ xs. xs ++ b) same ∙ append_assoc s a b)
 
 -- all of a part was taken, and then a front of the next
 front_after : (start old new : Option (List ℕ)) (a b : List ℕ) → Took start old a → TookFront old new b → TookFront start new (a ++ b)

@@ -23,6 +23,7 @@ ghost use Rattle.lam_main_plan.specs.Replays.{an_observer};
 ghost use Rattle.lam_main_plan.specs.Plan.{IsPlanOf, IsPlan, starts_threads, written_by, PlaysIsolated, FormatIsSteady};
 ghost use Rattle.lam_main_plan.specs.Answer.{outside, AsPlanned, IsAnswer, IsPlanned, OthersKept};
 ghost use Rattle.lam_main_laws.specs.Calls.{ReplaysAreIsolated, AuditsArePrinted};
+ghost use Rattle.lam_main_laws.specs.Fronts.{FrontsArePrinted};
 ghost use Rattle.lam_main_laws.specs.Headline.{Headline, BreaksOff, EndsInOrder, RunsAreComplete, GeneratedRuns, MakesBreakOff};
 ghost use Rattle.lam_main_laws.specs.Complete.{MakesAreComplete};
 ghost use Rattle.lam_main_laws.specs.Orderly.{OrderlyCallsAreDone, OrderlyRunsEnd, MakesEnd, RefusalsAreExact};
@@ -37,9 +38,9 @@ use lam_io::{Gate, Shelf, Sink, SinkFault};
 use lam_main_files::{Halt, Refusal, Report, check, code, done, format, play};
 use lam_main_laws::{
     audits_are_printed, broken_makes_are_recorded, broken_runs_are_recorded, calls_run_as_meant,
-    generated_runs_are_recorded, makes_are_complete, makes_end, orderly_calls_are_done,
-    orderly_runs_end, refusals_are_exact, replays_are_isolated, runs_are_complete,
-    runs_are_recorded, runs_end_in_order,
+    fronts_are_printed, generated_runs_are_recorded, makes_are_complete, makes_end,
+    orderly_calls_are_done, orderly_runs_end, refusals_are_exact, replays_are_isolated,
+    runs_are_complete, runs_are_recorded, runs_end_in_order,
 };
 pub use lam_main_plan::Status;
 use lam_main_threads::{Bounds, Reader, RunFiles, ThreadFiles, make, replay, run};
@@ -98,6 +99,9 @@ pub fn lam<R: Threads + Wait + Sync, H: Shelf, O: Sink, G: Gate + Sync>(
     // What is printed of a run tells its observer nothing of what it does not see, but for the releases past it.
     ensures replays_isolated { ReplaysAreIsolated (map string_bytes words.now) (H.files shelf.old) }
 
+    // Of a front of a run it prints the first of the lines of the run.
+    ensures fronts { FrontsArePrinted (map string_bytes words.now) (H.files shelf.old) }
+
     // The headline: what `run` printed for its observer is exactly the visible events of the run that the written book
     // records, and any other run that agrees below the observer's label, with the same visible turns and the same
     // releases past it, has the same. Where the output broke off, the book stands.
@@ -126,6 +130,7 @@ pub fn lam<R: Threads + Wait + Sync, H: Shelf, O: Sink, G: Gate + Sync>(
 {
     scripts_are_isolated();
     replays_are_isolated();
+    fronts_are_printed();
     audits_are_printed();
     runs_are_recorded();
     broken_runs_are_recorded();

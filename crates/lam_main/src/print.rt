@@ -6,14 +6,16 @@ ghost use Rattle.lam_io.specs.Outside.{Rose};
 ghost use Rattle.lam_main_plan.specs.Refusals.{refused, no_program, no_world, no_turn};
 ghost use Rattle.lam_main_plan.specs.Threads.{status_of};
 ghost use Rattle.lam_main.specs.Lines.{texts, joined, Goes, Prints};
-ghost use Rattle.lam_main_files.specs.Halts.{break_of, words_of, refuses};
+ghost use Rattle.lam_main_files.specs.Halts.{words_of, refuses};
+ghost use Rattle.world_doc_terms.specs.Breaks.{break_seen};
 
 use itoa::Buffer;
 use lam_front::Flaw;
 use lam_io::{Sink, SinkFault, write_all};
 use lam_machine_runs::How;
-use lam_main_files::{BookBreak, Refusal, WorldBreak};
+use lam_main_files::{BookBreak, Refusal};
 use lam_main_plan::Status;
+use world_doc_terms::WorldBreak;
 
 /// Prints a command's text, whose run ended so.
 pub(crate) fn print_text<O: Sink>(out: &mut O, how: How, text: &[u8]) -> Result<Status, SinkFault>
@@ -71,7 +73,7 @@ fn print_flaw<O: Sink>(out: &mut O, flaw: Flaw, at: u64) -> Result<Status, SinkF
 
 /// Prints the line of a document that is broken.
 fn print_break<O: Sink>(out: &mut O, breach: &WorldBreak) -> Result<Status, SinkFault>
-    ensures printed { Prints result (no_world (break_of breach.now)) (O.taken out.old) (O.taken out.new) }
+    ensures printed { Prints result (no_world (break_seen breach.now)) (O.taken out.old) (O.taken out.new) }
     ensures failed { OnErr result (Rose (O.faults out.old) (O.faults out.new)) }
 {
     match breach {

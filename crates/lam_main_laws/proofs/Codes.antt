@@ -1,31 +1,18 @@
 -- The code of a checked program keeps what every code keeps.
-use Rattle.std.proofs.Common.{◌≡◌, ◌≤◌, ℕ, ◌+◌, List, [], ◌∷◌, length, map, Option, Some, None, Ok, refl, subst, arith, length-append}
+use Rattle.std.proofs.Common.{◌≡◌, ◌≤◌, ℕ, ◌+◌, [], ◌∷◌, length, map, Option, Some, None, Ok, refl, subst, arith, length-append}
 use Rattle.std.proofs.lemmas.List.{length-map}
-use Rattle.std.specs.List.{AllByRecursion}
-use Rattle.lam_value.specs.declared.values.Value.{Value}
 use Rattle.lam_resolve_tree.specs.Tree.{ResolvedTree}
 use Rattle.lam_resolve_tree.specs.Slots.{SlotsDiffer}
 use Rattle.lam_resolve_tree.specs.Regions.{AreNumbered}
 use Rattle.lam_meaning.specs.Means.{kind_of}
-use Rattle.lam_bytecode.specs.Codes.{CodeTree, IsUnit, IsCode}
-use Rattle.lam_meaning.specs.Pieces.{Flat, an_op, a_constant, numbered}
-use Rattle.lam_meaning.specs.Scheme.{Draft, function_draft, all_regions, drafts, all_constants, unit_of, scheme}
-use Rattle.lam_meaning.specs.Long.{long_from, first_long_unit, unless_long, compiled}
-use Rattle.barrier_compiler.proofs.Given.{AllGiven, all_given}
+use Rattle.lam_bytecode.specs.Codes.{CodeTree, IsCode}
+use Rattle.lam_meaning.specs.Scheme.{function_draft, all_regions, drafts, all_constants, unit_of, scheme}
+use Rattle.lam_meaning.specs.Long.{first_long_unit, unless_long, compiled}
+use Rattle.barrier_compiler.proofs.Given.{all_given}
 use Rattle.barrier_compiler.proofs.Numbered.{are_counted}
+use Rattle.barrier_compiler.proofs.Whole.{each_unit}
 use Rattle.lam_main_laws.proofs.Counts.{IsSmall}
-use Rattle.lam_main_laws.proofs.Constants.{of_program, in_units, short_first, few_in_all}
-
-length-numbered : (vs : List Value) (fs : List Flat) → length (numbered vs fs) ≡ length fs
-length-numbered vs [] = refl
-length-numbered vs (an_op o ∷ fs) = omega (arith, length-numbered vs fs)
-length-numbered vs (a_constant v ∷ fs) = omega (arith, length-numbered vs fs)
-
-each_unit : (vs : List Value) (n : ℕ) (ds : List Draft) → AllGiven ds → long_from n ds ≡ None → AllByRecursion IsUnit (map (unit_of vs) ds)
-each_unit vs n [] g h = tt
-each_unit vs n (d ∷ ds) g h =
-    let s = short_first n d ds h in
-    (record { locals = g.0; ops = omega (arith, s.0, length-numbered vs d.code) }, each_unit vs (n + 1) ds g.1 s.1)
+use Rattle.lam_main_laws.proofs.Constants.{of_program, in_units, few_in_all}
 
 module _ (r : ResolvedTree) (is : IsSmall r) (slots : SlotsDiffer r) (regions : AreNumbered r) where
   few_units : length (drafts r) ≤ 5120

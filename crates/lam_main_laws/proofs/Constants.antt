@@ -1,5 +1,5 @@
 -- The constants of a program's code are numbers, truth values, bytes and null, and no more than its operations.
-use Rattle.std.proofs.Common.{◌≡◌, ◌≤◌, ℕ, ◌+◌, ◌*◌, Bool, true, false, nat_lt, if◌then◌else◌, List, [], ◌∷◌, ◌++◌, length, map, Option, Some, None, refl, arith, length-append}
+use Rattle.std.proofs.Common.{◌≡◌, ◌≤◌, ℕ, ◌+◌, ◌*◌, Bool, true, false, if◌then◌else◌, List, [], ◌∷◌, ◌++◌, length, map, Option, Some, None, arith, length-append}
 use Rattle.std.specs.List.{AllByRecursion}
 use Rattle.lam_value.specs.declared.values.Value.{Value}
 use Rattle.lam_operators.specs.declared.BinaryOp.{BinaryOp}
@@ -10,6 +10,7 @@ use Rattle.lam_resolve_tree.specs.Tree.{CapSlot, Expression, number_value, text_
 use Rattle.lam_meaning.specs.Pieces.{Piece, does, puts, when, either, loops, Pieces, no_pieces, pieces, joined, size, Flat, an_op, a_constant, flat_of, flat, is_in, with_constant, constants_in}
 use Rattle.lam_meaning.specs.Scheme.{between, signs, expression, expressions, loads, gives_back, value_or_null, branches, statement, block, other_block_of, Draft, function_draft, regions_of, regions_in, regions_in_other, all_regions, drafts, all_constants}
 use Rattle.lam_meaning.specs.Long.{long_from}
+use Rattle.barrier_compiler.proofs.Whole.{short_first}
 
 -- ---- nested code that puts constants alone
 
@@ -206,14 +207,6 @@ few_in : (fs : List Flat) (vs : List Value) → length (constants_in vs fs) ≤ 
 few_in [] vs = omega arith
 few_in (an_op o ∷ fs) vs = omega (arith, few_in fs vs)
 few_in (a_constant v ∷ fs) vs = omega (arith, few_in fs (with_constant vs v), few_if (is_in v vs) vs v)
-
--- a unit that is not too long, and then the others
-pub short_first : (n : ℕ) (d : Draft) (ds : List Draft) → long_from n (d ∷ ds) ≡ None → (length d.code ≤ 65535) × (long_from (n + 1) ds ≡ None)
-short_first n d ds h = by (nat_lt 65535 (length d.code)) refl h
-  where
-    by : (b : Bool) → nat_lt 65535 (length d.code) ≡ b → (if b then Some n else long_from (n + 1) ds) ≡ None → (length d.code ≤ 65535) × (long_from (n + 1) ds ≡ None)
-    by true e h = let no : ⊥ = cc in absurd no
-    by false e h = (grind (arith, e), h)
 
 pub few_in_all : (ds : List Draft) (n : ℕ) (vs : List Value) → long_from n ds ≡ None → length (all_constants vs ds) ≤ length vs + 65535 * length ds
 few_in_all [] n vs e = omega arith

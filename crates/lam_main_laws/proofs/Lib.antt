@@ -18,3 +18,4 @@ pub mod Constants
 pub mod Codes
 pub mod Meaning
 pub mod Orderly
+pub mod FrontLemmas

@@ -1,5 +1,5 @@
 -- The made document has a start.
-use Rattle.std.proofs.Common.{◌≡◌, ℕ, zero, suc, ◌+◌, ◌^◌, ◌<◌, ◌≤◌, ◌==◌, ◌&&◌, true, false, Bool, cond, nat_lt, nat_le, if◌then◌else◌, List, [], ◌∷◌, ◌++◌, length, map, Option, Some, None, option_and_then, Ok, codes, pos, refl, ap, subst, ◌∙◌, inl, inr, arith, lt-ltb, le-leb, ne_eqb, length-append}
+use Rattle.std.proofs.Common.{◌≡◌, ℕ, zero, suc, ◌+◌, ◌^◌, ◌<◌, ◌≤◌, ◌==◌, ◌&&◌, true, false, Bool, cond, nat_lt, nat_le, List, [], ◌∷◌, ◌++◌, length, map, Option, Some, None, Ok, codes, pos, refl, ap, subst, ◌∙◌, inl, inr, arith, lt-ltb, le-leb, ne_eqb, length-append}
 use Rattle.std.specs.Prelude.{not, is_some}
 use Rattle.std.specs.List.{position_or_len, range_with_len}
 use Rattle.std.specs.Fmt.{digits}
@@ -16,12 +16,16 @@ use Rattle.flow_labels.specs.TwoLists.{Text}
 use Rattle.flow_labels.specs.Names.{is_name, place_of}
 use Rattle.flow_labels.specs.Tags.{Tags}
 use Rattle.capabilities.specs.declared.Caps.{Caps}
+use Rattle.capabilities.specs.declared.kinds.TagKind.{TagKind}
+use Rattle.capabilities.specs.declared.kinds.TagKind.TheVariants.{Read}
+use Rattle.capabilities.specs.Kinds.{public_of}
 use Rattle.lam_value.specs.declared.values.Value.{Value}
 use Rattle.lam_value.specs.declared.values.Value.TheVariants.{Int, Tag}
 use Rattle.lam_bytecode.specs.declared.unit.ArgKind.TheVariants as kind
 use Rattle.lam_bytecode.specs.Codes.{CodeTree}
 use Rattle.world_doc_terms.specs.Breaks.{Reading, ◌>>=◌, only_if, formed}
-use Rattle.world_doc_terms.specs.Tags.{named, unless_there, names_after, tags_in, known, tag_of, tags_of, caps_in}
+use Rattle.world_doc_terms.specs.declared.version.Version.TheVariants.{One}
+use Rattle.world_doc_terms.specs.Tags.{FirstTags, no_tags, with_tag, named, fresh_name, with_tags, tags_in, known, tag_of, tags_of, caps_in}
 use Rattle.world_doc_terms.specs.Entries.{Entry, entry_named, int_of, fitting, arguments, args_in, thread_in, threads_of, threads_in}
 use Rattle.lam_make.specs.Made.{world_text, number_of as drawn}
 use Rattle.labelled_heap.specs.Things.{no_things}
@@ -112,31 +116,39 @@ tag k = string (tag_name k)
 is_named : (k : ℕ) → k < 64 → named (tag k) ≡ Some (tag_name k)
 is_named k h = ap (λ (b : Bool). only_if b (tag_name k)) (is_its_name k h)
 
-names_read : (a m : ℕ) → a + m ≤ 64 → names_after (names a) (items_of tag (range_with_len a m)) ≡ Some (names (a + m))
-names_read a zero h = ap (λ n. Some (names n)) (let same : a ≡ a + 0 = omega arith in same)
+-- each is of kind read
+abbrev kinds : ℕ → List TagKind
+kinds zero = []
+kinds (suc n) = kinds n ++ Read ∷ []
+
+abbrev tags : ℕ → FirstTags
+tags n = record { names = names n; kinds = kinds n }
+
+names_read : (a m : ℕ) → a + m ≤ 64 → with_tags One (tags a) (items_of tag (range_with_len a m)) ≡ Ok (tags (a + m))
+names_read a zero h = ap (λ n. Ok (tags n)) (let same : a ≡ a + 0 = omega arith in same)
 names_read a (suc m) h =
     let rest : Items = items_of tag (range_with_len (a + 1) m) in
     let more : a + 1 ≡ suc a = omega arith in
     let end : suc a + m ≡ a + suc m = omega arith in
-    ap (λ o. option_and_then (λ name. names_after (names a ++ name ∷ []) rest) (option_and_then (unless_there (names a)) o)) (is_named a (omega arith))
-    ∙ ap (λ o. option_and_then (λ name. names_after (names a ++ name ∷ []) rest) (only_if (not (is_some o)) (tag_name a))) (no_place a (omega arith))
-    ∙ ap (λ n. names_after (names (suc a)) (items_of tag (range_with_len n m))) more
+    ap (λ o. (formed (codes "tags") o >>= λ name. fresh_name (names a) name >>= λ new. Ok (with_tag (tags a) new Read)) >>= λ it. with_tags One it rest) (is_named a (omega arith))
+    ∙ ap (λ o. (formed (codes "tags") (only_if (not (is_some o)) (tag_name a)) >>= λ new. Ok (with_tag (tags a) new Read)) >>= λ it. with_tags One it rest) (no_place a (omega arith))
+    ∙ ap (λ n. with_tags One (tags (suc a)) (items_of tag (range_with_len n m))) more
     ∙ names_read (suc a) m (omega arith)
-    ∙ ap (λ n. Some (names n)) end
+    ∙ ap (λ n. Ok (tags n)) end
 
 count : (f : ℕ → Data) (a m : ℕ) → items_len (items_of f (range_with_len a m)) ≡ m
 count f a zero = refl
 count f a (suc m) = let h = count f (a + 1) m in omega (arith, h)
 
-tags_are : (seed n : ℕ) → n ≤ 64 → tags_in (made_members seed n) ≡ Ok (names n)
+tags_are : (seed n : ℕ) → n ≤ 64 → tags_in One (made_members seed n) ≡ Ok (tags n)
 tags_are seed n few =
     let items : Items = items_of tag (range_with_len 0 n) in
     let same : 0 + n ≡ n = omega arith in
     let all : 0 + n ≤ 64 = omega arith in
     let short : nat_le (items_len items) 65536 ≡ true = rw (count tag 0 n) (le-leb n 65536 (omega arith)) in
-    ap (λ b. formed (codes "tags") (if b then names_after [] items else None)) short
-    ∙ ap (formed (codes "tags")) (names_read 0 n all)
-    ∙ ap (λ m. Ok (names m)) same
+    ap (λ b. formed (codes "tags") (only_if b items) >>= with_tags One no_tags) short
+    ∙ names_read 0 n all
+    ∙ ap (λ m. Ok (tags m)) same
 
 -- ---- a thread
 
@@ -217,13 +229,13 @@ module _ (code : CodeTree) (has : entry_named code (codes "work") ≡ Some entry
     -- ---- the start
 
     abbrev pub made_start : World
-    made_start = record { names = names n; next_tag = length (names n); heap = no_things; monitors = empty; files = root_alone; pipes = no_pipes; threads = made_threads code seed 0 n }
+    made_start = record { names = names n; public = public_of (kinds n); next_tag = length (names n); heap = no_things; monitors = empty; files = root_alone; pipes = no_pipes; threads = made_threads code seed 0 n }
 
     world_is : world_in code (made_members seed n) ≡ Ok made_start
     world_is =
         let ms : Members = made_members seed n in
-        ap (λ (r : Reading (List Text)). r >>= λ names. tree_in names ms >>= λ files. pipes_in names ms >>= λ pipes. threads_in code names pipes.called ms >>= λ threads. Ok (record { names = names; next_tag = length names; heap = no_things; monitors = empty; files = files; pipes = pipes.queues; threads = threads })) (tags_are seed n few)
-        ∙ ap (λ (r : Reading (List Thread)). r >>= λ threads. Ok (record { names = names n; next_tag = length (names n); heap = no_things; monitors = empty; files = root_alone; pipes = no_pipes; threads = threads })) threads_are
+        ap (λ (r : Reading FirstTags). r >>= λ tags. tree_in tags.names ms >>= λ files. pipes_in tags.names ms >>= λ pipes. threads_in code tags.names pipes.called ms >>= λ threads. Ok (record { names = tags.names; public = public_of tags.kinds; next_tag = length tags.names; heap = no_things; monitors = empty; files = files; pipes = pipes.queues; threads = threads })) (tags_are seed n few)
+        ∙ ap (λ (r : Reading (List Thread)). r >>= λ threads. Ok (record { names = names n; public = public_of (kinds n); next_tag = length (names n); heap = no_things; monitors = empty; files = root_alone; pipes = no_pipes; threads = threads })) threads_are
 
     pub start_is : start_of (world_text seed n) code ≡ Ok made_start
     start_is = ap (λ (o : Option Data). world_or o code) (data_is seed n few) ∙ world_is

@@ -108,10 +108,10 @@ module _ (names : List Text) where
       (subst (λ (t : ℕ). Stands (lines_from names (turn + 1) ms) (moment_line names t m)) next (moment_stands ms (turn + 1) k m is))
 
   -- what is past an observer was made, by a release
-  release_line : (turn : ℕ) (m : Moment) (made : Made) → m.made ≡ Some made → is_release m ≡ true → moment_line names turn m ≡ release_note names (turn_text names turn m.event) m.event.what (used m.event.label (made_label made))
+  release_line : (turn : ℕ) (m : Moment) (made : Made) → m.made ≡ Some made → is_release m ≡ true → moment_line names turn m ≡ release_note names m.world.public (turn_text names turn m.event) m.event.what (used m.event.label (made_label made))
   release_line turn m made it down =
-      ap (λ (b : Bool). note_line names turn m.event (cond b (used_by m.event.label m.made) None)) down
-      ∙ ap (λ (x : Option Made). note_line names turn m.event (used_by m.event.label x)) it
+      ap (λ (b : Bool). note_line names m.world.public turn m.event (cond b (used_by m.event.label m.made) None)) down
+      ∙ ap (λ (x : Option Made). note_line names m.world.public turn m.event (used_by m.event.label x)) it
 
   shown_made : (o : Label) (x : Option Made) → shows o x ≡ true → (made : Made) × (x ≡ Some made)
   shown_made o None h = absurd (let no : ⊥ = cc in no)

@@ -73,13 +73,14 @@ pub record AuditsRun (ws : List Text) (files : Files) (code : CodeTree) (start :
   pub asks : request_of ws ≡ Ok (audit program world book)
   pub holds : HoldRun files program world book code start turns
 
--- the line of a release, with the capabilities that it took, stands in a text
+-- the line of a release, with the capabilities that it took, stands in a text; it is marked where all of them are public
+-- in the moment's world
 pub record HasRelease (names : List Text) (text : Text) (turn : ℕ) (m : Moment) : Type 0 where
   pub made : Made
   pub it : m.made ≡ Some made
   pub before : Text
   pub after : Text
-  pub stands : text ≡ before ++ (release_note names (turn_text names turn m.event) m.event.what (used m.event.label (made_label made)) ++ after)
+  pub stands : text ≡ before ++ (release_note names m.world.public (turn_text names turn m.event) m.event.what (used m.event.label (made_label made)) ++ after)
 
 -- the audit is printed; it notes all releases and refusals and nothing else, and has the line of each release past
 -- any observer

@@ -4,3 +4,4 @@ pub mod Complete
 pub mod Calls
 pub mod Meant
 pub mod Orderly
+pub mod Fronts

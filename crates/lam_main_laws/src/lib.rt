@@ -8,6 +8,8 @@
 //! - `makes`: every call of `make` is in order (`specs/Complete`).
 //! - `ends`: a call whose words and files are in order is done, and refusals come exactly where they are planned
 //!   (`specs/Orderly`).
+//! - `fronts`: of a front of a run an observer is shown the first of the lines of the run, and `replay` prints them so
+//!   (`specs/Fronts`).
 //! - `replays`: two calls of `replay` whose starts their observer cannot tell apart print the same, and `audit` prints
 //!   each release past any observer (`specs/Calls`).
 //! - `audits`: what is kept of a run for observers and auditors is whole (`specs/Whole`).
@@ -16,6 +18,7 @@
 
 mod audits;
 mod ends;
+mod fronts;
 mod makes;
 mod meant;
 mod replays;
@@ -23,6 +26,7 @@ mod runs;
 
 pub use audits::{audits_are_whole, releases_are_told};
 pub use ends::{orderly_calls_are_done, refusals_are_exact};
+pub use fronts::{fronts_are_printed, fronts_are_seen_first};
 pub use makes::{broken_makes_are_recorded, makes_are_complete, makes_end};
 pub use meant::calls_run_as_meant;
 pub use replays::{audits_are_printed, replays_are_isolated};

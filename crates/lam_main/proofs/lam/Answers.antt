@@ -48,6 +48,9 @@ returns-clause-words_first g c =
 pub returns-clause-replays_isolated : goal.returns-clause-replays_isolated
 returns-clause-replays_isolated g c = c.replays_are_isolated.ensures (map string_bytes c.args.words.now) (g.H.Shelf.files c.args.shelf.now)
 
+pub returns-clause-fronts : goal.returns-clause-fronts
+returns-clause-fronts g c = c.fronts_are_printed.ensures (map string_bytes c.args.words.now) (g.H.Shelf.files c.args.shelf.now)
+
 pub returns-clause-audited : goal.returns-clause-audited
 returns-clause-audited g c = c.audits_are_printed.ensures (map string_bytes c.args.words.now) (g.H.Shelf.files c.args.shelf.now)
 
