@@ -2,7 +2,7 @@
 
 use crate::codes::{Constant, Head, Unit, Written};
 use crate::run::{Given, notes, shows};
-use crate::worlds::{BARE, HOLDS_BOTH, HOLDS_NOTHING, HOLDS_PLUS};
+use crate::worlds::{BARE, EXPORTED, HOLDS_BOTH, HOLDS_NOTHING, HOLDS_PLUS};
 use lam_builtins::Builtin;
 use lam_bytecode::{ArgKind, Op};
 use lam_value::Kind;
@@ -65,6 +65,22 @@ fn entry_without_plus_is_refused(rt: HostRuntime) -> Result<(), Fail> {
         given,
         "{}/{}",
         "t0 {}/{} enter {a}/{} caps +{}-{} region 0 (1) = refused AddS a\nt0 {}/{} end Denied = done\ndone\n",
+    )
+}
+
+/// Where the tag is of kind export, the thread enters the region with no capability of its own.
+#[test]
+fn exported_tag_is_added_by_all(rt: HostRuntime) -> Result<(), Fail> {
+    let given = Given {
+        code: ENTERS,
+        world: EXPORTED,
+        turns: &[(0, 13)],
+    };
+    shows(
+        &rt,
+        given,
+        "{}/{}",
+        "t0 {}/{} enter {a}/{} caps +{}-{} region 0 (1) = entered\nt0 {}/{} end value 1 = done\ndone\n",
     )
 }
 

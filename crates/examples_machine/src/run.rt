@@ -6,18 +6,18 @@ ghost use Rattle.lam_machine_terms.specs.Valid.{IsValid};
 use crate::codes::{Written, code_of};
 use audit_log::{audit_text, view_text};
 use audit_log_notes::{Noted, Seen};
+use capabilities::Caps;
 use decimal_text::push_number;
 use flow_labels::{Label, TagNames, parse_label};
 use lam_asks::let_go_event;
 use lam_bytecode::Code;
+use lam_machine_replay::{noted_in, seen_by};
 use lam_machine_world::World;
 use std::alloc::Global;
 use std::mem::forget;
 use std::process::Abort;
 use std::test::Fail;
 use thread_host_run::{Run, TURN_LIMIT};
-use turns_noted::noted_in;
-use turns_seen::seen_by;
 use world_doc::start;
 use world_doc_laws::texts_start;
 
@@ -157,19 +157,25 @@ fn audit_after(alloc: Global, run: &mut Run, turns: &[(u32, u32)]) -> Result<Str
     let start = run.start().copy()?;
     let noted = noted_in(alloc, run.code(), start, run.turns())?;
     let names = &run.start().stores().names;
-    let well = notes_are_same(alloc, noted.as_slice(), names);
-    let text = audit_text(alloc, noted.as_slice(), names);
+    let public = &run.start().stores().public;
+    let well = notes_are_same(alloc, noted.as_slice(), names, public);
+    let text = audit_text(alloc, noted.as_slice(), names, public);
     forget(noted);
     well?;
     Ok(text?)
 }
 
 /// Fails where a copy of a note has another text.
-fn notes_are_same(alloc: Global, noted: &[Noted], names: &TagNames) -> Result<(), Fail> {
+fn notes_are_same(
+    alloc: Global,
+    noted: &[Noted],
+    names: &TagNames,
+    public: &Caps,
+) -> Result<(), Fail> {
     for at in 0..noted.len() {
-        let text = audit_text(alloc, &noted[at..at + 1], names)?;
+        let text = audit_text(alloc, &noted[at..at + 1], names, public)?;
         let copy = [noted[at].copy()?];
-        let again = audit_text(alloc, &copy, names);
+        let again = audit_text(alloc, &copy, names, public);
         forget(copy);
         if again? != text {
             return Err(Fail::new("a copy of a note has another text"));

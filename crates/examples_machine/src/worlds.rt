@@ -16,6 +16,10 @@ pub const HOLDS_PLUS: &str =
 pub const HOLDS_BOTH: &str =
     "{\"version\":1,\"tags\":[\"a\"],\"tree\":[],\"pipes\":[],\"threads\":[{\"run\":\"main\",\"args\":[{\"tag\":\"a\"}],\"caps\":{\"plus\":[\"a\"],\"minus\":[\"a\"]}}]}";
 
+/// Thread 0 runs `main` on the tag `a` of kind export, and holds nothing: everybody may add the tag.
+pub const EXPORTED: &str =
+    "{\"version\":2,\"tags\":[{\"name\":\"a\",\"kind\":\"export\"}],\"tree\":[],\"pipes\":[],\"threads\":[{\"run\":\"main\",\"args\":[{\"tag\":\"a\"}],\"caps\":{\"plus\":[],\"minus\":[]}}]}";
+
 /// Thread 0 runs `main` on a public pipe.
 pub const ONE_PIPE: &str =
     "{\"version\":1,\"tags\":[],\"tree\":[],\"pipes\":[{\"name\":\"p\",\"label\":\"{}/{}\"}],\"threads\":[{\"run\":\"main\",\"args\":[{\"pipe\":\"p\"}],\"caps\":{\"plus\":[],\"minus\":[]}}]}";
