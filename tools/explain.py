@@ -101,9 +101,10 @@ def tags_of(call):
     """The tags that a script or a world declares."""
     try:
         if call.word('FILE'):
-            return re.findall(r'^tag (\w+)$', runs.text_of(call.word('FILE')), re.M)
+            return re.findall(r'^tag (\w+)', runs.text_of(call.word('FILE')), re.M)
         document = world.parts_of(runs.text_of(call.word('W')))
-        return [it for it in document.value['tags'] if isinstance(it, str)]
+        names = [it.get('name') if isinstance(it, dict) else it for it in document.value['tags']]
+        return [it for it in names if isinstance(it, str)]
     except (OSError, world.Wrong, KeyError, TypeError):
         return []
 

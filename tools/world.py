@@ -10,13 +10,15 @@ WORLD is a document or a short text: a document begins with `{`. A short text ha
 
     # Ann's notes, and a thread that may read them
     tag ann
+    tag vetted integrity
     dir notes {}/{}
     file notes/diary {ann}/{} "Monday: sun\\n"
     file notes/photo {ann}/{} < photo.txt
     pipe out {}/{}
     thread main(ann, out, 3, true, "some text") +{ann}-{}
 
-Tags are numbered as they come, and so are threads, files and pipes. A directory stands before what is in it. A text is
+A tag has the kind that stands behind its name, `read`, `export` or `integrity`, and else `read`; where one has another
+kind than `read`, the document is of version 2. Tags are numbered as they come, and so are threads, files and pipes. A directory stands before what is in it. A text is
 written as in JSON, or taken from a file of UTF-8 beside the short text. An argument is a number, `true`, `false`, a text,
 or the name of a tag or a pipe; where a tag and a pipe have one name it is written `tag:NAME` or `pipe:NAME`. A thread
 without capabilities may leave out `+{}-{}`. Empty lines, and what follows `#` at a line's beginning, are left out.
@@ -37,6 +39,9 @@ KINDS = {'int': 'int', 'bool': 'bool', 'bytes': 'text', 'tag': 'tag', 'pipe': 'p
 PLAINLY = {'int': 'a number', 'bool': 'true or false', 'text': 'a text', 'tag': 'a tag', 'pipe': 'a pipe'}
 TEXT_LIMIT, ARGUMENT_LIMIT = 1048576, 65536
 
+TAG_KINDS = ('read', 'export', 'integrity')
+
+Tag = collections.namedtuple('Tag', 'line name kind')
 Label = collections.namedtuple('Label', 'secrecy integrity')
 Item = collections.namedtuple('Item', 'line path label text')          # a directory has the text None
 Pipe = collections.namedtuple('Pipe', 'line name label')
@@ -133,8 +138,8 @@ def read_short(path, text):
         if not words or words.startswith('#'):
             continue
         word, first, second, third = (words.split(None, 3) + [''] * 3)[:4]
-        if word == 'tag' and first and not second:
-            world.tags.append((line, first))
+        if word == 'tag' and first and not third and (second or 'read') in TAG_KINDS:
+            world.tags.append(Tag(line, first, second or 'read'))
         elif word == 'dir' and second and not third:
             world.items.append(Item(line, first, short_label(world, line, second), None))
         elif word == 'file' and third:
@@ -144,7 +149,7 @@ def read_short(path, text):
         elif word == 'thread':
             read_thread(world, line, words[len(word):].strip())
         elif word in ('tag', 'dir', 'file', 'pipe'):
-            form = {'tag': 'NAME', 'dir': 'PATH LABEL', 'file': 'PATH LABEL "TEXT"', 'pipe': 'NAME LABEL'}[word]
+            form = {'tag': 'NAME KIND` or `tag NAME', 'dir': 'PATH LABEL', 'file': 'PATH LABEL "TEXT"', 'pipe': 'NAME LABEL'}[word]
             world.fault(line, f'this line is written `{word} {form}`')
         else:
             world.fault(line, f'a line begins with tag, dir, file, pipe or thread, and not with `{word}`')
@@ -280,6 +285,20 @@ def texts(world, node, name):
             world.fault(item.line, f'an item of `{name}` is to be a text')
 
 
+def plain_tags(world, node):
+    for item in texts(world, node, 'tags'):
+        yield Tag(item.line, item.value, 'read')
+
+
+def kinded_tags(world, node):
+    for item in objects(world, node, 'tags'):
+        name, kind = member(world, item, 'name', str), member(world, item, 'kind', str)
+        if kind and kind.value not in TAG_KINDS:
+            world.fault(kind.line, f'`kind` is to be one of {", ".join(TAG_KINDS)}')
+        if name:
+            yield Tag(item.line, name.value, kind.value if kind else 'read')
+
+
 def document_label(world, node):
     found = member(world, node, 'label', str)
     return short_label(world, found.line, found.value) if found else Label([], [])
@@ -330,9 +349,9 @@ def read_document(path, text):
         world.fault(1, 'objects and lists stand too deep in one another')
         return world
     version = member(world, node, 'version', int)
-    if version and version.value != 1:
-        world.fault(version.line, '`version` is to be 1')
-    world.tags = [(item.line, item.value) for item in texts(world, node, 'tags')]
+    if version and version.value not in (1, 2):
+        world.fault(version.line, '`version` is to be 1 or 2')
+    world.tags = list((kinded_tags if version and version.value == 2 else plain_tags)(world, node))
     for item in objects(world, node, 'tree'):
         document_item(world, item)
     for item in objects(world, node, 'pipes'):
@@ -348,14 +367,14 @@ def read_document(path, text):
 
 def look_at_tags(world):
     seen = {}
-    for line, name in world.tags:
+    for line, name, _ in world.tags:
         if not NAME.fullmatch(name):
             world.fault(line, f'`{name}` is no tag name: a letter and up to 31 letters, digits or `_`')
         if name in seen:
             world.fault(line, f'the tag `{name}` stands in line {seen[name]} already')
         seen.setdefault(name, line)
     if len(world.tags) > 65536:
-        world.fault(world.tags[65536][0], 'a world has at most 65,536 tags')
+        world.fault(world.tags[65536].line, 'a world has at most 65,536 tags')
     return set(seen)
 
 
@@ -506,6 +525,13 @@ def listed(name, items):
     return f'  "{name}": [\n{lines}\n  ]'
 
 
+def document_tags(world):
+    """The members `version` and `tags`: of version 1 where every tag is of the kind `read`."""
+    if all(tag.kind == 'read' for tag in world.tags):
+        return '  "version": 1', f'  "tags": {json.dumps([tag.name for tag in world.tags])}'
+    return '  "version": 2', listed('tags', [{'name': tag.name, 'kind': tag.kind} for tag in world.tags])
+
+
 def document_of(world):
     def item(it):
         content = {'dir': True} if it.text is None else {'text': it.text}
@@ -515,22 +541,21 @@ def document_of(world):
         return {'run': it.run, 'args': [{argument.kind: argument.value} for argument in it.arguments],
                 'caps': {'plus': it.plus, 'minus': it.minus}}
     return '{\n' + ',\n'.join((
-        '  "version": 1',
-        f'  "tags": {json.dumps([name for _, name in world.tags])}',
+        *document_tags(world),
         listed('tree', [item(it) for it in world.items]),
         listed('pipes', [{'name': it.name, 'label': label_text(it.label)} for it in world.pipes]),
         listed('threads', [thread(it) for it in world.threads]))) + '\n}'
 
 
 def short_of(world):
-    both = {name for _, name in world.tags} & {pipe.name for pipe in world.pipes}
+    both = {tag.name for tag in world.tags} & {pipe.name for pipe in world.pipes}
 
     def argument(it):
         if it.kind in ('tag', 'pipe'):
             plain = it.value not in both and NAME.fullmatch(it.value) and it.value not in ('true', 'false')
             return it.value if plain else f'{it.kind}:{it.value}'
         return json.dumps(it.value, ensure_ascii=False)
-    lines = [f'tag {name}' for _, name in world.tags]
+    lines = [f'tag {tag.name}' + ('' if tag.kind == 'read' else f' {tag.kind}') for tag in world.tags]
     for it in world.items:
         lines.append(f'dir {it.path} {label_text(it.label)}' if it.text is None else
                      f'file {it.path} {label_text(it.label)} {json.dumps(it.text, ensure_ascii=False)}')

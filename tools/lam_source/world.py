@@ -10,6 +10,7 @@ import re
 NAME = re.compile(r'[A-Za-z][A-Za-z0-9_]{0,31}')
 LABEL = re.compile(r'\{([^{}]*)\}/\{([^{}]*)\}')
 PIECES = re.compile(r'\s*("(?:[^"\\]|\\.)*"|-?[0-9][0-9.eE+-]*|true|false|null|[][{}:,])', re.S)
+TAG_KINDS = ['read', 'export', 'integrity']
 ORDER = ['version', 'tags', 'tree', 'pipes', 'threads']
 
 
@@ -106,7 +107,7 @@ class Start:
 
     def __init__(self, text, functions):
         self.functions = functions
-        self.tags, self.tree, self.pipes, self.threads = [], [], [], []
+        self.tags, self.kinds, self.tree, self.pipes, self.threads = [], [], [], [], []
         document = parts_of(text)
         if not isinstance(document.value, dict):
             raise Wrong('BadMember version', document.at, 'an object with version, tags, tree, pipes and threads')
@@ -149,18 +150,35 @@ class Start:
         return part.value
 
     def read_version(self, part):
-        if part.value != 1 or not part.whole or isinstance(part.value, bool):
-            raise Wrong('BadMember version', part.at, 'the number 1')
+        if part.value not in (1, 2) or not part.whole or isinstance(part.value, bool):
+            raise Wrong('BadMember version', part.at, 'the number 1 or 2')
+        self.version = part.value
 
     def read_tags(self, part):
-        for tag in self.is_list(part, 'tags', 'a list of tag names'):
+        if len(self.is_list(part, 'tags', 'a list of tags')) > 65536:
+            raise Wrong('BadMember tags', part.at, 'at most 65,536 tags')
+        for it in self.is_list(part, 'tags', 'a list of tags'):
+            tag, member = it, 'tags'
+            if self.version == 2:
+                self.is_object(it, 'tags')
+                tag, member = self.member(it, 'name'), 'name'
             if not isinstance(tag.value, str) or not NAME.fullmatch(tag.value):
-                raise Wrong('BadMember tags', tag.at, 'a tag name: a letter and up to 31 letters, digits or _')
+                raise Wrong(f'BadMember {member}', tag.at, 'a tag name: a letter and up to 31 letters, digits or _')
             if tag.value in self.tags:
                 raise Wrong('BadMember tags', tag.at, 'another name: this tag is there already')
             self.tags.append(tag.value)
-        if len(self.tags) > 65536:
-            raise Wrong('BadMember tags', part.at, 'at most 65,536 tags')
+            self.kinds.append(self.kind(it) if self.version == 2 else 'read')
+
+    def kind(self, it):
+        kind = self.member(it, 'kind')
+        if kind.value not in TAG_KINDS:
+            raise Wrong('BadMember kind', kind.at, f'one of {listed(TAG_KINDS)}')
+        return kind.value
+
+    @property
+    def public(self):
+        """The capabilities that count as held by all, by the kinds of the tags."""
+        return tuple(frozenset(at for at, kind in enumerate(self.kinds) if kind == known) for known in TAG_KINDS[1:])
 
     def label(self, part):
         value = self.text(part, 'label')
