@@ -303,6 +303,13 @@ impl Heap {
         let _ = &self.rows;
     }
 
+    /// What holds of the counters. The call does nothing: its clause is for its caller's proof.
+    pub fn counter_facts(&self)
+        ensures { homes.IsAboveZero self.now.counts }
+    {
+        self.counters.facts();
+    }
+
     /// An equal heap.
     ///
     /// # Errors

@@ -198,6 +198,13 @@ impl Pipes {
         let _ = &self.queues;
     }
 
+    /// What holds of the counters. The call does nothing: its clause is for its caller's proof.
+    pub fn counter_facts(&self)
+        ensures { homes.IsAboveZero self.now.counts }
+    {
+        self.counters.facts();
+    }
+
     /// Equal pipes.
     ///
     /// # Errors

@@ -27,7 +27,8 @@ fn contexts_begin_alike(a: &[Context], b: &[Context]) -> bool
     true
 }
 
-fn same_context(a: &Context, b: &Context) -> bool
+/// Whether two contexts are equal, with the calls that are open in them. Takes no memory.
+pub fn same_context(a: &Context, b: &Context) -> bool
     ensures { IsTrue result ↔ (a.now ≡ b.now) }
 {
     same_bounds(a, b) && same_rest(a, b)

@@ -19,6 +19,8 @@ mod threads;
 mod worlds;
 
 pub use comparing::same_code;
+pub use contexts::same_context;
 pub use copying::copy_code;
+pub use outcomes::same_result;
 pub use threads::same_thread;
 pub use worlds::same_world;

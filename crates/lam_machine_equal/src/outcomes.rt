@@ -14,7 +14,7 @@ pub(crate) fn same_fault(a: Option<Fault>, b: Option<Fault>) -> bool
 }
 
 /// Whether two threads ended alike, or neither has ended.
-pub(crate) fn same_result(a: Option<&Outcome>, b: Option<&Outcome>) -> bool
+pub fn same_result(a: Option<&Outcome>, b: Option<&Outcome>) -> bool
     ensures { IsTrue result ↔ (option_copied a.entry ≡ option_copied b.entry) }
 {
     match a {
