@@ -39,7 +39,7 @@ ended_stays code th made w (c ∷ rest) e s = absurd (by (next_of code c) s)
     by stuck s = cc
 
 module _ (r : ResolvedTree) (typed : IsTypedTree r) (numbered : AreNumbered r) (f : ℕ) (fn : ResolvedFunction) (vs : List Value) (k : Caps) (did : List What) (th : Thread) (found : slice_get r.functions f ≡ Some fn) (sorts : AreOf fn.params vs) (own : OwnTurns (scheme r) (started (scheme r) f vs k) did th) (suit : (n : ℕ) → AllFit (asks_of (means r n f vs k) (answers_in did)) (answers_in did)) where
-  acts : (n : ℕ) → ActsWith n r f vs k (answers_in did)
+  acts : (n : ℕ) → ActsWith (scheme r) n r f vs k (answers_in did)
   acts n = code_acts r typed numbered n f fn vs k (answers_in did) found sorts (suit n)
 
   here : (w : ℕ) × (lone r f vs k (answers_in did) (length did) ≡ runs th [] (asked_in did) w)

@@ -89,7 +89,7 @@ module _ (r : ResolvedTree) (N : ℕ) where
         }
 
     module _ (numbered : AreNumbered r) (G : Typing) (f : ℕ) (vs : List Value) (k : Caps) (did : List What) (th : Thread) (st : Stands G f vs k did th) where
-      acts : ActsWith N r f vs k (answers_in did)
+      acts : ActsWith (scheme r) N r f vs k (answers_in did)
       acts = code_acts r typed numbered N f st.declared vs k (answers_in did) st.found st.sorts st.suit
 
       -- the thread alone, with the answers that it got
