@@ -1,0 +1,4 @@
+pub mod Surely
+pub mod OfKinds
+pub mod Fitting
+pub mod LaidOut
