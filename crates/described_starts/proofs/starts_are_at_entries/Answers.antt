@@ -1,0 +1,5 @@
+use Rattle.described_starts.proofs.Starting.{scheme_takes, starts_at_entries, starts_are_sound}
+use Rattle.described_starts.proofs.starts_are_at_entries.Goals as goal
+
+pub returns : goal.returns
+returns c = record { scheme = scheme_takes; entries = starts_at_entries; sound = starts_are_sound }

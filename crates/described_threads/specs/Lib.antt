@@ -1,0 +1,5 @@
+pub mod Described
+pub mod Answers
+pub mod Accesses
+pub mod Laws
+pub mod Samples
