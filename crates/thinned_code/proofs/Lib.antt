@@ -1,0 +1,11 @@
+pub mod Keeping
+pub mod Sifting
+pub mod Coherent
+pub mod Ops
+pub mod Units
+pub mod Thinning
+pub mod Targets
+pub mod Spread
+pub mod Guarding
+pub mod Thinned
+pub mod Once

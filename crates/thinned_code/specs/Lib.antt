@@ -1,0 +1,3 @@
+pub mod Thinned
+pub mod Facts
+pub mod Samples

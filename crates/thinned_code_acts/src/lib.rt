@@ -1,0 +1,38 @@
+//! Thinned code acts as the program that the code acts as.
+//!
+//! A thread of guarded code that runs alone is set beside the same thread of the thinned code. Each turn at an operation
+//! that stayed is matched by the same operation's turn; a barrier that was left out passes, asks nothing and counts as no
+//! work. So after as many turns, or fewer, the thread of thinned code has made the same asks and done the same work.
+//!
+//! That a barrier that was left out passes rests on what is known at its address (`described_threads`), and that holds
+//! while each ask gets an answer of its form. The answers suit the asks that the program means, of which each wants an
+//! answer of its own form (`proofs/Wanted`).
+//!
+//! `specs/Laws` has the statement, `proofs/Lone` single turns, and `proofs/Acting` whole runs.
+#![tactic(auto)]
+
+ghost use Rattle.lam_resolve_tree.specs.Tree.{ResolvedTree};
+ghost use Rattle.lam_bytecode.specs.Codes.{CodeTree};
+ghost use Rattle.thinned_code_acts.specs.Laws.{ThinnedActs, KeepsFunctions, SchemeHasFunctions, ThinnedSchemeActs};
+
+use described_threads::threads_stay_described;
+use lam_meaning_laws::compiled_code_acts_as_its_source;
+use thinned_code_turns::turns_of_thinned_code_match;
+
+/// Thinned code acts as a program where the code does, and has its functions.
+pub fn thinned_code_acts()
+    ensures acts { (code : CodeTree) (r : ResolvedTree) → ThinnedActs code r }
+    ensures functions { (code : CodeTree) (r : ResolvedTree) → KeepsFunctions code r }
+{
+    threads_stay_described();
+    turns_of_thinned_code_match();
+}
+
+/// So the thinned code of a typed program acts as the program, where the program's code is guarded.
+pub fn thinned_scheme_acts()
+    ensures functions { (r : ResolvedTree) → SchemeHasFunctions r }
+    ensures acts { (r : ResolvedTree) → ThinnedSchemeActs r }
+{
+    thinned_code_acts();
+    compiled_code_acts_as_its_source();
+}

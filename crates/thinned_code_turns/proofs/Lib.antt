@@ -1,0 +1,4 @@
+pub mod Dids
+pub mod Places
+pub mod Nexts
+pub mod Answers
