@@ -1,0 +1,6 @@
+pub mod Entered
+pub mod Entries
+pub mod Going
+pub mod Handing
+pub mod Rows
+pub mod Units

@@ -1,0 +1,4 @@
+pub mod Faults
+pub mod Stops
+pub mod Tables
+pub mod UnitBreaks

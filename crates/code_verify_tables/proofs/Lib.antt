@@ -1,0 +1,4 @@
+pub mod Fits
+pub mod Meets
+pub mod OnePlace
+pub mod Regions

@@ -1,0 +1,5 @@
+pub mod Packed
+pub mod Seen
+pub mod Leaves
+pub mod Joined
+pub mod Again

@@ -1,0 +1,27 @@
+//! What is known at one address of a unit, in code: how an operation changes it, and what is left where paths meet.
+//!
+//! A verifier keeps such a description for each address that a path reaches, so a local takes one byte in it.
+//!
+//! - `packed`: what is known of a local, in a byte.
+//! - `changes`: the table of what each operation takes and gives.
+//! - `description`: a description, and what an operation leaves of it.
+//! - `meeting`: what two paths leave where they meet.
+//! - `kinds`: whether an operation finds operands that it takes, and an access the mark of its rule.
+//!
+//! All of it is stated where guarded code is defined, in `guarded_code`; here it is computed.
+#![tactic(auto)]
+
+mod changes;
+mod description;
+mod kinds;
+mod meeting;
+mod packed;
+mod places;
+mod writing;
+
+pub use changes::{change_of, function_takes, region_takes};
+pub use description::Description;
+pub use kinds::{is_guarded, takes_kinds, tests_again};
+pub use packed::PackedKnown;
+pub use places::{FewPlaces, OpChange, Place, Places};
+pub use writing::{fresh, untested};
