@@ -11,7 +11,8 @@ NAME = re.compile(r'[A-Za-z][A-Za-z0-9_]{0,31}')
 LABEL = re.compile(r'\{([^{}]*)\}/\{([^{}]*)\}')
 PIECES = re.compile(r'\s*("(?:[^"\\]|\\.)*"|-?[0-9][0-9.eE+-]*|true|false|null|[][{}:,])', re.S)
 TAG_KINDS = ['read', 'export', 'integrity']
-ORDER = ['version', 'tags', 'tree', 'pipes', 'threads']
+ORDER = ['version', 'tags', 'counts', 'tree', 'pipes', 'threads']     # `counts` in version 3 alone
+PUBLIC = (frozenset(), frozenset())
 
 
 class Part:
@@ -27,6 +28,11 @@ class Wrong(Exception):
     def __init__(self, kind, at, wanted):
         super().__init__(kind)
         self.kind, self.at, self.wanted, self.where = kind, at, wanted, None
+
+
+def is_whole(part, least, most):
+    """Whether a part is a whole number of a range."""
+    return isinstance(part.value, int) and not isinstance(part.value, bool) and part.whole and least <= part.value <= most
 
 
 class Item:
@@ -107,13 +113,14 @@ class Start:
 
     def __init__(self, text, functions):
         self.functions = functions
-        self.tags, self.kinds, self.tree, self.pipes, self.threads = [], [], [], [], []
+        self.tags, self.kinds, self.counts, self.tree, self.pipes, self.threads = [], [], {}, [], [], []
         document = parts_of(text)
         if not isinstance(document.value, dict):
             raise Wrong('BadMember version', document.at, 'an object with version, tags, tree, pipes and threads')
         for name in ORDER:
-            part = self.member(document, name)
-            getattr(self, f'read_{name}')(part)
+            if name != 'counts' or self.version == 3:
+                part = self.member(document, name)
+                getattr(self, f'read_{name}')(part)
 
     @staticmethod
     def member(part, name, wanted=None):
@@ -150,8 +157,8 @@ class Start:
         return part.value
 
     def read_version(self, part):
-        if part.value not in (1, 2) or not part.whole or isinstance(part.value, bool):
-            raise Wrong('BadMember version', part.at, 'the number 1 or 2')
+        if not is_whole(part, 1, 3):
+            raise Wrong('BadMember version', part.at, 'the number 1, 2 or 3')
         self.version = part.value
 
     def read_tags(self, part):
@@ -159,7 +166,7 @@ class Start:
             raise Wrong('BadMember tags', part.at, 'at most 65,536 tags')
         for it in self.is_list(part, 'tags', 'a list of tags'):
             tag, member = it, 'tags'
-            if self.version == 2:
+            if self.version > 1:
                 self.is_object(it, 'tags')
                 tag, member = self.member(it, 'name'), 'name'
             if not isinstance(tag.value, str) or not NAME.fullmatch(tag.value):
@@ -167,7 +174,7 @@ class Start:
             if tag.value in self.tags:
                 raise Wrong('BadMember tags', tag.at, 'another name: this tag is there already')
             self.tags.append(tag.value)
-            self.kinds.append(self.kind(it) if self.version == 2 else 'read')
+            self.kinds.append(self.kind(it) if self.version > 1 else 'read')
 
     def kind(self, it):
         kind = self.member(it, 'kind')
@@ -180,22 +187,39 @@ class Start:
         """The capabilities that count as held by all, by the kinds of the tags."""
         return tuple(frozenset(at for at, kind in enumerate(self.kinds) if kind == known) for known in TAG_KINDS[1:])
 
-    def label(self, part):
-        value = self.text(part, 'label')
+    def label(self, part, name='label'):
+        value = self.text(part, name)
         found = LABEL.fullmatch(value)
         sets = [piece.split(',') if piece else [] for piece in found.groups()] if found else []
         if not found or not all(NAME.fullmatch(name) for names in sets for name in names):
-            raise Wrong('BadMember label', part.at, 'a label without blanks, {SECRECY}/{INTEGRITY}: "{a,b}/{c}"')
-        return tuple(frozenset(self.tag(name, part) for name in names) for names in sets)
+            raise Wrong(f'BadMember {name}', part.at, 'a label without blanks, {SECRECY}/{INTEGRITY}: "{a,b}/{c}"')
+        return tuple(frozenset(self.tag(tag, part) for tag in names) for names in sets)
 
     def tag(self, name, part):
         if name not in self.tags:
             raise Wrong(f'NoTag {name}', part.at, f'a tag of the list "tags", which has {listed(self.tags)}')
         return self.tags.index(name)
 
+    def read_counts(self, part):
+        for index, it in enumerate(self.is_list(part, 'counts', 'a list of homes')):
+            with self.within(f'item {index} of "counts"'):
+                self.count(it)
+        if (PUBLIC, PUBLIC) not in self.counts:
+            raise Wrong('BadMember counts', part.at, 'an item with "maker": "{}/{}" and "own": "{}/{}": this home has made the root')
+
+    def count(self, it):
+        self.is_object(it, 'counts')
+        home = tuple(self.label(self.member(it, name), name) for name in ('maker', 'own'))
+        if home in self.counts:
+            raise Wrong('BadMember counts', it.at, 'a home that no earlier item has')
+        following = self.member(it, 'next')
+        if not is_whole(following, 1, 65536):
+            raise Wrong('BadMember next', following.at, 'a whole number from 1 to 65,536')
+        self.counts[home] = following.value
+
     def read_tree(self, part):
-        made, full = {'': [None, 0]}, {}
-        full[frozenset(), frozenset()] = 1
+        made, full = {'': [None, 0]}, {PUBLIC: 1}
+        self.names = {(PUBLIC, PUBLIC, 0)}
         for index, it in enumerate(self.is_list(part, 'tree', 'a list of files and directories')):
             with self.within(f'item {index} of "tree"'):
                 self.read_item(index, it, made, full)
@@ -216,28 +240,49 @@ class Start:
         if path in made:
             raise Wrong(f'PathTwice {index}', place, 'a path that no earlier item has')
         label = self.label(self.member(it, 'label'))
+        if self.version == 3:
+            self.take_name(it, label)
         text = self.content(it)
         made[above][1] += 1
         full[label] = full.get(label, 0) + 1
-        if made[above][1] > 4096 or full[label] > 65536:
+        if made[above][1] > 4096 or full[label] > 65536 and self.version < 3:
             raise Wrong(f'BadPath {index}', place, 'room: a directory has at most 4,096 entries, and at one label there '
                                                    'are at most 65,536 files and directories')
         made[path] = ['dir' if text is None else 'file', 0]
         self.tree.append(Item(path=path, label=label, text=text, at=it.at))
 
+    def take_name(self, it, label):
+        """The name of an item of version 3, which nothing else has."""
+        maker = self.label(self.member(it, 'maker'), 'maker')
+        number = self.member(it, 'number')
+        if not is_whole(number, 0, self.counts.get((maker, label), 0) - 1):
+            raise Wrong('BadMember number', number.at, 'a whole number below the "next" of the home with this "maker" and this "label" as its "own"')
+        if (maker, label, number.value) in self.names:
+            raise Wrong('BadMember number', number.at, 'a number that neither the root nor an earlier item of this home has')
+        self.names.add((maker, label, number.value))
+
     def content(self, it):
+        name = 'hex' if self.version == 3 else 'text'
         if 'dir' in it.parts:
             if it.parts['dir'].value is not True:
                 raise Wrong('BadMember dir', it.parts['dir'].at, 'true')
-            if 'text' in it.parts:
-                raise Wrong('BadMember dir', it.parts['dir'].at, 'either "dir" or "text": an item is a directory or a file')
+            if name in it.parts:
+                raise Wrong('BadMember dir', it.parts['dir'].at, f'either "dir" or "{name}": an item is a directory or a file')
             return None
-        if 'text' not in it.parts:
-            raise Wrong('NoMember text', it.at, 'a "text" where the item is a file, or "dir": true')
-        text = self.text(it.parts['text'], 'text').encode()
+        if name not in it.parts:
+            raise Wrong(f'NoMember {name}', it.at, f'a "{name}" where the item is a file, or "dir": true')
+        text = self.text(it.parts[name], name).encode()
+        if name == 'hex':
+            return self.digits(it.parts['hex'], text)
         if len(text) > 1048576:
             raise Wrong('BadMember text', it.parts['text'].at, 'at most 1,048,576 bytes')
         return text
+
+    @staticmethod
+    def digits(part, text):
+        if len(text) > 2097152 or not re.fullmatch(b'([0-9a-f]{2})*', text):
+            raise Wrong('BadMember hex', part.at, 'an even number of digits 0 to 9 and a to f, at most 2,097,152')
+        return bytes.fromhex(text.decode())
 
     def read_pipes(self, part):
         count = {}

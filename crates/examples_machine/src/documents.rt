@@ -16,7 +16,7 @@ const NO_CODE: Written<'static> = Written {
 };
 
 /// Compares how a document is broken.
-fn breaks<R: Abort + AllocGlobal>(rt: &R, document: &str, line: &str) -> Result<(), Fail> {
+pub fn breaks<R: Abort + AllocGlobal>(rt: &R, document: &str, line: &str) -> Result<(), Fail> {
     let text = break_of(rt.alloc(), document)?;
     assert_eq!(rt; text.as_str(), line);
     Ok(())
@@ -58,12 +58,12 @@ fn push_numbered(line: &mut String, word: &str, number: u64) -> Result<(), Fail>
     Ok(push_number(line, number)?)
 }
 
-/// There are two versions.
+/// There are three versions.
 #[test]
-fn version_3_is_none(rt: HostRuntime) -> Result<(), Fail> {
+fn version_4_is_none(rt: HostRuntime) -> Result<(), Fail> {
     breaks(
         &rt,
-        "{\"version\":3,\"tags\":[{\"name\":\"a\",\"kind\":\"read\"}]}",
+        "{\"version\":4,\"tags\":[{\"name\":\"a\",\"kind\":\"read\"}]}",
         "BadMember version",
     )
 }

@@ -2,7 +2,7 @@
 //! an observer sees of the run out.
 //!
 //! `codes` makes code of parts that are written down, `run` takes the turns, and the others are the examples; those of
-//! `documents` are no worlds, and come to no turn. No program is parsed or compiled here. The expected lines come from the descriptions, never from the machine.
+//! `documents` and `saved` are no worlds, and come to no turn. No program is parsed or compiled here. The expected lines come from the descriptions, never from the machine.
 #![tactic(auto)]
 
 #[cfg(test)]
@@ -17,6 +17,8 @@ mod pipes;
 mod regions;
 #[cfg(test)]
 mod run;
+#[cfg(test)]
+mod saved;
 #[cfg(test)]
 mod secrets;
 #[cfg(test)]

@@ -4,6 +4,7 @@ ghost use Rattle.std.specs.Prelude.{◌≡◌, IfOk};
 ghost use Rattle.serde_json.specs.View.{view};
 ghost use Rattle.serde_json.specs.Read.{read};
 ghost use Rattle.capabilities.specs.Kinds.{public_of};
+ghost use Rattle.labelled_files.specs.Trees.{root_alone};
 ghost use Rattle.lam_machine_effects.specs.Parts.{first_stores};
 ghost use Rattle.world_doc_terms.specs.Start.{version_in, world_of, world_or, start_of};
 ghost use Rattle.world_doc_stores.specs.Meaning.{Gives, GivesOnto};
@@ -23,7 +24,7 @@ use serde_json::Value;
 use serde_json::error::Category;
 use std::alloc::Global;
 use std::str;
-use world_doc_stores::{FirstTags, WorldFault, bad_member, member, object, read_tags, read_tree};
+use world_doc_stores::{FirstTags, WorldFault, bad_member, member, object, read_files, read_tags};
 use world_doc_terms::{Version, WorldBreak};
 
 fn read_version(alloc: Global, document: &Value) -> Result<Version, WorldFault>
@@ -33,20 +34,23 @@ fn read_version(alloc: Global, document: &Value) -> Result<Version, WorldFault>
     match version.as_u64() {
         Some(1) => Ok(Version::One),
         Some(2) => Ok(Version::Two),
+        Some(3) => Ok(Version::Three),
         _ => Err(bad_member(alloc, "version")),
     }
 }
 
-// Puts the files and the pipes of a document into the stores.
+// Puts the files and the pipes of a document of a version into the stores, where no home has made more than the root.
 fn fill<'a>(
     alloc: Global,
+    version: Version,
     document: &'a Value,
     stores: &mut Stores,
     called: &mut PipeNames<'a>,
 ) -> Result<(), WorldFault>
-    ensures { GivesOnto result (stores.new, called_of called.new.entries) (filled stores.old (called_of called.old.entries) (members (view document.now))) }
+    requires { stores.old.files.counts ≡ root_alone.counts }
+    ensures { GivesOnto result (stores.new, called_of called.new.entries) (filled version stores.old (called_of called.old.entries) (members (view document.now))) }
 {
-    read_tree(alloc, document, &stores.names, &mut stores.files)?;
+    read_files(alloc, version, document, &stores.names, &mut stores.files)?;
     read_pipes(alloc, document, &stores.names, &mut stores.pipes, called)
 }
 
@@ -72,15 +76,17 @@ fn with_threads(
 // The world of stores with the files, the pipes and the threads of a document.
 fn world_onto<'a>(
     alloc: Global,
+    version: Version,
     document: &'a Value,
     code: &Code,
     stores: Stores,
     called: &mut PipeNames<'a>,
 ) -> Result<World, WorldFault>
-    ensures { Gives (λ w. w) result (world_onto code.now (members (view document.now)) stores (called_of called.old.entries)) }
+    requires { stores.files.counts ≡ root_alone.counts }
+    ensures { Gives (λ w. w) result (world_onto code.now version (members (view document.now)) stores (called_of called.old.entries)) }
 {
     let mut stores = stores;
-    match fill(alloc, document, &mut stores, called) {
+    match fill(alloc, version, document, &mut stores, called) {
         Ok(()) => with_threads(alloc, document, code, stores, called),
         Err(fault) => {
             let_go_stores(stores);
@@ -101,15 +107,16 @@ fn first_stores(alloc: Global, tags: FirstTags) -> Result<Stores, NoMemory>
 // The world of tags and of all that is looked at after them.
 fn after_tags(
     alloc: Global,
+    version: Version,
     document: &Value,
     code: &Code,
     tags: FirstTags,
 ) -> Result<World, WorldFault>
-    ensures { Gives (λ w. w) result (after_tags code.now (members (view document.now)) (tags_seen tags)) }
+    ensures { Gives (λ w. w) result (after_tags code.now version (members (view document.now)) (tags_seen tags)) }
 {
     let stores = first_stores(alloc, tags)?;
     let mut called: PipeNames = IndexMap::new(alloc);
-    world_onto(alloc, document, code, stores, &mut called)
+    world_onto(alloc, version, document, code, stores, &mut called)
 }
 
 fn read_world(alloc: Global, document: &Value, code: &Code) -> Result<World, WorldFault>
@@ -118,7 +125,7 @@ fn read_world(alloc: Global, document: &Value, code: &Code) -> Result<World, Wor
     object(alloc, document, "version")?;
     let version = read_version(alloc, document)?;
     let tags = read_tags(alloc, version, document)?;
-    after_tags(alloc, document, code, tags)
+    after_tags(alloc, version, document, code, tags)
 }
 
 fn read_document(alloc: Global, text: &str) -> Result<Value, WorldFault>
@@ -146,7 +153,8 @@ fn start_text(alloc: Global, text: &str, code: &Code) -> Result<World, WorldFaul
 /// # Errors
 ///
 /// The first break of the document: `NotJson` where the bytes are not UTF-8 or no JSON text, else the first of the
-/// members in the order `version`, `tags`, `tree`, `pipes`, `threads`. `NoMemory` where memory is refused.
+/// members in the order `version`, `tags`, in version 3 `counts`, `tree`, `pipes`, `threads`. `NoMemory` where memory is
+/// refused.
 pub fn start(alloc: Global, text: &[u8], code: &Code) -> Result<World, WorldFault>
     ensures { Gives (λ w. w) result (start_of text.now code.now) }
 {

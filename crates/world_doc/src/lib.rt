@@ -1,8 +1,9 @@
 //! World documents: from a text to the world at the start of a run.
 //!
 //! [`start`] is the whole reading: the bytes are UTF-8 and a JSON text, and its members are `version`, `tags`, `tree`,
-//! `pipes` and `threads`, looked at in this order. The tags and what is said by their names are read, and the files are
-//! made, by `world_doc_stores`; what is public in the world is so by the kinds of the tags.
+//! `pipes` and `threads`, looked at in this order; in version 3 `counts` stands before `tree`. The tags and what is said by
+//! their names are read, and the files are made, by `world_doc_stores`; what is public in the world is so by the kinds of
+//! the tags.
 //!
 //! Each thread runs a function of the code whose result is a number, with an argument of its kind for each parameter,
 //! and with capabilities. The threads are answered as they just started, or their first break, exactly as the definition

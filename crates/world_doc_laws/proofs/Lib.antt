@@ -1,8 +1,11 @@
 pub mod LabelLemmas
 pub mod ReadLemmas
 pub mod StoreLemmas
+pub mod NumberedLemmas
 pub mod EntryLemmas
 pub mod StartLemmas
 pub mod StandLemmas
 pub mod Starting
 pub mod Units
+pub mod SavedLemmas
+pub mod DigitLemmas

@@ -23,8 +23,8 @@ use Rattle.lam_machine_terms.specs.Valid.{AreBelow}
 use Rattle.lam_machine_valid.proofs.TagLemmas.{below_list}
 use Rattle.world_doc_terms.specs.Breaks.{Reading, ◌>>=◌, only_if, formed, present, member_as}
 use Rattle.world_doc_terms.specs.declared.version.Version.{Version}
-use Rattle.world_doc_terms.specs.declared.version.Version.TheVariants.{One, Two}
-use Rattle.world_doc_terms.specs.Tags.{FirstTags, no_tags, with_tag, named, fresh_name, with_name, kind_in, with_kind, with_tag_item, with_tags, few_items, tags_in, label_or, label_in, known, tag_of, tags_of, set_in, caps_in}
+use Rattle.world_doc_terms.specs.declared.version.Version.TheVariants.{One, Two, Three}
+use Rattle.world_doc_terms.specs.Tags.{FirstTags, no_tags, with_tag, named, fresh_name, with_name, kind_in, with_kind, with_tag_item, with_tags, few_items, tags_in, label_or, label_as, label_in, known, tag_of, tags_of, set_in, caps_in}
 use Rattle.world_doc_laws.proofs.LabelLemmas.{IsBelow, place_below, label_below}
 
 -- ---- readings
@@ -89,6 +89,7 @@ kind_more tags ms =
 item_more : (version : Version) (tags : FirstTags) (d : Data) → IfOk (with_tag_item version tags d) (AreMore 1 tags)
 item_more One tags d = name_more tags d
 item_more Two tags d = after (formed (codes "tags") (as_object d)) (with_kind tags) (AreMore 1 tags) (kind_more tags)
+item_more Three tags d = after (formed (codes "tags") (as_object d)) (with_kind tags) (AreMore 1 tags) (kind_more tags)
 
 ok_on : {A : Type 0} (P Q : A → Type 0) → ((x : A) → P x → Q x) → (r : Reading A) → IfOk r P → IfOk r Q
 ok_on P Q h (Ok x) k = h x k
@@ -149,15 +150,18 @@ module _ (names : List Text) where
   abbrev AllBelow : List ℕ → Type 0
   AllBelow ts = AllByRecursion Below ts
 
-  by_fault : (text : Text) (r : Result Label LabelFault) → IfOk r (IsBelow (length names)) → IfOk (label_or text r) (IsBelow (length names))
-  by_fault text (Ok l) h = h
-  by_fault text (Err (fault.BadLabel at)) h = tt
-  by_fault text (Err (fault.NoTag at)) h = tt
-  by_fault text (Err fault.NoMemory) h = tt
+  by_fault : (name text : Text) (r : Result Label LabelFault) → IfOk r (IsBelow (length names)) → IfOk (label_or name text r) (IsBelow (length names))
+  by_fault name text (Ok l) h = h
+  by_fault name text (Err (fault.BadLabel at)) h = tt
+  by_fault name text (Err (fault.NoTag at)) h = tt
+  by_fault name text (Err fault.NoMemory) h = tt
+
+  pub label_as_known : (name : Text) (ms : Members) → IfOk (label_as name names ms) (IsBelow (length names))
+  label_as_known name ms =
+      after (member_as name as_str ms) (λ text. label_or name text (label_of names text)) (IsBelow (length names)) (λ text. by_fault name text (label_of names text) (label_below names text))
 
   pub label_known : (ms : Members) → IfOk (label_in names ms) (IsBelow (length names))
-  label_known ms =
-      after (member_as (codes "label") as_str ms) (λ text. label_or text (label_of names text)) (IsBelow (length names)) (λ text. by_fault text (label_of names text) (label_below names text))
+  label_known ms = label_as_known (codes "label") ms
 
   known_below : (name : Text) (o : Option ℕ) → ((t : ℕ) → o ≡ Some t → Below t) → IfOk (known name o) Below
   known_below name None h = tt

@@ -24,9 +24,10 @@ use Rattle.thread_steps.specs.Next.{started}
 use Rattle.lam_machine_terms.specs.Worlds.{World}
 use Rattle.world_doc_terms.specs.Breaks.{Reading, ◌>>=◌, only_if, formed, present, member_as}
 use Rattle.world_doc_terms.specs.Tags.{FirstTags, tags_in, caps_in}
-use Rattle.world_doc_terms.specs.Stores.{tree_in, Pipes, pipes_in}
+use Rattle.world_doc_terms.specs.declared.version.Version.{Version}
+use Rattle.world_doc_terms.specs.Stores.{Pipes, pipes_in}
 use Rattle.world_doc_terms.specs.Entries.{most_starting, Entry, entry_by, entry_named, argument, fits, fitting, arguments, args_in, thread_in, threads_of, threads_in}
-use Rattle.world_doc_terms.specs.Start.{version_in, world_in}
+use Rattle.world_doc_terms.specs.Start.{version_in, files_in, world_in}
 use Rattle.world_doc_laws.specs.Standing.{AreArguments, IsEntry, StandsAtEntry, ThreadsStand}
 
 -- ---- readings
@@ -176,14 +177,14 @@ module _ (code : CodeTree) where
     abbrev with_tree : FirstTags → Tree → Reading World
     with_tree tags t = pipes_in tags.names ms >>= λ p. with_pipes tags t p
 
-    abbrev with_names : FirstTags → Reading World
-    with_names tags = tree_in tags.names ms >>= λ t. with_tree tags t
+    abbrev with_names : Version → FirstTags → Reading World
+    with_names version tags = files_in version tags.names ms >>= λ t. with_tree tags t
 
     members_stand : IfOk (world_in code ms) WorldStands
     members_stand =
-        after (version_in ms) (λ version. tags_in version ms >>= λ tags. with_names tags) WorldStands
-        (λ version. after (tags_in version ms) (λ tags. with_names tags) WorldStands
-        (λ tags. after (tree_in tags.names ms) (λ t. with_tree tags t) WorldStands
+        after (version_in ms) (λ version. tags_in version ms >>= λ tags. with_names version tags) WorldStands
+        (λ version. after (tags_in version ms) (λ tags. with_names version tags) WorldStands
+        (λ tags. after (files_in version tags.names ms) (λ t. with_tree tags t) WorldStands
         (λ t. after (pipes_in tags.names ms) (λ p. with_pipes tags t p) WorldStands
         (λ p. onward (threads_in code tags.names p.called ms) (Stand tags.names p.called) (threads_good tags.names p.called ms) (λ ths. whole tags t p ths) WorldStands (λ ths h. h)))))
 

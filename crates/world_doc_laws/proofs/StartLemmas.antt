@@ -17,13 +17,16 @@ use Rattle.lam_machine_valid.proofs.StoreLemmas.{all_on, all_lives_on, moved_liv
 use Rattle.lam_machine_valid.proofs.StartLemmas.{valid_starts}
 use Rattle.world_doc_terms.specs.Breaks.{Reading, ◌>>=◌, formed}
 use Rattle.world_doc_terms.specs.Tags.{FirstTags, tags_in}
-use Rattle.world_doc_terms.specs.Stores.{tree_in, Pipes, pipes_in}
+use Rattle.world_doc_terms.specs.declared.version.Version.{Version}
+use Rattle.world_doc_terms.specs.declared.version.Version.TheVariants.{One, Two, Three}
+use Rattle.world_doc_terms.specs.Stores.{Pipes, pipes_in}
 use Rattle.world_doc_terms.specs.Entries.{threads_in}
-use Rattle.world_doc_terms.specs.Start.{version_in, world_in, world_or}
+use Rattle.world_doc_terms.specs.Start.{version_in, files_in, world_in, world_or}
 use Rattle.world_doc_laws.proofs.StandLemmas.{stand}
 use Rattle.world_doc_laws.specs.Starts.{IsStartOf, WorldsStart, TextsStart}
 use Rattle.world_doc_laws.proofs.ReadLemmas.{after, onward, AreFew, tags_few}
 use Rattle.world_doc_laws.proofs.StoreLemmas.{staged, public_known, IsGood, GoodTree, tree_good, GoodPipes, pipes_good}
+use Rattle.world_doc_laws.proofs.NumberedLemmas.{numbered_good}
 use Rattle.world_doc_laws.proofs.EntryLemmas.{AllStart, threads_good}
 
 -- what makes a world with a few threads valid
@@ -72,8 +75,8 @@ module _ (code : CodeTree) where
     abbrev with_tree : FirstTags → Tree → Reading World
     with_tree tags t = pipes_in tags.names ms >>= λ p. with_pipes tags t p
 
-    abbrev with_names : FirstTags → Reading World
-    with_names tags = tree_in tags.names ms >>= λ t. with_tree tags t
+    abbrev with_names : Version → FirstTags → Reading World
+    with_names version tags = files_in version tags.names ms >>= λ t. with_tree tags t
 
     pipes_start : (tags : FirstTags) → AreFew tags → (t : Tree) (p : Pipes) → GoodPipes tags t p → IfOk (with_pipes tags t p) Ready
     pipes_start tags few t p g =
@@ -83,13 +86,18 @@ module _ (code : CodeTree) where
     tree_starts : (tags : FirstTags) → AreFew tags → (t : Tree) → GoodTree code tags t → IfOk (with_tree tags t) Ready
     tree_starts tags few t g = onward (pipes_in tags.names ms) (GoodPipes tags t) (pipes_good code tags t g ms) (λ p. with_pipes tags t p) Ready (pipes_start tags few t)
 
-    names_start : (tags : FirstTags) → AreFew tags → IfOk (with_names tags) Ready
-    names_start tags few = onward (tree_in tags.names ms) (GoodTree code tags) (tree_good code tags few ms) (λ t. with_tree tags t) Ready (tree_starts tags few)
+    files_good : (version : Version) (tags : FirstTags) → AreFew tags → IfOk (files_in version tags.names ms) (GoodTree code tags)
+    files_good One tags few = tree_good code tags few ms
+    files_good Two tags few = tree_good code tags few ms
+    files_good Three tags few = numbered_good code tags few ms
+
+    names_start : (version : Version) (tags : FirstTags) → AreFew tags → IfOk (with_names version tags) Ready
+    names_start version tags few = onward (files_in version tags.names ms) (GoodTree code tags) (files_good version tags few) (λ t. with_tree tags t) Ready (tree_starts tags few)
 
     members_start : IfOk (world_in code ms) Ready
     members_start =
-        after (version_in ms) (λ version. tags_in version ms >>= λ tags. with_names tags) Ready
-        (λ version. onward (tags_in version ms) AreFew (tags_few version ms) (λ tags. with_names tags) Ready names_start)
+        after (version_in ms) (λ version. tags_in version ms >>= λ tags. with_names version tags) Ready
+        (λ version. onward (tags_in version ms) AreFew (tags_few version ms) (λ tags. with_names version tags) Ready (names_start version))
 
   ready : (d : Data) → IfOk (formed (codes "version") (as_object d) >>= λ ms. world_in code ms) Ready
   ready d = after (formed (codes "version") (as_object d)) (λ ms. world_in code ms) Ready members_start

@@ -104,7 +104,7 @@ module _ (code : CodeTree) (tags : FirstTags) where
             live = effect_live code 0 here g.sound g.live (adds_file s.dir s.text (home_of l l)) (below, below);
           }
 
-    more_good : (f : Name) (bytes : Text) → GoodTree (with_more t f bytes)
+    pub more_good : (f : Name) (bytes : Text) → GoodTree (with_more t f bytes)
     more_good f bytes =
         record {
           sound = record { heap = g.sound.heap; monitors = g.sound.monitors; files = sound_bytes t g.sound.files f (appended bytes); root = g.sound.root; pipes = g.sound.pipes };

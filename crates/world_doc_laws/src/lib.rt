@@ -5,11 +5,14 @@
 //!
 //! - `starts`: a world that a document gives is valid, so that everything that is proved of runs from a valid start holds
 //!   of runs from a document, and its threads stand at entries (`specs/Starts`, `specs/Standing`).
+//! - `saved`: what is read of a document of version 3 by the counters and items that it says (`specs/Saved`).
 //! - `runs`: every run of a typed program from there means what its source means (`specs/Documents`, `specs/Entries`).
 #![tactic(auto)]
 
 mod runs;
+mod saved;
 mod starts;
 
 pub use runs::{entries_are_functions, runs_of_documents_mean};
+pub use saved::{saved_bytes_are_read, saved_files_are_read, saved_starts_are_read};
 pub use starts::{texts_start, threads_stand_at_entries, worlds_start};

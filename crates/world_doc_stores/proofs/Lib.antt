@@ -6,3 +6,4 @@ pub mod MemberLemmas
 pub mod ListLemmas
 pub mod CountLemmas
 pub mod TagLemmas
+pub mod CounterLemmas

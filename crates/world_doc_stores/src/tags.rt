@@ -9,7 +9,7 @@ ghost use Rattle.flow_labels.specs.LabelText.{label_of};
 ghost use Rattle.capabilities.specs.Kinds.{kind_of};
 ghost use Rattle.world_doc_terms.specs.Breaks.{formed, member_as};
 ghost use Rattle.world_doc_terms.specs.declared.version.Version.TheVariants.{Two};
-ghost use Rattle.world_doc_terms.specs.Tags.{named, fresh_name, no_tags, with_name, kind_in, with_tag_item, with_tags, tags_in, word_at, label_or, label_in, tag_of, tags_of, set_in, caps_in};
+ghost use Rattle.world_doc_terms.specs.Tags.{named, fresh_name, no_tags, with_name, kind_in, with_tag_item, with_tags, tags_in, word_at, label_or, label_as, label_in, tag_of, tags_of, set_in, caps_in};
 ghost use Rattle.world_doc_stores.specs.Meaning.{Gives, GivesOnto};
 ghost use Rattle.world_doc_stores.specs.Seen.{members, tags_seen};
 
@@ -48,8 +48,8 @@ fn no_tags(alloc: Global) -> FirstTags
 /// # Errors
 ///
 /// `NoMember` with `tags` where the member is not there; `BadMember` with `tags` where it is no list of at most 65,536
-/// items, where an item is no name, or in version 2 no object, and where a name comes again. In version 2 `NoMember` or
-/// `BadMember` with `name` or `kind`, where one of them is not there or is of another form.
+/// items, where an item is no name, or from version 2 on no object, and where a name comes again. From version 2 on
+/// `NoMember` or `BadMember` with `name` or `kind`, where one of them is not there or is of another form.
 pub fn read_tags(alloc: Global, version: Version, document: &Value) -> Result<FirstTags, WorldFault>
     ensures { Gives tags_seen result (tags_in version (members (view document.now))) }
 {
@@ -82,6 +82,7 @@ fn add_tag(
     match version {
         Version::One => add_by_name(alloc, tags, item),
         Version::Two => add_by_kind(alloc, tags, item),
+        Version::Three => add_by_kind(alloc, tags, item),
     }
 }
 
@@ -153,21 +154,37 @@ fn kind_named(alloc: Global, kind: &Value) -> Result<TagKind, WorldFault>
 ///
 /// # Errors
 ///
-/// `NoMember` where it is not there, `BadMember` where it is no text of a label, and `NoTag` with the first name that is
-/// no tag's.
+/// As of [`read_label_as`].
 pub fn read_label(alloc: Global, object: &Value, names: &TagNames) -> Result<Label, WorldFault>
     ensures { Gives (λ l. l) result (label_in names.now (members (view object.now))) }
 {
-    let text = str_member(alloc, object, "label")?;
-    label_or(alloc, text, names)
+    read_label_as(alloc, object, "label", names)
 }
 
-fn label_or(alloc: Global, text: &str, names: &TagNames) -> Result<Label, WorldFault>
-    ensures { Gives (λ l. l) result (label_or text.now (label_of names.now text.now)) }
+/// The member of an object that is a label.
+///
+/// # Errors
+///
+/// `NoMember` where it is not there, `BadMember` where it is no text of a label, and `NoTag` with the first name that is
+/// no tag's.
+pub fn read_label_as(
+    alloc: Global,
+    object: &Value,
+    name: &str,
+    names: &TagNames,
+) -> Result<Label, WorldFault>
+    ensures { Gives (λ l. l) result (label_as name.now names.now (members (view object.now))) }
+{
+    let text = str_member(alloc, object, name)?;
+    label_or(alloc, name, text, names)
+}
+
+fn label_or(alloc: Global, name: &str, text: &str, names: &TagNames) -> Result<Label, WorldFault>
+    ensures { Gives (λ l. l) result (label_or name.now text.now (label_of names.now text.now)) }
 {
     match parse_label(text, names) {
         Ok(label) => Ok(label),
-        Err(LabelFault::BadLabel { .. }) => Err(bad_member(alloc, "label")),
+        Err(LabelFault::BadLabel { .. }) => Err(bad_member(alloc, name)),
         Err(LabelFault::NoTag { at }) => Err(no_tag(alloc, word_at(text, at as usize))),
         Err(LabelFault::NoMemory) => Err(WorldFault::NoMemory),
     }

@@ -1,4 +1,4 @@
-//! The items of the tree.
+//! The items of the tree of versions 1 and 2.
 
 ghost use Rattle.std.specs.Prelude.{◌≡◌, codes, MatchResult, OnOk, None, unwrap_or};
 ghost use Rattle.lam_value.specs.Homes.{home_of};
@@ -58,7 +58,7 @@ fn read_content<'a>(alloc: Global, item: &'a Value) -> Result<Content<'a>, World
 }
 
 // A file that is full, and a directory or a home that has no room, is a break of the item's path.
-fn path_fault(fault: FileFault, index: u64) -> WorldFault
+pub fn path_fault(fault: FileFault, index: u64) -> WorldFault
     ensures { result ≡ path_fault fault index }
 {
     match fault {

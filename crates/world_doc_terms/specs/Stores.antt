@@ -1,5 +1,6 @@
 -- The files, directories and pipes of a document. Each is made by its store's own definition, in the order of the
--- document, in the home whose maker's label and own label are the label that it has.
+-- document, in the home whose maker's label and own label are the label that it has. (Files and directories of version 3
+-- stand in `Numbered`.)
 --
 -- After the directory `d` the path `d/x` is that of a place in it, and `e/x` is none.
 use Rattle.std.specs.Prelude.{◌≡◌, ℕ, suc, true, false, not, nat_eq, nat_le, nat_lt, if◌then◌else◌, List, [], ◌∷◌, ◌++◌, length, is_some, Option, Some, None, Ok, Err, codes, option_and_then, refl}
@@ -61,12 +62,15 @@ as_dir d = option_and_then (λ b. only_if b a_dir) (as_bool d)
 abbrev pub as_text : Data → Option Content
 as_text d = option_and_then (λ bytes. only_if (nat_le (length bytes) most_bytes) (a_text bytes)) (as_str d)
 
--- by the members `dir` and `text`, of which one is there
+-- by the member `dir` and one that has the bytes of a file, of which one is there
+abbrev pub content_by : Text → (Data → Option Content) → Option Data → Option Data → Reading Content
+content_by name form (Some d) (Some e) = Err (BadMember (codes "dir"))
+content_by name form (Some d) None = formed (codes "dir") (as_dir d)
+content_by name form None (Some e) = formed name (form e)
+content_by name form None None = Err (NoMember name)
+
 abbrev pub content_of : Option Data → Option Data → Reading Content
-content_of (Some d) (Some e) = Err (BadMember (codes "dir"))
-content_of (Some d) None = formed (codes "dir") (as_dir d)
-content_of None (Some e) = formed (codes "text") (as_text e)
-content_of None None = Err (NoMember (codes "text"))
+content_of d e = content_by (codes "text") as_text d e
 
 abbrev pub with_content : Tree → Spot → Home → Content → Tree
 with_content t s home a_dir = with_dir t s.dir s.text home

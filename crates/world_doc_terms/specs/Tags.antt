@@ -1,7 +1,7 @@
 -- The tags of a document, and what the other members say by their names: labels, tags, capabilities.
 --
--- In version 1 the tags are `["a","b"]`, and in version 2 `[{"name":"a","kind":"export"},{"name":"b","kind":"read"}]`. With the
--- names a and b: the label `{b}/{a}` is that of the secret 1 that 0 vouches for, and in `{a,c}/{}` the name c
+-- In version 1 the tags are `["a","b"]`, and from version 2 on `[{"name":"a","kind":"export"},{"name":"b","kind":"read"}]`.
+-- With the names a and b: the label `{b}/{a}` is that of the secret 1 that 0 vouches for, and in `{a,c}/{}` the name c
 -- breaks it.
 use Rattle.std.specs.Prelude.{◌≡◌, ℕ, not, nat_le, List, [], ◌∷◌, ◌++◌, take, drop, is_some, Option, Some, None, Result, Ok, Err, codes, option_and_then, refl}
 use Rattle.std.specs.List.{prefix_len}
@@ -22,7 +22,7 @@ use Rattle.capabilities.specs.declared.kinds.TagKind.TheVariants.{Read, Export, 
 use Rattle.capabilities.specs.Kinds.{kind_of}
 use Rattle.lam_machine_terms.specs.Limits.{most_tags}
 use Rattle.world_doc_terms.specs.declared.version.Version.{Version}
-use Rattle.world_doc_terms.specs.declared.version.Version.TheVariants.{One, Two}
+use Rattle.world_doc_terms.specs.declared.version.Version.TheVariants.{One, Two, Three}
 use Rattle.world_doc_terms.specs.Breaks.{NoMember, BadMember, NoTag, Reading, ◌>>=◌, only_if, formed, member_as}
 
 -- ---- the tags
@@ -67,6 +67,7 @@ with_kind tags ms =
 abbrev pub with_tag_item : Version → FirstTags → Data → Reading FirstTags
 with_tag_item One tags d = with_name tags d
 with_tag_item Two tags d = formed (codes "tags") (as_object d) >>= with_kind tags
+with_tag_item Three tags d = formed (codes "tags") (as_object d) >>= with_kind tags
 
 -- one item after another: all of an item is looked at before the next
 abbrev pub with_tags : Version → FirstTags → Items → Reading FirstTags
@@ -87,13 +88,17 @@ tags_in version ms = member_as (codes "tags") few_items ms >>= with_tags version
 abbrev pub word_at : ℕ → Text → Text
 word_at at text = take (prefix_len is_word (drop at text)) (drop at text)
 
-abbrev pub label_or : Text → Result Label LabelFault → Reading Label
-label_or text (Ok l) = Ok l
-label_or text (Err (fault.NoTag at)) = Err (NoTag (word_at at text))
-label_or text (Err e) = Err (BadMember (codes "label"))
+abbrev pub label_or : Text → Text → Result Label LabelFault → Reading Label
+label_or name text (Ok l) = Ok l
+label_or name text (Err (fault.NoTag at)) = Err (NoTag (word_at at text))
+label_or name text (Err e) = Err (BadMember name)
+
+-- the label that a member spells
+abbrev pub label_as : Text → List Text → Members → Reading Label
+label_as name names ms = member_as name as_str ms >>= λ text. label_or name text (label_of names text)
 
 abbrev pub label_in : List Text → Members → Reading Label
-label_in names ms = member_as (codes "label") as_str ms >>= λ text. label_or text (label_of names text)
+label_in names ms = label_as (codes "label") names ms
 
 -- ---- tags by their names
 
@@ -145,6 +150,9 @@ no_list = refl
 three_kinds : of_list Two (item (kinded (codes "a") (codes "export")) (item (kinded (codes "b") (codes "read")) (item (kinded (codes "c") (codes "integrity")) no_items))) ≡ Ok (record { names = codes "a" ∷ codes "b" ∷ codes "c" ∷ []; kinds = Export ∷ Read ∷ Integrity ∷ [] })
 three_kinds = refl
 
+as_in_version_2 : of_list Three (item (kinded (codes "a") (codes "export")) no_items) ≡ Ok (record { names = codes "a" ∷ []; kinds = Export ∷ [] })
+as_in_version_2 = refl
+
 name_alone_in_version_2 : of_list Two (item (string (codes "a")) no_items) ≡ Err (BadMember (codes "tags"))
 name_alone_in_version_2 = refl
 
@@ -169,6 +177,9 @@ kind_before_the_next_name = refl
 
 unknown_tag : label_in (codes "a" ∷ []) (member (codes "label") (string (codes "{a,b}/{}")) no_members) ≡ Err (NoTag (codes "b"))
 unknown_tag = refl
+
+no_label_of_a_maker : label_as (codes "maker") (codes "a" ∷ []) (member (codes "maker") (string (codes "{a}")) no_members) ≡ Err (BadMember (codes "maker"))
+no_label_of_a_maker = refl
 
 no_label : label_in (codes "a" ∷ []) (member (codes "label") (string (codes "{a}")) no_members) ≡ Err (BadMember (codes "label"))
 no_label = refl

@@ -2,7 +2,7 @@
 //!
 //! Each reader of `specs/` is a row of the format: it answers a value, or the first break of the document
 //! (`specs/Breaks`). `specs/Tags` has the tags with their names and kinds and what is said by them, `specs/Stores` files,
-//! directories and pipes, `specs/Entries` the threads, and `specs/Start` puts them together: `world_of` of a document that
+//! directories and pipes, `specs/Numbered` the files and directories of version 3, which say their names, `specs/Entries` the threads, and `specs/Start` puts them together: `world_of` of a document that
 //! was read, and `start_of` of a text. The order in which members are looked at is the order of the readers' calls.
 //!
 //! Stores are made by their own definitions, and threads are those that just started, so there is no second account of

@@ -19,5 +19,5 @@ returns-in_err-tags c =
 
 pub returns : goal.returns
 returns c =
-    gives_same (λ w. w) c.after_tags.result (after_tags c.args.code.now (members (view c.args.document.now)) (tags_seen c.in_ok-tags.tags)) (world_of (view c.args.document.now) c.args.code.now)
+    gives_same (λ w. w) c.after_tags.result (after_tags c.args.code.now c.in_ok-version.version (members (view c.args.document.now)) (tags_seen c.in_ok-tags.tags)) (world_of (view c.args.document.now) c.args.code.now)
     (of_tags (view c.args.document.now) c.args.code.now (members (view c.args.document.now)) c.in_ok-object.ensures c.in_ok-version.version c.in_ok-version.ensures (tags_seen c.in_ok-tags.tags) c.in_ok-tags.ensures) c.after_tags.ensures
