@@ -1,18 +1,16 @@
--- The list of the ready threads from turn to turn: after a private turn it is as it was, or without the thread that moved.
+-- The list of the ready threads from turn to turn: after a quiet turn it is as it was, or without the thread that moved.
 use Rattle.std.proofs.Common.{◌≡◌, ℕ, ◌≤◌, Bool, true, false, List, [], ◌∷◌, length, refl, sym, ap, ◌∙◌, subst}
 use Rattle.std.specs.Prelude.{cond, ◌&&◌, not, eqb}
 use Rattle.std.specs.List.{filter, range_with_len}
 use Rattle.std.proofs.lemmas.Bool.{eqb-true, eqb-false}
-use Rattle.lam_asks.specs.declared.answer.What.{What}
-use Rattle.lam_asks.specs.declared.answer.What.TheVariants.{Private, Asked}
 use Rattle.lam_bytecode.specs.Codes.{CodeTree}
 use Rattle.lam_machine_terms.specs.Worlds.{World}
 use Rattle.lam_machine_terms.specs.Turns.{ready}
 use Rattle.lam_machine_terms.specs.Valid.{IsValid}
 use Rattle.lam_machine_valid.proofs.WholeLemmas.{runs_valid}
-use Rattle.thread_host_run.specs.Runs.{Ran, IsWhole, HasTurn, is_private}
+use Rattle.thread_host_run.specs.Runs.{Ran, IsWhole, HasTurn}
 use Rattle.thread_host_run.specs.ReadyLists.{ready_threads, is_other, kept_list}
-use Rattle.thread_host_run.proofs.Others.{Moved, private_moves, others_ready, as_many}
+use Rattle.thread_host_run.proofs.Others.{Moved, quiet_moves, others_ready, as_many}
 
 -- ---- a run has few threads
 
@@ -73,11 +71,7 @@ kept_moved code w t after h old =
     ap (λ n. filter (ready code after) (range_with_len 0 n)) (as_many w t after h)
     ∙ kept_as (ready code w) (ready code after) t (others_ready code w t after h) (range_with_len 0 (length w.threads)) (ready code after t) old refl
 
-is_private_turn : (x : What) → true ≡ is_private x → x ≡ Private
-is_private_turn Private e = refl
-is_private_turn (Asked ask answer) e = absurd cc
-
 pub kept_list_is : (code : CodeTree) (w : World) (t : ℕ) (after : World) (xs ys : List ℕ) → HasTurn code t w true after → ready code w t ≡ true → xs ≡ ready_threads code w → ys ≡ kept_list (ready code after t) t xs → ys ≡ ready_threads code after
 kept_list_is code w t after xs ys turn old is new =
-    let moved = private_moves code w t _ turn.turn.is (is_private_turn turn.event.what turn.kind) in
+    let moved = quiet_moves code w t _ turn.turn.is (sym turn.kind) in
     new ∙ ap (kept_list (ready code after t) t) is ∙ sym (kept_moved code w t after moved old)

@@ -1,8 +1,6 @@
 -- Runs: a code, a start, the turns in order, and the world that they leave.
-use Rattle.std.specs.Prelude.{◌≡◌, ℕ, Bool, true, false, List, [], ◌∷◌, ◌++◌, refl}
+use Rattle.std.specs.Prelude.{◌≡◌, ℕ, Bool, List, [], ◌∷◌, ◌++◌, refl}
 use Rattle.std.specs.Coded.{Coded, code_by, coded×, coded_ℕ, coded_list}
-use Rattle.lam_asks.specs.declared.answer.What.{What}
-use Rattle.lam_asks.specs.declared.answer.What.TheVariants.{Private, Asked}
 use Rattle.lam_asks.specs.declared.answer.Event.{Event}
 use Rattle.lam_bytecode.specs.Codes.{CodeTree, IsCode, coded_code}
 use Rattle.lam_machine_terms.specs.Worlds.{World}
@@ -11,6 +9,7 @@ use Rattle.lam_machine_terms.specs.Valid.{IsValid}
 use Rattle.turn_book.specs.Book.{AreTurns}
 use Rattle.lam_machine_world.specs.Coding.{coded_world}
 use Rattle.lam_machine_turns.specs.Turned.{IsTurn}
+use Rattle.thread_host_run.specs.Quiet.{is_quiet}
 
 -- a run as contracts see it: a code, a start, the threads of the turns in order, and the world that they leave
 pub record Ran : Type 0 where
@@ -35,15 +34,11 @@ opened code start = record { code = code; start = start; turns = []; world = sta
 abbrev pub with_turn : Ran → ℕ → World → Ran
 with_turn r t w = record { code = r.code; start = r.start; turns = r.turns ++ t ∷ []; world = w }
 
-abbrev pub is_private : What → Bool
-is_private Private = true
-is_private (Asked ask answer) = false
-
--- a turn of a thread leaves this world, and was private or was not
-pub record HasTurn (code : CodeTree) (t : ℕ) (w : World) (private : Bool) (after : World) : Type 0 where
+-- a turn of a thread leaves this world, and was quiet or was not
+pub record HasTurn (code : CodeTree) (t : ℕ) (w : World) (quiet : Bool) (after : World) : Type 0 where
   pub event : Event
   pub turn : IsTurn code t w event after
-  pub kind : private ≡ is_private event.what
+  pub kind : quiet ≡ is_quiet event.what
 
 -- how runs are stored, for what holds them
 abbrev pub coded_run : Coded Ran

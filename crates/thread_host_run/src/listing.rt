@@ -1,7 +1,8 @@
 //! The list of a run's ready threads, kept from turn to turn.
 //!
-//! A private turn changes only the thread that takes it: no monitor changes its holder and no thread ends, so each other
-//! thread is ready where it was, and only that thread is looked at again. After a turn that asks, the list is made anew.
+//! After a quiet turn no monitor has changed its holder and no thread was started or has ended, so each other thread is
+//! ready where it was, and only the one that took the turn is looked at again. Private turns are quiet, and so are all asks
+//! but those that take monitors or give them back, start a thread or end one; after these the list is made anew.
 //! Its room is taken once, for as many threads as a run can have, and no turn takes more.
 
 ghost use Rattle.std.specs.Prelude.{◌≡◌, ◌<◌, ◌≤◌, true, length, IfOk, OnOk, OnErr, vec_capacity};
@@ -59,15 +60,15 @@ pub fn turn_listed(run: &mut Run, list: &mut Vec<u32>, thread: u32) -> Result<()
     ensures room { 4096 ≤ vec_capacity list.new }
 {
     if run.go(thread)? {
-        after_private(list, run, thread);
+        after_quiet(list, run, thread);
     } else {
         relist(list, run);
     }
     Ok(())
 }
 
-/// After a private turn of a thread: it leaves the list where it is no longer ready.
-fn after_private(list: &mut Vec<u32>, run: &Run, thread: u32)
+/// After a quiet turn of a thread: it leaves the list where it is no longer ready.
+fn after_quiet(list: &mut Vec<u32>, run: &Run, thread: u32)
     ensures list { list.new.items ≡ kept_list (turns.ready run.now.code run.now.world thread) thread list.old.items }
     ensures room { vec_capacity list.new ≡ vec_capacity list.old }
 {

@@ -189,7 +189,8 @@ impl Run {
         Ok(event)
     }
 
-    /// One turn of a thread that is ready, as [`Run::turn`], where nobody asks for the event: whether the turn was private.
+    /// One turn of a thread that is ready, as [`Run::turn`], where nobody asks for the event: whether the turn was quiet, so
+    /// that every other thread is ready where it was.
     ///
     /// # Errors
     ///
@@ -197,11 +198,11 @@ impl Run {
     pub fn go(&mut self, thread: u32) -> Result<bool, NoMemory>
         requires ready { turns.ready self.old.code self.old.world thread ≡ true }
         requires room { length self.old.turns < 1000000 }
-        ensures ok { IfOk result (λ private. HasTurn self.old.code thread self.old.world private self.new.world × (self.new ≡ with_turn self.old thread self.new.world)) }
+        ensures ok { IfOk result (λ quiet. HasTurn self.old.code thread self.old.world quiet self.new.world × (self.new ≡ with_turn self.old thread self.new.world)) }
         ensures err { OnErr result (self.new ≡ self.old) }
     {
-        let private = go_turn(&mut self.turns, &mut self.world, &self.code, thread)?;
-        Ok(private)
+        let quiet = go_turn(&mut self.turns, &mut self.world, &self.code, thread)?;
+        Ok(quiet)
     }
 
     /// The code, the start and the turns. The world that they leave is let go.

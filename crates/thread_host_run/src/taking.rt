@@ -1,12 +1,13 @@
-//! One turn of a run, with its event, or with no more than whether it was private.
+//! One turn of a run, with its event, or with no more than whether it was quiet: every other thread is ready where it was.
 
 ghost use Rattle.std.specs.Prelude.{◌≡◌, true, ◌++◌, ◌∷◌, [], IfOk, OnOk, OnErr};
 ghost use Rattle.lam_machine_terms.specs.Turns.{ready};
 ghost use Rattle.lam_machine_turns.specs.Turned.{IsTurn};
 ghost use Rattle.lam_machine.specs.Machine.{CopiesLive};
-ghost use Rattle.thread_host_run.specs.Runs.{HasTurn, is_private};
+ghost use Rattle.thread_host_run.specs.Quiet.{touches_others, is_quiet};
+ghost use Rattle.thread_host_run.specs.Runs.{HasTurn};
 
-use lam_asks::{Event, What, let_go_event};
+use lam_asks::{Ask, Event, What, let_go_event};
 use lam_bytecode::Code;
 use lam_machine::{step, step_privately};
 use lam_machine_world::World;
@@ -39,7 +40,7 @@ pub fn take_turn(
     }
 }
 
-/// As [`take_turn`], where nobody asks for the event: whether the turn was private.
+/// As [`take_turn`], where nobody asks for the event: whether the turn was quiet.
 pub fn go_turn(
     turns: &mut Vec<u32>,
     world: &mut World,
@@ -48,23 +49,23 @@ pub fn go_turn(
 ) -> Result<bool, NoMemory>
     requires ready { ready code.now world.old thread ≡ true }
     requires living { CopiesLive code.now world.old thread }
-    ensures turn { IfOk result (λ private. HasTurn code.now thread world.old private world.new) }
+    ensures turn { IfOk result (λ quiet. HasTurn code.now thread world.old quiet world.new) }
     ensures turns { OnOk result (turns.new.items ≡ turns.old.items ++ thread ∷ []) }
     ensures same_world { OnErr result (world.new ≡ world.old) }
     ensures same_turns { OnErr result (turns.new.items ≡ turns.old.items) }
 {
     turns.reserve(1)?;
     let alloc = *turns.allocator();
-    let private = go_step(alloc, world, code, thread)?;
+    let quiet = go_step(alloc, world, code, thread)?;
     turns.push_reserved(thread);
-    Ok(private)
+    Ok(quiet)
 }
 
-/// A thread that is ready takes a turn: whether it was private.
+/// A thread that is ready takes a turn: whether it was quiet.
 fn go_step(alloc: Global, world: &mut World, code: &Code, thread: u32) -> Result<bool, NoMemory>
     requires ready { ready code.now world.old thread ≡ true }
     requires living { CopiesLive code.now world.old thread }
-    ensures turn { IfOk result (λ private. HasTurn code.now thread world.old private world.new) }
+    ensures turn { IfOk result (λ quiet. HasTurn code.now thread world.old quiet world.new) }
     ensures same_world { OnErr result (world.new ≡ world.old) }
 {
     if step_privately(world, code, thread)? {
@@ -73,15 +74,34 @@ fn go_step(alloc: Global, world: &mut World, code: &Code, thread: u32) -> Result
     match step(alloc, world, code, thread)? {
         None => unreachable!(),
         Some(event) => {
-            let private = is_private(&event.what);
+            let quiet = is_quiet(&event.what);
             let_go_event(event);
-            Ok(private)
+            Ok(quiet)
         }
     }
 }
 
-fn is_private(what: &What) -> bool
-    ensures { result ≡ is_private what.now }
+fn is_quiet(what: &What) -> bool
+    ensures { result ≡ is_quiet what.now }
 {
-    matches!(what, What::Private)
+    match what {
+        What::Private => true,
+        What::Asked { ask, .. } => !touches_others(ask),
+    }
+}
+
+/// Whether another thread may be ready after the ask where it was not, or not where it was: who holds a monitor may change,
+/// a thread may be started, or one ends.
+fn touches_others(ask: &Ask) -> bool
+    ensures { result ≡ touches_others ask.now }
+{
+    matches!(
+        ask,
+        Ask::MonEnter { .. }
+            | Ask::MonLeave { .. }
+            | Ask::Caught(_)
+            | Ask::Suppressed(_)
+            | Ask::Spawn { .. }
+            | Ask::End(_)
+    )
 }

@@ -12,7 +12,7 @@ returns-then-branch-clause-list c =
     let after = c.go.new.self.world in
     let t = c.args.thread in
     let same : c.go.new.self.code ≡ code = ap (λ (r : Ran). r.code) c.in_ok-go.ensures.ok.1 in
-    let turn = subst (λ private. HasTurn code t c.args.run.now.world private after) c.if-branch.true c.in_ok-go.ensures.ok.0 in
-    let new = c.after_private.ensures.list ∙ ap (λ (k : CodeTree). kept_list (ready k after t) t c.args.list.now.items) same in
-    kept_list_is code c.args.run.now.world t after c.args.list.now.items c.after_private.new.list.items turn c.requires.ready c.requires.list new
+    let turn = subst (λ quiet. HasTurn code t c.args.run.now.world quiet after) c.if-branch.true c.in_ok-go.ensures.ok.0 in
+    let new = c.after_quiet.ensures.list ∙ ap (λ (k : CodeTree). kept_list (ready k after t) t c.args.list.now.items) same in
+    kept_list_is code c.args.run.now.world t after c.args.list.now.items c.after_quiet.new.list.items turn c.requires.ready c.requires.list new
     ∙ ap (λ (k : CodeTree). ready_threads k after) (sym same)

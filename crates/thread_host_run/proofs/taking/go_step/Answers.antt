@@ -34,5 +34,5 @@ returns-clause-turn c =
     record {
       event = c.in-Some.event;
       turn = subst (λ (w : World). IsTurn c.args.code.now c.args.thread w c.in-Some.event c.step.new.world) same turn;
-      kind = c.is_private-private.ensures;
+      kind = c.is_quiet-quiet.ensures;
     }
