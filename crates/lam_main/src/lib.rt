@@ -28,6 +28,7 @@ ghost use Rattle.lam_main_laws.specs.Headline.{Headline, BreaksOff, EndsInOrder,
 ghost use Rattle.lam_main_laws.specs.Complete.{MakesAreComplete};
 ghost use Rattle.lam_main_laws.specs.Orderly.{OrderlyCallsAreDone, OrderlyRunsEnd, MakesEnd, RefusalsAreExact};
 ghost use Rattle.lam_main_laws.specs.Meant.{CallsRunAsMeant};
+ghost use Rattle.lam_main_laws.specs.Pairs.{PairsAreTold};
 ghost use Rattle.lam_main_files.specs.Halts.{Says, Reports};
 ghost use Rattle.lam_main_threads.specs.Asked.{reader_of};
 ghost use Rattle.lam_main.specs.Ends.{Ends};
@@ -39,9 +40,10 @@ use lam_main_files::{Halt, Refusal, Report, check, code, done, format, play};
 use lam_main_laws::{
     audits_are_printed, broken_makes_are_recorded, broken_runs_are_recorded, calls_run_as_meant,
     fronts_are_printed, generated_runs_are_recorded, makes_are_complete, makes_end,
-    orderly_calls_are_done, orderly_runs_end, refusals_are_exact, replays_are_isolated,
-    runs_are_complete, runs_are_recorded, runs_end_in_order,
+    orderly_calls_are_done, orderly_runs_end, pairs_are_told, refusals_are_exact,
+    replays_are_isolated, runs_are_complete, runs_are_recorded, runs_end_in_order,
 };
+use lam_main_pair::pair;
 pub use lam_main_plan::Status;
 use lam_main_threads::{Bounds, Reader, RunFiles, ThreadFiles, make, replay, run};
 pub use lam_main_words::{Command, WordFault, help_text, read_words};
@@ -57,6 +59,8 @@ use std::thread::Threads;
 const REPLAY_OBSERVER: u64 = 4;
 
 const RUN_OBSERVER: u64 = 3;
+
+const PAIR_OBSERVER: u64 = 6;
 
 /// Runs the command of the words, which are those after the program's name.
 pub fn lam<R: Threads + Wait + Sync, H: Shelf, O: Sink, G: Gate + Sync>(
@@ -125,6 +129,10 @@ pub fn lam<R: Threads + Wait + Sync, H: Shelf, O: Sink, G: Gate + Sync>(
     // An audit tells of every release past any observer, with the capabilities that it took.
     ensures audited { AuditsArePrinted (map string_bytes words.now) (H.files shelf.old) }
 
+    // What is said of two runs is the one answer that is to be given of them, and up to its number they look the same to the
+    // observer.
+    ensures paired { PairsAreTold (map string_bytes words.now) (H.files shelf.old) }
+
     // What is printed of a program is read as that program.
     ensures steady { FormatIsSteady (map string_bytes words.now) (H.files shelf.old) }
 {
@@ -144,6 +152,7 @@ pub fn lam<R: Threads + Wait + Sync, H: Shelf, O: Sink, G: Gate + Sync>(
     orderly_calls_are_done();
     refusals_are_exact();
     calls_run_as_meant();
+    pairs_are_told();
     canonical_text_is_lexed();
     canonical_text_is_read_as_the_tree();
     canonical_text_is_steady();
@@ -229,6 +238,24 @@ fn command_answer<R: Threads + Wait + Sync, H: Shelf, G: Gate + Sync>(
             book_out,
         } => make(rt, alloc, shelf, seed, threads, book_out, gate),
         Command::Help => done(help(alloc)),
+        Command::Pair {
+            program,
+            first_world,
+            first_book,
+            second_world,
+            second_book,
+            obs,
+        } => {
+            let first = RunFiles {
+                world: first_world,
+                book: first_book,
+            };
+            let second = RunFiles {
+                world: second_world,
+                book: second_book,
+            };
+            done(pair(alloc, shelf, program, first, second, PAIR_OBSERVER, obs))
+        }
     }
 }
 

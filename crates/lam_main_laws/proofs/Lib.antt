@@ -19,3 +19,4 @@ pub mod Codes
 pub mod Meaning
 pub mod Orderly
 pub mod FrontLemmas
+pub mod PairLemmas

@@ -22,9 +22,10 @@ use Rattle.lam_main_plan.proofs.FormatLemmas.{planned}
 use Rattle.lam_main_plan.proofs.ReadLemmas.{program_then}
 use Rattle.lam_main_laws.specs.Headline.{IsRunEnd, MakesBreakOff, RunsAreComplete}
 use Rattle.lam_main_laws.specs.Complete.{MakesAreComplete}
-use Rattle.lam_main_laws.specs.Orderly.{IsUnfailed, IsOrderly, plays, checks, formats, lists, replays, audits, helps, OrderlyCallsAreDone, OrderlyRunsEnd, MakesEnd, IsRefusedAs, RefusalsAreExact}
+use Rattle.lam_main_laws.specs.Orderly.{IsUnfailed, IsOrderly, plays, checks, formats, lists, replays, audits, helps, pairs, OrderlyCallsAreDone, OrderlyRunsEnd, MakesEnd, IsRefusedAs, RefusalsAreExact}
 use Rattle.lam_main_laws.proofs.CallLemmas.{Did, did, broken_did, broken_front, does_run, keeps_run}
 use Rattle.lam_main_laws.proofs.ReplayLemmas.{view_printed, audit_printed}
+use Rattle.lam_main_laws.proofs.PairLemmas.{pair_planned}
 
 -- ---- what the call did
 
@@ -58,21 +59,24 @@ module _ (files : Files) (program : Text) (tree : CodeTree) (h : HasFile (files 
   listed = program_then (files program) program (λ tree p. p ≡ prints (listing_text tree)) (prints (listing_text tree)) tree h refl
 
 module _ (stops : (tree : CodeTree) → RunsStop tree) where
-  orderly_prints : (ws : List Text) (files : Files) → IsOrderly ws files → Prints ws files
-  orderly_prints ws files (plays script o r) = record { text = play_lines script o; is = printed_of ws files script o r; alone = ap starts_threads r.asks }
-  orderly_prints ws files (checks program tree is h) = asks ws files (check program) (codes "ok\n") is refl (checked files program tree h)
-  orderly_prints ws files (formats p r) = record { text = canon p; is = planned ws files p r; alone = ap starts_threads r.asks }
-  orderly_prints ws files (lists program tree is h) = asks ws files (code program) (listing_text tree) is refl (listed files program tree h)
-  orderly_prints ws files (replays tree start o turns r) = record { text = view_lines start.names o (moments tree turns start); is = view_printed ws files tree start o turns (stops tree) r; alone = ap starts_threads r.asks }
-  orderly_prints ws files (audits tree start turns r) = record { text = audit_lines start.names (moments tree turns start); is = audit_printed ws files tree start turns (stops tree) r; alone = ap starts_threads r.asks }
-  orderly_prints ws files (helps is) = asks ws files help (help_lines commands) is refl refl
+  -- the plan of a call in order is that of a text
+  orderly_text : PlansAreOne → (ws : List Text) (files : Files) (plan : Plan) → Prints ws files → IsPlan ws files plan → plan.status ≡ Done
+  orderly_text one ws files plan p is = ap (λ (it : Plan). it.status) (one ws files plan (prints p.text) p.alone is p.is)
+
+  orderly_plan : PlansAreOne → (ws : List Text) (files : Files) (plan : Plan) → IsOrderly ws files → IsPlan ws files plan → plan.status ≡ Done
+  orderly_plan one ws files plan (plays script o r) is = orderly_text one ws files plan (record { text = play_lines script o; is = printed_of ws files script o r; alone = ap starts_threads r.asks }) is
+  orderly_plan one ws files plan (checks program tree ask h) is = orderly_text one ws files plan (asks ws files (check program) (codes "ok\n") ask refl (checked files program tree h)) is
+  orderly_plan one ws files plan (formats p r) is = orderly_text one ws files plan (record { text = canon p; is = planned ws files p r; alone = ap starts_threads r.asks }) is
+  orderly_plan one ws files plan (lists program tree ask h) is = orderly_text one ws files plan (asks ws files (code program) (listing_text tree) ask refl (listed files program tree h)) is
+  orderly_plan one ws files plan (replays tree start o turns r) is = orderly_text one ws files plan (record { text = view_lines start.names o (moments tree turns start); is = view_printed ws files tree start o turns (stops tree) r; alone = ap starts_threads r.asks }) is
+  orderly_plan one ws files plan (audits tree start turns r) is = orderly_text one ws files plan (record { text = audit_lines start.names (moments tree turns start); is = audit_printed ws files tree start turns (stops tree) r; alone = ap starts_threads r.asks }) is
+  orderly_plan one ws files plan (helps ask) is = orderly_text one ws files plan (asks ws files help (help_lines commands) ask refl refl) is
+  orderly_plan one ws files plan (pairs tree o s turns s' turns' a) is = ap (λ (it : Plan). it.status) (pair_planned ws files tree o s turns s' turns' plan (stops tree) a is).is
 
   pub orderly_done : PlansAreOne → (ws : List Text) (status : Status) (old new : Outside) → IsPlanned status (IsPlan ws old.files) old new → OrderlyCallsAreDone ws status old
   orderly_done one ws status old new given orderly quiet =
       let d = unfailed_did status (IsPlan ws old.files) old new quiet given in
-      let p = orderly_prints ws old.files orderly in
-      let same : d.plan ≡ prints p.text = one ws old.files d.plan (prints p.text) p.alone d.is p.is in
-      ended_as status d.plan.status d.plan.text old.taken new.taken quiet d.does.printed ∙ ap (λ (plan : Plan). plan.status) same
+      ended_as status d.plan.status d.plan.text old.taken new.taken quiet d.does.printed ∙ orderly_plan one ws old.files d.plan orderly d.is
 
 -- ---- runs
 

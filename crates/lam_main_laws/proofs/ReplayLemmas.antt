@@ -34,7 +34,7 @@ stop_in turns n whole =
     let none : slice_get turns n ≡ None = slice_get_past turns n (omega (arith, whole)) in
     ap (option_map (λ t. let stop : NotReady = record { turn = n; thread = t } in stop)) none
 
-never_stops : (tree : CodeTree) → RunsStop tree → (turns : List ℕ) (w : World) → IsRun tree turns w → stopped_at tree turns w ≡ None
+pub never_stops : (tree : CodeTree) → RunsStop tree → (turns : List ℕ) (w : World) → IsRun tree turns w → stopped_at tree turns w ≡ None
 never_stops tree law turns w run = stop_in turns (length (moments tree turns w)) ((law.whole w turns).0 run)
 
 -- ---- what is printed

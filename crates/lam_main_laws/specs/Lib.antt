@@ -5,3 +5,4 @@ pub mod Calls
 pub mod Meant
 pub mod Orderly
 pub mod Fronts
+pub mod Pairs

@@ -15,6 +15,7 @@ use Rattle.lam_main_plan.specs.Plan.{IsPlan, IsRefused, PlaysScript, IsFormatted
 use Rattle.lam_main_plan.specs.Answer.{Outside, AsPlanned}
 use Rattle.lam_main_laws.specs.Headline.{AsksRun, IsRunEnd}
 use Rattle.lam_main_laws.specs.Calls.{ReplaysRun, AuditsRun}
+use Rattle.lam_main_laws.specs.Pairs.{AsksPair}
 
 -- memory did not run out, and neither the file store nor the output failed
 abbrev pub IsUnfailed : Status → Type 0
@@ -27,7 +28,7 @@ IsUnfailed status = Unit {0}
 
 -- the words ask for a command that starts no thread, and its files are there within their limits: the script is read and its
 -- tags have the observer's; the program is spelt, and but for `format` has code; the world's document gives a start, whose
--- tags are the observer's; and the book is that of a run
+-- tags are the observer's; and the book is that of a run. Of `pair` that is said of both worlds and both books
 pub data IsOrderly (ws : List Text) (files : Files) : Type 0 where
   plays : (script : Play) (o : Label) → PlaysScript ws files script o → IsOrderly ws files
   checks : (program : Text) (tree : CodeTree) → request_of ws ≡ Ok (check program) → HasFile (files program) program_limit (λ bytes. IsCompiled bytes (Ok tree)) → IsOrderly ws files
@@ -36,6 +37,7 @@ pub data IsOrderly (ws : List Text) (files : Files) : Type 0 where
   replays : (tree : CodeTree) (start : World) (o : Label) (turns : List ℕ) → ReplaysRun ws files tree start o turns → IsOrderly ws files
   audits : (tree : CodeTree) (start : World) (turns : List ℕ) → AuditsRun ws files tree start turns → IsOrderly ws files
   helps : request_of ws ≡ Ok help → IsOrderly ws files
+  pairs : (tree : CodeTree) (o : Label) (s : World) (turns : List ℕ) (s' : World) (turns' : List ℕ) → AsksPair ws files tree o s turns s' turns' → IsOrderly ws files
 
 -- such a call is done
 abbrev pub OrderlyCallsAreDone : List Text → Status → Outside → Type 0

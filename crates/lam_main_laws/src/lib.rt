@@ -12,6 +12,7 @@
 //!   (`specs/Fronts`).
 //! - `replays`: two calls of `replay` whose starts their observer cannot tell apart print the same, and `audit` prints
 //!   each release past any observer (`specs/Calls`).
+//! - `pairs`: what `pair` tells of two runs (`specs/Pairs`).
 //! - `audits`: what is kept of a run for observers and auditors is whole (`specs/Whole`).
 //! - `meant`: the runs of all these calls mean what their source means (`specs/Meant`).
 #![tactic(auto)]
@@ -21,6 +22,7 @@ mod ends;
 mod fronts;
 mod makes;
 mod meant;
+mod pairs;
 mod replays;
 mod runs;
 
@@ -29,6 +31,7 @@ pub use ends::{orderly_calls_are_done, refusals_are_exact};
 pub use fronts::{fronts_are_printed, fronts_are_seen_first};
 pub use makes::{broken_makes_are_recorded, makes_are_complete, makes_end};
 pub use meant::calls_run_as_meant;
+pub use pairs::pairs_are_told;
 pub use replays::{audits_are_printed, replays_are_isolated};
 pub use runs::{
     broken_runs_are_recorded, generated_runs_are_recorded, orderly_runs_end, runs_are_complete,

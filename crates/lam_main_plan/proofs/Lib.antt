@@ -1,5 +1,6 @@
 pub mod PlanLemmas
 pub mod ReadLemmas
+pub mod BookLemmas
 pub mod PlayLemmas
 pub mod FormatLemmas
 pub mod AnswerLemmas

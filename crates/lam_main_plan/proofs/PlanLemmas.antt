@@ -17,11 +17,22 @@ use Rattle.audit_log_notes.specs.Sums.{summary_lines}
 use Rattle.world_doc_terms.specs.Breaks.{Reading}
 use Rattle.world_doc_terms.specs.Start.{start_of}
 use Rattle.lam_front.specs.Programs.{IsFine}
-use Rattle.lam_main_words.specs.Words.{Text, Request, play, check, format, code, replay, run, audit, make, help, request_of}
+use Rattle.lam_main_words.specs.Words.{Text, Request, play, check, format, code, replay, run, audit, make, help, pair, request_of}
 use Rattle.lam_main_plan.specs.Refusals.{Plan, prints, no_program}
 use Rattle.lam_main_plan.specs.Reading.{IsUnread, HasFile, WithFile, unread, of_file, script_limit, program_limit, world_limit, book_limit, IsCompiled, ByCode, Compiles, fine, broken}
 use Rattle.lam_main_plan.specs.Replays.{Reader, an_observer, an_auditor, RunFiles, read_by, IsOfBook, ByReader, ByWorld, Replays, Starts, Runs}
 use Rattle.lam_main_plan.specs.Threads.{status_of, IsOfThreads, ThreadFiles, TakesTurns, StartsThreads, RunsThreads, made_budget, Makes}
+use Rattle.flow_labels.specs.LabelText.{label_of}
+use Rattle.flow_labels.specs.declared.Label.{Label}
+use Rattle.flow_labels.specs.declared.texts.LabelFault.{LabelFault}
+use Rattle.turn_book.specs.Reading.{turns_of}
+use Rattle.turn_book.specs.declared.BookFault.{BookFault}
+use Rattle.lam_machine_terms.specs.Turns.{moments}
+use Rattle.lam_machine_runs.specs.Stops.{NotReady, stopped_at}
+use Rattle.pair_check_terms.specs.declared.answer.PairAnswer.{PairAnswer}
+use Rattle.pair_check_terms.proofs.PairLemmas.{one_answer}
+use Rattle.lam_main_plan.specs.Books.{WithStart, WithRun, ByLabel, ByTurns, WhereReady}
+use Rattle.lam_main_plan.specs.Pairs.{pair_line, IsOfPair, PairsWith, PairsRuns, Pairs}
 use Rattle.lam_main_plan.specs.Plan.{Plays, Formats, canonical, misspelt, Checks, Lists, IsPlanOf, starts_threads, PlansAreOne, IsRefused, RefusalsAreOne}
 
 pub one_bytes : {bs cs : Text} → Some bs ≡ Some cs → bs ≡ cs
@@ -106,6 +117,49 @@ module _ (p q : Plan) where
     one_runs : (asked : RunFiles) (reader : Reader) (bytes : Text) → Runs files asked reader bytes p → Runs files asked reader bytes q → p ≡ q
     one_runs asked reader bytes h k = one_compiles (Starts files asked reader) (one_starts asked reader) bytes h k
 
+  -- ---- what goes on from the turns of a book
+
+  one_by_label : (index : ℕ) (IsOf : Label → Plan → Type 0) → ((o : Label) → IsOf o p → IsOf o q → p ≡ q) → (read : Result Label LabelFault) → ByLabel index IsOf read p → ByLabel index IsOf read q → p ≡ q
+  one_by_label index IsOf one (Ok o) h k = one o h k
+  one_by_label index IsOf one (Err fault) h k = h ∙ sym k
+
+  one_where_ready : (Is : Plan → Type 0) → (Is p → Is q → p ≡ q) → (stop : Option NotReady) → WhereReady Is stop p → WhereReady Is stop q → p ≡ q
+  one_where_ready Is one None h k = one h k
+  one_where_ready Is one (Some stop) h k = h ∙ sym k
+
+  one_by_turns : (IsOf : List ℕ → Plan → Type 0) → ((turns : List ℕ) → IsOf turns p → IsOf turns q → p ≡ q) → (read : Result (List ℕ) BookFault) → ByTurns IsOf read p → ByTurns IsOf read q → p ≡ q
+  one_by_turns IsOf one (Ok turns) h k = one turns h k
+  one_by_turns IsOf one (Err fault) h k = h ∙ sym k
+
+  module _ (files : Files) where
+    one_with_start : (world : Text) (tree : CodeTree) (IsOf : World → Plan → Type 0) → ((start : World) → IsOf start p → IsOf start q → p ≡ q) → WithStart files world tree IsOf p → WithStart files world tree IsOf q → p ≡ q
+    one_with_start world tree IsOf one h k =
+        one_with_file (files world) world world_limit (λ bytes. ByWorld IsOf (start_of bytes tree)) (λ bytes. one_by_world IsOf one (start_of bytes tree)) h k
+
+    one_with_run : (book : Text) (tree : CodeTree) (start : World) (IsOf : List ℕ → Plan → Type 0) → ((turns : List ℕ) → IsOf turns p → IsOf turns q → p ≡ q) → WithRun files book tree start IsOf p → WithRun files book tree start IsOf q → p ≡ q
+    one_with_run book tree start IsOf one h k =
+        let Ready : List ℕ → Plan → Type 0 = λ turns. WhereReady (IsOf turns) (stopped_at tree turns start) in
+        one_with_file (files book) book book_limit (λ bytes. ByTurns Ready (turns_of bytes))
+        (λ bytes. one_by_turns Ready (λ turns. one_where_ready (IsOf turns) (one turns) (stopped_at tree turns start)) (turns_of bytes)) h k
+
+    one_of_pair : (tree : CodeTree) (o : Label) (s : World) (turns : List ℕ) (s' : World) (turns' : List ℕ) → IsOfPair tree o s turns s' turns' p → IsOfPair tree o s turns s' turns' q → p ≡ q
+    one_of_pair tree o s turns s' turns' h k =
+        h.is ∙ ap (λ (answer : PairAnswer). prints (pair_line answer)) (one_answer o s s' (moments tree turns s) (moments tree turns' s') h.answer k.answer h.paired k.paired) ∙ sym k.is
+
+    one_pairs_with : (second : RunFiles) (tree : CodeTree) (o : Label) (s : World) (turns : List ℕ) → PairsWith files second tree o s turns p → PairsWith files second tree o s turns q → p ≡ q
+    one_pairs_with second tree o s turns h k =
+        one_with_start second.world tree (λ s'. WithRun files second.book tree s' (λ turns'. IsOfPair tree o s turns s' turns'))
+        (λ s'. one_with_run second.book tree s' (λ turns'. IsOfPair tree o s turns s' turns') (one_of_pair tree o s turns s')) h k
+
+    one_pair : (first second : RunFiles) (index : ℕ) (label : Text) (tree : CodeTree) → PairsRuns files first second index label tree p → PairsRuns files first second index label tree q → p ≡ q
+    one_pair first second index label tree h k =
+        let IsBy : World → Label → Plan → Type 0 = λ s o. WithRun files first.book tree s (PairsWith files second tree o s) in
+        one_with_start first.world tree (λ s. ByLabel index (IsBy s) (label_of s.names label))
+        (λ s. one_by_label index (IsBy s) (λ o. one_with_run first.book tree s (PairsWith files second tree o s) (one_pairs_with second tree o s)) (label_of s.names label)) h k
+
+    one_pairs : (first second : RunFiles) (index : ℕ) (label bytes : Text) → Pairs files first second index label bytes p → Pairs files first second index label bytes q → p ≡ q
+    one_pairs first second index label bytes h k = one_compiles (PairsRuns files first second index label) (one_pair first second index label) bytes h k
+
   -- ---- a run whose turns threads take
 
   -- plans of runs of one code from one start are one
@@ -143,6 +197,7 @@ module _ (p q : Plan) where
   one_plan_of (Ok (audit program world book)) files one h k = one_with_file (files program) program program_limit (Runs files (record { world = world; book = book }) an_auditor) (one_runs files (record { world = world; book = book }) an_auditor) h k
   one_plan_of (Ok (make seed threads out)) files one h k = one_makes files (one refl) seed threads out h k
   one_plan_of (Ok help) files one h k = h ∙ sym k
+  one_plan_of (Ok (pair program first_world first_book second_world second_book label)) files one h k = one_with_file (files program) program program_limit (Pairs files (record { world = first_world; book = first_book }) (record { world = second_world; book = second_book }) 6 label) (one_pairs files (record { world = first_world; book = first_book }) (record { world = second_world; book = second_book }) 6 label) h k
 
 pub plans_are_one : PlansAreOne
 plans_are_one ws files p q none h k = one_plan_of p q (request_of ws) files (λ some. absurd (let clash : false ≡ true = sym none ∙ some in cc)) h k

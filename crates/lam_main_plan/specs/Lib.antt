@@ -3,6 +3,8 @@ pub mod Refusals
 pub mod Reading
 pub mod Replays
 pub mod Threads
+pub mod Books
+pub mod Pairs
 pub mod Plan
 pub mod Answer
 pub use Rattle.barrier_compiler.specs.Compiled

@@ -1,7 +1,6 @@
 -- What is found, and what is shown, of the parts of a run.
 use Rattle.std.proofs.Common.{◌≡◌, ◌≤◌, ℕ, List, Option, None, Result, Ok, Err, String, string_bytes, IfOk, IfErr, MatchResult, refl, sym, ap, subst, ◌∙◌, ◌+◌, ◌-◌, ◌^◌, min, arith}
 use Rattle.std.specs.declared.alloc.Global.{Global}
-use Rattle.std.specs.Prelude.{Vec}
 use Rattle.std.specs.Result.{IsErrAnd}
 use Rattle.flow_labels.specs.LabelText.{label_of}
 use Rattle.flow_labels.specs.declared.Label.{Label}
@@ -24,16 +23,18 @@ use Rattle.lam_machine_replay.specs.Stops.{IsStop}
 use Rattle.lam_machine_replay.specs.declared.fault.RunFault.{RunFault}
 use Rattle.lam_machine_replay.specs.declared.fault.RunFault.TheVariants.{NotReady as not_ready, NoMemory as no_memory_of_run}
 use Rattle.lam_main_words.specs.Words.{Text}
-use Rattle.lam_main_plan.specs.Refusals.{Plan, prints, no_word, no_world}
-use Rattle.lam_main_plan.specs.Reading.{HasFile, WithFile, Never, Compiles, IsCompiled, program_limit, world_limit, book_limit, of_file, unread}
+use Rattle.lam_main_plan.specs.Refusals.{Plan, prints, no_word, no_world, no_book}
+use Rattle.lam_main_plan.specs.Reading.{HasFile, WithFile, Never, Compiles, IsCompiled, program_limit, world_limit, book_limit, of_file}
 use Rattle.lam_main_plan.specs.Replays.{Reader, an_observer, RunFiles, view_by, read_by, by_turns, by_book, IsOfTurns, IsOfBook, ByReader, ByWorld, NoStart, Replays, Starts, Runs}
-use Rattle.lam_main_plan.proofs.ReadLemmas.{same_files, program_then, no_program_then, start_then, no_start_then, reader_then, no_reader_then}
+use Rattle.lam_main_plan.specs.Books.{ByLabel, ByTurns, NoTurns}
+use Rattle.lam_main_plan.proofs.ReadLemmas.{file_map, same_files, program_then, no_program_then, start_then, no_start_then, reader_then, no_reader_then}
 use Rattle.lam_main_files.specs.declared.halt.Refusal.TheVariants.{NotReady as not_ready_at}
 use Rattle.lam_main_files.specs.declared.halt.Halt.{Halt}
 use Rattle.lam_main_files.specs.declared.halt.Halt.TheVariants.{Refused, NoMemory, ShelfFailed}
-use Rattle.lam_main_files.specs.Halts.{Finds, Says, Gives, IsRead}
+use Rattle.lam_main_files.specs.Halts.{refuses, Finds, Says, Gives}
 use Rattle.lam_main_files.proofs.FileLemmas.{says_map, not_found, gives_of}
-use Rattle.lam_main_replay.specs.Asked.{halt_of_world, halt_of_book, halt_of_run, HaltsAt}
+use Rattle.lam_main_replay.specs.declared.eye.Eye.{Eye}
+use Rattle.lam_main_replay.specs.Asked.{lines_for, halt_of_world, halt_of_book, halt_of_run, HaltsAt}
 
 -- ---- the start
 
@@ -55,8 +56,18 @@ no_shelf_world no_memory_of_world halt is e = cc
 
 -- ---- who reads
 
-pub bad_label : (index : ℕ) (names : List Text) (text : Text) (f : LabelFault) → label_of names text ≡ Err f → ByReader Never (read_by (an_observer index text) names) (no_word index)
-bad_label index names text f is = subst (λ (r : Result Label LabelFault). ByReader Never (view_by index names r) (no_word index)) (sym is) refl
+by_label : (index : ℕ) (names : List Text) (p : Plan) (read : Result Label LabelFault) → ByLabel index Never read p → ByReader Never (view_by index names read) p
+by_label index names p (Ok o) h = absurd h
+by_label index names p (Err fault) h = h
+
+-- what is no label names no reader
+pub no_label_reads : (index : ℕ) (names : List Text) (text : Text) (halt : Halt) → Finds {X = Label} (Err halt) (λ o. label_of names text ≡ Ok o) (ByLabel index Never (label_of names text)) → Finds {X = Eye} (Err halt) (λ eye. read_by (an_observer index text) names ≡ Ok (lines_for eye names)) (ByReader Never (read_by (an_observer index text) names))
+no_label_reads index names text (Refused refusal) h = by_label index names (refuses refusal) (label_of names text) h
+no_label_reads index names text NoMemory h = tt
+no_label_reads index names text ShelfFailed h = tt
+
+pub bad_label : (index : ℕ) (names : List Text) (text : Text) (f : LabelFault) → label_of names text ≡ Err f → ByLabel index Never (label_of names text) (no_word index)
+bad_label index names text f is = subst (λ (r : Result Label LabelFault). ByLabel index Never r (no_word index)) (sym is) refl
 
 -- ---- the turns
 
@@ -74,20 +85,33 @@ module _ (tree : CodeTree) (start : World) (shown : List Moment → Text) where
   no_run_says turns NoMemory h = tt
   no_run_says turns ShelfFailed h = tt
 
-  -- ---- the book
+-- ---- the book
 
-  pub book_says : (bytes : Text) (turns : List ℕ) (answer : Result (String Global) Halt) → turns_of bytes ≡ Ok turns → Says answer (IsOfTurns tree start shown turns) → Says answer (IsOfBook tree start shown bytes)
-  book_says bytes turns answer is h = says_map (IsOfTurns tree start shown turns) (IsOfBook tree start shown bytes) (λ p k. k ∙ sym (ap (by_book tree start shown) is)) answer h
+broken_book : {X : Type 0} (IsIt : X → Type 0) (bytes : Text) (f : BookFault) → book_reading.Fails f (turns_of bytes) → Finds {X = X} (Err (halt_of_book f)) IsIt (NoTurns bytes)
+broken_book IsIt bytes BadHead h = subst (λ (r : Result (List ℕ) BookFault). ByTurns Never r (no_book BadHead)) (sym h) refl
+broken_book IsIt bytes (BadLine number) h = subst (λ (r : Result (List ℕ) BookFault). ByTurns Never r (no_book (BadLine number))) (sym h) refl
+broken_book IsIt bytes (SameThread number) h = subst (λ (r : Result (List ℕ) BookFault). ByTurns Never r (no_book (SameThread number))) (sym h) refl
+broken_book IsIt bytes (TooMany number) h = subst (λ (r : Result (List ℕ) BookFault). ByTurns Never r (no_book (TooMany number))) (sym h) refl
+broken_book IsIt bytes no_memory_of_book h = tt
 
-  broken_book : (bytes : Text) (f : BookFault) → book_reading.Fails f (turns_of bytes) → Says (Err (halt_of_book f)) (IsOfBook tree start shown bytes)
-  broken_book bytes BadHead h = sym (ap (by_book tree start shown) h)
-  broken_book bytes (BadLine number) h = sym (ap (by_book tree start shown) h)
-  broken_book bytes (SameThread number) h = sym (ap (by_book tree start shown) h)
-  broken_book bytes (TooMany number) h = sym (ap (by_book tree start shown) h)
-  broken_book bytes no_memory_of_book h = tt
+pub no_turns_found : {X : Type 0} (IsIt : X → Type 0) (bytes : Text) (f : BookFault) (halt : Halt) → book_reading.Fails f (turns_of bytes) → halt ≡ halt_of_book f → Finds {X = X} (Err halt) IsIt (NoTurns bytes)
+no_turns_found IsIt bytes f halt h is = subst (λ (x : Halt). Finds {X = _} (Err x) IsIt (NoTurns bytes)) (sym is) (broken_book IsIt bytes f h)
 
-  pub no_book_says : (bytes : Text) (f : BookFault) (halt : Halt) → book_reading.Fails f (turns_of bytes) → halt ≡ halt_of_book f → Says (Err halt) (IsOfBook tree start shown bytes)
-  no_book_says bytes f halt h is = subst (λ (x : Halt). Says (Err x) (IsOfBook tree start shown bytes)) (sym is) (broken_book bytes f h)
+module _ (tree : CodeTree) (start : World) (shown : List Moment → Text) (found : Option Text) (name : Text) where
+  -- what is shown of the turns of a book is what is shown of the book
+  pub turns_say : (turns : List ℕ) (answer : Result (String Global) Halt) → HasFile found book_limit (λ bytes. turns_of bytes ≡ Ok turns) → Says answer (IsOfTurns tree start shown turns) → Says answer (WithFile found name book_limit (IsOfBook tree start shown))
+  turns_say turns answer h says =
+      says_map (IsOfTurns tree start shown turns) (WithFile found name book_limit (IsOfBook tree start shown))
+      (λ p k. of_file (record { bytes = h.bytes; there = h.there; short = h.short; follows = k ∙ sym (ap (by_book tree start shown) h.follows) })) answer says
+
+  no_turns : (p : Plan) (read : Result (List ℕ) BookFault) → ByTurns Never read p → p ≡ by_book tree start shown read
+  no_turns p (Ok turns) h = absurd h
+  no_turns p (Err fault) h = h
+
+  pub no_turns_say : (halt : Halt) → Finds {X = List ℕ} (Err halt) (λ turns. HasFile found book_limit (λ bytes. turns_of bytes ≡ Ok turns)) (WithFile found name book_limit NoTurns) → Says (Err halt) (WithFile found name book_limit (IsOfBook tree start shown))
+  no_turns_say halt h =
+      not_found (λ turns. HasFile found book_limit (λ bytes. turns_of bytes ≡ Ok turns)) (WithFile found name book_limit NoTurns) (WithFile found name book_limit (IsOfBook tree start shown))
+      (λ p k. file_map found name book_limit NoTurns (IsOfBook tree start shown) p (λ bytes. no_turns p (turns_of bytes)) k) halt h
 
 pub no_shelf_book : (f : BookFault) (halt : Halt) → halt ≡ halt_of_book f → halt ≡ ShelfFailed → ⊥
 no_shelf_book BadHead halt is e = cc
@@ -124,17 +148,6 @@ module _ {X : Type 0} where
   mapped_err (Err f) (Err halt) stop h is = fault_halts f halt stop is h
 
 -- ---- one part after another
-
-module _ (found : Option Text) (name : Text) (limit : ℕ) (IsOf : Text → Plan → Type 0) where
-  -- a file was read
-  pub read_says : (bytes : Vec ℕ Global) (answer : Result (String Global) Halt) → IsRead (Ok bytes) found name limit → Says answer (IsOf bytes.items) → Says answer (WithFile found name limit IsOf)
-  read_says bytes answer read h = says_map (IsOf bytes.items) (WithFile found name limit IsOf) (λ p k. of_file (record { bytes = bytes.items; there = read.0; short = read.1; follows = k })) answer h
-
-  -- it was not
-  pub unread_says : (halt : Halt) → IsRead (Err halt) found name limit → Says (Err halt) (WithFile found name limit IsOf)
-  unread_says (Refused refusal) read = unread read
-  unread_says NoMemory read = tt
-  unread_says ShelfFailed read = tt
 
 module _ (files : Files) (book : Text) (reader : Reader) (tree : CodeTree) (start : World) (names : List Text) (same : names ≡ start.names) where
   pub reader_says : (shown : List Moment → Text) (answer : Result (String Global) Halt) → read_by reader names ≡ Ok shown → Says answer (WithFile (files book) book book_limit (IsOfBook tree start shown)) → Says answer (Replays files book reader tree start)

@@ -7,9 +7,10 @@ ghost use Rattle.lam_main_files.specs.Halts.{Finds};
 ghost use Rattle.lam_main_replay.specs.Asked.{reader_of, lines_for};
 
 use crate::Reader;
-use flow_labels::{Label, LabelFault, TagNames, parse_label};
+use crate::turns::read_label;
+use flow_labels::{Label, TagNames};
 use lam_machine_effects::Stores;
-use lam_main_files::{Halt, Refusal};
+use lam_main_files::Halt;
 
 /// Who reads of a run.
 #[derive(Drop)]
@@ -64,11 +65,8 @@ fn observer(index: u64, text: &str, names: &TagNames) -> Result<Eye, Halt>
     ensures finds { Finds result (λ eye. read_by (an_observer index text.now) names.now ≡ Ok (lines_for eye names.now)) (ByReader Never (read_by (an_observer index text.now) names.now)) }
     ensures no_fault { IfErr result (λ halt. halt ≢ Halt.ShelfFailed) }
 {
-    match parse_label(text, names) {
+    match read_label(index, text, names) {
         Ok(label) => Ok(Eye::Observer(label)),
-        Err(LabelFault::BadLabel { at: _ } | LabelFault::NoTag { at: _ }) => {
-            Err(Halt::Refused(Refusal::Word(index)))
-        }
-        Err(LabelFault::NoMemory) => Err(Halt::NoMemory),
+        Err(halt) => Err(halt),
     }
 }

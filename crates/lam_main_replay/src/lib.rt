@@ -10,6 +10,7 @@
 mod document;
 mod eye;
 mod run_text;
+mod turns;
 
 ghost use Rattle.std.specs.Prelude.{◌≡◌, IsTrue, IfErr, string_bytes};
 ghost use Rattle.lam_io.specs.Outside.{Rose, AllStay};
@@ -22,17 +23,14 @@ ghost use Rattle.lam_main_replay.specs.Asked.{files_of, reader_of, lines_for};
 
 pub use crate::document::{read_start, start_in};
 pub use crate::eye::{Eye, Viewer, viewer_of};
-use crate::run_text::shown;
 pub use crate::run_text::shown_turns;
+pub use crate::turns::{read_label, read_turns, run_halt};
 use lam_bytecode::Code;
 use lam_io::Shelf;
 use lam_machine_replay::World;
 pub use lam_machine_world::let_go_world;
-use lam_main_files::{Halt, read_code, read_file};
+use lam_main_files::{Halt, read_code};
 use std::alloc::Global;
-
-/// The most bytes of a book.
-const BOOK_LIMIT: u64 = 16_777_216;
 
 /// Who reads of a run.
 #[derive(Drop)]
@@ -134,8 +132,8 @@ fn replay_book<H: Shelf>(
     ensures stay { IsTrue (H.tells shelf.old) → AllStay (H.files shelf.old) (H.files shelf.new) }
     ensures failed { IfErr result (λ halt. halt ≡ Halt.ShelfFailed → Rose (H.faults shelf.old) (H.faults shelf.new)) }
 {
-    match read_file(alloc, shelf, book, BOOK_LIMIT) {
-        Ok(bytes) => shown(alloc, code, start, bytes.as_slice(), viewer),
+    match read_turns(alloc, shelf, book) {
+        Ok(turns) => shown_turns(alloc, code, start, turns.as_slice(), viewer),
         Err(halt) => {
             let_go_world(start);
             Err(halt)

@@ -1,4 +1,4 @@
-//! The turns of a book, and the text of their run.
+//! The text of the run of turns.
 
 ghost use Rattle.std.specs.Prelude.{◌≡◌, ◌≢◌, None, IfOk, OnOk, IfErr, string_bytes};
 ghost use Rattle.lam_bytecode.specs.Codes.{IsCode};
@@ -7,44 +7,22 @@ ghost use Rattle.lam_machine_terms.specs.Valid.{IsValid};
 ghost use Rattle.audit_log_notes.specs.Notes.{seen_by, noted_in};
 ghost use Rattle.lam_machine_runs.specs.Stops.{stopped_at};
 ghost use Rattle.audit_log.specs.Log.{seen_lines, view_lines, noted_lines, audit_lines};
-ghost use Rattle.lam_main_plan.specs.Replays.{IsOfBook, IsOfTurns};
+ghost use Rattle.lam_main_plan.specs.Replays.{IsOfTurns};
 ghost use Rattle.lam_main_files.specs.Halts.{Says};
-ghost use Rattle.lam_main_replay.specs.Asked.{lines_for, halt_of_book, halt_of_run, HaltsAt};
+ghost use Rattle.lam_main_replay.specs.Asked.{lines_for, HaltsAt};
 
 use crate::eye::{Eye, Viewer};
+use crate::turns::run_halt;
 use audit_log::{audit_text, audits_are_read, view_text, views_are_read};
 use audit_log_notes::{Noted, Seen};
 use capabilities::Caps;
 use flow_labels::{Label, TagNames};
 use lam_bytecode::Code;
-use lam_machine_replay::{RunFault, World, noted_in, public_stay_in_runs, seen_by};
+use lam_machine_replay::{World, noted_in, public_stay_in_runs, seen_by};
 use lam_machine_world::let_go_world;
-use lam_main_files::{BookBreak, Halt, Refusal};
+use lam_main_files::Halt;
 use std::alloc::Global;
 use std::mem::forget;
-use turn_book::{BookFault, read_book};
-
-/// What the reader is shown of the run of a book, by its bytes.
-pub(crate) fn shown(
-    alloc: Global,
-    code: &Code,
-    start: World,
-    bytes: &[u8],
-    viewer: &Viewer,
-) -> Result<String, Halt>
-    requires code { IsCode code.now }
-    requires valid { IsValid start }
-    ensures says { Says result (IsOfBook code.now start (lines_for viewer.now.eye viewer.now.names) bytes.now) }
-    ensures no_fault { IfErr result (λ halt. halt ≢ Halt.ShelfFailed) }
-{
-    match read_book(alloc, bytes) {
-        Ok(turns) => shown_turns(alloc, code, start, turns.as_slice(), viewer),
-        Err(fault) => {
-            let_go_world(start);
-            Err(book_halt(fault))
-        }
-    }
-}
 
 /// What the reader is shown of turns.
 ///
@@ -186,34 +164,4 @@ fn noted_text(
     let text = audit_text(alloc, noted.as_slice(), names, public);
     forget(noted);
     Ok(text?)
-}
-
-/// What a fault of a book halts with.
-fn book_halt(fault: BookFault) -> Halt
-    ensures { result ≡ halt_of_book fault }
-{
-    match fault {
-        BookFault::BadHead => broken_line(BookBreak::Head, 1),
-        BookFault::BadLine { line } => broken_line(BookBreak::Line, line),
-        BookFault::SameThread { line } => broken_line(BookBreak::SameThread, line),
-        BookFault::TooMany { line } => broken_line(BookBreak::TooMany, line),
-        BookFault::NoMemory => Halt::NoMemory,
-    }
-}
-
-/// The refusal of a line of a book.
-fn broken_line(flaw: BookBreak, line: u64) -> Halt
-    ensures { result ≡ Halt.Refused (Refusal.Book flaw line) }
-{
-    Halt::Refused(Refusal::Book { flaw, line })
-}
-
-/// What a turn that can't be taken halts with.
-fn run_halt(fault: RunFault) -> Halt
-    ensures { result ≡ halt_of_run fault }
-{
-    match fault {
-        RunFault::NotReady { turn, thread } => Halt::Refused(Refusal::NotReady { turn, thread }),
-        RunFault::NoMemory => Halt::NoMemory,
-    }
 }

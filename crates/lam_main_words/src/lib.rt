@@ -52,6 +52,8 @@ enum Form {
     Make,
     /// `help`
     Help,
+    /// `pair P W1 BOOK1 W2 BOOK2 OBS`
+    Pair,
 }
 
 /// The options of `run` that the words have, in this order.
@@ -82,6 +84,7 @@ impl Form {
             Form::Audit => "audit",
             Form::Make => "make",
             Form::Help => "help",
+            Form::Pair => "pair",
         }
     }
 
@@ -109,6 +112,15 @@ impl Form {
                 Kind::File,
             ],
             Form::Help => &[Kind::Name(Form::Help)],
+            Form::Pair => &[
+                Kind::Name(Form::Pair),
+                Kind::File,
+                Kind::File,
+                Kind::File,
+                Kind::File,
+                Kind::File,
+                Kind::Observer,
+            ],
         }
     }
 }
@@ -224,6 +236,7 @@ fn forms() -> &'static [Form]
         Form::Audit,
         Form::Make,
         Form::Help,
+        Form::Pair,
     ]
 }
 
@@ -280,6 +293,16 @@ pub enum Command {
     },
     /// `help`: the forms of the words.
     Help,
+    /// `pair P W1 BOOK1 W2 BOOK2 OBS`: whether an observer may expect to see the same of two runs of a program, each with
+    /// the document of its world and its book, and if not, in what they differ first.
+    Pair {
+        program: String,
+        first_world: String,
+        first_book: String,
+        second_world: String,
+        second_book: String,
+        obs: String,
+    },
 }
 
 /// Why words are no command.
@@ -356,6 +379,7 @@ pub fn read_words(alloc: Global, words: &[String]) -> Result<Command, WordFault>
         Form::Run(options) => run_command(alloc, words, options),
         Form::Make => make_command(alloc, words),
         Form::Help => Ok(Command::Help),
+        Form::Pair => pair_command(alloc, words),
     }
 }
 
@@ -381,6 +405,20 @@ fn make_command(alloc: Global, words: &[String]) -> Result<Command, WordFault>
         seed: number_at(words, 1, 0, MOST_SEED),
         threads: number_at(words, 2, 1, MOST_THREADS),
         book_out: String::from_str(alloc, word_at(words, 3))?,
+    })
+}
+
+fn pair_command(alloc: Global, words: &[String]) -> Result<Command, WordFault>
+    ensures value { ReadsCommand result (Ok (requested (map string_bytes words.now) Form.Pair)) }
+    ensures ranges { IfOk result (λ c. InRange (asked c)) }
+{
+    Ok(Command::Pair {
+        program: String::from_str(alloc, word_at(words, 1))?,
+        first_world: String::from_str(alloc, word_at(words, 2))?,
+        first_book: String::from_str(alloc, word_at(words, 3))?,
+        second_world: String::from_str(alloc, word_at(words, 4))?,
+        second_book: String::from_str(alloc, word_at(words, 5))?,
+        obs: String::from_str(alloc, word_at(words, 6))?,
     })
 }
 
@@ -419,7 +457,7 @@ pub fn help_text(alloc: Global) -> Result<String, NoMemory>
 {
     Ok(String::from_str(
         alloc,
-        "lam play FILE OBS\nlam check P\nlam format P\nlam code P\nlam replay P W BOOK OBS\nlam run P W OBS BOOKOUT [--workers N] [--turns N]\nlam audit P W BOOK\nlam make SEED THREADS BOOKOUT\nlam help\n",
+        "lam play FILE OBS\nlam check P\nlam format P\nlam code P\nlam replay P W BOOK OBS\nlam run P W OBS BOOKOUT [--workers N] [--turns N]\nlam audit P W BOOK\nlam make SEED THREADS BOOKOUT\nlam help\nlam pair P W1 BOOK1 W2 BOOK2 OBS\n",
     )?)
 }
 

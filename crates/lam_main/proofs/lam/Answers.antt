@@ -95,3 +95,6 @@ returns-clause-orderly_make g c = λ told.
 pub returns-clause-make_broken_off : goal.returns-clause-make_broken_off
 returns-clause-make_broken_off g c = λ told.
     c.broken_makes_are_recorded.ensures (map string_bytes c.args.words.now) c.end_with.result (outside (g.H.Shelf.files c.args.shelf.now) (g.O.Sink.taken c.args.out.now)) (outside (g.H.Shelf.files c.answer_of-answer.new.shelf) (g.O.Sink.taken c.end_with.new.out)) (returns-clause-planned g c told)
+
+pub returns-clause-paired : goal.returns-clause-paired
+returns-clause-paired g c = c.pairs_are_told.ensures (map string_bytes c.args.words.now) (g.H.Shelf.files c.args.shelf.now)

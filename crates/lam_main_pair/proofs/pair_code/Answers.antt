@@ -1,0 +1,23 @@
+use Rattle.std.proofs.Common.{◌≡◌, Ok, string_bytes}
+use Rattle.lam_machine_terms.specs.Worlds.{World}
+use Rattle.world_doc_terms.specs.Start.{start_of}
+use Rattle.lam_main_plan.specs.Reading.{HasFile, world_limit}
+use Rattle.lam_main_plan.proofs.ReadLemmas.{stays_on}
+use Rattle.lam_main_replay.specs.Asked.{files_of}
+use Rattle.lam_main_pair.proofs.PairLemmas.{start_says, no_start_says, failed_later}
+use Rattle.lam_main_pair.proofs.pair_code.Goals as goal
+
+pub returns-in-Ok-clause-says : goal.returns-in-Ok-clause-says
+returns-in-Ok-clause-says g c = λ told.
+    start_says (g.H.Shelf.files c.args.shelf.now) (files_of c.args.first) (files_of c.args.second) c.args.index (string_bytes c.args.label) c.args.code.now (g.H.Shelf.files c.read_start.new.shelf) c.in-Ok.start c.pair_from.result (c.in-Ok.ensures.stay told) (c.in-Ok.ensures.finds told) (c.pair_from.ensures.says (c.in-Ok.ensures.tells_on told))
+
+pub returns-in-Ok-clause-stay : goal.returns-in-Ok-clause-stay
+returns-in-Ok-clause-stay g c = λ told.
+    stays_on (g.H.Shelf.files c.args.shelf.now) (g.H.Shelf.files c.read_start.new.shelf) (g.H.Shelf.files c.pair_from.new.shelf) (c.in-Ok.ensures.stay told) (c.pair_from.ensures.stay (c.in-Ok.ensures.tells_on told))
+
+pub returns-in-Ok-clause-failed : goal.returns-in-Ok-clause-failed
+returns-in-Ok-clause-failed g c = failed_later c.pair_from.result (g.H.Shelf.faults c.args.shelf.now) (g.H.Shelf.faults c.read_start.new.shelf) (g.H.Shelf.faults c.pair_from.new.shelf) c.in-Ok.ensures.later c.pair_from.ensures.failed
+
+pub returns-in-Err-clause-says : goal.returns-in-Err-clause-says
+returns-in-Err-clause-says g c = λ told.
+    no_start_says (g.H.Shelf.files c.args.shelf.now) (files_of c.args.first) (files_of c.args.second) c.args.index (string_bytes c.args.label) c.args.code.now (λ (b : World). HasFile (g.H.Shelf.files c.args.shelf.now (string_bytes c.args.first.world)) world_limit (λ bytes. start_of bytes c.args.code.now ≡ Ok b)) c.in-Err.halt (c.in-Err.ensures.finds told)

@@ -1,0 +1,101 @@
+//! Whether an observer may expect to see the same of two runs of a code.
+//!
+//! [`pair`] tests the premises of isolation for two runs: that their starts agree below the observer's label, and how far
+//! their agendas are equal. Up to there the runs look the same to the observer, whatever else differs (`pair_check_terms`,
+//! `specs/Laws`): no visible event of theirs has to be compared.
+//!
+//! Whoever has no [`Run`], but starts and lists of turns, takes [`agenda_of`] once for each, which says too whether the
+//! turns are a run, and then [`answer_of_starts`].
+#![tactic(auto)]
+
+ghost use Rattle.std.specs.Prelude.{◌≡◌, None, IfOk};
+ghost use Rattle.lam_bytecode.specs.Codes.{IsCode};
+ghost use Rattle.lam_machine_terms.specs.Turns.{moments};
+ghost use Rattle.lam_machine_terms.specs.Valid.{IsValid};
+ghost use Rattle.lam_machine_terms.specs.Views.{Agree, agenda};
+ghost use Rattle.lam_machine_runs.specs.Stops.{stopped_at};
+ghost use Rattle.pair_check_terms.specs.Pairs.{IsPairedBy, IsPaired};
+
+use flow_labels::Label;
+use lam_bytecode::Code;
+use lam_machine_replay::{RunFault, World, runs_are_whole};
+use pair_check_agenda::answer_of;
+pub use pair_check_agenda::{Agenda, agenda_of};
+pub use pair_check_terms::{PairAnswer, Part};
+use pair_check_worlds::first_part;
+use std::alloc::Global;
+use thread_host_run::Run;
+use want_of_memory::NoMemory;
+
+/// Whether an observer may expect to see the same of two runs of a code, and how far: the first part in which their
+/// starts differ; or, where they agree, the first place at which their agendas differ; or how far both agendas go.
+///
+/// It takes a step for each turn of both runs, but none where the starts differ.
+///
+/// # Errors
+///
+/// `NoMemory` where memory is refused.
+pub fn pair(alloc: Global, a: &Run, b: &Run, observer: &Label) -> Result<PairAnswer, NoMemory>
+    requires { a.now.code ≡ b.now.code }
+    ensures { IfOk result (λ answer. IsPaired observer.now a.now.start (moments a.now.code a.now.turns a.now.start) b.now.start (moments b.now.code b.now.turns b.now.start) answer) }
+{
+    match first_part(a.start(), b.start(), observer) {
+        Some(what) => Ok(PairAnswer::WorldsDiffer { what }),
+        None => answer_of_runs(alloc, a, b, observer),
+    }
+}
+
+/// What is to be said of two runs whose starts agree.
+fn answer_of_runs(alloc: Global, a: &Run, b: &Run, observer: &Label) -> Result<PairAnswer, NoMemory>
+    requires { Agree observer.now a.now.start b.now.start }
+    ensures { IfOk result (λ answer. IsPaired observer.now a.now.start (moments a.now.code a.now.turns a.now.start) b.now.start (moments b.now.code b.now.turns b.now.start) answer) }
+{
+    let first = agenda_of_run(alloc, a, observer)?;
+    let second = agenda_of_run(alloc, b, observer)?;
+    Ok(answer_of(&first, &second))
+}
+
+/// What an observer notes of a run.
+fn agenda_of_run(alloc: Global, run: &Run, observer: &Label) -> Result<Agenda, NoMemory>
+    ensures { IfOk result (λ noted. noted ≡ agenda observer.now (moments run.now.code run.now.turns run.now.start)) }
+{
+    runs_are_whole();
+    let start = run.start().copy()?;
+    agenda_of_whole(alloc, run.code(), start, run.turns(), observer)
+}
+
+/// What an observer notes of turns that are a run, so that none is refused.
+fn agenda_of_whole(
+    alloc: Global,
+    code: &Code,
+    start: World,
+    turns: &[u32],
+    observer: &Label,
+) -> Result<Agenda, NoMemory>
+    requires code { IsCode code.now }
+    requires valid { IsValid start }
+    requires whole { stopped_at code.now turns.now start ≡ None }
+    ensures { IfOk result (λ noted. noted ≡ agenda observer.now (moments code.now turns.now start)) }
+{
+    match agenda_of(alloc, code, start, turns, observer) {
+        Ok(noted) => Ok(noted),
+        Err(RunFault::NoMemory) => Err(NoMemory),
+        Err(RunFault::NotReady { turn: _, thread: _ }) => unreachable!(),
+    }
+}
+
+/// What is to be said of two starts and of what an observer notes of the turns behind each. Takes no memory.
+pub fn answer_of_starts(
+    a: &World,
+    first: &Agenda,
+    b: &World,
+    second: &Agenda,
+    observer: &Label,
+) -> PairAnswer
+    ensures { IsPairedBy observer.now a.now b.now first.now second.now result }
+{
+    match first_part(a, b, observer) {
+        Some(what) => PairAnswer::WorldsDiffer { what },
+        None => answer_of(first, second),
+    }
+}

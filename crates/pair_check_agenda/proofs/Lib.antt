@@ -1,0 +1,5 @@
+mod FrontLemmas
+mod MadeLemmas
+mod NotedLemmas
+mod TakenLemmas
+mod MeetLemmas

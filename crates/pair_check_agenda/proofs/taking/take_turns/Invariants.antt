@@ -1,0 +1,8 @@
+use Rattle.std.proofs.Common.{List}
+use Rattle.lam_machine_terms.specs.Views.{Item}
+use Rattle.pair_check_agenda.proofs.FrontLemmas.{IsFront}
+use Rattle.pair_check_agenda.specs.Agendas.{items_in, IsAgenda}
+use Rattle.pair_check_agenda.proofs.taking.take_turns.Given as goal
+
+abbrev pub invariant-loop-turn : goal.invariant-loop-turn
+invariant-loop-turn l = IsFront (List Item) (IsAgenda l.observer) l.code l.initial.world l.turns l.turn l.world (items_in l.entries.items)
