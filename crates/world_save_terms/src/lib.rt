@@ -1,0 +1,10 @@
+//! From the end of a run to the document of the next one, as definitions.
+//!
+//! - `specs/Items`: the files and directories that can be reached from the root, each directory followed by what it holds,
+//!   with their paths.
+//! - `specs/Rows`: the counters, in the byte order of the texts of their homes' labels.
+//! - `specs/Document`: the document, which is one JSON value, and its compact text.
+//! - `specs/Refusals`: what cannot be saved.
+//!
+//! What such a document gives when it is read is defined in `world_doc_terms`.
+#![tactic(auto)]
