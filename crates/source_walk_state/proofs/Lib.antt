@@ -1,0 +1,4 @@
+pub mod Chains
+pub mod Opening
+pub mod Going
+pub mod Marks

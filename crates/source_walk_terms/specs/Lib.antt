@@ -1,0 +1,2 @@
+pub mod Departs
+pub mod Walks

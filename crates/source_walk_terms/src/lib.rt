@@ -1,0 +1,20 @@
+//! When the asks of a run are those that the source of its program makes, as definitions.
+//!
+//! A walk goes over a program with its names resolved, with the answers that stand in a run, and compares the asks that
+//! it meets with those that stand there. It takes no code, and trusts none: a run of whatever code is walked, and where
+//! a thread asks something else than its source, or more, the walk names the thread and the place of that ask.
+//!
+//! `specs/Departs` says of two lists of asks where the first leaves the second, `specs/Walks` what the answer of a walk
+//! says of a run, and `proofs/Examples` has a worked example.
+#![tactic(auto)]
+
+/// How the asks of a run stand to those of its source.
+#[derive(Clone, Copy, Debug, PartialEq, Eq, Drop)]
+pub enum Walked {
+    /// The asks of each thread are the first ones of its source, with as many units as the thread took turns. There are
+    /// so many asks in the run.
+    Same { asks: u64 },
+    /// The asks of this thread are not, and those of each thread with a lower number are. At this place of its asks, and
+    /// at none before, its source asks something else or nothing.
+    Departs { thread: u32, ask: u64 },
+}
