@@ -491,7 +491,7 @@ fn of_some<'a>(label: &'a Label, caps: &'a Caps, b: Builtin, args: &'a [Value]) 
 
 /// What a built-in call does at a label with capabilities. A null argument raises Null before all else.
 #[tactic(auto, unfolding(thread_steps::specs::Builtins::builtin))]
-fn builtin<'a>(label: &'a Label, caps: &'a Caps, b: Builtin, args: &'a [Value]) -> Called<'a>
+pub fn builtin<'a>(label: &'a Label, caps: &'a Caps, b: Builtin, args: &'a [Value]) -> Called<'a>
     requires { length args.now ≤ 3 }
     ensures { calls_of result ≡ builtin label.now caps.now b args.now }
 {

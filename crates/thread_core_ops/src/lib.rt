@@ -12,5 +12,6 @@ mod operators;
 mod seeing;
 mod units;
 
+pub use operators::{label_from, operator, prefix, with_sign};
 pub use seeing::see;
 pub use units::{UnitAt, region_in};
