@@ -52,8 +52,12 @@ enum Form {
     Make,
     /// `help`
     Help,
+    /// `next P W BOOK W2`
+    Next,
     /// `pair P W1 BOOK1 W2 BOOK2 OBS`
     Pair,
+    /// `walk P W BOOK`
+    Walk,
 }
 
 /// The options of `run` that the words have, in this order.
@@ -84,7 +88,9 @@ impl Form {
             Form::Audit => "audit",
             Form::Make => "make",
             Form::Help => "help",
+            Form::Next => "next",
             Form::Pair => "pair",
+            Form::Walk => "walk",
         }
     }
 
@@ -112,6 +118,13 @@ impl Form {
                 Kind::File,
             ],
             Form::Help => &[Kind::Name(Form::Help)],
+            Form::Next => &[
+                Kind::Name(Form::Next),
+                Kind::File,
+                Kind::File,
+                Kind::File,
+                Kind::File,
+            ],
             Form::Pair => &[
                 Kind::Name(Form::Pair),
                 Kind::File,
@@ -121,6 +134,7 @@ impl Form {
                 Kind::File,
                 Kind::Observer,
             ],
+            Form::Walk => &[Kind::Name(Form::Walk), Kind::File, Kind::File, Kind::File],
         }
     }
 }
@@ -236,7 +250,9 @@ fn forms() -> &'static [Form]
         Form::Audit,
         Form::Make,
         Form::Help,
+        Form::Next,
         Form::Pair,
+        Form::Walk,
     ]
 }
 
@@ -293,6 +309,14 @@ pub enum Command {
     },
     /// `help`: the forms of the words.
     Help,
+    /// `next P W BOOK W2`: the document of the world of the next run is written, with the files at the end of a run of a
+    /// program, from the world of a document, in the order of a book.
+    Next {
+        program: String,
+        world: String,
+        book: String,
+        next_world: String,
+    },
     /// `pair P W1 BOOK1 W2 BOOK2 OBS`: whether an observer may expect to see the same of two runs of a program, each with
     /// the document of its world and its book, and if not, in what they differ first.
     Pair {
@@ -302,6 +326,12 @@ pub enum Command {
         second_world: String,
         second_book: String,
         obs: String,
+    },
+    /// `walk P W BOOK`: how many asks stand in such a run, each of which the source of the program makes.
+    Walk {
+        program: String,
+        world: String,
+        book: String,
     },
 }
 
@@ -379,7 +409,9 @@ pub fn read_words(alloc: Global, words: &[String]) -> Result<Command, WordFault>
         Form::Run(options) => run_command(alloc, words, options),
         Form::Make => make_command(alloc, words),
         Form::Help => Ok(Command::Help),
+        Form::Next => next_command(alloc, words),
         Form::Pair => pair_command(alloc, words),
+        Form::Walk => walk_command(alloc, words),
     }
 }
 
@@ -408,6 +440,18 @@ fn make_command(alloc: Global, words: &[String]) -> Result<Command, WordFault>
     })
 }
 
+fn next_command(alloc: Global, words: &[String]) -> Result<Command, WordFault>
+    ensures value { ReadsCommand result (Ok (requested (map string_bytes words.now) Form.Next)) }
+    ensures ranges { IfOk result (λ c. InRange (asked c)) }
+{
+    Ok(Command::Next {
+        program: String::from_str(alloc, word_at(words, 1))?,
+        world: String::from_str(alloc, word_at(words, 2))?,
+        book: String::from_str(alloc, word_at(words, 3))?,
+        next_world: String::from_str(alloc, word_at(words, 4))?,
+    })
+}
+
 fn pair_command(alloc: Global, words: &[String]) -> Result<Command, WordFault>
     ensures value { ReadsCommand result (Ok (requested (map string_bytes words.now) Form.Pair)) }
     ensures ranges { IfOk result (λ c. InRange (asked c)) }
@@ -419,6 +463,17 @@ fn pair_command(alloc: Global, words: &[String]) -> Result<Command, WordFault>
         second_world: String::from_str(alloc, word_at(words, 4))?,
         second_book: String::from_str(alloc, word_at(words, 5))?,
         obs: String::from_str(alloc, word_at(words, 6))?,
+    })
+}
+
+fn walk_command(alloc: Global, words: &[String]) -> Result<Command, WordFault>
+    ensures value { ReadsCommand result (Ok (requested (map string_bytes words.now) Form.Walk)) }
+    ensures ranges { IfOk result (λ c. InRange (asked c)) }
+{
+    Ok(Command::Walk {
+        program: String::from_str(alloc, word_at(words, 1))?,
+        world: String::from_str(alloc, word_at(words, 2))?,
+        book: String::from_str(alloc, word_at(words, 3))?,
     })
 }
 
@@ -457,7 +512,7 @@ pub fn help_text(alloc: Global) -> Result<String, NoMemory>
 {
     Ok(String::from_str(
         alloc,
-        "lam play FILE OBS\nlam check P\nlam format P\nlam code P\nlam replay P W BOOK OBS\nlam run P W OBS BOOKOUT [--workers N] [--turns N]\nlam audit P W BOOK\nlam make SEED THREADS BOOKOUT\nlam help\nlam pair P W1 BOOK1 W2 BOOK2 OBS\n",
+        "lam play FILE OBS\nlam check P\nlam format P\nlam code P\nlam replay P W BOOK OBS\nlam run P W OBS BOOKOUT [--workers N] [--turns N]\nlam audit P W BOOK\nlam make SEED THREADS BOOKOUT\nlam help\nlam next P W BOOK W2\nlam pair P W1 BOOK1 W2 BOOK2 OBS\nlam walk P W BOOK\n",
     )?)
 }
 
