@@ -13,6 +13,7 @@
 //! - `replays`: two calls of `replay` whose starts their observer cannot tell apart print the same, and `audit` prints
 //!   each release past any observer (`specs/Calls`).
 //! - `pairs`: what `pair` tells of two runs (`specs/Pairs`).
+//! - `walks`: what `walk` tells of a run (`specs/Walks`).
 //! - `audits`: what is kept of a run for observers and auditors is whole (`specs/Whole`).
 //! - `meant`: the runs of all these calls mean what their source means (`specs/Meant`).
 #![tactic(auto)]
@@ -25,6 +26,7 @@ mod meant;
 mod pairs;
 mod replays;
 mod runs;
+mod walks;
 
 pub use audits::{audits_are_whole, releases_are_told};
 pub use ends::{orderly_calls_are_done, refusals_are_exact};
@@ -37,3 +39,4 @@ pub use runs::{
     broken_runs_are_recorded, generated_runs_are_recorded, orderly_runs_end, runs_are_complete,
     runs_are_recorded, runs_end_in_order,
 };
+pub use walks::walks_are_told;

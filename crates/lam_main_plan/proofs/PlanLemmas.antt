@@ -17,7 +17,7 @@ use Rattle.audit_log_notes.specs.Sums.{summary_lines}
 use Rattle.world_doc_terms.specs.Breaks.{Reading}
 use Rattle.world_doc_terms.specs.Start.{start_of}
 use Rattle.lam_front.specs.Programs.{IsFine}
-use Rattle.lam_main_words.specs.Words.{Text, Request, play, check, format, code, replay, run, audit, make, help, pair, request_of}
+use Rattle.lam_main_words.specs.Words.{Text, Request, play, check, format, code, replay, run, audit, make, help, pair, walk, request_of}
 use Rattle.lam_main_plan.specs.Refusals.{Plan, prints, no_program}
 use Rattle.lam_main_plan.specs.Reading.{IsUnread, HasFile, WithFile, unread, of_file, script_limit, program_limit, world_limit, book_limit, IsCompiled, ByCode, Compiles, fine, broken}
 use Rattle.lam_main_plan.specs.Replays.{Reader, an_observer, an_auditor, RunFiles, read_by, IsOfBook, ByReader, ByWorld, Replays, Starts, Runs}
@@ -33,6 +33,8 @@ use Rattle.pair_check_terms.specs.declared.answer.PairAnswer.{PairAnswer}
 use Rattle.pair_check_terms.proofs.PairLemmas.{one_answer}
 use Rattle.lam_main_plan.specs.Books.{WithStart, WithRun, ByLabel, ByTurns, WhereReady}
 use Rattle.lam_main_plan.specs.Pairs.{pair_line, IsOfPair, PairsWith, PairsRuns, Pairs}
+use Rattle.source_walk_terms.specs.declared.Walked.TheVariants.{Same}
+use Rattle.lam_main_plan.specs.Walks.{same_line, IsOfWalk, WalksRun, Walks}
 use Rattle.lam_main_plan.specs.Plan.{Plays, Formats, canonical, misspelt, Checks, Lists, IsPlanOf, starts_threads, PlansAreOne, IsRefused, RefusalsAreOne}
 
 pub one_bytes : {bs cs : Text} → Some bs ≡ Some cs → bs ≡ cs
@@ -160,6 +162,18 @@ module _ (p q : Plan) where
     one_pairs : (first second : RunFiles) (index : ℕ) (label bytes : Text) → Pairs files first second index label bytes p → Pairs files first second index label bytes q → p ≡ q
     one_pairs first second index label bytes h k = one_compiles (PairsRuns files first second index label) (one_pair first second index label) bytes h k
 
+    -- how many asks stand in a run, the source does not say
+    one_of_walk : (bytes : Text) (tree : CodeTree) (start : World) (turns : List ℕ) → IsOfWalk bytes tree start turns p → IsOfWalk bytes tree start turns q → p ≡ q
+    one_of_walk bytes tree start turns h k = h.is ∙ ap (λ (asks : ℕ). prints (same_line asks)) (h.walked.1 ∙ sym k.walked.1) ∙ sym k.is
+
+    one_walk : (run : RunFiles) (bytes : Text) (tree : CodeTree) → WalksRun files run bytes tree p → WalksRun files run bytes tree q → p ≡ q
+    one_walk run bytes tree h k =
+        one_with_start run.world tree (λ start. WithRun files run.book tree start (IsOfWalk bytes tree start))
+        (λ start. one_with_run run.book tree start (IsOfWalk bytes tree start) (one_of_walk bytes tree start)) h k
+
+    one_walks : (run : RunFiles) (bytes : Text) → Walks files run bytes p → Walks files run bytes q → p ≡ q
+    one_walks run bytes h k = one_compiles (WalksRun files run bytes) (one_walk run bytes) bytes h k
+
   -- ---- a run whose turns threads take
 
   -- plans of runs of one code from one start are one
@@ -198,6 +212,7 @@ module _ (p q : Plan) where
   one_plan_of (Ok (make seed threads out)) files one h k = one_makes files (one refl) seed threads out h k
   one_plan_of (Ok help) files one h k = h ∙ sym k
   one_plan_of (Ok (pair program first_world first_book second_world second_book label)) files one h k = one_with_file (files program) program program_limit (Pairs files (record { world = first_world; book = first_book }) (record { world = second_world; book = second_book }) 6 label) (one_pairs files (record { world = first_world; book = first_book }) (record { world = second_world; book = second_book }) 6 label) h k
+  one_plan_of (Ok (walk program world book)) files one h k = one_with_file (files program) program program_limit (Walks files (record { world = world; book = book })) (one_walks files (record { world = world; book = book })) h k
 
 pub plans_are_one : PlansAreOne
 plans_are_one ws files p q none h k = one_plan_of p q (request_of ws) files (λ some. absurd (let clash : false ≡ true = sym none ∙ some in cc)) h k
