@@ -20,7 +20,7 @@ ghost use Rattle.lam_io.specs.Outside.{Rose, AllStay, Took};
 ghost use Rattle.lam_main_words.specs.Words.{request_of, asked, InRange, help_lines, commands};
 ghost use Rattle.lam_main_plan.specs.Refusals.{Plan, prints, no_word};
 ghost use Rattle.lam_main_plan.specs.Replays.{an_observer};
-ghost use Rattle.lam_main_plan.specs.Plan.{IsPlanOf, IsPlan, starts_threads, written_by, PlaysIsolated, FormatIsSteady};
+ghost use Rattle.lam_main_plan.specs.Plan.{IsPlanOf, IsPlan, leaves_open, written_by, PlaysIsolated, FormatIsSteady};
 ghost use Rattle.lam_main_plan.specs.Answer.{outside, AsPlanned, IsAnswer, IsPlanned, OthersKept};
 ghost use Rattle.lam_main_laws.specs.Calls.{ReplaysAreIsolated, AuditsArePrinted};
 ghost use Rattle.lam_main_laws.specs.Fronts.{FrontsArePrinted};
@@ -72,7 +72,7 @@ pub fn lam<R: Threads + Wait + Sync, H: Shelf, O: Sink, G: Gate + Sync>(
     gate: &G,
 ) -> Status
     // Of the words and the files that the shelf tells: how it ended, what was printed and what became of the files.
-    ensures answer { IsTrue (H.tells shelf.old) → starts_threads (request_of (map string_bytes words.now)) ≡ false → (plan : Plan) → IsPlan (map string_bytes words.now) (H.files shelf.old) plan → IsAnswer result plan (outside (H.files shelf.old) (O.taken out.old)) (outside (H.files shelf.new) (O.taken out.new)) }
+    ensures answer { IsTrue (H.tells shelf.old) → leaves_open (request_of (map string_bytes words.now)) ≡ false → (plan : Plan) → IsPlan (map string_bytes words.now) (H.files shelf.old) plan → IsAnswer result plan (outside (H.files shelf.old) (O.taken out.old)) (outside (H.files shelf.new) (O.taken out.new)) }
     ensures planned { IsTrue (H.tells shelf.old) → IsPlanned result (IsPlan (map string_bytes words.now) (H.files shelf.old)) (outside (H.files shelf.old) (O.taken out.old)) (outside (H.files shelf.new) (O.taken out.new)) }
     ensures others_kept { IsTrue (H.tells shelf.old) → OthersKept (written_by (request_of (map string_bytes words.now))) (H.files shelf.old) (H.files shelf.new) }
 
@@ -80,7 +80,7 @@ pub fn lam<R: Threads + Wait + Sync, H: Shelf, O: Sink, G: Gate + Sync>(
     ensures spared { IsTrue (H.tells shelf.old) → result ≡ Status.NoMemory → ¬ Rose (H.refusals shelf.old) (H.refusals shelf.new) → AllStay (H.files shelf.old) (H.files shelf.new) }
 
     // Where no count rose it ended as planned, or memory ran out.
-    ensures no_fault { IsTrue (H.tells shelf.old) → starts_threads (request_of (map string_bytes words.now)) ≡ false → ¬ Rose (H.faults shelf.old) (H.faults shelf.new) → ¬ Rose (O.faults out.old) (O.faults out.new) → result ≢ Status.NoMemory → (plan : Plan) → IsPlan (map string_bytes words.now) (H.files shelf.old) plan → result ≡ plan.status }
+    ensures no_fault { IsTrue (H.tells shelf.old) → leaves_open (request_of (map string_bytes words.now)) ≡ false → ¬ Rose (H.faults shelf.old) (H.faults shelf.new) → ¬ Rose (O.faults out.old) (O.faults out.new) → result ≢ Status.NoMemory → (plan : Plan) → IsPlan (map string_bytes words.now) (H.files shelf.old) plan → result ≡ plan.status }
 
     // A refusal comes exactly where it is planned, whatever the command; and what is in order ends in order. Memory may run
     // out, and the file store or the output may fail.

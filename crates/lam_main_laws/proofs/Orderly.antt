@@ -15,7 +15,7 @@ use Rattle.lam_main_plan.specs.declared.Status.TheVariants.{Done, NoMemory, Word
 use Rattle.lam_main_plan.specs.Refusals.{Plan, prints}
 use Rattle.lam_main_plan.specs.Reading.{HasFile, IsCompiled, program_limit}
 use Rattle.lam_main_plan.specs.Threads.{IsOfThreads, made_budget}
-use Rattle.lam_main_plan.specs.Plan.{IsPlan, IsPlanOf, starts_threads, PlansAreOne, IsRefused, RefusalsAreOne}
+use Rattle.lam_main_plan.specs.Plan.{IsPlan, IsPlanOf, leaves_open, PlansAreOne, IsRefused, IsTold, RefusalsAreOne}
 use Rattle.lam_main_plan.specs.Answer.{Outside, IsPrinted, whole, front, IsPlanned}
 use Rattle.lam_main_plan.proofs.PlayLemmas.{printed_of}
 use Rattle.lam_main_plan.proofs.FormatLemmas.{planned}
@@ -38,18 +38,18 @@ ended_as : (status end : Status) (text : Text) (old new : Option Text) → IsUnf
 ended_as status end text old new quiet (whole e t) = e
 ended_as status end text old new quiet (front e t) = absurd (subst IsUnfailed e quiet)
 
--- ---- a text is planned, and no thread starts
+-- ---- a text is planned, and nothing is left open
 
 record Prints (ws : List Text) (files : Files) : Type 0 where
   text : Text
   is : IsPlan ws files (prints text)
-  alone : starts_threads (request_of ws) ≡ false
+  alone : leaves_open (request_of ws) ≡ false
 
-asks : (ws : List Text) (files : Files) (request : Request) (text : Text) → request_of ws ≡ Ok request → starts_threads (Ok request) ≡ false → IsPlanOf (Ok request) files (prints text) → Prints ws files
+asks : (ws : List Text) (files : Files) (request : Request) (text : Text) → request_of ws ≡ Ok request → leaves_open (Ok request) ≡ false → IsPlanOf (Ok request) files (prints text) → Prints ws files
 asks ws files request text is none of = record {
   text = text;
   is = subst (λ (r : Result Request ℕ). IsPlanOf r files (prints text)) (sym is) of;
-  alone = ap starts_threads is ∙ none;
+  alone = ap leaves_open is ∙ none;
 }
 
 module _ (files : Files) (program : Text) (tree : CodeTree) (h : HasFile (files program) program_limit (λ bytes. IsCompiled bytes (Ok tree))) where
@@ -65,12 +65,12 @@ module _ (stops : (tree : CodeTree) → RunsStop tree) where
   orderly_text one ws files plan p is = ap (λ (it : Plan). it.status) (one ws files plan (prints p.text) p.alone is p.is)
 
   orderly_plan : PlansAreOne → (ws : List Text) (files : Files) (plan : Plan) → IsOrderly ws files → IsPlan ws files plan → plan.status ≡ Done
-  orderly_plan one ws files plan (plays script o r) is = orderly_text one ws files plan (record { text = play_lines script o; is = printed_of ws files script o r; alone = ap starts_threads r.asks }) is
+  orderly_plan one ws files plan (plays script o r) is = orderly_text one ws files plan (record { text = play_lines script o; is = printed_of ws files script o r; alone = ap leaves_open r.asks }) is
   orderly_plan one ws files plan (checks program tree ask h) is = orderly_text one ws files plan (asks ws files (check program) (codes "ok\n") ask refl (checked files program tree h)) is
-  orderly_plan one ws files plan (formats p r) is = orderly_text one ws files plan (record { text = canon p; is = planned ws files p r; alone = ap starts_threads r.asks }) is
+  orderly_plan one ws files plan (formats p r) is = orderly_text one ws files plan (record { text = canon p; is = planned ws files p r; alone = ap leaves_open r.asks }) is
   orderly_plan one ws files plan (lists program tree ask h) is = orderly_text one ws files plan (asks ws files (code program) (listing_text tree) ask refl (listed files program tree h)) is
-  orderly_plan one ws files plan (replays tree start o turns r) is = orderly_text one ws files plan (record { text = view_lines start.names o (moments tree turns start); is = view_printed ws files tree start o turns (stops tree) r; alone = ap starts_threads r.asks }) is
-  orderly_plan one ws files plan (audits tree start turns r) is = orderly_text one ws files plan (record { text = audit_lines start.names (moments tree turns start); is = audit_printed ws files tree start turns (stops tree) r; alone = ap starts_threads r.asks }) is
+  orderly_plan one ws files plan (replays tree start o turns r) is = orderly_text one ws files plan (record { text = view_lines start.names o (moments tree turns start); is = view_printed ws files tree start o turns (stops tree) r; alone = ap leaves_open r.asks }) is
+  orderly_plan one ws files plan (audits tree start turns r) is = orderly_text one ws files plan (record { text = audit_lines start.names (moments tree turns start); is = audit_printed ws files tree start turns (stops tree) r; alone = ap leaves_open r.asks }) is
   orderly_plan one ws files plan (helps ask) is = orderly_text one ws files plan (asks ws files help (help_lines commands) ask refl refl) is
   orderly_plan one ws files plan (pairs tree o s turns s' turns' a) is = ap (λ (it : Plan). it.status) (pair_planned ws files tree o s turns s' turns' plan (stops tree) a is).is
   orderly_plan one ws files plan (walks tree start turns a) is = ap (λ (it : Plan). it.status) (walk_planned ws files tree start turns plan (stops tree) a is).is
@@ -133,14 +133,14 @@ module _ (one : RefusalsAreOne) (ws : List Text) (status : Status) (old new : Ou
       let d = unfailed_did status (IsPlan ws old.files) old new quiet given in
       (d.plan, record { is = d.is; ends = ended_as status d.plan.status d.plan.text old.taken new.taken quiet d.does.printed; does = d.does })
 
-  comes_so : (plan : Plan) → IsPlan ws old.files plan → IsRefused plan.status → IsUnfailed status → IsRefusedAs ws status old new plan
-  comes_so plan is refused quiet =
+  comes_so : (plan : Plan) → IsPlan ws old.files plan → IsRefused plan.status → IsTold (request_of ws) plan → IsUnfailed status → IsRefusedAs ws status old new plan
+  comes_so plan is refused told quiet =
       let d = did_planned quiet in
-      subst (IsRefusedAs ws status old new) (sym (one ws old.files plan d.0 refused is d.1.is)) d.1
+      subst (IsRefusedAs ws status old new) (sym (one ws old.files plan d.0 refused told is d.1.is)) d.1
 
   pub refused_exactly : RefusalsAreExact ws status old new
   refused_exactly = record {
     planned = λ refused. did_planned (refused_quiet status refused);
     comes = comes_so;
-    alone = λ plan other refused is it. one ws old.files plan other refused is it;
+    alone = λ plan other refused told is it. one ws old.files plan other refused told is it;
   }

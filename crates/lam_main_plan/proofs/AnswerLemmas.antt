@@ -1,12 +1,12 @@
 -- From what became of a plan to how the call answers to it.
 use Rattle.std.proofs.Common.{◌≡◌, ℕ, false, [], Option, Some, None, Result, Ok, Err, refl, subst}
 use Rattle.lam_io.specs.Outside.{Files, AllStay, Took}
-use Rattle.lam_main_words.specs.Words.{Text, Request, play, check, format, code, replay, run, audit, make, help, pair, walk}
+use Rattle.lam_main_words.specs.Words.{Text, Request, play, check, format, code, replay, run, audit, make, help, next, pair, walk}
 use Rattle.lam_main_plan.specs.declared.Status.{Status}
 use Rattle.lam_main_plan.specs.declared.Status.TheVariants.{NoMemory, ShelfFault, SinkFault}
 use Rattle.lam_main_plan.specs.Refusals.{Plan}
 use Rattle.lam_main_plan.specs.Answer.{Outside, IsPrinted, whole, front, IsWritten, OthersKept, written, AsPlanned, IsAnswer, as_planned, out_of_memory, shelf_failed, IsPlanned, by_plan, without_memory, without_shelf}
-use Rattle.lam_main_plan.specs.Plan.{starts_threads, written_by}
+use Rattle.lam_main_plan.specs.Plan.{leaves_open, written_by}
 
 -- where no file changed, no other did
 pub stay_kept : (name : Option Text) (old new : Files) → AllStay old new → OthersKept name old new
@@ -32,8 +32,8 @@ status_of status plan old new memory shelf sink (as_planned does) = printed_stat
 status_of status plan old new memory shelf sink (out_of_memory e t k) = absurd (memory e)
 status_of status plan old new memory shelf sink (shelf_failed e t k) = absurd (shelf e)
 
--- what starts no thread writes no file
-nothing_written : (request : Result Request ℕ) → starts_threads request ≡ false → written_by request ≡ None
+-- where nothing is left open no file is written
+nothing_written : (request : Result Request ℕ) → leaves_open request ≡ false → written_by request ≡ None
 nothing_written (Err index) none = refl
 nothing_written (Ok (play file label)) none = refl
 nothing_written (Ok (check program)) none = refl
@@ -44,8 +44,9 @@ nothing_written (Ok (run program world label out workers budget)) none = absurd 
 nothing_written (Ok (audit program world book)) none = refl
 nothing_written (Ok (make seed threads out)) none = absurd (let no : ⊥ = cc in no)
 nothing_written (Ok help) none = refl
+nothing_written (Ok (next program world book out)) none = absurd (let no : ⊥ = cc in no)
 nothing_written (Ok (pair program first_world first_book second_world second_book label)) none = refl
 nothing_written (Ok (walk program world book)) none = refl
 
-pub all_stay : (request : Result Request ℕ) (old new : Files) → starts_threads request ≡ false → OthersKept (written_by request) old new → AllStay old new
+pub all_stay : (request : Result Request ℕ) (old new : Files) → leaves_open request ≡ false → OthersKept (written_by request) old new → AllStay old new
 all_stay request old new none kept = subst (λ (name : Option Text). OthersKept name old new) (nothing_written request none) kept

@@ -1,5 +1,5 @@
 -- Words and files have at most one plan.
-use Rattle.std.proofs.Common.{◌≡◌, ◌<◌, ◌≤◌, ℕ, true, false, List, length, Option, Some, None, Result, Ok, Err, codes, refl, sym, ap, subst, ◌∙◌, arith}
+use Rattle.std.proofs.Common.{◌≡◌, ◌<◌, ◌≤◌, ℕ, Bool, true, false, ◌||◌, List, length, Option, Some, None, Result, Ok, Err, codes, refl, sym, ap, subst, ◌∙◌, arith}
 use Rattle.lam_io.specs.Outside.{Files}
 use Rattle.lam_print.specs.Canon.{canon}
 use Rattle.lam_front.proofs.Once.{one_spelt, spelt_or_misspelt, one_misspelt, fine_or_broken, one_broken}
@@ -17,8 +17,8 @@ use Rattle.audit_log_notes.specs.Sums.{summary_lines}
 use Rattle.world_doc_terms.specs.Breaks.{Reading}
 use Rattle.world_doc_terms.specs.Start.{start_of}
 use Rattle.lam_front.specs.Programs.{IsFine}
-use Rattle.lam_main_words.specs.Words.{Text, Request, play, check, format, code, replay, run, audit, make, help, pair, walk, request_of}
-use Rattle.lam_main_plan.specs.Refusals.{Plan, prints, no_program}
+use Rattle.lam_main_words.specs.Words.{Text, Request, play, check, format, code, replay, run, audit, make, help, next, pair, walk, request_of}
+use Rattle.lam_main_plan.specs.Refusals.{Plan, prints, no_program, unnamed_tag, bad_text, too_big}
 use Rattle.lam_main_plan.specs.Reading.{IsUnread, HasFile, WithFile, unread, of_file, script_limit, program_limit, world_limit, book_limit, IsCompiled, ByCode, Compiles, fine, broken}
 use Rattle.lam_main_plan.specs.Replays.{Reader, an_observer, an_auditor, RunFiles, read_by, IsOfBook, ByReader, ByWorld, Replays, Starts, Runs}
 use Rattle.lam_main_plan.specs.Threads.{status_of, IsOfThreads, ThreadFiles, TakesTurns, StartsThreads, RunsThreads, made_budget, Makes}
@@ -27,15 +27,19 @@ use Rattle.flow_labels.specs.declared.Label.{Label}
 use Rattle.flow_labels.specs.declared.texts.LabelFault.{LabelFault}
 use Rattle.turn_book.specs.Reading.{turns_of}
 use Rattle.turn_book.specs.declared.BookFault.{BookFault}
-use Rattle.lam_machine_terms.specs.Turns.{moments}
+use Rattle.lam_machine_terms.specs.Turns.{moments, replay as replayed}
 use Rattle.lam_machine_runs.specs.Stops.{NotReady, stopped_at}
 use Rattle.pair_check_terms.specs.declared.answer.PairAnswer.{PairAnswer}
 use Rattle.pair_check_terms.proofs.PairLemmas.{one_answer}
 use Rattle.lam_main_plan.specs.Books.{WithStart, WithRun, ByLabel, ByTurns, WhereReady}
 use Rattle.lam_main_plan.specs.Pairs.{pair_line, IsOfPair, PairsWith, PairsRuns, Pairs}
+use Rattle.capabilities.specs.declared.Caps.{Caps}
+use Rattle.labelled_files.specs.Trees.{Tree}
+use Rattle.world_save_terms.specs.Refusals.{bad_path}
+use Rattle.lam_main_plan.specs.Saves.{IsOfFiles, saved, unnamed, untold, too_long, IsOfEnd, SavesRun, Saves}
 use Rattle.source_walk_terms.specs.declared.Walked.TheVariants.{Same}
 use Rattle.lam_main_plan.specs.Walks.{same_line, IsOfWalk, WalksRun, Walks}
-use Rattle.lam_main_plan.specs.Plan.{Plays, Formats, canonical, misspelt, Checks, Lists, IsPlanOf, starts_threads, PlansAreOne, IsRefused, RefusalsAreOne}
+use Rattle.lam_main_plan.specs.Plan.{Plays, Formats, canonical, misspelt, Checks, Lists, IsPlanOf, starts_threads, saves, leaves_open, PlansAreOne, IsRefused, IsTold, RefusalsAreOne}
 
 pub one_bytes : {bs cs : Text} → Some bs ≡ Some cs → bs ≡ cs
 one_bytes e = cc
@@ -198,24 +202,59 @@ module _ (p q : Plan) where
         one_compiles (λ tree. ByWorld (OfStart tree) (start_of (world_text seed threads) tree))
         (λ tree. one_by_world (OfStart tree) (λ start. one tree start out made_budget (summary_lines seed threads)) (start_of (world_text seed threads) tree)) program_text h k
 
+  -- ---- the files at the end of a run
+
+  -- plans of files are one
+  abbrev SavesAreOne : Type 0
+  SavesAreOne = (out old : Text) (names : List Text) (public : Caps) (t : Tree) → IsOfFiles out old names public t p → IsOfFiles out old names public t q → p ≡ q
+
+  module _ (files : Files) (one : SavesAreOne) where
+    one_save : (run : RunFiles) (out : Text) (tree : CodeTree) → SavesRun files run out tree p → SavesRun files run out tree q → p ≡ q
+    one_save run out tree h k =
+        let OfStart : Text → World → Plan → Type 0 = λ old start. WithRun files run.book tree start (IsOfEnd out tree old start) in
+        one_with_file (files run.world) run.world world_limit (λ old. ByWorld (OfStart old) (start_of old tree))
+        (λ old. one_by_world (OfStart old)
+        (λ start. one_with_run files run.book tree start (IsOfEnd out tree old start)
+        (λ turns. one out old start.names start.public (replayed tree turns start).files)) (start_of old tree)) h k
+
+    one_saves : (run : RunFiles) (out bytes : Text) → Saves files run out bytes p → Saves files run out bytes q → p ≡ q
+    one_saves run out bytes h k = one_compiles (SavesRun files run out) (one_save run out) bytes h k
+
   -- ---- every command
 
-  one_plan_of : (r : Result Request ℕ) (files : Files) → (starts_threads r ≡ true → RunsAreOne) → IsPlanOf r files p → IsPlanOf r files q → p ≡ q
-  one_plan_of (Err index) files one h k = h ∙ sym k
-  one_plan_of (Ok (play file observer)) files one h k = one_with_file (files file) file script_limit (Plays observer) (one_plays observer) h k
-  one_plan_of (Ok (check file)) files one h k = one_with_file (files file) file program_limit Checks (one_compiles (λ tree p. p ≡ prints (codes "ok\n")) (λ tree. one_equal (prints (codes "ok\n")))) h k
-  one_plan_of (Ok (format file)) files one h k = one_with_file (files file) file program_limit Formats one_formats h k
-  one_plan_of (Ok (code file)) files one h k = one_with_file (files file) file program_limit Lists (one_compiles (λ tree p. p ≡ prints (listing_text tree)) (λ tree. one_equal (prints (listing_text tree)))) h k
-  one_plan_of (Ok (replay program world book label)) files one h k = one_with_file (files program) program program_limit (Runs files (record { world = world; book = book }) (an_observer 4 label)) (one_runs files (record { world = world; book = book }) (an_observer 4 label)) h k
-  one_plan_of (Ok (run program world label out workers budget)) files one h k = one_with_file (files program) program program_limit (RunsThreads files (record { world = world; out = out }) budget (an_observer 3 label)) (one_run files (one refl) (record { world = world; out = out }) budget (an_observer 3 label)) h k
-  one_plan_of (Ok (audit program world book)) files one h k = one_with_file (files program) program program_limit (Runs files (record { world = world; book = book }) an_auditor) (one_runs files (record { world = world; book = book }) an_auditor) h k
-  one_plan_of (Ok (make seed threads out)) files one h k = one_makes files (one refl) seed threads out h k
-  one_plan_of (Ok help) files one h k = h ∙ sym k
-  one_plan_of (Ok (pair program first_world first_book second_world second_book label)) files one h k = one_with_file (files program) program program_limit (Pairs files (record { world = first_world; book = first_book }) (record { world = second_world; book = second_book }) 6 label) (one_pairs files (record { world = first_world; book = first_book }) (record { world = second_world; book = second_book }) 6 label) h k
-  one_plan_of (Ok (walk program world book)) files one h k = one_with_file (files program) program program_limit (Walks files (record { world = world; book = book })) (one_walks files (record { world = world; book = book })) h k
+  one_plan_of : (r : Result Request ℕ) (files : Files) → (starts_threads r ≡ true → RunsAreOne) → (saves r ≡ true → SavesAreOne) → IsPlanOf r files p → IsPlanOf r files q → p ≡ q
+  one_plan_of (Err index) files one save h k = h ∙ sym k
+  one_plan_of (Ok (play file observer)) files one save h k = one_with_file (files file) file script_limit (Plays observer) (one_plays observer) h k
+  one_plan_of (Ok (check file)) files one save h k = one_with_file (files file) file program_limit Checks (one_compiles (λ tree p. p ≡ prints (codes "ok\n")) (λ tree. one_equal (prints (codes "ok\n")))) h k
+  one_plan_of (Ok (format file)) files one save h k = one_with_file (files file) file program_limit Formats one_formats h k
+  one_plan_of (Ok (code file)) files one save h k = one_with_file (files file) file program_limit Lists (one_compiles (λ tree p. p ≡ prints (listing_text tree)) (λ tree. one_equal (prints (listing_text tree)))) h k
+  one_plan_of (Ok (replay program world book label)) files one save h k = one_with_file (files program) program program_limit (Runs files (record { world = world; book = book }) (an_observer 4 label)) (one_runs files (record { world = world; book = book }) (an_observer 4 label)) h k
+  one_plan_of (Ok (run program world label out workers budget)) files one save h k = one_with_file (files program) program program_limit (RunsThreads files (record { world = world; out = out }) budget (an_observer 3 label)) (one_run files (one refl) (record { world = world; out = out }) budget (an_observer 3 label)) h k
+  one_plan_of (Ok (audit program world book)) files one save h k = one_with_file (files program) program program_limit (Runs files (record { world = world; book = book }) an_auditor) (one_runs files (record { world = world; book = book }) an_auditor) h k
+  one_plan_of (Ok (make seed threads out)) files one save h k = one_makes files (one refl) seed threads out h k
+  one_plan_of (Ok help) files one save h k = h ∙ sym k
+  one_plan_of (Ok (next program world book out)) files one save h k = one_with_file (files program) program program_limit (Saves files (record { world = world; book = book }) out) (one_saves files (save refl) (record { world = world; book = book }) out) h k
+  one_plan_of (Ok (pair program first_world first_book second_world second_book label)) files one save h k = one_with_file (files program) program program_limit (Pairs files (record { world = first_world; book = first_book }) (record { world = second_world; book = second_book }) 6 label) (one_pairs files (record { world = first_world; book = first_book }) (record { world = second_world; book = second_book }) 6 label) h k
+  one_plan_of (Ok (walk program world book)) files one save h k = one_with_file (files program) program program_limit (Walks files (record { world = world; book = book })) (one_walks files (record { world = world; book = book })) h k
+
+-- what starts threads or writes a world leaves something open
+starts_open : (r : Result Request ℕ) → leaves_open r ≡ false → starts_threads r ≡ true → ⊥
+starts_open r none some = by (starts_threads r) (saves r) none some
+  where
+    by : (a b : Bool) → (a || b) ≡ false → a ≡ true → ⊥
+    by true b none some = cc
+    by false b none some = cc
+
+saves_open : (r : Result Request ℕ) → leaves_open r ≡ false → saves r ≡ true → ⊥
+saves_open r none some = by (starts_threads r) (saves r) none some
+  where
+    by : (a b : Bool) → (a || b) ≡ false → b ≡ true → ⊥
+    by true b none some = cc
+    by false b none some = let clash : false ≡ true = sym none ∙ some in cc
 
 pub plans_are_one : PlansAreOne
-plans_are_one ws files p q none h k = one_plan_of p q (request_of ws) files (λ some. absurd (let clash : false ≡ true = sym none ∙ some in cc)) h k
+plans_are_one ws files p q none h k =
+    one_plan_of p q (request_of ws) files (λ some. absurd (starts_open (request_of ws) none some)) (λ some. absurd (saves_open (request_of ws) none some)) h k
 
 -- ---- a refusal
 
@@ -227,5 +266,29 @@ no_end how.Budget refused = refused
 no_run : (tree : CodeTree) (start : World) (out : Text) (budget : ℕ) (shown : List Moment → Text) (p : Plan) → IsRefused p.status → IsOfThreads tree start out budget shown p → ⊥
 no_run tree start out budget shown p refused h = no_end h.ended (subst (λ (it : Plan). IsRefused it.status) h.is refused)
 
+least_is_one : (a b : ℕ) → a ≤ b → b ≤ a → a ≡ b
+least_is_one a b h k = omega (arith, h, k)
+
+one_item : {a b : ℕ} → ◌≡◌ {A = Option ℕ} (Some a) (Some b) → a ≡ b
+one_item e = cc
+
+some_item : {a : ℕ} → ◌≡◌ {A = Option ℕ} (Some a) None → ⊥
+some_item e = cc
+
+-- files of which a refusal is planned, but for one of too many bytes, have no other plan
+no_other_save : (p q : Plan) → IsRefused p.status → ((bytes : ℕ) → p ≡ too_big bytes → ⊥) → (out old : Text) (names : List Text) (public : Caps) (t : Tree) → IsOfFiles out old names public t p → IsOfFiles out old names public t q → p ≡ q
+no_other_save p q refused told out old names public t (saved text items h e) k = absurd (subst (λ (it : Plan). IsRefused it.status) e refused)
+no_other_save p q refused told out old names public t (unnamed tag h e) (saved text items k d) = absurd (k.text_is.have.0 tag h.is)
+no_other_save p q refused told out old names public t (unnamed tag h e) (unnamed other k d) = e ∙ ap unnamed_tag (least_is_one tag other (h.least other k.is) (k.least tag h.is)) ∙ sym d
+no_other_save p q refused told out old names public t (unnamed tag h e) (untold item k d) = absurd (k.0 tag h.is)
+no_other_save p q refused told out old names public t (unnamed tag h e) (too_long bytes k d) = absurd (k.text_is.have.0 tag h.is)
+no_other_save p q refused told out old names public t (untold item h e) (saved text items k d) = absurd (some_item (sym h.1 ∙ k.text_is.have.1))
+no_other_save p q refused told out old names public t (untold item h e) (unnamed tag k d) = absurd (h.0 tag k.is)
+no_other_save p q refused told out old names public t (untold item h e) (untold other k d) = e ∙ ap bad_text (one_item (sym h.1 ∙ k.1)) ∙ sym d
+no_other_save p q refused told out old names public t (untold item h e) (too_long bytes k d) = absurd (some_item (sym h.1 ∙ k.text_is.have.1))
+no_other_save p q refused told out old names public t (too_long bytes h e) k = absurd (told bytes e)
+
 pub refusals_are_one : RefusalsAreOne
-refusals_are_one ws files p q refused h k = one_plan_of p q (request_of ws) files (λ some tree start out budget shown l m. absurd (no_run tree start out budget shown p refused l)) h k
+refusals_are_one ws files p q refused told h k =
+    one_plan_of p q (request_of ws) files (λ some tree start out budget shown l m. absurd (no_run tree start out budget shown p refused l))
+    (λ some. no_other_save p q refused (told some)) h k

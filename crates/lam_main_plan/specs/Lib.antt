@@ -6,6 +6,7 @@ pub mod Threads
 pub mod Books
 pub mod Pairs
 pub mod Walks
+pub mod Saves
 pub mod Plan
 pub mod Answer
 pub use Rattle.barrier_compiler.specs.Compiled

@@ -1,5 +1,5 @@
 -- What a call of given words does with given files, and how it ends, where nothing fails.
-use Rattle.std.specs.Prelude.{◌≡◌, ◌≤◌, ℕ, Bool, true, false, List, [], ◌∷◌, length, Option, Some, None, Result, Ok, Err, chars, codes, refl}
+use Rattle.std.specs.Prelude.{◌≡◌, ◌≤◌, ℕ, Bool, true, false, ◌||◌, List, [], ◌∷◌, length, Option, Some, None, Result, Ok, Err, chars, codes, refl}
 use Rattle.flow_labels.specs.LabelText.{label_of}
 use Rattle.flow_labels.specs.declared.Label.{Label}
 use Rattle.flow_labels.specs.declared.texts.LabelFault.{LabelFault}
@@ -17,14 +17,15 @@ use Rattle.lam_print.specs.Canon.{canon}
 use Rattle.lam_front.specs.declared.fault.ProgramFault.{ProgramFault}
 use Rattle.lam_front.specs.Programs.{IsSpelt, IsMisspelt}
 use Rattle.lam_bytecode.specs.Listing.{listing_text}
-use Rattle.lam_main_words.specs.Words.{Text, Request, play, check, format, code, replay, run, audit, make, help, pair, walk, request_of, commands, help_lines}
+use Rattle.lam_main_words.specs.Words.{Text, Request, play, check, format, code, replay, run, audit, make, help, next, pair, walk, request_of, commands, help_lines}
 use Rattle.lam_main_plan.specs.declared.Status.{Status}
 use Rattle.lam_main_plan.specs.declared.Status.TheVariants.{Words, Program, World, Book, Missing}
-use Rattle.lam_main_plan.specs.Refusals.{Plan, prints, no_word, no_script, no_program, absent}
+use Rattle.lam_main_plan.specs.Refusals.{Plan, prints, no_word, no_script, no_program, absent, too_big}
 use Rattle.lam_main_plan.specs.Reading.{WithFile, unread, script_limit, program_limit, Compiles}
 use Rattle.lam_main_plan.specs.Replays.{an_observer, an_auditor, Runs}
 use Rattle.lam_main_plan.specs.Threads.{RunsThreads, Makes}
 use Rattle.lam_main_plan.specs.Pairs.{Pairs}
+use Rattle.lam_main_plan.specs.Saves.{Saves}
 use Rattle.lam_main_plan.specs.Walks.{Walks}
 
 -- ---- `play`
@@ -71,6 +72,7 @@ IsPlanOf (Ok (run program world label out workers budget)) files plan = WithFile
 IsPlanOf (Ok (audit program world book)) files plan = WithFile (files program) program program_limit (Runs files (record { world = world; book = book }) an_auditor) plan
 IsPlanOf (Ok (make seed threads out)) files plan = Makes seed threads out plan
 IsPlanOf (Ok help) files plan = plan ≡ prints (help_lines commands)
+IsPlanOf (Ok (next program world book out)) files plan = WithFile (files program) program program_limit (Saves files (record { world = world; book = book }) out) plan
 IsPlanOf (Ok (pair program first_world first_book second_world second_book label)) files plan = WithFile (files program) program program_limit (Pairs files (record { world = first_world; book = first_book }) (record { world = second_world; book = second_book }) 6 label) plan
 IsPlanOf (Ok (walk program world book)) files plan = WithFile (files program) program program_limit (Walks files (record { world = world; book = book })) plan
 
@@ -84,15 +86,25 @@ starts_threads (Ok (run program world label out workers budget)) = true
 starts_threads (Ok (make seed threads out)) = true
 starts_threads request = false
 
+-- whether what is asked writes a world, in which the digits of a number that is no whole one are the writer's
+abbrev pub saves : Result Request ℕ → Bool
+saves (Ok (next program world book out)) = true
+saves request = false
+
+-- whether words and files leave something of the plan open
+abbrev pub leaves_open : Result Request ℕ → Bool
+leaves_open request = starts_threads request || saves request
+
 -- the name of the file that is asked to be written
 abbrev pub written_by : Result Request ℕ → Option Text
 written_by (Ok (run program world label out workers budget)) = Some out
 written_by (Ok (make seed threads out)) = Some out
+written_by (Ok (next program world book out)) = Some out
 written_by request = None
 
--- there is at most one plan where no thread is started
+-- there is at most one plan where nothing of it is left open
 abbrev pub PlansAreOne : Type 0
-PlansAreOne = (ws : List Text) (files : Files) (p q : Plan) → starts_threads (request_of ws) ≡ false → IsPlan ws files p → IsPlan ws files q → p ≡ q
+PlansAreOne = (ws : List Text) (files : Files) (p q : Plan) → leaves_open (request_of ws) ≡ false → IsPlan ws files p → IsPlan ws files q → p ≡ q
 
 -- the statuses of refusals
 abbrev pub IsRefused : Status → Type 0
@@ -103,9 +115,13 @@ IsRefused Book = Unit {0}
 IsRefused Missing = Unit {0}
 IsRefused status = ⊥
 
+-- words and files tell of it: it is not how many bytes too many a world would have, which depends on such digits
+abbrev pub IsTold : Result Request ℕ → Plan → Type 0
+IsTold request plan = saves request ≡ true → (bytes : ℕ) → plan ≡ too_big bytes → ⊥
+
 -- where a refusal is planned nothing else is, also where threads would be started
 abbrev pub RefusalsAreOne : Type 0
-RefusalsAreOne = (ws : List Text) (files : Files) (p q : Plan) → IsRefused p.status → IsPlan ws files p → IsPlan ws files q → p ≡ q
+RefusalsAreOne = (ws : List Text) (files : Files) (p q : Plan) → IsRefused p.status → IsTold (request_of ws) p → IsPlan ws files p → IsPlan ws files q → p ≡ q
 
 -- the words and the files name this script and this observer
 pub record PlaysScript (ws : List Text) (files : Files) (script : Play) (observer : Label) : Type 0 where

@@ -60,6 +60,17 @@ no_world (NoTag name) = refused World (codes "NoTag " ∷ name ∷ [])
 no_world (BadPath index) = refused World (codes "BadPath " ∷ decimal index ∷ [])
 no_world (PathTwice index) = refused World (codes "PathTwice " ∷ decimal index ∷ [])
 
+-- why the files at the end of a run are not saved: a tag without a name, by its number, the place of an item whose path is
+-- no text, or how many bytes the document would have
+abbrev pub unnamed_tag : ℕ → Plan
+unnamed_tag tag = refused World (codes "Unnamed #" ∷ decimal tag ∷ [])
+
+abbrev pub bad_text : ℕ → Plan
+bad_text item = refused World (codes "BadText " ∷ decimal item ∷ [])
+
+abbrev pub too_big : ℕ → Plan
+too_big bytes = refused World (codes "TooBig " ∷ decimal bytes ∷ [])
+
 -- the first broken line of a book, of which the head is line 1
 abbrev pub no_book : BookFault → Plan
 no_book BadHead = refused Book (codes "BadHead line " ∷ decimal 1 ∷ [])
@@ -87,6 +98,9 @@ absent_line = refl
 
 document_line : (no_world NotJson).text ≡ codes "lam: 4 NotJson\n"
 document_line = refl
+
+unnamed_line : (unnamed_tag 3).text ≡ codes "lam: 4 Unnamed #3\n"
+unnamed_line = refl
 
 tag_line : (no_world (NoTag (codes "b"))).text ≡ codes "lam: 4 NoTag b\n"
 tag_line = refl

@@ -61,12 +61,13 @@ impl Status {
     }
 }
 
-/// Words that start no thread, and files, have at most one plan.
+/// Words that leave nothing open, and files, have at most one plan.
 pub fn plans_are_one()
     ensures { PlansAreOne }
 {}
 
-/// Where a refusal is planned of words and files, it is their one plan, also where threads would be started.
+/// Where a refusal is planned of words and files, it is their one plan, also where threads would be started; but for that
+/// of a world of too many bytes.
 pub fn refusals_are_one()
     ensures { RefusalsAreOne }
 {}
