@@ -21,3 +21,4 @@ pub mod Orderly
 pub mod FrontLemmas
 pub mod PairLemmas
 pub mod WalkLemmas
+pub mod SaveLemmas

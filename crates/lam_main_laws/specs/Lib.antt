@@ -7,3 +7,4 @@ pub mod Orderly
 pub mod Fronts
 pub mod Pairs
 pub mod Walks
+pub mod Saves

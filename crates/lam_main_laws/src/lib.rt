@@ -13,6 +13,7 @@
 //! - `replays`: two calls of `replay` whose starts their observer cannot tell apart print the same, and `audit` prints
 //!   each release past any observer (`specs/Calls`).
 //! - `pairs`: what `pair` tells of two runs (`specs/Pairs`).
+//! - `saves`: what `next` does with the files at the end of a run (`specs/Saves`).
 //! - `walks`: what `walk` tells of a run (`specs/Walks`).
 //! - `audits`: what is kept of a run for observers and auditors is whole (`specs/Whole`).
 //! - `meant`: the runs of all these calls mean what their source means (`specs/Meant`).
@@ -26,6 +27,7 @@ mod meant;
 mod pairs;
 mod replays;
 mod runs;
+mod saves;
 mod walks;
 
 pub use audits::{audits_are_whole, releases_are_told};
@@ -39,4 +41,5 @@ pub use runs::{
     broken_runs_are_recorded, generated_runs_are_recorded, orderly_runs_end, runs_are_complete,
     runs_are_recorded, runs_end_in_order,
 };
+pub use saves::saves_are_told;
 pub use walks::walks_are_told;
