@@ -12,7 +12,7 @@ use Rattle.lam_main_plan.specs.Refusals.{Plan, no_word, no_world}
 use Rattle.lam_main_plan.specs.Answer.{outside, IsPrinted, whole, front, AsPlanned, IsPlanned, by_plan, without_memory, without_shelf}
 use Rattle.lam_main_plan.proofs.AnswerLemmas.{no_file_written}
 use Rattle.lam_main_files.specs.declared.halt.Refusal.{Refusal}
-use Rattle.lam_main_files.specs.declared.halt.Refusal.TheVariants.{Word, Script, NotUtf8, Flawed, CodeTooLong, World, Book, NotReady, Absent, TooLong}
+use Rattle.lam_main_files.specs.declared.halt.Refusal.TheVariants.{Word, Script, NotUtf8, Flawed, CodeTooLong, World, Unnamed, BadText, TooBig, Book, NotReady, Absent, TooLong}
 use Rattle.lam_main_files.specs.declared.halt.Halt.{Halt}
 use Rattle.lam_main_files.specs.declared.halt.Halt.TheVariants.{Refused, NoMemory as no_memory, ShelfFailed}
 use Rattle.world_doc_terms.specs.Breaks.{break_seen}
@@ -54,6 +54,9 @@ refusals NotUtf8 = record { plain = record { memory = λ e. cc; shelf = λ e. cc
 refusals (Flawed flaw at) = record { plain = record { memory = λ e. cc; shelf = λ e. cc; sink = λ e. cc }; no_file = refl }
 refusals (CodeTooLong unit) = record { plain = record { memory = λ e. cc; shelf = λ e. cc; sink = λ e. cc }; no_file = refl }
 refusals (World breach) = breaks breach
+refusals (Unnamed tag) = record { plain = record { memory = λ e. cc; shelf = λ e. cc; sink = λ e. cc }; no_file = refl }
+refusals (BadText item) = record { plain = record { memory = λ e. cc; shelf = λ e. cc; sink = λ e. cc }; no_file = refl }
+refusals (TooBig bytes) = record { plain = record { memory = λ e. cc; shelf = λ e. cc; sink = λ e. cc }; no_file = refl }
 refusals (Book flaw number) = record { plain = record { memory = λ e. cc; shelf = λ e. cc; sink = λ e. cc }; no_file = refl }
 refusals (NotReady turn thread) = record { plain = record { memory = λ e. cc; shelf = λ e. cc; sink = λ e. cc }; no_file = refl }
 refusals (Absent name) = record { plain = record { memory = λ e. cc; shelf = λ e. cc; sink = λ e. cc }; no_file = refl }

@@ -51,6 +51,9 @@ pub(crate) fn print_refusal<O: Sink>(out: &mut O, refusal: &Refusal) -> Result<S
             print_numbered(out, Status::Program, b"CodeTooLong ", *unit as u64)
         }
         Refusal::World(breach) => print_break(out, breach),
+        Refusal::Unnamed(tag) => print_numbered(out, Status::World, b"Unnamed #", *tag),
+        Refusal::BadText(item) => print_numbered(out, Status::World, b"BadText ", *item),
+        Refusal::TooBig(bytes) => print_numbered(out, Status::World, b"TooBig ", *bytes),
         Refusal::Book { flaw, line } => {
             print_numbered(out, Status::Book, line_words(*flaw).as_bytes(), *line)
         }

@@ -10,7 +10,7 @@ use Rattle.world_doc_terms.specs.Breaks.{break_seen}
 use Rattle.turn_book.specs.declared.BookFault.TheVariants as book
 use Rattle.lam_main_words.specs.Words.{Text}
 use Rattle.lam_main_plan.specs.declared.Status.TheVariants.{Done, Book as book_status}
-use Rattle.lam_main_plan.specs.Refusals.{Plan, prints, refused, no_word, no_script, no_program, no_code, no_world, no_book, no_turn, absent, too_long}
+use Rattle.lam_main_plan.specs.Refusals.{Plan, prints, refused, no_word, no_script, no_program, no_code, no_world, unnamed_tag, bad_text, too_big, no_book, no_turn, absent, too_long}
 use Rattle.lam_main_plan.specs.Reading.{IsUnread}
 use Rattle.lam_main_plan.specs.Threads.{status_of}
 use Rattle.lam_main_plan.specs.Answer.{IsWritten}
@@ -18,7 +18,7 @@ use Rattle.lam_machine_runs.specs.declared.How.TheVariants.{Done as all_ended}
 use Rattle.lam_main_files.specs.declared.halt.BookBreak.{BookBreak}
 use Rattle.lam_main_files.specs.declared.halt.BookBreak.TheVariants.{Head, Line, SameThread, TooMany}
 use Rattle.lam_main_files.specs.declared.halt.Refusal.{Refusal}
-use Rattle.lam_main_files.specs.declared.halt.Refusal.TheVariants.{Word, Script, NotUtf8, Flawed, CodeTooLong, World, Book, NotReady, Absent, TooLong}
+use Rattle.lam_main_files.specs.declared.halt.Refusal.TheVariants.{Word, Script, NotUtf8, Flawed, CodeTooLong, World, Unnamed, BadText, TooBig, Book, NotReady, Absent, TooLong}
 use Rattle.lam_main_files.specs.declared.report.Report.{Report}
 use Rattle.lam_main_files.specs.declared.halt.Halt.{Halt}
 use Rattle.lam_main_files.specs.declared.halt.Halt.TheVariants.{Refused, NoMemory, ShelfFailed}
@@ -38,6 +38,9 @@ refuses NotUtf8 = no_program no_utf8
 refuses (Flawed flaw at) = no_program (At flaw at)
 refuses (CodeTooLong unit) = no_code unit
 refuses (World breach) = no_world (break_seen breach)
+refuses (Unnamed tag) = unnamed_tag tag
+refuses (BadText item) = bad_text item
+refuses (TooBig bytes) = too_big bytes
 refuses (Book flaw number) = refused book_status (words_of flaw ∷ decimal number ∷ [])
 refuses (NotReady turn thread) = no_turn (record { turn = turn; thread = thread })
 refuses (Absent name) = absent (string_bytes name)

@@ -25,6 +25,12 @@ pub enum Refusal {
     CodeTooLong(u32),
     /// The first break of the document of a world.
     World(WorldBreak),
+    /// A tag of this number stands in a label of what would be saved, and has no name.
+    Unnamed(u64),
+    /// The path of the item of this number, of those that would be saved, is no text.
+    BadText(u64),
+    /// The document of the next world would have so many bytes, or the greatest number where it would have more.
+    TooBig(u64),
     /// The first line of the book that is broken.
     Book { flaw: BookBreak, line: u64 },
     /// The first turn of the book whose thread is not ready.

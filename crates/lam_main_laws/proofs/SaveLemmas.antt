@@ -9,7 +9,7 @@ use Rattle.lam_main_words.specs.Words.{Text, Request, next}
 use Rattle.lam_main_plan.specs.declared.Status.{Status}
 use Rattle.lam_main_plan.specs.declared.Status.TheVariants.{Done}
 use Rattle.lam_main_plan.specs.Refusals.{Plan}
-use Rattle.lam_main_plan.specs.Reading.{IsCompiled, program_limit, world_limit}
+use Rattle.lam_main_plan.specs.Reading.{IsRunCode, program_limit, world_limit}
 use Rattle.lam_main_plan.specs.Replays.{RunFiles, ByWorld}
 use Rattle.lam_main_plan.specs.Books.{WithRun}
 use Rattle.lam_main_plan.specs.Saves.{IsOfFiles, saved, unnamed, untold, too_long, IsOfEnd, SavesRun, Saves}
@@ -30,7 +30,7 @@ save_planned ws files code start turns plan law a is =
     (of_world (OfStart old) (start_of old code) start plan a.holds.starts.follows
     (of_bytes (files a.world) a.world world_limit (λ bs. start_of bs code ≡ Ok start) (λ o. ByWorld (OfStart o) (start_of o code)) plan a.holds.starts
     (of_code (SavesRun files run a.out) bytes code plan a.holds.compiled.follows
-    (of_bytes (files a.program) a.program program_limit (λ bs. IsCompiled bs (Ok code)) (Saves files run a.out) plan a.holds.compiled planned))))
+    (of_bytes (files a.program) a.program program_limit (λ bs. IsRunCode bs code) (Saves files run a.out) plan a.holds.compiled planned))))
 
 pub told : ((code : CodeTree) → RunsStop code) → (ws : List Text) (files : Files) → SavesAreTold ws files
 told stops ws files code start turns plan a is = save_planned ws files code start turns plan (stops code) a is

@@ -6,7 +6,7 @@ use Rattle.lam_machine_terms.specs.Worlds.{World}
 use Rattle.lam_machine_runs.specs.Runs.{RunsStop}
 use Rattle.lam_main_words.specs.Words.{Text, Request, walk}
 use Rattle.lam_main_plan.specs.Refusals.{Plan}
-use Rattle.lam_main_plan.specs.Reading.{IsCompiled, program_limit}
+use Rattle.lam_main_plan.specs.Reading.{IsRunCode, program_limit}
 use Rattle.lam_main_plan.specs.Replays.{RunFiles}
 use Rattle.lam_main_plan.specs.Books.{WithRun}
 use Rattle.lam_main_plan.specs.Walks.{IsOfWalk, WalksRun, Walks}
@@ -25,7 +25,7 @@ walk_planned ws files code start turns plan law a is =
     of_run files code plan a.book start (IsOfWalk bytes code start) turns a.holds.reads (never_stops code law turns start a.holds.ready)
     (of_start files code plan a.world OfStart start a.holds.starts
     (of_code (WalksRun files run bytes) bytes code plan a.holds.compiled.follows
-    (of_bytes (files a.program) a.program program_limit (λ bs. IsCompiled bs (Ok code)) (Walks files run) plan a.holds.compiled planned)))
+    (of_bytes (files a.program) a.program program_limit (λ bs. IsRunCode bs code) (Walks files run) plan a.holds.compiled planned)))
 
 pub told : ((code : CodeTree) → RunsStop code) → (ws : List Text) (files : Files) → WalksAreTold ws files
 told stops ws files code start turns plan a is = walk_planned ws files code start turns plan (stops code) a is

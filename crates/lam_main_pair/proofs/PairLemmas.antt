@@ -18,11 +18,11 @@ use Rattle.turn_book.specs.Reading.{turns_of}
 use Rattle.world_doc_terms.specs.Start.{start_of}
 use Rattle.lam_main_words.specs.Words.{Text}
 use Rattle.lam_main_plan.specs.Refusals.{Plan, prints, no_turn}
-use Rattle.lam_main_plan.specs.Reading.{HasFile, WithFile, Never, Compiles, IsCompiled, program_limit, world_limit, book_limit}
+use Rattle.lam_main_plan.specs.Reading.{HasFile, WithFile, Never, Compiles, IsRunCode, program_limit, world_limit, book_limit}
 use Rattle.lam_main_plan.specs.Replays.{RunFiles, NoStart}
 use Rattle.lam_main_plan.specs.Books.{WithStart, WithRun, ByLabel, NoTurns, WhereReady}
 use Rattle.lam_main_plan.specs.Pairs.{pair_line, IsOfPair, PairsWith, PairsRuns, Pairs}
-use Rattle.lam_main_plan.proofs.ReadLemmas.{same_files, file_map, program_then, no_program_then}
+use Rattle.lam_main_plan.proofs.ReadLemmas.{same_files, file_map, thin_program_then, no_thin_program_then}
 use Rattle.lam_main_plan.proofs.BookLemmas.{start_then, no_start_then, label_then, no_label_then, ready_then, run_then, no_turns_then, run_map}
 use Rattle.lam_main_files.specs.declared.halt.Halt.{Halt}
 use Rattle.lam_main_files.specs.declared.halt.Halt.TheVariants.{Refused, NoMemory, ShelfFailed}
@@ -146,16 +146,16 @@ module _ (files : Files) (first second : RunFiles) (index : ℕ) (label : Text) 
       not_found IsIt (WithFile (files first.world) first.world world_limit (NoStart code)) (PairsRuns files first second index label code) (λ p k. no_start_then files first.world code (OfFirst files first.book second index label code) p k) halt h
 
 module _ (files : Files) (program : Text) (first second : RunFiles) (index : ℕ) (label : Text) (new : Files) where
-  pub program_gives : (between : Files) (tree : CodeTree) (answer : Result (String Global) Halt) → AllStay files between → AllStay files new → HasFile (files program) program_limit (λ bytes. IsCompiled bytes (Ok tree)) → Says answer (PairsRuns between first second index label tree) → Gives answer (WithFile (files program) program program_limit (Pairs files first second index label)) files new
+  pub program_gives : (between : Files) (tree : CodeTree) (answer : Result (String Global) Halt) → AllStay files between → AllStay files new → HasFile (files program) program_limit (λ bytes. IsRunCode bytes tree) → Says answer (PairsRuns between first second index label tree) → Gives answer (WithFile (files program) program program_limit (Pairs files first second index label)) files new
   program_gives between tree answer stay kept has h =
       gives_of (WithFile (files program) program program_limit (Pairs files first second index label)) files new answer kept
       (says_map (PairsRuns between first second index label tree) (WithFile (files program) program program_limit (Pairs files first second index label))
-      (λ p k. program_then (files program) program (PairsRuns files first second index label) p tree has (subst (λ (fs : Files). PairsRuns fs first second index label tree p) (same_files files between stay) k)) answer h)
+      (λ p k. thin_program_then (files program) program (PairsRuns files first second index label) p tree has (subst (λ (fs : Files). PairsRuns fs first second index label tree p) (same_files files between stay) k)) answer h)
 
-  pub no_program_gives : (halt : Halt) → AllStay files new → Finds {X = CodeTree} (Err halt) (λ tree. HasFile (files program) program_limit (λ bytes. IsCompiled bytes (Ok tree))) (WithFile (files program) program program_limit (Compiles Never)) → Gives (Err halt) (WithFile (files program) program program_limit (Pairs files first second index label)) files new
+  pub no_program_gives : (halt : Halt) → AllStay files new → Finds {X = CodeTree} (Err halt) (λ tree. HasFile (files program) program_limit (λ bytes. IsRunCode bytes tree)) (WithFile (files program) program program_limit (Compiles Never)) → Gives (Err halt) (WithFile (files program) program program_limit (Pairs files first second index label)) files new
   no_program_gives halt kept h =
       gives_of (WithFile (files program) program program_limit (Pairs files first second index label)) files new (Err halt) kept
-      (not_found (λ tree. HasFile (files program) program_limit (λ bytes. IsCompiled bytes (Ok tree))) (WithFile (files program) program program_limit (Compiles Never)) (WithFile (files program) program program_limit (Pairs files first second index label)) (λ p k. no_program_then (files program) program (PairsRuns files first second index label) p k) halt h)
+      (not_found (λ tree. HasFile (files program) program_limit (λ bytes. IsRunCode bytes tree)) (WithFile (files program) program program_limit (Compiles Never)) (WithFile (files program) program program_limit (Pairs files first second index label)) (λ p k. no_thin_program_then (files program) program (PairsRuns files first second index label) p k) halt h)
 
 -- ---- faults of the shelf
 

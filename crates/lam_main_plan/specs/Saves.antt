@@ -12,7 +12,7 @@ use Rattle.world_save_files.specs.declared.saving.SaveFault.TheVariants as fault
 use Rattle.lam_main_words.specs.Words.{Text}
 use Rattle.lam_main_plan.specs.declared.Status.TheVariants.{Done}
 use Rattle.lam_main_plan.specs.Refusals.{Plan, line, unnamed_tag, bad_text, too_big}
-use Rattle.lam_main_plan.specs.Reading.{WithFile, Compiles, world_limit}
+use Rattle.lam_main_plan.specs.Reading.{WithFile, Thins, world_limit}
 use Rattle.lam_main_plan.specs.Replays.{RunFiles, ByWorld}
 use Rattle.lam_main_plan.specs.Books.{WithRun}
 
@@ -43,7 +43,7 @@ SavesRun files run out code plan =
 
 -- the plan of the bytes of a program
 abbrev pub Saves : Files → RunFiles → Text → Text → Plan → Type 0
-Saves files run out bytes plan = Compiles (SavesRun files run out) bytes plan
+Saves files run out bytes plan = Thins (SavesRun files run out) bytes plan
 
 -- ---- worked examples
 two_items : saved_line 2 ≡ codes "saved 2\n"

@@ -11,7 +11,7 @@ use Rattle.source_walk_terms.specs.declared.Walked.TheVariants.{Same}
 use Rattle.source_walk_terms.specs.Walks.{IsWalked}
 use Rattle.lam_main_words.specs.Words.{Text}
 use Rattle.lam_main_plan.specs.Refusals.{Plan, prints, line}
-use Rattle.lam_main_plan.specs.Reading.{Compiles}
+use Rattle.lam_main_plan.specs.Reading.{Thins}
 use Rattle.lam_main_plan.specs.Replays.{RunFiles}
 use Rattle.lam_main_plan.specs.Books.{WithStart, WithRun}
 
@@ -39,7 +39,7 @@ WalksRun files run bytes code plan = WithStart files run.world code (λ start. W
 
 -- the plan of the bytes of a program
 abbrev pub Walks : Files → RunFiles → Text → Plan → Type 0
-Walks files run bytes plan = Compiles (WalksRun files run bytes) bytes plan
+Walks files run bytes plan = Thins (WalksRun files run bytes) bytes plan
 
 -- ---- worked examples
 four_asks : same_line 4 ≡ codes "same 4\n"

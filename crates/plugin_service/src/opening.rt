@@ -8,7 +8,7 @@ use crate::stop::Stop;
 use flow_labels::TagNames;
 use lam_bytecode::Code;
 use lam_machine_world::{World, let_go_code, let_go_world};
-use lam_main_files::compiled;
+use lam_main_files::run_code_of;
 use lam_main_replay::start_in;
 use seat_host::{Seat, SeatRun};
 use std::alloc::Global;
@@ -76,7 +76,7 @@ fn seated(alloc: Global, code: Code, start: World, names: TagNames) -> Result<Op
 fn code_of(alloc: Global, program: &str) -> Result<Code, Stop>
     ensures { IfOk result IsCode }
 {
-    match compiled(alloc, program.as_bytes()) {
+    match run_code_of(alloc, program.as_bytes()) {
         Ok(code) => Ok(code),
         Err(halt) => {
             forget(halt);
