@@ -26,7 +26,7 @@ use Rattle.lam_main_plan.specs.Threads.{status_of, IsOfThreads, made_budget, Mak
 use Rattle.lam_main_plan.proofs.ReadLemmas.{thin_then, no_thin_then, by_no_world, by_this_world, by_no_reader, by_this_reader}
 use Rattle.world_doc_terms.specs.declared.breaks.WorldBreak.TheVariants.{NotJson, NoMember, BadMember, NoTag, BadPath, PathTwice}
 use Rattle.lam_main_files.specs.declared.halt.Refusal.{Refusal}
-use Rattle.lam_main_files.specs.declared.halt.Refusal.TheVariants.{Word, Script, NotUtf8, Flawed, CodeTooLong, World as OfWorld, Book, NotReady as NotReadyAt, Absent, TooLong}
+use Rattle.lam_main_files.specs.declared.halt.Refusal.TheVariants.{Word, Script, NotUtf8, Flawed, CodeTooLong, World as OfWorld, Unnamed, BadText, TooBig, Book, NotReady as NotReadyAt, Absent, TooLong}
 use Rattle.lam_main_files.specs.declared.halt.Halt.{Halt}
 use Rattle.lam_main_files.specs.declared.halt.Halt.TheVariants.{Refused, NoMemory, ShelfFailed}
 use Rattle.lam_main_files.specs.Halts.{refuses, Finds, Says}
@@ -114,6 +114,9 @@ is_no_text (OfWorld (BadMember name)) text e = let s = ap (λ (p : Plan). p.stat
 is_no_text (OfWorld (NoTag name)) text e = let s = ap (λ (p : Plan). p.status) e in cc
 is_no_text (OfWorld (BadPath index)) text e = let s = ap (λ (p : Plan). p.status) e in cc
 is_no_text (OfWorld (PathTwice index)) text e = let s = ap (λ (p : Plan). p.status) e in cc
+is_no_text (Unnamed tag) text e = let s = ap (λ (p : Plan). p.status) e in cc
+is_no_text (BadText item) text e = let s = ap (λ (p : Plan). p.status) e in cc
+is_no_text (TooBig bytes) text e = let s = ap (λ (p : Plan). p.status) e in cc
 is_no_text (Book flaw number) text e = let s = ap (λ (p : Plan). p.status) e in cc
 is_no_text (NotReadyAt turn thread) text e = let s = ap (λ (p : Plan). p.status) e in cc
 is_no_text (Absent name) text e = let s = ap (λ (p : Plan). p.status) e in cc
