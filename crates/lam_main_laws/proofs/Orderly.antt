@@ -74,7 +74,7 @@ module _ (stops : (tree : CodeTree) → RunsStop tree) where
   orderly_plan one ws files plan (audits tree start turns r) is = orderly_text one ws files plan (record { text = audit_lines start.names (moments tree turns start); is = audit_printed ws files tree start turns (stops tree) r; alone = ap leaves_open r.asks }) is
   orderly_plan one ws files plan (helps ask) is = orderly_text one ws files plan (asks ws files help (help_lines commands) ask refl refl) is
   orderly_plan one ws files plan (pairs tree o s turns s' turns' a) is = ap (λ (it : Plan). it.status) (pair_planned ws files tree o s turns s' turns' plan (stops tree) a is).is
-  orderly_plan one ws files plan (walks tree start turns a) is = ap (λ (it : Plan). it.status) (walk_planned ws files tree start turns plan (stops tree) a is).is
+  orderly_plan one ws files plan (walks tree start turns a) is = ap (λ (it : Plan). it.status) (walk_planned ws files tree start turns plan (stops tree) a is).tells.is
   orderly_plan one ws files plan (saves tree start turns a can) is = save_done a.out a.holds.starts.bytes tree start turns plan can (save_planned ws files tree start turns plan (stops tree) a is)
 
   pub orderly_done : PlansAreOne → (ws : List Text) (status : Status) (old new : Outside) → IsPlanned status (IsPlan ws old.files) old new → OrderlyCallsAreDone ws status old

@@ -172,7 +172,7 @@ module _ (p q : Plan) where
 
     -- how many asks stand in a run, the source does not say
     one_of_walk : (bytes : Text) (tree : CodeTree) (start : World) (turns : List ℕ) → IsOfWalk bytes tree start turns p → IsOfWalk bytes tree start turns q → p ≡ q
-    one_of_walk bytes tree start turns h k = h.is ∙ ap (λ (asks : ℕ). prints (same_line asks)) (h.walked.1 ∙ sym k.walked.1) ∙ sym k.is
+    one_of_walk bytes tree start turns h k = h.tells.is ∙ ap (λ (asks : ℕ). prints (same_line asks)) (h.tells.walked.1 ∙ sym k.tells.walked.1) ∙ sym k.tells.is
 
     one_walk : (run : RunFiles) (bytes : Text) (tree : CodeTree) → WalksRun files run bytes tree p → WalksRun files run bytes tree q → p ≡ q
     one_walk run bytes tree h k =

@@ -25,13 +25,17 @@ pub record IsSource (bytes : Text) (source : ResolvedTree) : Type 0 where
 abbrev pub same_line : ℕ → Text
 same_line asks = line (codes "same " ∷ decimal asks ∷ [])
 
--- the plan of turns: each thread's asks are the first ones of its source, and their number is told
-pub record IsOfWalk (bytes : Text) (code : CodeTree) (start : World) (turns : List ℕ) (plan : Plan) : Type 0 where
-  pub source : ResolvedTree
-  pub spells : IsSource bytes source
+-- each thread's asks are the first ones of this source, and their number is told
+pub record TellsSame (source : ResolvedTree) (code : CodeTree) (start : World) (turns : List ℕ) (plan : Plan) : Type 0 where
   pub asks : ℕ
   pub walked : IsWalked source code start turns (Same asks)
   pub is : plan ≡ prints (same_line asks)
+
+-- the plan of turns, for the program that the bytes spell
+pub record IsOfWalk (bytes : Text) (code : CodeTree) (start : World) (turns : List ℕ) (plan : Plan) : Type 0 where
+  pub source : ResolvedTree
+  pub spells : IsSource bytes source
+  pub tells : TellsSame source code start turns plan
 
 -- the plan of a code of the program that the bytes spell
 abbrev pub WalksRun : Files → RunFiles → Text → CodeTree → Plan → Type 0

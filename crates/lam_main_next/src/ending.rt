@@ -1,0 +1,92 @@
+//! What is made of the end of a run: the document of the next run's world, and the line of how many items it has.
+
+ghost use Rattle.std.specs.Prelude.{◌≡◌, ◌≢◌, ◌≤◌, Ok, length, IfOk, IfErr, string_bytes};
+ghost use Rattle.lam_bytecode.specs.Codes.{IsCode};
+ghost use Rattle.lam_machine_terms.specs.Valid.{IsValid};
+ghost use Rattle.lam_machine_runs.specs.Stops.{stopped_at};
+ghost use Rattle.world_doc_terms.specs.Start.{start_of};
+ghost use Rattle.world_forest.specs.Forest.{IsForest};
+ghost use Rattle.lam_main_plan.specs.Books.{WhereReady};
+ghost use Rattle.lam_main_plan.specs.Saves.{saved_line, IsOfFiles, IsOfEnd};
+ghost use Rattle.lam_main_next.specs.Endings.{Offers, IsToldOf, halt_of_save};
+
+use decimal_text::push_number;
+use lam_bytecode::Code;
+use lam_machine_world::World;
+use lam_main_files::{Halt, Refusal};
+use std::alloc::Global;
+use thread_host_run::{Run, RunOf, let_go_run, run_of};
+use want_of_memory::NoMemory;
+use world_forest_starts::starts_are_forests;
+use world_save::{SaveFault, Saved, save};
+
+/// The line that is printed, and the document that is written.
+#[derive(Drop)]
+pub(crate) struct Ending {
+    pub(crate) text: String,
+    pub(crate) document: Vec<u8>,
+}
+
+/// What is made of the end of turns, where they are a run.
+pub(crate) fn ending(
+    alloc: Global,
+    code: Code,
+    start: World,
+    turns: &[u32],
+    old: &[u8],
+) -> Result<Ending, Halt>
+    requires code { IsCode code }
+    requires valid { IsValid start }
+    requires document { start_of old.now code ≡ Ok start }
+    requires few { length turns.now ≤ 1000000 }
+    ensures offers { Offers result (λ out. WhereReady (IsOfEnd out code old.now start turns.now) (stopped_at code turns.now start)) }
+    ensures no_fault { IfErr result (λ halt. halt ≢ Halt.ShelfFailed) }
+{
+    starts_are_forests();
+    match run_of(alloc, code, start, turns) {
+        Err(NoMemory) => Err(Halt::NoMemory),
+        Ok(RunOf::Stops { turn, thread }) => {
+            Err(Halt::Refused(Refusal::NotReady { turn, thread }))
+        }
+        Ok(RunOf::Whole(run)) => ending_of(alloc, run, old),
+    }
+}
+
+/// What is made of the end of a run.
+fn ending_of(alloc: Global, run: Run, old: &[u8]) -> Result<Ending, Halt>
+    requires start { start_of old.now run.code ≡ Ok run.start }
+    requires forest { IsForest run.start.files }
+    ensures offers { Offers result (λ out. IsOfFiles out old.now run.start.names run.start.public run.world.files) }
+    ensures no_fault { IfErr result (λ halt. halt ≢ Halt.ShelfFailed) }
+{
+    let saved = save(alloc, &run, old);
+    let_go_run(run);
+    match saved {
+        Ok(saved) => Ok(told(alloc, saved)?),
+        Err(fault) => Err(save_halt(fault)),
+    }
+}
+
+/// A document that is saved, and the line of how many items it has.
+fn told(alloc: Global, saved: Saved) -> Result<Ending, NoMemory>
+    ensures { IfOk result (IsToldOf saved) }
+{
+    let Saved { text: document, items } = saved;
+    let mut text = String::new(alloc);
+    text.push_str("saved ")?;
+    push_number(&mut text, items)?;
+    text.push('\n')?;
+    Ok(Ending { text, document })
+}
+
+/// What that nothing is saved halts with.
+fn save_halt(fault: SaveFault) -> Halt
+    ensures { result ≡ halt_of_save fault }
+{
+    match fault {
+        SaveFault::Unnamed { tag } => Halt::Refused(Refusal::Unnamed(tag.0)),
+        SaveFault::BadText { item } => Halt::Refused(Refusal::BadText(item)),
+        SaveFault::TooBig { bytes } => Halt::Refused(Refusal::TooBig(bytes)),
+        SaveFault::NoMemory => Halt::NoMemory,
+    }
+}

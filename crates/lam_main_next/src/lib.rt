@@ -1,0 +1,157 @@
+//! The command `next`: the files at the end of a run become those of the next run's world.
+//!
+//! The files are read one after another, and the first refusal ends the call: the program, whose code is run
+//! (`lam_main_files`); the document of the world, whose bytes are kept, since the next one has its pipes and threads; and the
+//! book. The turns are taken (`thread_host_run`), and of the files and directories that they leave the document is made
+//! (`world_save`), or it is refused. The document is written last, and nothing is written where there is a refusal. What a
+//! call answers is what the plan of these files says (`lam_main_plan`).
+#![tactic(auto)]
+
+mod ending;
+mod writing;
+
+ghost use Rattle.std.specs.Prelude.{◌≡◌, ◌≤◌, Ok, Some, length, IsTrue, IfErr, string_bytes};
+ghost use Rattle.lam_io.specs.Outside.{Rose, AllStay};
+ghost use Rattle.lam_bytecode.specs.Codes.{IsCode};
+ghost use Rattle.lam_machine_terms.specs.Valid.{IsValid};
+ghost use Rattle.world_doc_terms.specs.Start.{start_of};
+ghost use Rattle.lam_main_plan.specs.Answer.{OthersKept};
+ghost use Rattle.lam_main_plan.specs.Reading.{WithFile, program_limit};
+ghost use Rattle.lam_main_plan.specs.Replays.{ByWorld};
+ghost use Rattle.lam_main_plan.specs.Books.{WithRun};
+ghost use Rattle.lam_main_plan.specs.Saves.{IsOfEnd, SavesRun, Saves};
+ghost use Rattle.lam_main_files.specs.Halts.{Reports};
+ghost use Rattle.lam_main_replay.specs.Asked.{files_of};
+
+use crate::ending::ending;
+use crate::writing::written;
+use lam_bytecode::Code;
+use lam_io::Shelf;
+use lam_machine_world::{World, let_go_world};
+use lam_main_files::{Halt, Report, read_code, read_file};
+use lam_main_replay::{RunFiles, read_turns, start_in};
+use std::alloc::Global;
+
+/// The most bytes of the document of a world.
+const WORLD_LIMIT: u64 = 16_777_216;
+
+/// The document of the next run's world is written to a file, and how many items it has is reported: of the files and
+/// directories at the end of the run of a program, from the world of a document, in the order of a book.
+///
+/// # Errors
+///
+/// A refusal, in the order of reading: of the program, of the document, of the book, of the first of its turns whose thread
+/// is not ready, and then of what cannot be saved; then no file changed. `NoMemory`: then a file has changed only where the
+/// shelf refused the write for want of memory, and it is that of the next world, which may hold anything. `ShelfFailed` only
+/// where the shelf counted a fault: then that file may hold anything.
+pub fn next<H: Shelf>(
+    alloc: Global,
+    shelf: &mut H,
+    program: String,
+    files: RunFiles,
+    next_world: String,
+) -> Result<Report, Halt>
+    ensures gives { IsTrue (H.tells shelf.old) → Reports result (WithFile (H.files shelf.old (string_bytes program)) (string_bytes program) program_limit (Saves (H.files shelf.old) (files_of files) (string_bytes next_world))) (H.files shelf.old) (H.files shelf.new) }
+    ensures kept { IsTrue (H.tells shelf.old) → OthersKept (Some (string_bytes next_world)) (H.files shelf.old) (H.files shelf.new) }
+    ensures spared { IsTrue (H.tells shelf.old) → IfErr result (λ halt. halt ≡ Halt.NoMemory → ¬ Rose (H.refusals shelf.old) (H.refusals shelf.new) → AllStay (H.files shelf.old) (H.files shelf.new)) }
+    ensures failed { IfErr result (λ halt. halt ≡ Halt.ShelfFailed → Rose (H.faults shelf.old) (H.faults shelf.new)) }
+{
+    match read_code(alloc, shelf, program) {
+        Ok(code) => next_code(alloc, shelf, code, files, next_world),
+        Err(halt) => Err(halt),
+    }
+}
+
+/// The same of a code: the document of the start is read next.
+fn next_code<H: Shelf>(
+    alloc: Global,
+    shelf: &mut H,
+    code: Code,
+    files: RunFiles,
+    next_world: String,
+) -> Result<Report, Halt>
+    requires { IsCode code }
+    ensures gives { IsTrue (H.tells shelf.old) → Reports result (SavesRun (H.files shelf.old) (files_of files) (string_bytes next_world) code) (H.files shelf.old) (H.files shelf.new) }
+    ensures kept { IsTrue (H.tells shelf.old) → OthersKept (Some (string_bytes next_world)) (H.files shelf.old) (H.files shelf.new) }
+    ensures spared { IsTrue (H.tells shelf.old) → IfErr result (λ halt. halt ≡ Halt.NoMemory → ¬ Rose (H.refusals shelf.old) (H.refusals shelf.new) → AllStay (H.files shelf.old) (H.files shelf.new)) }
+    ensures failed { IfErr result (λ halt. halt ≡ Halt.ShelfFailed → Rose (H.faults shelf.old) (H.faults shelf.new)) }
+{
+    let RunFiles { world, book } = files;
+    match read_file(alloc, shelf, world, WORLD_LIMIT) {
+        Ok(old) => next_world_of(alloc, shelf, code, old.as_slice(), book, next_world),
+        Err(halt) => Err(halt),
+    }
+}
+
+/// The same of a code and of the bytes of a document.
+fn next_world_of<H: Shelf>(
+    alloc: Global,
+    shelf: &mut H,
+    code: Code,
+    old: &[u8],
+    book: String,
+    next_world: String,
+) -> Result<Report, Halt>
+    requires { IsCode code }
+    ensures gives { IsTrue (H.tells shelf.old) → Reports result (ByWorld (λ start. WithRun (H.files shelf.old) (string_bytes book) code start (IsOfEnd (string_bytes next_world) code old.now start)) (start_of old.now code)) (H.files shelf.old) (H.files shelf.new) }
+    ensures kept { IsTrue (H.tells shelf.old) → OthersKept (Some (string_bytes next_world)) (H.files shelf.old) (H.files shelf.new) }
+    ensures spared { IsTrue (H.tells shelf.old) → IfErr result (λ halt. halt ≡ Halt.NoMemory → ¬ Rose (H.refusals shelf.old) (H.refusals shelf.new) → AllStay (H.files shelf.old) (H.files shelf.new)) }
+    ensures failed { IfErr result (λ halt. halt ≡ Halt.ShelfFailed → Rose (H.faults shelf.old) (H.faults shelf.new)) }
+{
+    match start_in(alloc, &code, old) {
+        Ok(start) => next_from(alloc, shelf, code, start, old, book, next_world),
+        Err(halt) => Err(halt),
+    }
+}
+
+/// The same of a code and of a start, which a document describes: the book is read next.
+fn next_from<H: Shelf>(
+    alloc: Global,
+    shelf: &mut H,
+    code: Code,
+    start: World,
+    old: &[u8],
+    book: String,
+    next_world: String,
+) -> Result<Report, Halt>
+    requires code { IsCode code }
+    requires valid { IsValid start }
+    requires document { start_of old.now code ≡ Ok start }
+    ensures gives { IsTrue (H.tells shelf.old) → Reports result (WithRun (H.files shelf.old) (string_bytes book) code start (IsOfEnd (string_bytes next_world) code old.now start)) (H.files shelf.old) (H.files shelf.new) }
+    ensures kept { IsTrue (H.tells shelf.old) → OthersKept (Some (string_bytes next_world)) (H.files shelf.old) (H.files shelf.new) }
+    ensures spared { IsTrue (H.tells shelf.old) → IfErr result (λ halt. halt ≡ Halt.NoMemory → ¬ Rose (H.refusals shelf.old) (H.refusals shelf.new) → AllStay (H.files shelf.old) (H.files shelf.new)) }
+    ensures failed { IfErr result (λ halt. halt ≡ Halt.ShelfFailed → Rose (H.faults shelf.old) (H.faults shelf.new)) }
+{
+    match read_turns(alloc, shelf, book) {
+        Ok(turns) => next_turns(alloc, shelf, code, start, turns.as_slice(), old, next_world),
+        Err(halt) => {
+            let_go_world(start);
+            Err(halt)
+        }
+    }
+}
+
+/// The same of the turns of a start.
+fn next_turns<H: Shelf>(
+    alloc: Global,
+    shelf: &mut H,
+    code: Code,
+    start: World,
+    turns: &[u32],
+    old: &[u8],
+    next_world: String,
+) -> Result<Report, Halt>
+    requires code { IsCode code }
+    requires valid { IsValid start }
+    requires document { start_of old.now code ≡ Ok start }
+    requires few { length turns.now ≤ 1000000 }
+    ensures gives { IsTrue (H.tells shelf.old) → Reports result (WhereReady (IsOfEnd (string_bytes next_world) code old.now start turns.now) (stopped_at code turns.now start)) (H.files shelf.old) (H.files shelf.new) }
+    ensures kept { IsTrue (H.tells shelf.old) → OthersKept (Some (string_bytes next_world)) (H.files shelf.old) (H.files shelf.new) }
+    ensures spared { IsTrue (H.tells shelf.old) → IfErr result (λ halt. halt ≡ Halt.NoMemory → ¬ Rose (H.refusals shelf.old) (H.refusals shelf.new) → AllStay (H.files shelf.old) (H.files shelf.new)) }
+    ensures failed { IfErr result (λ halt. halt ≡ Halt.ShelfFailed → Rose (H.faults shelf.old) (H.faults shelf.new)) }
+{
+    match ending(alloc, code, start, turns, old) {
+        Ok(ending) => written(shelf, next_world, ending),
+        Err(halt) => Err(halt),
+    }
+}
