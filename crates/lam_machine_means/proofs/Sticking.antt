@@ -22,6 +22,6 @@ module _ (code : CodeTree) (w : World) (P : World → Type 0) (all : (turns : Li
           (subst P g.2 (all (front ++ t ∷ [])), more (front ++ t ∷ []) m.world g.0 g.2)
 
 pub none_sticks : (r : ResolvedTree) (code : CodeTree) → NoRunSticks r code
-none_sticks r code e is_code typed numbered w turns valid starts =
-    let all : (turns : List ℕ) → NoneStuck code (replay code turns w) = λ turns u th at. (runs_mean r code e is_code typed numbered w turns valid starts u th at).meant.never_stuck in
+none_sticks r code acts_as is_code typed w turns valid starts =
+    let all : (turns : List ℕ) → NoneStuck code (replay code turns w) = λ turns u th at. (runs_mean r code acts_as is_code typed w turns valid starts u th at).meant.never_stuck in
     (all [], along code w (NoneStuck code) all turns [] w tt refl)

@@ -13,8 +13,7 @@ use Rattle.thread_steps.specs.Threads.{Thread}
 use Rattle.thread_steps.specs.Next.{started}
 use Rattle.lam_resolve_tree.specs.Tree.{ResolvedTree}
 use Rattle.lam_resolve_tree.specs.Typing.{IsTypedTree}
-use Rattle.lam_resolve_tree.specs.Regions.{AreNumbered}
-use Rattle.lam_meaning.specs.Scheme.{scheme}
+use Rattle.lam_meaning_laws.specs.Acts.{ActsAs}
 use Rattle.lam_machine_terms.specs.Worlds.{World, thread_at, result_in}
 use Rattle.lam_machine_terms.specs.Turns.{Moment, step, and_then, moments, left_by}
 use Rattle.lam_machine_terms.specs.Valid.{IsValid}
@@ -83,14 +82,14 @@ began_more code w past m u f vs k (inr s) =
 
 -- ---- a run
 
-module _ (r : ResolvedTree) (N : ℕ) (start : World) where
+module _ (r : ResolvedTree) (code : CodeTree) (N : ℕ) (start : World) where
   -- a thread began, and stands by what it did
   record Known (past : List Moment) (G : Typing) (u : ℕ) (th : Thread) : Type 0 where
     function : ℕ
     args : List Value
     caps : Caps
-    began : Began (scheme r) start past u function args caps
-    stands : Stands r N G function args caps (done_by u past) th
+    began : Began code start past u function args caps
+    stands : Stands r code N G function args caps (done_by u past) th
 
   record Holds (past : List Moment) (G : Typing) (w : World) : Type 0 where
     valid : IsValid w
@@ -98,32 +97,32 @@ module _ (r : ResolvedTree) (N : ℕ) (start : World) where
     known : (u : ℕ) (th : Thread) → thread_at w u ≡ Some th → Known past G u th
     none : (u : ℕ) → thread_at w u ≡ None → done_by u past ≡ []
 
-  known_by : (past : List Moment) (G : Typing) (u : ℕ) (th after : Thread) (did : List What) (f : ℕ) (vs : List Value) (k : Caps) → th ≡ after → did ≡ done_by u past → Began (scheme r) start past u f vs k → Stands r N G f vs k did th → Known past G u after
+  known_by : (past : List Moment) (G : Typing) (u : ℕ) (th after : Thread) (did : List What) (f : ℕ) (vs : List Value) (k : Caps) → th ≡ after → did ≡ done_by u past → Began code start past u f vs k → Stands r code N G f vs k did th → Known past G u after
   known_by past G u th after did f vs k same e began st =
-      record { function = f; args = vs; caps = k; began = began; stands = subst (λ th. Stands r N G f vs k (done_by u past) th) same (subst (λ did. Stands r N G f vs k did th) e st) }
+      record { function = f; args = vs; caps = k; began = began; stands = subst (λ th. Stands r code N G f vs k (done_by u past) th) same (subst (λ did. Stands r code N G f vs k did th) e st) }
 
-  module _ (typed : IsTypedTree r) (numbered : AreNumbered r) (is_code : IsCode (scheme r)) where
-    one_turn : (past : List Moment) (G : Typing) (w : World) (t : ℕ) (m : Moment) → Holds past G w → step (scheme r) w t ≡ Some m → length past < N → (H : Typing) × Holds (past ++ m ∷ []) H m.world
+  module _ (typed : IsTypedTree r) (acts_as : ActsAs code r) (is_code : IsCode code) where
+    one_turn : (past : List Moment) (G : Typing) (w : World) (t : ℕ) (m : Moment) → Holds past G w → step code w t ≡ Some m → length past < N → (H : Typing) × Holds (past ++ m ∷ []) H m.world
     one_turn past G w t m inv h lt =
-        (mv.typing, record { valid = stay_valid (scheme r) is_code w t m inv.valid h; world = mv.world; known = λ u th at. by_number u th at (nat_eq m.event.thread u) refl; none = λ u none. by_none u none (thread_at w u) refl })
+        (mv.typing, record { valid = stay_valid code is_code w t m inv.valid h; world = mv.world; known = λ u th at. by_number u th at (nat_eq m.event.thread u) refl; none = λ u none. by_none u none (thread_at w u) refl })
       where
         now : List Moment
         now = past ++ m ∷ []
 
-        k : Touches (scheme r) w t m
-        k = touch (scheme r) w t m h
+        k : Touches code w t m
+        k = touch code w t m h
 
         kn : Known past G t k.before
         kn = inv.known t k.before k.at
 
         number : m.event.thread ≡ t
-        number = turn_thread (scheme r) w t m h
+        number = turn_thread code w t m h
 
-        mv : Moves r N typed numbered G kn.function kn.args kn.caps (done_by t past) k.before kn.stands m k.after
-        mv = moves r N typed numbered G kn.function kn.args kn.caps (done_by t past) k.before kn.stands w t m k.after h inv.valid.sound inv.world k.own (let le = done_few t past in omega (arith, le, lt))
+        mv : Moves r code N acts_as G kn.function kn.args kn.caps (done_by t past) k.before kn.stands m k.after
+        mv = moves r code N acts_as G kn.function kn.args kn.caps (done_by t past) k.before kn.stands w t m k.after h inv.valid.sound inv.world k.own (let le = done_few t past in omega (arith, le, lt))
 
         acting : Known now mv.typing t k.after
-        acting = known_by now mv.typing t k.after k.after (done_by t past ++ m.event.what ∷ []) kn.function kn.args kn.caps refl (sym (done_own t past m (own_number m.event.thread t number))) (began_more (scheme r) start past m t kn.function kn.args kn.caps kn.began) mv.stands
+        acting = known_by now mv.typing t k.after k.after (done_by t past ++ m.event.what ∷ []) kn.function kn.args kn.caps refl (sym (done_own t past m (own_number m.event.thread t number))) (began_more code start past m t kn.function kn.args kn.caps kn.began) mv.stands
 
         apart : (u : ℕ) → nat_eq m.event.thread u ≡ false → u ≡ t → ⊥
         apart u e s = other_number m.event.thread u e (s ∙ sym number)
@@ -132,12 +131,12 @@ module _ (r : ResolvedTree) (N : ℕ) (start : World) where
         standing u th at e (Some old) f =
             let before = inv.known u old f in
             let same = some_inj old th (sym (k.others u old (apart u e) f) ∙ at) in
-            known_by now mv.typing u old th (done_by u past) before.function before.args before.caps same (sym (done_other u past m e)) (began_more (scheme r) start past m u before.function before.args before.caps before.began)
-            (stands_on r N G mv.typing mv.more before.function before.args before.caps (done_by u past) old before.stands)
+            known_by now mv.typing u old th (done_by u past) before.function before.args before.caps same (sym (done_other u past m e)) (began_more code start past m u before.function before.args before.caps before.began)
+            (stands_on r code N G mv.typing mv.more before.function before.args before.caps (done_by u past) old before.stands)
         standing u th at e None f =
-            let s : IsSpawned (scheme r) u m.event.what th = k.new u th f at in
-            known_by now mv.typing u (started (scheme r) s.unit s.args s.caps) th [] s.unit s.args s.caps (sym s.it) (sym (done_other u past m e ∙ inv.none u f)) (inr (record { before = past; spawning = m; later = []; parts = refl; asked = s.asked }))
-            (begins r N typed mv.typing s.unit s.args s.caps (mv.spawned u th s))
+            let s : IsSpawned code u m.event.what th = k.new u th f at in
+            known_by now mv.typing u (started code s.unit s.args s.caps) th [] s.unit s.args s.caps (sym s.it) (sym (done_other u past m e ∙ inv.none u f)) (inr (record { before = past; spawning = m; later = []; parts = refl; asked = s.asked }))
+            (begins r code N typed mv.typing s.unit s.args s.caps (mv.spawned u th s))
 
         by_number : (u : ℕ) (th : Thread) → thread_at m.world u ≡ Some th → (b : Bool) → nat_eq m.event.thread u ≡ b → Known now mv.typing u th
         by_number u th at true e =
@@ -154,28 +153,28 @@ module _ (r : ResolvedTree) (N : ℕ) (start : World) where
             gone true e = absurd (let same : t ≡ u = sym number ∙ same_number m.event.thread u e in let here = subst (λ u. thread_at m.world u ≡ Some k.after) same k.then_at in let z = sym none ∙ here in cc)
             gone false e = absurd (let z = sym none ∙ k.others u old (apart u e) f in cc)
 
-    all_turns : (turns : List ℕ) (past : List Moment) (G : Typing) (w : World) → Holds past G w → length past + length turns ≤ N → (H : Typing) × Holds (past ++ moments (scheme r) turns w) H (left_by w (moments (scheme r) turns w))
+    all_turns : (turns : List ℕ) (past : List Moment) (G : Typing) (w : World) → Holds past G w → length past + length turns ≤ N → (H : Typing) × Holds (past ++ moments code turns w) H (left_by w (moments code turns w))
     all_turns [] past G w inv le = (G, subst (λ ms. Holds ms G w) (sym (append-nil past)) inv)
-    all_turns (t ∷ ts) past G w inv le = by (step (scheme r) w t) refl (λ past G v i l. all_turns ts past G v i l)
+    all_turns (t ∷ ts) past G w inv le = by (step code w t) refl (λ past G v i l. all_turns ts past G v i l)
       where
-        by : (o : Option Moment) → step (scheme r) w t ≡ o → ((past : List Moment) (G : Typing) (v : World) → Holds past G v → length past + length ts ≤ N → (H : Typing) × Holds (past ++ moments (scheme r) ts v) H (left_by v (moments (scheme r) ts v))) → (H : Typing) × Holds (past ++ and_then o (moments (scheme r) ts)) H (left_by w (and_then o (moments (scheme r) ts)))
+        by : (o : Option Moment) → step code w t ≡ o → ((past : List Moment) (G : Typing) (v : World) → Holds past G v → length past + length ts ≤ N → (H : Typing) × Holds (past ++ moments code ts v) H (left_by v (moments code ts v))) → (H : Typing) × Holds (past ++ and_then o (moments code ts)) H (left_by w (and_then o (moments code ts)))
         by None e more = (G, subst (λ ms. Holds ms G w) (sym (append-nil past)) inv)
         by (Some m) e more =
             let one = one_turn past G w t m inv e (omega (arith, le)) in
             let long = length_more past m in
             let rest = more (past ++ m ∷ []) one.0 m.world one.1 (omega (arith, le, long)) in
-            (rest.0, subst (λ ms. Holds ms rest.0 (left_by m.world (moments (scheme r) ts m.world))) (append_assoc past (m ∷ []) (moments (scheme r) ts m.world)) rest.1)
+            (rest.0, subst (λ ms. Holds ms rest.0 (left_by m.world (moments code ts m.world))) (append_assoc past (m ∷ []) (moments code ts m.world)) rest.1)
           where
             length_more : (past : List Moment) (m : Moment) → length (past ++ m ∷ []) ≡ suc (length past)
             length_more [] m = refl
             length_more (x ∷ past) m = ap suc (length_more past m)
 
-    at_start : IsValid start → ThreadsStart r (scheme r) start → Holds [] nothing_known start
+    at_start : IsValid start → ThreadsStart r code start → Holds [] nothing_known start
     at_start valid starts =
         record {
           valid = valid;
           world = record { slots = λ n x e. absurd cc; results = λ t res e. no_result t (thread_at start t) refl res e };
-          known = λ u th at. let s = starts u th at in known_by [] nothing_known u (started (scheme r) s.function s.args s.caps) th [] s.function s.args s.caps (sym s.it) refl (inl (at ∙ ap Some s.it)) (begins r N typed nothing_known s.function s.args s.caps s.starts);
+          known = λ u th at. let s = starts u th at in known_by [] nothing_known u (started code s.function s.args s.caps) th [] s.function s.args s.caps (sym s.it) refl (inl (at ∙ ap Some s.it)) (begins r code N typed nothing_known s.function s.args s.caps s.starts);
           none = λ u e. refl;
         }
       where
@@ -183,15 +182,15 @@ module _ (r : ResolvedTree) (N : ℕ) (start : World) where
         no_result t None f res e = absurd cc
         no_result t (Some th) f res e = absurd (let s = starts t th f in let z = ap (λ (th : Thread). th.result) s.it in cc)
 
-pub suit_in_runs : (r : ResolvedTree) → AnswersSuitInRuns r
-suit_in_runs r typed numbered is_code w turns valid starts u th at =
+pub suit_in_runs : (r : ResolvedTree) (code : CodeTree) → AnswersSuitInRuns r code
+suit_in_runs r code acts_as is_code typed w turns valid starts u th at =
     let N : ℕ = length turns in
-    let ms = moments (scheme r) turns w in
-    let end = all_turns r N w typed numbered is_code turns [] nothing_known w (at_start r N w typed numbered is_code valid starts) (omega arith) in
+    let ms = moments code turns w in
+    let end = all_turns r code N w typed acts_as is_code turns [] nothing_known w (at_start r code N w typed acts_as is_code valid starts) (omega arith) in
     let k = end.1.known u th at in
     let st = k.stands in
     let few = done_few u ms in
-    let all = moments_few (scheme r) turns w in
+    let all = moments_few code turns w in
     record {
       function = k.function;
       args = k.args;
@@ -201,5 +200,5 @@ suit_in_runs r typed numbered is_code w turns valid starts u th at =
       declared = st.declared;
       found = st.found;
       sorts = st.sorts;
-      suit = suits_any r N typed numbered end.0 k.function k.args k.caps (done_by u ms) th st (omega (arith, few, all));
+      suit = suits_any r code N acts_as end.0 k.function k.args k.caps (done_by u ms) th st (omega (arith, few, all));
     }

@@ -1,5 +1,5 @@
 -- That the threads of a run mean what their source means.
-use Rattle.std.specs.Prelude.{◌≡◌, ◌≢◌, ◌≤◌, ◌⊎◌, ℕ, ◌+◌, ◌*◌, List, length, Some, Ok, slice_get}
+use Rattle.std.specs.Prelude.{◌≡◌, ◌≢◌, ◌≤◌, ◌⊎◌, ℕ, ◌+◌, ◌*◌, List, length, Some, slice_get}
 use Rattle.std.specs.List.{AllByRecursion}
 use Rattle.capabilities.specs.declared.Caps.{Caps}
 use Rattle.lam_value.specs.declared.values.Value.{Value}
@@ -7,14 +7,12 @@ use Rattle.lam_asks.specs.declared.answer.What.{What}
 use Rattle.lam_bytecode.specs.Codes.{CodeTree, IsCode}
 use Rattle.lam_resolve_tree.specs.Tree.{ResolvedFunction, ResolvedTree}
 use Rattle.lam_resolve_tree.specs.Typing.{IsTypedTree}
-use Rattle.lam_resolve_tree.specs.Regions.{AreNumbered}
 use Rattle.thread_steps.specs.Threads.{Thread}
 use Rattle.thread_steps.specs.Next.{standing, is_stuck, is_ended}
 use Rattle.lam_meaning.specs.Plays.{asks_made}
 use Rattle.lam_meaning_typed.specs.Kinds.{AreOf}
-use Rattle.lam_meaning.specs.Long.{compiled}
 use Rattle.lam_meaning_laws.specs.Lone.{bound}
-use Rattle.lam_meaning_laws.specs.Acts.{AreFirst}
+use Rattle.lam_meaning_laws.specs.Acts.{AreFirst, ActsAs}
 use Rattle.lam_machine_terms.specs.Worlds.{World, thread_at}
 use Rattle.lam_machine_terms.specs.Turns.{Moment, moments, replay}
 use Rattle.lam_machine_terms.specs.Valid.{IsValid}
@@ -22,7 +20,7 @@ use Rattle.lam_machine_laws.specs.Own.{done_by}
 use Rattle.lam_machine_means.specs.Runs.{asked_in, answers_in, ThreadsStart, Began}
 
 -- A thread made so many turns that it has made all asks of its source with n units, or it has ended. The bound is the
--- number of the code's operations, twice that of its regions, and one.
+-- number of operations that the scheme gives the program, twice that of its regions, and one.
 abbrev pub IsFar : ResolvedTree → CodeTree → ℕ → List What → Thread → Type 0
 IsFar r code n did th = ((n + 1) * bound r ≤ length did) ⊎ (standing code th ≡ is_ended)
 
@@ -48,7 +46,7 @@ pub record MeansItsSource (r : ResolvedTree) (code : CodeTree) (w : World) (ms :
 -- each thread, also one that was spawned, after any turns from a valid world whose threads just start
 abbrev pub RunsMean : ResolvedTree → CodeTree → Type 0
 RunsMean r code =
-    compiled r ≡ Ok code → IsCode code → IsTypedTree r → AreNumbered r → (w : World) (turns : List ℕ) → IsValid w → ThreadsStart r code w → (u : ℕ) (th : Thread) → thread_at (replay code turns w) u ≡ Some th →
+    ActsAs code r → IsCode code → IsTypedTree r → (w : World) (turns : List ℕ) → IsValid w → ThreadsStart r code w → (u : ℕ) (th : Thread) → thread_at (replay code turns w) u ≡ Some th →
     MeansItsSource r code w (moments code turns w) u th
 
 -- no thread of a world is stuck
@@ -58,5 +56,5 @@ NoneStuck code w = (u : ℕ) (th : Thread) → thread_at w u ≡ Some th → sta
 -- at the start, and after each turn
 abbrev pub NoRunSticks : ResolvedTree → CodeTree → Type 0
 NoRunSticks r code =
-    compiled r ≡ Ok code → IsCode code → IsTypedTree r → AreNumbered r → (w : World) (turns : List ℕ) → IsValid w → ThreadsStart r code w →
+    ActsAs code r → IsCode code → IsTypedTree r → (w : World) (turns : List ℕ) → IsValid w → ThreadsStart r code w →
     NoneStuck code w × AllByRecursion (λ (m : Moment). NoneStuck code m.world) (moments code turns w)

@@ -1,4 +1,4 @@
--- In every run of a typed program each answer suits the ask that it answers.
+-- In every run of a code that acts as a typed program each answer suits the ask that it answers.
 use Rattle.std.specs.Prelude.{◌≡◌, ◌⊎◌, ℕ, List, [], ◌∷◌, ◌++◌, Some, None, slice_get}
 use Rattle.capabilities.specs.declared.Caps.{Caps}
 use Rattle.lam_value.specs.declared.values.Value.{Value}
@@ -12,13 +12,12 @@ use Rattle.lam_asks.specs.declared.ask.Ask.TheVariants.{Spawn}
 use Rattle.lam_bytecode.specs.Codes.{CodeTree, IsCode}
 use Rattle.lam_resolve_tree.specs.Tree.{ResolvedFunction, ResolvedTree}
 use Rattle.lam_resolve_tree.specs.Typing.{IsTypedTree}
-use Rattle.lam_resolve_tree.specs.Regions.{AreNumbered}
 use Rattle.thread_steps.specs.Threads.{Thread}
 use Rattle.thread_steps.specs.Next.{started}
 use Rattle.lam_meaning.specs.Means.{means}
 use Rattle.lam_meaning.specs.Plays.{asks_of, AllFit}
 use Rattle.lam_meaning_typed.specs.Kinds.{AreOf}
-use Rattle.lam_meaning.specs.Scheme.{scheme}
+use Rattle.lam_meaning_laws.specs.Acts.{ActsAs}
 use Rattle.lam_machine_terms.specs.Worlds.{World, thread_at}
 use Rattle.lam_machine_terms.specs.Turns.{Moment, moments, replay}
 use Rattle.lam_machine_terms.specs.Valid.{IsValid}
@@ -82,7 +81,7 @@ pub record IsSuited (r : ResolvedTree) (code : CodeTree) (w : World) (ms : List 
   pub suit : (n : ℕ) → AllFit (asks_of (means r n function args caps) (answers_in (done_by u ms))) (answers_in (done_by u ms))
 
 -- from a valid world whose threads just start, after any turns
-abbrev pub AnswersSuitInRuns : ResolvedTree → Type 0
-AnswersSuitInRuns r =
-    IsTypedTree r → AreNumbered r → IsCode (scheme r) → (w : World) (turns : List ℕ) → IsValid w → ThreadsStart r (scheme r) w → (u : ℕ) (th : Thread) → thread_at (replay (scheme r) turns w) u ≡ Some th →
-    IsSuited r (scheme r) w (moments (scheme r) turns w) u th
+abbrev pub AnswersSuitInRuns : ResolvedTree → CodeTree → Type 0
+AnswersSuitInRuns r code =
+    ActsAs code r → IsCode code → IsTypedTree r → (w : World) (turns : List ℕ) → IsValid w → ThreadsStart r code w → (u : ℕ) (th : Thread) → thread_at (replay code turns w) u ≡ Some th →
+    IsSuited r code w (moments code turns w) u th

@@ -1,12 +1,14 @@
 //! Runs mean what the source means.
 //!
-//! In every run of a typed program's code no thread is ever stuck, and each thread asks what its source means: with the
-//! function, arguments and capabilities that it was started with, and the answers that stand in the run. The meaning with
-//! n *units* bounds its asks from both sides: they are the first ones of the source with as many units as the thread made
-//! turns; and after `(n + 1) * bound` turns, or once it has ended, it has asked all that the source asks with n units.
+//! In every run of a code that acts as a typed program no thread is ever stuck, and each thread asks what its source means:
+//! with the function, arguments and capabilities that it was started with, and the answers that stand in the run. The
+//! meaning with n *units* bounds its asks from both sides: they are the first ones of the source with as many units as the
+//! thread made turns; and after `(n + 1) * bound` turns, or once it has ended, it has asked all that the source asks with n
+//! units.
 //!
-//! That a thread alone does so, where its answers suit, is `lam_meaning_laws`; that a thread of a run is a thread alone with the
-//! answers that it got, `lam_machine_laws`. That all answers of a run suit is proved here.
+//! That a thread of the code alone does so, where its answers suit, is what it is to act as the program (`ActsAs` in
+//! `lam_meaning_laws`, which shows it of the scheme's code); that a thread of a run is a thread alone with the answers that
+//! it got, `lam_machine_laws`. That all answers of a run suit is proved here.
 //!
 //! A run is a protocol of two parties. Turns keep what stands on the heap of its types, and answer typed asks by values of
 //! the types wanted (`turns_are_typed`): a typing says what each heap name stands for, an object of a class or an array of
@@ -29,8 +31,8 @@ ghost use Rattle.lam_machine_means.specs.Served.{TurnsAreTyped};
 ghost use Rattle.lam_machine_means.specs.Asks.{AsksAreTyped};
 ghost use Rattle.lam_machine_means.specs.Runs.{AnswersSuitInRuns};
 
-/// Each thread of each run of a typed program's code is not stuck and asks what its source means, where the first world is
-/// valid and its threads stand at entries, with arguments of their parameters' types.
+/// Each thread of each run of a code that acts as a typed program is not stuck and asks what its source means, where the
+/// first world is valid and its threads stand at entries, with arguments of their parameters' types.
 pub fn runs_mean_what_the_source_means()
     ensures { (r : ResolvedTree) (code : CodeTree) → RunsMean r code }
 {}
@@ -52,9 +54,9 @@ pub fn asks_are_typed()
     ensures { (r : ResolvedTree) → AsksAreTyped r }
 {}
 
-/// From a valid world in which each thread stands at the entry of a function of a typed program, after any turns: each
-/// thread, also one that was spawned, began at a function with arguments of its parameters' sorts, went on by its own
-/// turns, and each answer that it got suits the ask of its source.
+/// From a valid world in which each thread stands at the entry of a function of a typed program, after any turns of a code
+/// that acts as the program: each thread, also one that was spawned, began at a function with arguments of its parameters'
+/// sorts, went on by its own turns, and each answer that it got suits the ask of its source.
 pub fn answers_suit_in_runs()
-    ensures { (r : ResolvedTree) → AnswersSuitInRuns r }
+    ensures { (r : ResolvedTree) (code : CodeTree) → AnswersSuitInRuns r code }
 {}
