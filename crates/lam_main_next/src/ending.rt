@@ -17,7 +17,7 @@ use lam_main_files::{Halt, Refusal};
 use std::alloc::Global;
 use thread_host_run::{Run, RunOf, let_go_run, run_of};
 use want_of_memory::NoMemory;
-use world_forest_starts::starts_are_forests;
+use world_forest_starts::texts_begin_as_forests;
 use world_save::{SaveFault, Saved, save};
 
 /// The line that is printed, and the document that is written.
@@ -42,7 +42,7 @@ pub(crate) fn ending(
     ensures offers { Offers result (λ out. WhereReady (IsOfEnd out code old.now start turns.now) (stopped_at code turns.now start)) }
     ensures no_fault { IfErr result (λ halt. halt ≢ Halt.ShelfFailed) }
 {
-    starts_are_forests();
+    texts_begin_as_forests();
     match run_of(alloc, code, start, turns) {
         Err(NoMemory) => Err(Halt::NoMemory),
         Ok(RunOf::Stops { turn, thread }) => {

@@ -15,10 +15,13 @@ ghost use Rattle.lam_bytecode.specs.Codes.{IsCode};
 ghost use Rattle.lam_machine_terms.specs.Valid.{IsValid};
 ghost use Rattle.lam_main_plan.specs.Reading.{WithFile, program_limit};
 ghost use Rattle.lam_main_plan.specs.Books.{WithStart, WithRun};
+ghost use Rattle.lam_resolve_tree.specs.Tree.{resolved_tree};
+ghost use Rattle.world_doc_laws.specs.Documents.{RunMeans};
 ghost use Rattle.lam_main_plan.specs.Walks.{TellsSame, Walks};
 ghost use Rattle.lam_main_files.specs.Halts.{Says, Gives};
 ghost use Rattle.lam_main_replay.specs.Asked.{files_of};
-ghost use Rattle.lam_main_walk.specs.Sources.{IsWhole, KeepsTo, walks_source};
+ghost use Rattle.lam_main_laws.specs.Meant.{MeansEverywhere};
+ghost use Rattle.lam_main_walk.specs.Sources.{IsSound, Tells};
 
 use crate::source::{Source, let_go_source, read_source};
 use crate::telling::told;
@@ -54,5 +57,49 @@ pub fn walk<H: Shelf>(
             answer
         }
         Err(halt) => Err(halt),
+    }
+}
+
+/// The line of how many asks stand in the run of a source: the document is read next.
+fn walk_source<H: Shelf>(
+    alloc: Global,
+    shelf: &mut H,
+    source: &Source,
+    files: RunFiles,
+) -> Result<String, Halt>
+    requires sound { IsSound source.now }
+    requires means { MeansEverywhere (resolved_tree source.now.program) source.now.code }
+    ensures says { IsTrue (H.tells shelf.old) → Says result (Tells (H.files shelf.old) (files_of files) source.now) }
+    ensures stay { IsTrue (H.tells shelf.old) → AllStay (H.files shelf.old) (H.files shelf.new) }
+    ensures failed { IfErr result (λ halt. halt ≡ Halt.ShelfFailed → Rose (H.faults shelf.old) (H.faults shelf.new)) }
+{
+    let RunFiles { world, book } = files;
+    match read_start(alloc, shelf, &source.code, world) {
+        Ok(start) => walk_from(alloc, shelf, source, start, book),
+        Err(halt) => Err(halt),
+    }
+}
+
+/// The same of a start: the book is read next.
+fn walk_from<H: Shelf>(
+    alloc: Global,
+    shelf: &mut H,
+    source: &Source,
+    start: World,
+    book: String,
+) -> Result<String, Halt>
+    requires sound { IsSound source.now }
+    requires valid { IsValid start }
+    requires means { (turns : List ℕ) → RunMeans (resolved_tree source.now.program) source.now.code start turns }
+    ensures says { IsTrue (H.tells shelf.old) → Says result (WithRun (H.files shelf.old) (string_bytes book) source.now.code start (TellsSame (resolved_tree source.now.program) source.now.code start)) }
+    ensures stay { IsTrue (H.tells shelf.old) → AllStay (H.files shelf.old) (H.files shelf.new) }
+    ensures failed { IfErr result (λ halt. halt ≡ Halt.ShelfFailed → Rose (H.faults shelf.old) (H.faults shelf.new)) }
+{
+    match read_turns(alloc, shelf, book) {
+        Ok(turns) => told(alloc, source, start, turns.as_slice()),
+        Err(halt) => {
+            let_go_world(start);
+            Err(halt)
+        }
     }
 }
