@@ -73,6 +73,7 @@ runs_mean r code acts_as is_code typed w turns valid starts u th at =
       began = s.began;
       declared = s.declared;
       found = s.found;
+      result = s.result;
       sorts = s.sorts;
       meant = meant r code acts_as s.function s.declared s.args s.caps (done_by u (moments code turns w)) th s.found s.sorts s.own s.suit;
     }

@@ -49,21 +49,23 @@ module _ (r : ResolvedTree) (code : CodeTree) (N : ℕ) where
     pub own : OwnTurns code (started code f vs k) did th
     pub declared : ResolvedFunction
     pub found : slice_get r.functions f ≡ Some declared
+    pub result : declared.result ≡ Some int
     pub sorts : AreOf declared.params vs
     pub suit : AllFit (asks_of (means r N f vs k) (answers_in did)) (answers_in did)
     pub well : AsksWell r AnyEnd G (rest_of (means r N f vs k) (answers_in did))
 
   pub stands_on : (G H : Typing) → Extends G H → (f : ℕ) (vs : List Value) (k : Caps) (did : List What) (th : Thread) → Stands G f vs k did th → Stands H f vs k did th
   stands_on G H more f vs k did th st =
-      record { own = st.own; declared = st.declared; found = st.found; sorts = st.sorts; suit = st.suit; well = well_on G H more r (rest_of (means r N f vs k) (answers_in did)) st.well }
+      record { own = st.own; declared = st.declared; found = st.found; result = st.result; sorts = st.sorts; suit = st.suit; well = well_on G H more r (rest_of (means r N f vs k) (answers_in did)) st.well }
 
   -- with the answers that were got
-  by_answers : (G : Typing) (f : ℕ) (vs : List Value) (k : Caps) (did : List What) (th : Thread) (xs : List Answer) → xs ≡ answers_in did → OwnTurns code (started code f vs k) did th → (fn : ResolvedFunction) → slice_get r.functions f ≡ Some fn → AreOf fn.params vs → AllFit (asks_of (means r N f vs k) xs) xs → AsksWell r AnyEnd G (rest_of (means r N f vs k) xs) → Stands G f vs k did th
-  by_answers G f vs k did th xs e own fn found sorts suit well =
+  by_answers : (G : Typing) (f : ℕ) (vs : List Value) (k : Caps) (did : List What) (th : Thread) (xs : List Answer) → xs ≡ answers_in did → OwnTurns code (started code f vs k) did th → (fn : ResolvedFunction) → slice_get r.functions f ≡ Some fn → fn.result ≡ Some int → AreOf fn.params vs → AllFit (asks_of (means r N f vs k) xs) xs → AsksWell r AnyEnd G (rest_of (means r N f vs k) xs) → Stands G f vs k did th
+  by_answers G f vs k did th xs e own fn found result sorts suit well =
       record {
         own = own;
         declared = fn;
         found = found;
+        result = result;
         sorts = sorts;
         suit = subst (λ xs. AllFit (asks_of (means r N f vs k) xs) xs) e suit;
         well = subst (λ xs. AsksWell r AnyEnd G (rest_of (means r N f vs k) xs)) e well;
@@ -72,7 +74,7 @@ module _ (r : ResolvedTree) (code : CodeTree) (N : ℕ) where
   go_private : (G : Typing) (f : ℕ) (vs : List Value) (k : Caps) (did : List What) (th after : Thread) → Stands G f vs k did th → OwnTurn code th Private after → Stands G f vs k (did ++ Private ∷ []) after
   go_private G f vs k did th after st o =
       by_answers G f vs k (did ++ Private ∷ []) after (answers_in did) (sym (answers_append did (Private ∷ []) ∙ append-nil (answers_in did)))
-      (own_more code (started code f vs k) th after did Private st.own o) st.declared st.found st.sorts st.suit st.well
+      (own_more code (started code f vs k) th after did Private st.own o) st.declared st.found st.result st.sorts st.suit st.well
 
   pub begins : IsTypedTree r → (G : Typing) (f : ℕ) (vs : List Value) (k : Caps) → IsStart r G f vs → Stands G f vs k [] (started code f vs k)
   begins typed G f vs k start =
@@ -80,6 +82,7 @@ module _ (r : ResolvedTree) (code : CodeTree) (N : ℕ) where
         own = refl;
         declared = start.0;
         found = start.1;
+        result = start.2;
         sorts = kinds_are G start.0.params vs start.3;
         suit = fit_none (means r N f vs k);
         well = subst (λ t. AsksWell r AnyEnd G t) (sym (rest_none (means r N f vs k))) (asks_typed r typed N f vs k G start);
@@ -166,7 +169,7 @@ module _ (r : ResolvedTree) (code : CodeTree) (N : ℕ) where
             let fits_here : fits n.q.want x ≡ true = subst (λ z. fits z x ≡ true) (sym (it.want ∙ ap (want_of (sort_of it.wanted)) n.same)) fit in
             let left : AsksWell r AnyEnd H (n.go x) = wl.1 H x turned.1 fits_here (subst (λ b. IsAnswer H (given_type it.wanted b) x) (sym n.same) answered) in
             let stands =
-            by_answers H f vs k (did ++ Asked a x ∷ []) after (xs ++ x ∷ []) (sym (answers_append did (Asked a x ∷ []))) (own_more code (started code f vs k) th after did (Asked a x) st.own o) st.declared st.found st.sorts
+            by_answers H f vs k (did ++ Asked a x ∷ []) after (xs ++ x ∷ []) (sym (answers_append did (Asked a x ∷ []))) (own_more code (started code f vs k) th after did (Asked a x) st.own o) st.declared st.found st.result st.sorts
             (more_fit n.q n.go x tree xs st.suit n.here fits_here) (subst (λ t. AsksWell r AnyEnd H t) (sym (rest_more n.q n.go x tree xs n.here)) left) in
             record {
               typing = H;

@@ -199,6 +199,7 @@ suit_in_runs r code acts_as is_code typed w turns valid starts u th at =
       own = st.own;
       declared = st.declared;
       found = st.found;
+      result = st.result;
       sorts = st.sorts;
       suit = suits_any r code N acts_as end.0 k.function k.args k.caps (done_by u ms) th st (omega (arith, few, all));
     }

@@ -3,6 +3,7 @@ use Rattle.std.specs.Prelude.{◌≡◌, ◌≢◌, ◌≤◌, ◌⊎◌, ℕ, �
 use Rattle.std.specs.List.{AllByRecursion}
 use Rattle.capabilities.specs.declared.Caps.{Caps}
 use Rattle.lam_value.specs.declared.values.Value.{Value}
+use Rattle.lam_builtins.specs.Types.{int}
 use Rattle.lam_asks.specs.declared.answer.What.{What}
 use Rattle.lam_bytecode.specs.Codes.{CodeTree, IsCode}
 use Rattle.lam_resolve_tree.specs.Tree.{ResolvedFunction, ResolvedTree}
@@ -32,7 +33,8 @@ pub record DoesAsMeant (r : ResolvedTree) (code : CodeTree) (f : ℕ) (vs : List
   -- those that the source makes with n units, and its answers, are the first ones of its own
   pub asks_all : (n : ℕ) → IsFar r code n did th → AreFirst (asks_made r n f vs k (answers_in did)) (asked_in did)
 
--- a thread of a run: how it began, with arguments of the sorts of its function's parameters, and that it does as meant
+-- a thread of a run: how it began, with arguments of the sorts of its function's parameters, in a function whose result is a
+-- number, and that it does as meant
 pub record MeansItsSource (r : ResolvedTree) (code : CodeTree) (w : World) (ms : List Moment) (u : ℕ) (th : Thread) : Type 0 where
   pub function : ℕ
   pub args : List Value
@@ -40,6 +42,7 @@ pub record MeansItsSource (r : ResolvedTree) (code : CodeTree) (w : World) (ms :
   pub began : Began code w ms u function args caps
   pub declared : ResolvedFunction
   pub found : slice_get r.functions function ≡ Some declared
+  pub result : declared.result ≡ Some int
   pub sorts : AreOf declared.params args
   pub meant : DoesAsMeant r code function args caps (done_by u ms) th
 

@@ -2,6 +2,7 @@
 use Rattle.std.specs.Prelude.{◌≡◌, ◌⊎◌, ℕ, List, [], ◌∷◌, ◌++◌, Some, None, slice_get}
 use Rattle.capabilities.specs.declared.Caps.{Caps}
 use Rattle.lam_value.specs.declared.values.Value.{Value}
+use Rattle.lam_builtins.specs.Types.{int}
 use Rattle.lam_value.specs.declared.values.Value.TheVariants as value
 use Rattle.lam_asks.specs.declared.answer.Answer.{Answer}
 use Rattle.lam_asks.specs.declared.answer.Answer.TheVariants.{Val}
@@ -67,7 +68,7 @@ Began code w ms u f vs k = (thread_at w u ≡ Some (started code f vs k)) ⊎ Wa
 
 -- ---- runs
 
--- Thread u began at a function with arguments of the sorts of its parameters, and went on by its own turns among the
+-- Thread u began at a function whose result is a number, with arguments of the sorts of its parameters, and went on by its own turns among the
 -- moments. Each answer that it got suits the ask that its source means, with any number of units.
 pub record IsSuited (r : ResolvedTree) (code : CodeTree) (w : World) (ms : List Moment) (u : ℕ) (th : Thread) : Type 0 where
   pub function : ℕ
@@ -77,6 +78,7 @@ pub record IsSuited (r : ResolvedTree) (code : CodeTree) (w : World) (ms : List 
   pub own : OwnTurns code (started code function args caps) (done_by u ms) th
   pub declared : ResolvedFunction
   pub found : slice_get r.functions function ≡ Some declared
+  pub result : declared.result ≡ Some int
   pub sorts : AreOf declared.params args
   pub suit : (n : ℕ) → AllFit (asks_of (means r n function args caps) (answers_in (done_by u ms))) (answers_in (done_by u ms))
 
