@@ -7,5 +7,6 @@ pub mod StartLemmas
 pub mod StandLemmas
 pub mod Starting
 pub mod Units
+pub mod Thinner
 pub mod SavedLemmas
 pub mod DigitLemmas

@@ -10,7 +10,7 @@ use Rattle.lam_bytecode.specs.declared.unit.CodeUnit.{CodeUnit}
 use Rattle.lam_bytecode.specs.declared.unit.UnitKind.TheVariants.{Function, Region}
 use Rattle.lam_resolve_tree.specs.Tree.{ResolvedType, Statement, let_slot, if_block, while_block, return_value, throw_value, sync_block, region_block, do_value, set_local, set_field, set_element, Block, block_end, block_more, OtherBlock, no_other, other_block, ResolvedFunction, ResolvedTree}
 use Rattle.lam_meaning.specs.Scheme.{Draft, arg_kind, is_int, function_draft, regions_of, regions_in, regions_in_other, all_regions, drafts, all_constants, unit_of, scheme}
-use Rattle.world_doc_laws.specs.Entries.{EntriesAreFunctions}
+use Rattle.world_doc_laws.specs.Entries.{SchemeEntries}
 
 abbrev IsRegion : Draft → Type 0
 IsRegion d = (n : ℕ) × (captures : ℕ) × (at : ℕ) × (d.kind ≡ Region n captures at)
@@ -77,7 +77,7 @@ module _ (vs : List Value) (name : Text) (takes : List ArgKind) (it : CodeUnit) 
       (f, refl, is_number f.result parts.1, sym parts.0)
   function_at (f ∷ fs) ds h (suc u) e = function_at fs ds h u e
 
-pub int_functions : (r : ResolvedTree) → EntriesAreFunctions r
+pub int_functions : (r : ResolvedTree) → SchemeEntries r
 unfolding scheme
 int_functions r u it name takes e kind =
     let f = function_at (all_constants [] (drafts r)) name takes it kind r.functions (all_regions r.functions) (of_functions r.functions) u e in

@@ -5,13 +5,13 @@ use Rattle.flow_labels.specs.TwoLists.{Text}
 use Rattle.lam_bytecode.specs.Codes.{CodeTree, IsCode}
 use Rattle.lam_resolve_tree.specs.Tree.{ResolvedTree}
 use Rattle.lam_resolve_tree.specs.Typing.{IsTypedTree}
-use Rattle.lam_resolve_tree.specs.Regions.{AreNumbered}
 use Rattle.thread_steps.specs.Threads.{Thread}
-use Rattle.lam_meaning.specs.Long.{compiled}
+use Rattle.lam_meaning_laws.specs.Acts.{ActsAs}
 use Rattle.lam_machine_terms.specs.Worlds.{World, thread_at}
 use Rattle.lam_machine_terms.specs.Turns.{Moment, moments, replay}
 use Rattle.lam_machine_means.specs.Meant.{MeansItsSource, NoneStuck}
 use Rattle.world_doc_terms.specs.Start.{start_of}
+use Rattle.world_doc_laws.specs.Entries.{EntriesAreFunctions}
 
 -- after these turns each thread means its source, and in no world on the way was a thread stuck
 pub record RunMeans (r : ResolvedTree) (code : CodeTree) (w : World) (turns : List ℕ) : Type 0 where
@@ -19,7 +19,7 @@ pub record RunMeans (r : ResolvedTree) (code : CodeTree) (w : World) (turns : Li
   pub start : NoneStuck code w
   pub later : AllByRecursion (λ (m : Moment). NoneStuck code m.world) (moments code turns w)
 
--- the code of a typed program, and the world that a text gives for it
+-- a code that acts as a typed program, with the program's functions as its entries, and the world that a text gives for it
 abbrev pub DocumentsRunAsMeant : ResolvedTree → CodeTree → Type 0
 DocumentsRunAsMeant r code =
-    compiled r ≡ Ok code → IsCode code → IsTypedTree r → AreNumbered r → (text : Text) (w : World) → start_of text code ≡ Ok w → (turns : List ℕ) → RunMeans r code w turns
+    ActsAs code r → EntriesAreFunctions r code → IsCode code → IsTypedTree r → (text : Text) (w : World) → start_of text code ≡ Ok w → (turns : List ℕ) → RunMeans r code w turns

@@ -1,5 +1,5 @@
 pub mod Starts
 pub mod Standing
-pub mod Documents
 pub mod Entries
+pub mod Documents
 pub mod Saved

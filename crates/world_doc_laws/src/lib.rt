@@ -6,7 +6,8 @@
 //! - `starts`: a world that a document gives is valid, so that everything that is proved of runs from a valid start holds
 //!   of runs from a document, and its threads stand at entries (`specs/Starts`, `specs/Standing`).
 //! - `saved`: what is read of a document of version 3 by the counters and items that it says (`specs/Saved`).
-//! - `runs`: every run of a typed program from there means what its source means (`specs/Documents`, `specs/Entries`).
+//! - `runs`: every run from there of a code that acts as a typed program means what its source means (`specs/Documents`,
+//!   `specs/Entries`).
 #![tactic(auto)]
 
 mod runs;

@@ -1,22 +1,30 @@
 //! Runs from the world of a document mean what their source means.
 //!
 //! A world document starts threads at functions whose result is a number, with an argument of its kind for each parameter
-//! and in a valid world (`starts`). The entries of a program's code are its functions (`entries_are_functions`): each is
-//! the program's own function of the same number, which takes what the unit says; and no such argument is an object or an array. So what `lam_machine_means` says of runs holds of every run of a typed
-//! program from every document.
+//! and in a valid world (`starts`). The entries of a program's code, also of its thinned code, are its functions
+//! (`entries_are_functions`): each is the program's own function of the same number, which takes what the unit says; and no
+//! such argument is an object or an array. So what `lam_machine_means` says of runs holds of every run, from every document,
+//! of a code that acts as a typed program and has such entries.
 
 ghost use Rattle.lam_bytecode.specs.Codes.{CodeTree};
 ghost use Rattle.lam_resolve_tree.specs.Tree.{ResolvedTree};
 ghost use Rattle.world_doc_laws.specs.Documents.{DocumentsRunAsMeant};
-ghost use Rattle.world_doc_laws.specs.Entries.{EntriesAreFunctions};
+ghost use Rattle.world_doc_laws.specs.Entries.{SchemeEntries, ThinnedEntries, ThinnedStarts};
 
-/// Every run of a typed program's code, from the world of every document: each thread asks what its source means, and no
-/// thread of any world of the run is stuck.
+use thinned_code::thinned_code_keeps_units;
+
+/// Every run of a code that acts as a typed program, from the world of every document: each thread asks what its source
+/// means, and no thread of any world of the run is stuck.
 pub fn runs_of_documents_mean()
     ensures { (r : ResolvedTree) (code : CodeTree) → DocumentsRunAsMeant r code }
 {}
 
-/// Each unit of a program's code that is a function with a number as its result is the program's function of that number.
+/// Each unit of a program's code that is a function with a number as its result is the program's function of that number;
+/// so it is in thinned code, and a document's threads start at the same functions there.
 pub fn entries_are_functions()
-    ensures { (r : ResolvedTree) → EntriesAreFunctions r }
-{}
+    ensures scheme { (r : ResolvedTree) → SchemeEntries r }
+    ensures thinned { (code : CodeTree) → ThinnedEntries code }
+    ensures starts { (code : CodeTree) → ThinnedStarts code }
+{
+    thinned_code_keeps_units();
+}
