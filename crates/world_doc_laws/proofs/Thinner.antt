@@ -49,7 +49,7 @@ module _ (code thin : CodeTree) (h : HasThinnerUnits code thin) where
       by None f = absurd (let z = sym (past n f) ∙ e in cc)
       by (Some u) f = let x = h.each n u f in record { unit = u; there = f; thinner = subst (IsThinner u) (some_unit x.0 v (sym x.1 ∙ e)) x.2 }
 
-  entry_of : Option CodeUnit → ℕ → Option Entry
+  abbrev entry_of : Option CodeUnit → ℕ → Option Entry
   entry_of o n = option_and_then (λ (u : CodeUnit). entry_by n u.kind) o
 
   entry_at : (n : ℕ) → entry_of (slice_get thin.units n) n ≡ entry_of (slice_get code.units n) n
