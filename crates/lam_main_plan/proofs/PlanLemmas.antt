@@ -174,13 +174,13 @@ module _ (p q : Plan) where
     one_of_walk : (bytes : Text) (tree : CodeTree) (start : World) (turns : List ℕ) → IsOfWalk bytes tree start turns p → IsOfWalk bytes tree start turns q → p ≡ q
     one_of_walk bytes tree start turns h k = h.tells.is ∙ ap (λ (asks : ℕ). prints (same_line asks)) (h.tells.walked.1 ∙ sym k.tells.walked.1) ∙ sym k.tells.is
 
-    one_walk : (run : RunFiles) (bytes : Text) (tree : CodeTree) → WalksRun files run bytes tree p → WalksRun files run bytes tree q → p ≡ q
-    one_walk run bytes tree h k =
-        one_with_start run.world tree (λ start. WithRun files run.book tree start (IsOfWalk bytes tree start))
-        (λ start. one_with_run run.book tree start (IsOfWalk bytes tree start) (one_of_walk bytes tree start)) h k
+    one_walk : (asked : RunFiles) (bytes : Text) (tree : CodeTree) → WalksRun files asked bytes tree p → WalksRun files asked bytes tree q → p ≡ q
+    one_walk asked bytes tree h k =
+        one_with_start asked.world tree (λ start. WithRun files asked.book tree start (IsOfWalk bytes tree start))
+        (λ start. one_with_run asked.book tree start (IsOfWalk bytes tree start) (one_of_walk bytes tree start)) h k
 
-    one_walks : (run : RunFiles) (bytes : Text) → Walks files run bytes p → Walks files run bytes q → p ≡ q
-    one_walks run bytes h k = one_thins (WalksRun files run bytes) (one_walk run bytes) bytes h k
+    one_walks : (asked : RunFiles) (bytes : Text) → Walks files asked bytes p → Walks files asked bytes q → p ≡ q
+    one_walks asked bytes h k = one_thins (WalksRun files asked bytes) (one_walk asked bytes) bytes h k
 
   -- ---- a run whose turns threads take
 
@@ -213,16 +213,16 @@ module _ (p q : Plan) where
   SavesAreOne = (out old : Text) (names : List Text) (public : Caps) (t : Tree) → IsOfFiles out old names public t p → IsOfFiles out old names public t q → p ≡ q
 
   module _ (files : Files) (one : SavesAreOne) where
-    one_save : (run : RunFiles) (out : Text) (tree : CodeTree) → SavesRun files run out tree p → SavesRun files run out tree q → p ≡ q
-    one_save run out tree h k =
-        let OfStart : Text → World → Plan → Type 0 = λ old start. WithRun files run.book tree start (IsOfEnd out tree old start) in
-        one_with_file (files run.world) run.world world_limit (λ old. ByWorld (OfStart old) (start_of old tree))
+    one_save : (asked : RunFiles) (out : Text) (tree : CodeTree) → SavesRun files asked out tree p → SavesRun files asked out tree q → p ≡ q
+    one_save asked out tree h k =
+        let OfStart : Text → World → Plan → Type 0 = λ old start. WithRun files asked.book tree start (IsOfEnd out tree old start) in
+        one_with_file (files asked.world) asked.world world_limit (λ old. ByWorld (OfStart old) (start_of old tree))
         (λ old. one_by_world (OfStart old)
-        (λ start. one_with_run files run.book tree start (IsOfEnd out tree old start)
+        (λ start. one_with_run files asked.book tree start (IsOfEnd out tree old start)
         (λ turns. one out old start.names start.public (replayed tree turns start).files)) (start_of old tree)) h k
 
-    one_saves : (run : RunFiles) (out bytes : Text) → Saves files run out bytes p → Saves files run out bytes q → p ≡ q
-    one_saves run out bytes h k = one_thins (SavesRun files run out) (one_save run out) bytes h k
+    one_saves : (asked : RunFiles) (out bytes : Text) → Saves files asked out bytes p → Saves files asked out bytes q → p ≡ q
+    one_saves asked out bytes h k = one_thins (SavesRun files asked out) (one_save asked out) bytes h k
 
   -- ---- every command
 

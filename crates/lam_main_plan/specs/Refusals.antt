@@ -99,7 +99,7 @@ absent_line = refl
 document_line : (no_world NotJson).text ≡ codes "lam: 4 NotJson\n"
 document_line = refl
 
-unnamed_line : (unnamed_tag 3).text ≡ codes "lam: 4 Unnamed #3\n"
+unnamed_line : (unnamed_tag 3).text ≡ codes "lam: 4 Unnamed #" ++ decimal 3 ++ codes "\n"
 unnamed_line = refl
 
 tag_line : (no_world (NoTag (codes "b"))).text ≡ codes "lam: 4 NoTag b\n"

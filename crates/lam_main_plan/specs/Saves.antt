@@ -1,5 +1,5 @@
 -- What becomes of the files and directories at the end of a run: the document of the next run's world, which is written.
-use Rattle.std.specs.Prelude.{◌≡◌, ℕ, List, [], ◌∷◌, Some, codes, decimal, refl}
+use Rattle.std.specs.Prelude.{◌≡◌, ℕ, List, [], ◌∷◌, ◌++◌, Some, codes, decimal, refl}
 use Rattle.lam_io.specs.Outside.{Files}
 use Rattle.capabilities.specs.declared.Caps.{Caps}
 use Rattle.labelled_files.specs.Trees.{Tree}
@@ -46,5 +46,5 @@ abbrev pub Saves : Files → RunFiles → Text → Text → Plan → Type 0
 Saves files run out bytes plan = Thins (SavesRun files run out) bytes plan
 
 -- ---- worked examples
-two_items : saved_line 2 ≡ codes "saved 2\n"
+two_items : saved_line 2 ≡ codes "saved " ++ decimal 2 ++ codes "\n"
 two_items = refl

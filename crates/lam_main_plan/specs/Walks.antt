@@ -1,5 +1,5 @@
 -- Whether what was asked in the run of a program is what its source asks, by the source alone.
-use Rattle.std.specs.Prelude.{◌≡◌, ℕ, List, [], ◌∷◌, Some, codes, decimal, refl}
+use Rattle.std.specs.Prelude.{◌≡◌, ℕ, List, [], ◌∷◌, ◌++◌, Some, codes, decimal, refl}
 use Rattle.lam_io.specs.Outside.{Files}
 use Rattle.lam_syntax.specs.Tree.{ProgramTree}
 use Rattle.lam_front.specs.Programs.{IsFine}
@@ -46,5 +46,5 @@ abbrev pub Walks : Files → RunFiles → Text → Plan → Type 0
 Walks files run bytes plan = Thins (WalksRun files run bytes) bytes plan
 
 -- ---- worked examples
-four_asks : same_line 4 ≡ codes "same 4\n"
+four_asks : same_line 4 ≡ codes "same " ++ decimal 4 ++ codes "\n"
 four_asks = refl

@@ -1,0 +1,19 @@
+use Rattle.std.proofs.Common.{string_bytes}
+use Rattle.lam_machine_runs.specs.Stops.{stopped_at}
+use Rattle.lam_main_plan.specs.Books.{WhereReady}
+use Rattle.lam_main_plan.specs.Saves.{IsOfEnd}
+use Rattle.lam_main_files.proofs.ReportLemmas.{kept_of_all, all_stay}
+use Rattle.lam_main_next.proofs.EndingLemmas.{offer_reported, no_offer_reported}
+use Rattle.lam_main_next.proofs.next_turns.Goals as goal
+
+pub returns-in-Ok-clause-gives : goal.returns-in-Ok-clause-gives
+returns-in-Ok-clause-gives g c = λ told.
+    offer_reported (λ out. WhereReady (IsOfEnd out c.args.code c.args.old.now c.args.start c.args.turns.now) (stopped_at c.args.code c.args.turns.now c.args.start)) (string_bytes c.args.next_world) (g.H.Shelf.files c.args.shelf.now) (g.H.Shelf.files c.written.new.shelf) c.in-Ok.ending c.written.result c.in-Ok.ensures.offers (c.written.ensures.gives told)
+
+pub returns-in-Err-clause-gives : goal.returns-in-Err-clause-gives
+returns-in-Err-clause-gives g c = λ told.
+    no_offer_reported (λ out. WhereReady (IsOfEnd out c.args.code c.args.old.now c.args.start c.args.turns.now) (stopped_at c.args.code c.args.turns.now c.args.start)) (string_bytes c.args.next_world) (g.H.Shelf.files c.args.shelf.now) (g.H.Shelf.files c.args.shelf.now) c.in-Err.halt (all_stay (g.H.Shelf.files c.args.shelf.now)) c.in-Err.ensures.offers
+
+pub returns-in-Err-clause-kept : goal.returns-in-Err-clause-kept
+returns-in-Err-clause-kept g c = λ told.
+    kept_of_all (g.H.Shelf.files c.args.shelf.now) (g.H.Shelf.files c.args.shelf.now) (string_bytes c.args.next_world) (all_stay (g.H.Shelf.files c.args.shelf.now))
