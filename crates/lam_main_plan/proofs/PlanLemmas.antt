@@ -7,6 +7,7 @@ use Rattle.lam_syntax.specs.Tree.{ProgramTree}
 use Rattle.barrier_compiler.specs.Compiled.{IsCompiledTo}
 use Rattle.barrier_compiler.proofs.Once.{one_compiled}
 use Rattle.lam_bytecode.specs.Codes.{CodeTree}
+use Rattle.thinned_code.specs.Thinned.{thinned}
 use Rattle.lam_bytecode.specs.Listing.{listing_text}
 use Rattle.lam_machine_terms.specs.Worlds.{World}
 use Rattle.lam_machine_terms.specs.Turns.{Moment}
@@ -19,7 +20,7 @@ use Rattle.world_doc_terms.specs.Start.{start_of}
 use Rattle.lam_front.specs.Programs.{IsFine}
 use Rattle.lam_main_words.specs.Words.{Text, Request, play, check, format, code, replay, run, audit, make, help, pair, request_of}
 use Rattle.lam_main_plan.specs.Refusals.{Plan, prints, no_program}
-use Rattle.lam_main_plan.specs.Reading.{IsUnread, HasFile, WithFile, unread, of_file, script_limit, program_limit, world_limit, book_limit, IsCompiled, ByCode, Compiles, fine, broken}
+use Rattle.lam_main_plan.specs.Reading.{IsUnread, HasFile, WithFile, unread, of_file, script_limit, program_limit, world_limit, book_limit, IsCompiled, ByCode, Compiles, fine, broken, Thins}
 use Rattle.lam_main_plan.specs.Replays.{Reader, an_observer, an_auditor, RunFiles, read_by, IsOfBook, ByReader, ByWorld, Replays, Starts, Runs}
 use Rattle.lam_main_plan.specs.Threads.{status_of, IsOfThreads, ThreadFiles, TakesTurns, StartsThreads, RunsThreads, made_budget, Makes}
 use Rattle.flow_labels.specs.LabelText.{label_of}
@@ -92,6 +93,9 @@ module _ (p q : Plan) where
   one_compiles IsOf one bytes (broken f b h) (fine m c k) = absurd (fine_or_broken bytes c.program f c.fine b)
   one_compiles IsOf one bytes (broken f b h) (broken g d k) = h ∙ ap no_program (one_broken bytes f g b d) ∙ sym k
 
+  one_thins : (IsOf : CodeTree → Plan → Type 0) → ((tree : CodeTree) → IsOf tree p → IsOf tree q → p ≡ q) → (bytes : Text) → Thins IsOf bytes p → Thins IsOf bytes q → p ≡ q
+  one_thins IsOf one bytes h k = one_compiles (λ tree. IsOf (thinned tree)) (λ tree. one (thinned tree)) bytes h k
+
   one_by_reader : (IsOf : (List Moment → Text) → Plan → Type 0) → ((shown : List Moment → Text) → IsOf shown p → IsOf shown q → p ≡ q) → (shown : Result (List Moment → Text) ℕ) → ByReader IsOf shown p → ByReader IsOf shown q → p ≡ q
   one_by_reader IsOf one (Ok shown) h k = one shown h k
   one_by_reader IsOf one (Err index) h k = h ∙ sym k
@@ -115,7 +119,7 @@ module _ (p q : Plan) where
         (λ bytes. one_by_world (Replays files asked.book reader tree) (one_replays asked.book reader tree) (start_of bytes tree)) h k
 
     one_runs : (asked : RunFiles) (reader : Reader) (bytes : Text) → Runs files asked reader bytes p → Runs files asked reader bytes q → p ≡ q
-    one_runs asked reader bytes h k = one_compiles (Starts files asked reader) (one_starts asked reader) bytes h k
+    one_runs asked reader bytes h k = one_thins (Starts files asked reader) (one_starts asked reader) bytes h k
 
   -- ---- what goes on from the turns of a book
 
@@ -158,7 +162,7 @@ module _ (p q : Plan) where
         (λ s. one_by_label index (IsBy s) (λ o. one_with_run first.book tree s (PairsWith files second tree o s) (one_pairs_with second tree o s)) (label_of s.names label)) h k
 
     one_pairs : (first second : RunFiles) (index : ℕ) (label bytes : Text) → Pairs files first second index label bytes p → Pairs files first second index label bytes q → p ≡ q
-    one_pairs first second index label bytes h k = one_compiles (PairsRuns files first second index label) (one_pair first second index label) bytes h k
+    one_pairs first second index label bytes h k = one_thins (PairsRuns files first second index label) (one_pair first second index label) bytes h k
 
   -- ---- a run whose turns threads take
 
@@ -176,12 +180,12 @@ module _ (p q : Plan) where
         (λ bytes. one_by_world (TakesTurns asked.out budget reader tree) (one_takes asked.out budget reader tree) (start_of bytes tree)) h k
 
     one_run : (asked : ThreadFiles) (budget : ℕ) (reader : Reader) (bytes : Text) → RunsThreads files asked budget reader bytes p → RunsThreads files asked budget reader bytes q → p ≡ q
-    one_run asked budget reader bytes h k = one_compiles (StartsThreads files asked budget reader) (one_threads asked budget reader) bytes h k
+    one_run asked budget reader bytes h k = one_thins (StartsThreads files asked budget reader) (one_threads asked budget reader) bytes h k
 
     one_makes : (seed threads : ℕ) (out : Text) → Makes seed threads out p → Makes seed threads out q → p ≡ q
     one_makes seed threads out h k =
         let OfStart : CodeTree → World → Plan → Type 0 = λ tree start. IsOfThreads tree start out made_budget (summary_lines seed threads) in
-        one_compiles (λ tree. ByWorld (OfStart tree) (start_of (world_text seed threads) tree))
+        one_thins (λ tree. ByWorld (OfStart tree) (start_of (world_text seed threads) tree))
         (λ tree. one_by_world (OfStart tree) (λ start. one tree start out made_budget (summary_lines seed threads)) (start_of (world_text seed threads) tree)) program_text h k
 
   -- ---- every command

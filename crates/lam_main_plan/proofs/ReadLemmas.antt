@@ -2,13 +2,14 @@
 use Rattle.std.proofs.Common.{◌≡◌, ℕ, List, Option, Result, Ok, Err, sym, subst}
 use Rattle.lam_io.specs.Outside.{Files, AllStay}
 use Rattle.lam_bytecode.specs.Codes.{CodeTree}
+use Rattle.thinned_code.specs.Thinned.{thinned}
 use Rattle.lam_machine_terms.specs.Worlds.{World}
 use Rattle.lam_machine_terms.specs.Turns.{Moment}
 use Rattle.world_doc_terms.specs.Breaks.{Reading}
 use Rattle.world_doc_terms.specs.Start.{start_of}
 use Rattle.lam_main_words.specs.Words.{Text}
 use Rattle.lam_main_plan.specs.Refusals.{Plan}
-use Rattle.lam_main_plan.specs.Reading.{HasFile, WithFile, unread, of_file, Never, program_limit, world_limit, book_limit, IsCompiled, ByCode, Compiles, fine, broken}
+use Rattle.lam_main_plan.specs.Reading.{HasFile, WithFile, unread, of_file, Never, program_limit, world_limit, book_limit, IsCompiled, ByCode, Compiles, fine, broken, IsRunCode, Thins}
 use Rattle.lam_main_plan.specs.Replays.{Reader, RunFiles, read_by, IsOfBook, ByReader, ByWorld, NoStart, Replays, Starts}
 
 -- ---- files
@@ -35,12 +36,24 @@ pub no_code_then : (IsOf : CodeTree → Plan → Type 0) (bytes : Text) (p : Pla
 no_code_then IsOf bytes p (fine made c h) = fine made c (by_no_code IsOf made p h)
 no_code_then IsOf bytes p (broken f b h) = broken f b h
 
+pub thin_then : (IsOf : CodeTree → Plan → Type 0) (bytes : Text) (p : Plan) (tree : CodeTree) → IsRunCode bytes tree → IsOf tree p → Thins IsOf bytes p
+thin_then IsOf bytes p tree c k = fine (Ok c.whole) c.makes (subst (λ (it : CodeTree). IsOf it p) c.thin k)
+
+pub no_thin_then : (IsOf : CodeTree → Plan → Type 0) (bytes : Text) (p : Plan) → Compiles Never bytes p → Thins IsOf bytes p
+no_thin_then IsOf bytes p h = no_code_then (λ tree. IsOf (thinned tree)) bytes p h
+
 module _ (found : Option Text) (name : Text) (IsOf : CodeTree → Plan → Type 0) (p : Plan) where
   pub no_program_then : WithFile found name program_limit (Compiles Never) p → WithFile found name program_limit (Compiles IsOf) p
   no_program_then h = file_map found name program_limit (Compiles Never) (Compiles IsOf) p (λ bytes. no_code_then IsOf bytes p) h
 
   pub program_then : (tree : CodeTree) → HasFile found program_limit (λ bytes. IsCompiled bytes (Ok tree)) → IsOf tree p → WithFile found name program_limit (Compiles IsOf) p
   program_then tree h k = of_file (record { bytes = h.bytes; there = h.there; short = h.short; follows = fine (Ok tree) h.follows k })
+
+  pub no_thin_program_then : WithFile found name program_limit (Compiles Never) p → WithFile found name program_limit (Thins IsOf) p
+  no_thin_program_then h = file_map found name program_limit (Compiles Never) (Thins IsOf) p (λ bytes. no_thin_then IsOf bytes p) h
+
+  pub thin_program_then : (tree : CodeTree) → HasFile found program_limit (λ bytes. IsRunCode bytes tree) → IsOf tree p → WithFile found name program_limit (Thins IsOf) p
+  thin_program_then tree h k = of_file (record { bytes = h.bytes; there = h.there; short = h.short; follows = thin_then IsOf h.bytes p tree h.follows k })
 
 -- ---- the start
 

@@ -13,7 +13,7 @@ use Rattle.pair_check_terms.specs.declared.answer.PairAnswer.{PairAnswer}
 use Rattle.pair_check_terms.specs.declared.answer.PairAnswer.TheVariants.{WorldsDiffer, TurnsDiffer, ReleaseDiffers, Agree}
 use Rattle.lam_main_words.specs.Words.{Text}
 use Rattle.lam_main_plan.specs.Refusals.{Plan, prints, line}
-use Rattle.lam_main_plan.specs.Reading.{Compiles}
+use Rattle.lam_main_plan.specs.Reading.{Thins}
 use Rattle.lam_main_plan.specs.Replays.{RunFiles}
 use Rattle.lam_main_plan.specs.Books.{WithStart, WithRun, ByLabel}
 
@@ -52,7 +52,7 @@ PairsRuns files first second index label code plan =
 
 -- the plan of the bytes of a program
 abbrev pub Pairs : Files → RunFiles → RunFiles → ℕ → Text → Text → Plan → Type 0
-Pairs files first second index label bytes plan = Compiles (PairsRuns files first second index label) bytes plan
+Pairs files first second index label bytes plan = Thins (PairsRuns files first second index label) bytes plan
 
 -- ---- worked examples
 threads_line : pair_line (WorldsDiffer Threads) ≡ codes "worlds differ Threads\n"

@@ -5,6 +5,7 @@ use Rattle.lam_front.specs.declared.fault.ProgramFault.{ProgramFault}
 use Rattle.lam_front.specs.Programs.{IsFine, IsBroken}
 use Rattle.lam_bytecode.specs.Codes.{CodeTree}
 use Rattle.barrier_compiler.specs.Compiled.{IsCompiledTo}
+use Rattle.thinned_code.specs.Thinned.{thinned}
 use Rattle.lam_main_words.specs.Words.{Text}
 use Rattle.lam_main_plan.specs.Refusals.{Plan, no_program, no_code, absent, too_long}
 
@@ -59,3 +60,13 @@ ByCode IsOf (Err unit) plan = plan ≡ no_code unit
 pub data Compiles (IsOf : CodeTree → Plan → Type 0) (bytes : Text) (plan : Plan) : Type 0 where
   fine : (made : Result CodeTree ℕ) → IsCompiled bytes made → ByCode IsOf made plan → Compiles IsOf bytes plan
   broken : (f : ProgramFault) → IsBroken bytes f → plan ≡ no_program f → Compiles IsOf bytes plan
+
+-- the code that is run of the program that the bytes spell: what it is compiled to, without the barriers that test again
+pub record IsRunCode (bytes : Text) (code : CodeTree) : Type 0 where
+  pub whole : CodeTree
+  pub makes : IsCompiled bytes (Ok whole)
+  pub thin : code ≡ thinned whole
+
+-- the plan of the code that is run of it
+abbrev pub Thins : (CodeTree → Plan → Type 0) → Text → Plan → Type 0
+Thins IsOf bytes plan = Compiles (λ code. IsOf (thinned code)) bytes plan

@@ -16,7 +16,7 @@ use Rattle.turn_book.specs.declared.BookFault.{BookFault}
 use Rattle.lam_machine_runs.specs.Stops.{NotReady, stopped_at}
 use Rattle.lam_main_words.specs.Words.{Text}
 use Rattle.lam_main_plan.specs.Refusals.{Plan, prints, no_word, no_world, no_book, no_turn}
-use Rattle.lam_main_plan.specs.Reading.{WithFile, Never, Compiles, world_limit, book_limit}
+use Rattle.lam_main_plan.specs.Reading.{WithFile, Never, Thins, world_limit, book_limit}
 
 -- who reads of a run: an observer at the label of a text, which is the word of an index, or an auditor
 pub data Reader : Type 0 where
@@ -79,4 +79,4 @@ Starts files run reader code plan = WithFile (files run.world) run.world world_l
 
 -- the plan of the bytes of a program
 abbrev pub Runs : Files → RunFiles → Reader → Text → Plan → Type 0
-Runs files run reader bytes plan = Compiles (Starts files run reader) bytes plan
+Runs files run reader bytes plan = Thins (Starts files run reader) bytes plan

@@ -16,7 +16,7 @@ use Rattle.lam_main_words.specs.Words.{Text}
 use Rattle.lam_main_plan.specs.declared.Status.{Status}
 use Rattle.lam_main_plan.specs.declared.Status.TheVariants.{Done, Budget, AllWait}
 use Rattle.lam_main_plan.specs.Refusals.{Plan}
-use Rattle.lam_main_plan.specs.Reading.{WithFile, Compiles, world_limit}
+use Rattle.lam_main_plan.specs.Reading.{WithFile, Thins, world_limit}
 use Rattle.lam_main_plan.specs.Replays.{Reader, read_by, ByReader, ByWorld}
 
 -- the status of a call whose run ended so
@@ -51,7 +51,7 @@ StartsThreads files run budget reader code plan = WithFile (files run.world) run
 
 -- the plan of the bytes of a program
 abbrev pub RunsThreads : Files → ThreadFiles → ℕ → Reader → Text → Plan → Type 0
-RunsThreads files run budget reader bytes plan = Compiles (StartsThreads files run budget reader) bytes plan
+RunsThreads files run budget reader bytes plan = Thins (StartsThreads files run budget reader) bytes plan
 
 -- ---- the input that is made of a number
 
@@ -62,4 +62,4 @@ made_budget = 1000000
 -- the plan of the made program and world, and of the summary of their run
 abbrev pub Makes : ℕ → ℕ → Text → Plan → Type 0
 Makes seed threads out plan =
-    Compiles (λ code. ByWorld (λ start. IsOfThreads code start out made_budget (summary_lines seed threads)) (start_of (world_text seed threads) code)) program_text plan
+    Thins (λ code. ByWorld (λ start. IsOfThreads code start out made_budget (summary_lines seed threads)) (start_of (world_text seed threads) code)) program_text plan
