@@ -1,5 +1,5 @@
 -- What a command answers after it read its file, or did not.
-use Rattle.std.proofs.Common.{◌≡◌, ◌⊎◌, inl, inr, ℕ, Option, None, Result, Ok, Err, String, string_bytes, refl, sym, ap, subst, ◌∙◌}
+use Rattle.std.proofs.Common.{◌≡◌, ◌⊎◌, inl, inr, ℕ, Option, None, Result, Ok, Err, IfOk, String, string_bytes, refl, sym, ap, subst, ◌∙◌}
 use Rattle.std.specs.declared.alloc.Global.{Global}
 use Rattle.std.specs.Prelude.{Vec}
 use Rattle.lam_io.specs.Outside.{Files, AllStay}
@@ -34,6 +34,11 @@ pub not_found : {X : Type 0} (IsIt : X → Type 0) (P Q : Plan → Type 0) → (
 not_found IsIt P Q f (Refused refusal) h = f (refuses refusal) h
 not_found IsIt P Q f NoMemory h = tt
 not_found IsIt P Q f ShelfFailed h = tt
+
+-- what is found is so, whatever else is planned
+pub found_is : {X : Type 0} (IsIt Is : X → Type 0) (P : Plan → Type 0) → ((x : X) → IsIt x → Is x) → (answer : Result X Halt) → Finds answer IsIt P → IfOk answer Is
+found_is IsIt Is P f (Ok x) h = f x h
+found_is IsIt Is P f (Err halt) h = tt
 
 -- no file is written
 pub gives_of : (P : Plan → Type 0) (old new : Files) (answer : Result (String Global) Halt) → AllStay old new → Says answer P → Gives answer P old new

@@ -3,6 +3,7 @@
 ghost use Rattle.std.specs.Prelude.{◌≡◌, IfOk, IfErr};
 ghost use Rattle.world_forest.specs.Forest.{IsForest};
 ghost use Rattle.world_save_files.specs.Saved.{CanBeKept, IsSavedText, IsSaveFault};
+ghost use Rattle.world_save_files.specs.declared.saving.SaveFault.TheVariants.{NoMemory as no_memory};
 
 use capabilities::Caps;
 use flow_labels::{NoMemory, TagId, TagNames};
@@ -26,7 +27,7 @@ pub enum SaveFault {
 }
 
 impl From<NoMemory> for SaveFault {
-    ghost from_gives = { λ _ e. e ≡ SaveFault.NoMemory };
+    ghost from_gives = { λ _ e. e ≡ no_memory };
 
     fn from(_e: NoMemory) -> SaveFault {
         SaveFault::NoMemory
