@@ -4,8 +4,8 @@
 //! Its contract is the tool's. The *plan* of the words and the files (`lam_main_plan`) says what is printed, which file is
 //! written and how the call ends where nothing fails; the call answers to it, unless memory runs out or the file
 //! store or the output fails, which is answered only where its count of faults rose in the call. `lam_main_words` tells
-//! which command is asked, `lam_main_files`, `lam_main_replay` and `lam_main_threads` read the files that it names, run its threads and
-//! make its text, and `print` prints that or the line of a refusal. The program `lam` calls it with the current folder and standard output, and
+//! which command is asked; `lam_main_files`, `lam_main_replay`, `lam_main_threads`, `lam_main_pair`, `lam_main_next` and
+//! `lam_main_walk` read the files that it names, run its threads and make its text; and `print` prints that or the line of a refusal. The program `lam` calls it with the current folder and standard output, and
 //! tests with a store and a stream in memory (`lam_io`).
 //!
 //! What `format` prints is read again as the same program, and printed the same, under two conditions: the depth sum of
@@ -15,7 +15,7 @@
 
 mod print;
 
-ghost use Rattle.std.specs.Prelude.{◌≡◌, ◌≢◌, false, [], Ok, Err, IsErr, IfErr, map, string_bytes, IsTrue};
+ghost use Rattle.std.specs.Prelude.{◌≡◌, ◌≢◌, false, [], None, Ok, Err, IsErr, IfErr, map, string_bytes, IsTrue};
 ghost use Rattle.lam_io.specs.Outside.{Rose, AllStay, Took};
 ghost use Rattle.lam_main_words.specs.Words.{request_of, asked, InRange, help_lines, commands};
 ghost use Rattle.lam_main_plan.specs.Refusals.{Plan, prints, no_word};
@@ -29,7 +29,9 @@ ghost use Rattle.lam_main_laws.specs.Complete.{MakesAreComplete};
 ghost use Rattle.lam_main_laws.specs.Orderly.{OrderlyCallsAreDone, OrderlyRunsEnd, MakesEnd, RefusalsAreExact};
 ghost use Rattle.lam_main_laws.specs.Meant.{CallsRunAsMeant};
 ghost use Rattle.lam_main_laws.specs.Pairs.{PairsAreTold};
-ghost use Rattle.lam_main_files.specs.Halts.{Says, Reports};
+ghost use Rattle.lam_main_laws.specs.Saves.{SavesAreTold};
+ghost use Rattle.lam_main_laws.specs.Walks.{WalksAreTold};
+ghost use Rattle.lam_main_files.specs.Halts.{Says, Gives, Reports};
 ghost use Rattle.lam_main_threads.specs.Asked.{reader_of};
 ghost use Rattle.lam_main.specs.Ends.{Ends};
 ghost use Rattle.lam_main.specs.Lines.{ended};
@@ -41,11 +43,14 @@ use lam_main_laws::{
     audits_are_printed, broken_makes_are_recorded, broken_runs_are_recorded, calls_run_as_meant,
     fronts_are_printed, generated_runs_are_recorded, makes_are_complete, makes_end,
     orderly_calls_are_done, orderly_runs_end, pairs_are_told, refusals_are_exact,
-    replays_are_isolated, runs_are_complete, runs_are_recorded, runs_end_in_order,
+    replays_are_isolated, runs_are_complete, runs_are_recorded, runs_end_in_order, saves_are_told,
+    walks_are_told,
 };
+use lam_main_next::next;
 use lam_main_pair::pair;
 pub use lam_main_plan::Status;
 use lam_main_threads::{Bounds, Reader, RunFiles, ThreadFiles, make, replay, run};
+use lam_main_walk::walk;
 pub use lam_main_words::{Command, WordFault, help_text, read_words};
 use lam_print_laws::{
     canonical_text_is_lexed, canonical_text_is_read_as_the_tree, canonical_text_is_steady,
@@ -133,6 +138,13 @@ pub fn lam<R: Threads + Wait + Sync, H: Shelf, O: Sink, G: Gate + Sync>(
     // observer.
     ensures paired { PairsAreTold (map string_bytes words.now) (H.files shelf.old) }
 
+    // What `next` writes is the document of the files at the end of its run, with how many items it has; or it tells why
+    // there is no such document.
+    ensures saved { SavesAreTold (map string_bytes words.now) (H.files shelf.old) }
+
+    // What `walk` prints is how many asks stand in its run, and the source of the program makes each of them.
+    ensures walked { WalksAreTold (map string_bytes words.now) (H.files shelf.old) }
+
     // What is printed of a program is read as that program.
     ensures steady { FormatIsSteady (map string_bytes words.now) (H.files shelf.old) }
 {
@@ -153,6 +165,8 @@ pub fn lam<R: Threads + Wait + Sync, H: Shelf, O: Sink, G: Gate + Sync>(
     refusals_are_exact();
     calls_run_as_meant();
     pairs_are_told();
+    saves_are_told();
+    walks_are_told();
     canonical_text_is_lexed();
     canonical_text_is_read_as_the_tree();
     canonical_text_is_steady();
@@ -197,20 +211,29 @@ fn command_answer<R: Threads + Wait + Sync, H: Shelf, G: Gate + Sync>(
     ensures failed { IfErr result (λ halt. halt ≡ Halt.ShelfFailed → Rose (H.faults shelf.old) (H.faults shelf.new)) }
 {
     match command {
-        Command::Play { file, obs } => done(play(alloc, shelf, file, obs.as_str())),
-        Command::Check { program } => done(check(alloc, shelf, program)),
-        Command::Format { program } => done(format(alloc, shelf, program)),
-        Command::Code { program } => done(code(alloc, shelf, program)),
-        Command::Replay {
-            program,
-            world,
-            book,
-            obs,
-        } => {
-            let files = RunFiles { world, book };
-            let reader = observer(REPLAY_OBSERVER, obs);
-            done(replay(alloc, shelf, program, files, &reader))
+        Command::Run { .. } | Command::Make { .. } | Command::Next { .. } => {
+            written_answer(rt, alloc, command, shelf, gate)
         }
+        _ => done(shown_answer(alloc, command, shelf)),
+    }
+}
+
+/// What a command answers that writes a file.
+fn written_answer<R: Threads + Wait + Sync, H: Shelf, G: Gate + Sync>(
+    rt: &R,
+    alloc: Global,
+    command: Command,
+    shelf: &mut H,
+    gate: &G,
+) -> Result<Report, Halt>
+    requires ranges { InRange (asked command) }
+    requires writes { written_by (Ok (asked command)) ≢ None }
+    ensures gives { IsTrue (H.tells shelf.old) → Reports result (IsPlanOf (Ok (asked command)) (H.files shelf.old)) (H.files shelf.old) (H.files shelf.new) }
+    ensures kept { IsTrue (H.tells shelf.old) → OthersKept (written_by (Ok (asked command))) (H.files shelf.old) (H.files shelf.new) }
+    ensures spared { IsTrue (H.tells shelf.old) → IfErr result (λ halt. halt ≡ Halt.NoMemory → ¬ Rose (H.refusals shelf.old) (H.refusals shelf.new) → AllStay (H.files shelf.old) (H.files shelf.new)) }
+    ensures failed { IfErr result (λ halt. halt ≡ Halt.ShelfFailed → Rose (H.faults shelf.old) (H.faults shelf.new)) }
+{
+    match command {
         Command::Run {
             program,
             world,
@@ -224,20 +247,54 @@ fn command_answer<R: Threads + Wait + Sync, H: Shelf, G: Gate + Sync>(
             let bounds = Bounds { workers, turns };
             run(rt, alloc, shelf, program, files, &reader, bounds, gate)
         }
-        Command::Audit {
-            program,
-            world,
-            book,
-        } => {
-            let files = RunFiles { world, book };
-            done(replay(alloc, shelf, program, files, &Reader::Auditor))
-        }
         Command::Make {
             seed,
             threads,
             book_out,
         } => make(rt, alloc, shelf, seed, threads, book_out, gate),
-        Command::Help => done(help(alloc)),
+        Command::Next {
+            program,
+            world,
+            book,
+            next_world,
+        } => next(alloc, shelf, program, RunFiles { world, book }, next_world),
+        _ => unreachable!(),
+    }
+}
+
+/// What a command answers that writes no file.
+fn shown_answer<H: Shelf>(alloc: Global, command: Command, shelf: &mut H) -> Result<String, Halt>
+    requires { written_by (Ok (asked command)) ≡ None }
+    ensures gives { IsTrue (H.tells shelf.old) → Gives result (IsPlanOf (Ok (asked command)) (H.files shelf.old)) (H.files shelf.old) (H.files shelf.new) }
+    ensures stay { IsTrue (H.tells shelf.old) → AllStay (H.files shelf.old) (H.files shelf.new) }
+    ensures failed { IfErr result (λ halt. halt ≡ Halt.ShelfFailed → Rose (H.faults shelf.old) (H.faults shelf.new)) }
+{
+    match command {
+        Command::Play { file, obs } => play(alloc, shelf, file, obs.as_str()),
+        Command::Check { program } => check(alloc, shelf, program),
+        Command::Format { program } => format(alloc, shelf, program),
+        Command::Code { program } => code(alloc, shelf, program),
+        Command::Replay {
+            program,
+            world,
+            book,
+            obs,
+        } => {
+            let reader = observer(REPLAY_OBSERVER, obs);
+            replay(alloc, shelf, program, RunFiles { world, book }, &reader)
+        }
+        Command::Audit {
+            program,
+            world,
+            book,
+        } => replay(
+            alloc,
+            shelf,
+            program,
+            RunFiles { world, book },
+            &Reader::Auditor,
+        ),
+        Command::Help => help(alloc),
         Command::Pair {
             program,
             first_world,
@@ -246,17 +303,24 @@ fn command_answer<R: Threads + Wait + Sync, H: Shelf, G: Gate + Sync>(
             second_book,
             obs,
         } => {
-            let first = RunFiles {
-                world: first_world,
-                book: first_book,
-            };
-            let second = RunFiles {
-                world: second_world,
-                book: second_book,
-            };
-            done(pair(alloc, shelf, program, first, second, PAIR_OBSERVER, obs))
+            let first = run_files(first_world, first_book);
+            let second = run_files(second_world, second_book);
+            pair(alloc, shelf, program, first, second, PAIR_OBSERVER, obs)
         }
+        Command::Walk {
+            program,
+            world,
+            book,
+        } => walk(alloc, shelf, program, RunFiles { world, book }),
+        _ => unreachable!(),
     }
+}
+
+/// The files of a run, but for its program.
+fn run_files(world: String, book: String) -> RunFiles
+    ensures { result ≡ record { world = world; book = book } }
+{
+    RunFiles { world, book }
 }
 
 /// The observer at the label of a text, which is the word of an index.

@@ -71,12 +71,23 @@ fn ending_of(alloc: Global, run: Run, old: &[u8]) -> Result<Ending, Halt>
 fn told(alloc: Global, saved: Saved) -> Result<Ending, NoMemory>
     ensures { IfOk result (IsToldOf saved) }
 {
-    let Saved { text: document, items } = saved;
+    let Saved {
+        text: document,
+        items,
+    } = saved;
+    let text = saved_text(alloc, items)?;
+    Ok(Ending { text, document })
+}
+
+/// The line of so many items.
+fn saved_text(alloc: Global, items: u64) -> Result<String, NoMemory>
+    ensures { IfOk result (λ text. string_bytes text ≡ saved_line items) }
+{
     let mut text = String::new(alloc);
     text.push_str("saved ")?;
     push_number(&mut text, items)?;
     text.push('\n')?;
-    Ok(Ending { text, document })
+    Ok(text)
 }
 
 /// What that nothing is saved halts with.

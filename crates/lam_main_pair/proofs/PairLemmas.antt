@@ -156,13 +156,3 @@ module _ (files : Files) (program : Text) (first second : RunFiles) (index : ℕ
   no_program_gives halt kept h =
       gives_of (WithFile (files program) program program_limit (Pairs files first second index label)) files new (Err halt) kept
       (not_found (λ tree. HasFile (files program) program_limit (λ bytes. IsRunCode bytes tree)) (WithFile (files program) program program_limit (Compiles Never)) (WithFile (files program) program program_limit (Pairs files first second index label)) (λ p k. no_thin_program_then (files program) program (PairsRuns files first second index label) p k) halt h)
-
--- ---- faults of the shelf
-
-later_rose : (a b c most : ℕ) → a ≤ b → min (b + 1) most ≤ c → min (a + 1) most ≤ c
-later_rose a b c most h k = omega arith
-
--- a fault of a later reading
-pub failed_later : {X : Type 0} (answer : Result X Halt) (a b c : ℕ) → a ≤ b → IfErr answer (λ halt. halt ≡ ShelfFailed → Rose b c) → IfErr answer (λ halt. halt ≡ ShelfFailed → Rose a c)
-failed_later (Ok x) a b c h k = tt
-failed_later (Err halt) a b c h k = λ e. later_rose a b c (2 ^ 64 - 1) h (k e)

@@ -1,5 +1,5 @@
 -- What is found, and what is shown, of the parts of a run.
-use Rattle.std.proofs.Common.{◌≡◌, ◌≤◌, ℕ, List, Option, None, Result, Ok, Err, String, string_bytes, IfOk, IfErr, MatchResult, refl, sym, ap, subst, ◌∙◌, ◌+◌, ◌-◌, ◌^◌, min, arith}
+use Rattle.std.proofs.Common.{◌≡◌, ◌≤◌, ℕ, List, Option, None, Result, Ok, Err, String, string_bytes, IfOk, IfErr, MatchResult, refl, sym, ap, subst, ◌∙◌}
 use Rattle.std.specs.declared.alloc.Global.{Global}
 use Rattle.std.specs.Result.{IsErrAnd}
 use Rattle.flow_labels.specs.LabelText.{label_of}
@@ -175,13 +175,3 @@ module _ (files : Files) (program : Text) (run : RunFiles) (reader : Reader) (ne
   no_program_gives halt kept h =
       gives_of (WithFile (files program) program program_limit (Runs files run reader)) files new (Err halt) kept
       (not_found (λ tree. HasFile (files program) program_limit (λ bytes. IsRunCode bytes tree)) (WithFile (files program) program program_limit (Compiles Never)) (WithFile (files program) program program_limit (Runs files run reader)) (λ p k. no_thin_program_then (files program) program (Starts files run reader) p k) halt h)
-
--- ---- faults of the shelf
-
-later_rose : (a b c most : ℕ) → a ≤ b → min (b + 1) most ≤ c → min (a + 1) most ≤ c
-later_rose a b c most h k = omega arith
-
--- a fault of a later reading
-pub failed_later : (answer : Result (String Global) Halt) (a b c : ℕ) → a ≤ b → IfErr answer (λ halt. halt ≡ ShelfFailed → Rose b c) → IfErr answer (λ halt. halt ≡ ShelfFailed → Rose a c)
-failed_later (Ok text) a b c h k = tt
-failed_later (Err halt) a b c h k = λ e. later_rose a b c (2 ^ 64 - 1) h (k e)

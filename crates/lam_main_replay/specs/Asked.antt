@@ -1,9 +1,12 @@
 -- What is asked of a run, and what the faults of the parts that are read halt with.
-use Rattle.std.specs.Prelude.{◌≡◌, List, Option, Some, string_bytes}
+use Rattle.std.specs.Prelude.{◌≡◌, List, Option, Some, Ok, string_bytes}
+use Rattle.lam_bytecode.specs.Codes.{CodeTree}
+use Rattle.lam_machine_terms.specs.Worlds.{World}
 use Rattle.lam_machine_terms.specs.Turns.{Moment}
 use Rattle.audit_log.specs.Log.{view_lines, audit_lines}
 use Rattle.turn_book.specs.declared.BookFault.{BookFault}
 use Rattle.turn_book.specs.declared.BookFault.TheVariants as book
+use Rattle.world_doc_terms.specs.Start.{start_of}
 use Rattle.world_doc_stores.specs.declared.fault.WorldFault.{WorldFault}
 use Rattle.world_doc_stores.specs.declared.fault.WorldFault.TheVariants as document
 use Rattle.lam_machine_runs.specs.Stops.{NotReady as NotReadyAt}
@@ -27,6 +30,10 @@ files_of files = record { world = string_bytes files.world; book = string_bytes 
 abbrev pub reader_of : Reader → Plain
 reader_of (reader.Observer index label) = an_observer index (string_bytes label)
 reader_of reader.Auditor = an_auditor
+
+-- some document gives this start
+abbrev pub IsStartOf : CodeTree → World → Type 0
+IsStartOf code start = (bytes : Text) × (start_of bytes code ≡ Ok start)
 
 -- ---- who reads
 

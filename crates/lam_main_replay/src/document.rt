@@ -7,7 +7,7 @@ ghost use Rattle.world_doc_terms.specs.Start.{start_of};
 ghost use Rattle.lam_main_plan.specs.Reading.{HasFile, WithFile, world_limit};
 ghost use Rattle.lam_main_plan.specs.Replays.{NoStart};
 ghost use Rattle.lam_main_files.specs.Halts.{Finds};
-ghost use Rattle.lam_main_replay.specs.Asked.{halt_of_world};
+ghost use Rattle.lam_main_replay.specs.Asked.{IsStartOf, halt_of_world};
 
 use lam_bytecode::Code;
 use lam_io::Shelf;
@@ -34,6 +34,7 @@ pub fn read_start<H: Shelf>(
     world: String,
 ) -> Result<World, Halt>
     ensures finds { IsTrue (H.tells shelf.old) → Finds result (λ start. HasFile (H.files shelf.old (string_bytes world)) world_limit (λ bytes. start_of bytes code.now ≡ Ok start)) (WithFile (H.files shelf.old (string_bytes world)) (string_bytes world) world_limit (NoStart code.now)) }
+    ensures given { IfOk result (IsStartOf code.now) }
     ensures valid { IfOk result IsValid }
     ensures stay { IsTrue (H.tells shelf.old) → AllStay (H.files shelf.old) (H.files shelf.new) }
     ensures tells_on { IsTrue (H.tells shelf.old) → IsTrue (H.tells shelf.new) }

@@ -1,7 +1,7 @@
 //! The turns of a book, and the label of an observer, for the commands that go on from them; and what their faults halt
 //! with.
 
-ghost use Rattle.std.specs.Prelude.{◌≡◌, ◌≢◌, ◌≤◌, Ok, IsTrue, IfErr, string_bytes};
+ghost use Rattle.std.specs.Prelude.{◌≡◌, ◌≢◌, ◌≤◌, Ok, length, IsTrue, IfOk, IfErr, string_bytes};
 ghost use Rattle.flow_labels.specs.LabelText.{label_of};
 ghost use Rattle.lam_io.specs.Outside.{Rose, AllStay};
 ghost use Rattle.turn_book.specs.Reading.{turns_of};
@@ -20,7 +20,7 @@ use turn_book::{BookFault, Turns, read_book};
 /// The most bytes of a book.
 const BOOK_LIMIT: u64 = 16_777_216;
 
-/// The turns of the book in a file.
+/// The turns of the book in a file, of which there are at most 1,000,000.
 ///
 /// # Errors
 ///
@@ -28,6 +28,7 @@ const BOOK_LIMIT: u64 = 16_777_216;
 /// counted a fault.
 pub fn read_turns<H: Shelf>(alloc: Global, shelf: &mut H, book: String) -> Result<Turns, Halt>
     ensures finds { IsTrue (H.tells shelf.old) → Finds result (λ turns. HasFile (H.files shelf.old (string_bytes book)) book_limit (λ bytes. turns_of bytes ≡ Ok turns)) (WithFile (H.files shelf.old (string_bytes book)) (string_bytes book) book_limit NoTurns) }
+    ensures few { IfOk result (λ turns. length turns ≤ 1000000) }
     ensures stay { IsTrue (H.tells shelf.old) → AllStay (H.files shelf.old) (H.files shelf.new) }
     ensures tells_on { IsTrue (H.tells shelf.old) → IsTrue (H.tells shelf.new) }
     ensures later { H.faults shelf.old ≤ H.faults shelf.new }
@@ -41,6 +42,7 @@ pub fn read_turns<H: Shelf>(alloc: Global, shelf: &mut H, book: String) -> Resul
 /// The turns of the book of these bytes.
 fn turns_in(alloc: Global, bytes: &[u8]) -> Result<Turns, Halt>
     ensures finds { Finds result (λ turns. turns_of bytes.now ≡ Ok turns) (NoTurns bytes.now) }
+    ensures few { IfOk result (λ turns. length turns ≤ 1000000) }
     ensures no_fault { IfErr result (λ halt. halt ≢ Halt.ShelfFailed) }
 {
     match read_book(alloc, bytes) {

@@ -1,1 +1,1 @@
-pub mod WalkLemmas
+pub mod SourceLemmas

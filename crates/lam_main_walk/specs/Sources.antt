@@ -20,6 +20,10 @@ pub record IsSourceOf (bytes : Text) (s : Source) : Type 0 where
   pub code : IsRunCode bytes s.code
   pub spells : IsSource bytes (resolved_tree s.program)
 
+-- there is a program of which this is so
+abbrev pub IsOfProgram : Source → Type 0
+IsOfProgram s = (bytes : Text) × IsSourceOf bytes s
+
 -- what holds of the code and the names of every program
 pub record IsSound (s : Source) : Type 0 where
   pub code : IsCode s.code

@@ -6,7 +6,7 @@ ghost use Rattle.region_check.specs.Seen.{checked_tree};
 ghost use Rattle.lam_front.specs.Programs.{IsFine};
 ghost use Rattle.lam_main_plan.specs.Reading.{HasFile, WithFile, Never, Compiles, program_limit};
 ghost use Rattle.lam_main_files.specs.Halts.{Finds};
-ghost use Rattle.lam_main_walk.specs.Sources.{IsSourceOf, IsSound};
+ghost use Rattle.lam_main_walk.specs.Sources.{IsSourceOf, IsOfProgram, IsSound};
 
 use barrier_thin::thin;
 use lam_bytecode::Code;
@@ -46,6 +46,7 @@ pub(crate) fn read_source<H: Shelf>(
     program: String,
 ) -> Result<Source, Halt>
     ensures finds { IsTrue (H.tells shelf.old) → Finds result (λ s. HasFile (H.files shelf.old (string_bytes program)) program_limit (λ bytes. IsSourceOf bytes s)) (WithFile (H.files shelf.old (string_bytes program)) (string_bytes program) program_limit (Compiles Never)) }
+    ensures found { IfOk result IsOfProgram }
     ensures sound { IfOk result IsSound }
     ensures stay { IsTrue (H.tells shelf.old) → AllStay (H.files shelf.old) (H.files shelf.new) }
     ensures tells_on { IsTrue (H.tells shelf.old) → IsTrue (H.tells shelf.new) }

@@ -98,3 +98,9 @@ returns-clause-make_broken_off g c = λ told.
 
 pub returns-clause-paired : goal.returns-clause-paired
 returns-clause-paired g c = c.pairs_are_told.ensures (map string_bytes c.args.words.now) (g.H.Shelf.files c.args.shelf.now)
+
+pub returns-clause-saved : goal.returns-clause-saved
+returns-clause-saved g c = c.saves_are_told.ensures (map string_bytes c.args.words.now) (g.H.Shelf.files c.args.shelf.now)
+
+pub returns-clause-walked : goal.returns-clause-walked
+returns-clause-walked g c = c.walks_are_told.ensures (map string_bytes c.args.words.now) (g.H.Shelf.files c.args.shelf.now)

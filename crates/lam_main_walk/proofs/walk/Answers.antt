@@ -7,8 +7,8 @@ use Rattle.lam_main_walk.specs.Sources.{IsSourceOf}
 use Rattle.lam_main_walk.proofs.SourceLemmas.{means_everywhere, source_gives, no_source_gives}
 use Rattle.lam_main_walk.proofs.walk.Goals as goal
 
-pub walk_source-in-Ok-requires-means : goal.walk_source-in-Ok-requires-means
-walk_source-in-Ok-requires-means g c = means_everywhere c.sources_run_as_meant.ensures c.in-Ok.source c.in-Ok.ensures.found
+pub walk_source-requires-clause-means : goal.walk_source-requires-clause-means
+walk_source-requires-clause-means g c = means_everywhere c.sources_run_as_meant.ensures c.in-Ok.source c.in-Ok.ensures.found
 
 pub returns-in-Ok-clause-stay : goal.returns-in-Ok-clause-stay
 returns-in-Ok-clause-stay g c = λ told.

@@ -9,8 +9,8 @@ use Rattle.lam_main_replay.specs.Asked.{files_of}
 use Rattle.lam_main_walk.proofs.SourceLemmas.{means_from, start_says, no_start_says}
 use Rattle.lam_main_walk.proofs.walk_source.Goals as goal
 
-pub walk_from-in-Ok-requires-means : goal.walk_from-in-Ok-requires-means
-walk_from-in-Ok-requires-means g c = means_from (resolved_tree c.args.source.now.program) c.args.source.now.code c.in-Ok.start c.requires.means c.in-Ok.ensures.given
+pub walk_from-requires-clause-means : goal.walk_from-requires-clause-means
+walk_from-requires-clause-means g c = means_from (resolved_tree c.args.source.now.program) c.args.source.now.code c.in-Ok.start c.requires.means c.in-Ok.ensures.given
 
 pub returns-in-Ok-clause-says : goal.returns-in-Ok-clause-says
 returns-in-Ok-clause-says g c = λ told.

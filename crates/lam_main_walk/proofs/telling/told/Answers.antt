@@ -5,15 +5,15 @@ use Rattle.lam_main_plan.specs.Walks.{TellsSame}
 use Rattle.lam_main_walk.proofs.SourceLemmas.{at_entries, none_departs, same_says, no_run_says}
 use Rattle.lam_main_walk.proofs.telling.told.Goals as goal
 
-pub walk_turns-requires-entries : goal.walk_turns-requires-entries
-walk_turns-requires-entries c = at_entries (resolved_tree c.args.source.now.program) c.args.source.now.code c.args.start (c.requires.means [])
+pub walk_turns-requires-clause-entries : goal.walk_turns-requires-clause-entries
+walk_turns-requires-clause-entries c = at_entries (resolved_tree c.args.source.now.program) c.args.source.now.code c.args.start (c.requires.means [])
 
 pub returns-in_ok-same_text-in-Ok-Same-clause-says : goal.returns-in_ok-same_text-in-Ok-Same-clause-says
 returns-in_ok-same_text-in-Ok-Same-clause-says c =
     same_says (resolved_tree c.args.source.now.program) c.args.source.now.code c.args.start c.args.turns.now c.in-Ok-Same.asks c.in_ok-same_text-in-Ok-Same.field-0 c.in-Ok-Same.ensures.ok c.in-Ok-Same.ensures.run c.in_ok-same_text-in-Ok-Same.ensures
 
-pub unreachable-in-Ok-Departs : goal.unreachable-in-Ok-Departs
-unreachable-in-Ok-Departs c = none_departs (resolved_tree c.args.source.now.program) c.args.source.now.code c.args.start c.args.turns.now c.meant_runs_are_same.ensures (c.requires.means c.args.turns.now) c.in-Ok-Departs.thread c.in-Ok-Departs.ask c.in-Ok-Departs.ensures.ok
+pub unreachable-requires : goal.unreachable-requires
+unreachable-requires c = none_departs (resolved_tree c.args.source.now.program) c.args.source.now.code c.args.start c.args.turns.now c.meant_runs_are_same.ensures (c.requires.means c.args.turns.now) c.in-Ok-Departs.thread c.in-Ok-Departs.ask c.in-Ok-Departs.ensures.ok
 
 pub returns-in-Err-clause-says : goal.returns-in-Err-clause-says
 returns-in-Err-clause-says c =
