@@ -1,6 +1,0 @@
-pub mod Lists
-mod Asks
-mod Turns
-pub mod Runs
-pub mod Began
-mod OneAnswer

@@ -1,2 +1,0 @@
-pub mod Births
-pub mod Meets
