@@ -89,6 +89,12 @@ found_none IsIt P (Refused refusal) h = h
 found_none IsIt P NoMemory h = tt
 found_none IsIt P ShelfFailed h = tt
 
+-- and is none whatever else is looked for
+pub found_no_other : {X Y : Type 0} (IsIt : X → Type 0) (IsOther : Y → Type 0) (P : Plan → Type 0) (halt : Halt) → Finds {X = X} (Err halt) IsIt P → Finds {X = Y} (Err halt) IsOther P
+found_no_other IsIt IsOther P (Refused refusal) h = h
+found_no_other IsIt IsOther P NoMemory h = tt
+found_no_other IsIt IsOther P ShelfFailed h = tt
+
 module _ (bytes : Text) where
   abbrev IsCode : CodeTree → Type 0
   IsCode tree = IsCompiled bytes (Ok tree)

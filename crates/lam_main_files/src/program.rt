@@ -1,4 +1,6 @@
-//! The commands on a program alone, `format`, `check` and `code`, and the code of a program in a file.
+//! The commands on a program alone, `format`, `check` and `code`, and the code that is run of a program.
+//!
+//! `check` and `code` are of the code that a program is compiled to. What is run has no barrier that tests again.
 
 ghost use Rattle.std.specs.Prelude.{◌≡◌, ◌≢◌, ◌≤◌, ◌⊎◌, ℕ, Ok, Err, IsTrue, IfOk, IfErr, string_bytes};
 ghost use Rattle.lam_io.specs.Outside.{Rose, AllStay};
@@ -8,12 +10,13 @@ ghost use Rattle.region_check.specs.Seen.{checked_tree};
 ghost use Rattle.lam_bytecode.specs.Codes.{IsCode};
 ghost use Rattle.barrier_compiler.specs.Compiled.{IsCompiledTo};
 ghost use Rattle.barrier_compiler.specs.declared.emitting.CompileFault.TheVariants.{CodeTooLong, NoMemory as no_memory};
-ghost use Rattle.lam_main_plan.specs.Reading.{HasFile, WithFile, Never, IsCompiled, Compiles, program_limit};
+ghost use Rattle.lam_main_plan.specs.Reading.{HasFile, WithFile, Never, IsCompiled, Compiles, IsRunCode, program_limit};
 ghost use Rattle.lam_main_plan.specs.Plan.{Formats, Checks, Lists};
 ghost use Rattle.lam_main_files.specs.Halts.{Says, Finds, Gives};
 
 use crate::files::read_file;
 use crate::halt::Halt;
+use barrier_thin::thin;
 use lam_bytecode::{Code, listing};
 use lam_front::{check_program, read_program};
 use lam_io::Shelf;
@@ -46,13 +49,13 @@ pub fn format<H: Shelf>(alloc: Global, shelf: &mut H, program: String) -> Result
 ///
 /// # Errors
 ///
-/// As [`read_code`].
+/// A refusal where the file can't be read, with the first fault of its bytes, or with its first unit that is too long.
 pub fn check<H: Shelf>(alloc: Global, shelf: &mut H, program: String) -> Result<String, Halt>
     ensures gives { IsTrue (H.tells shelf.old) → Gives result (WithFile (H.files shelf.old (string_bytes program)) (string_bytes program) program_limit Checks) (H.files shelf.old) (H.files shelf.new) }
     ensures stay { IsTrue (H.tells shelf.old) → AllStay (H.files shelf.old) (H.files shelf.new) }
     ensures failed { IfErr result (λ halt. halt ≡ Halt.ShelfFailed → Rose (H.faults shelf.old) (H.faults shelf.new)) }
 {
-    match read_code(alloc, shelf, program) {
+    match read_compiled(alloc, shelf, program) {
         Ok(_code) => Ok(String::from_str(alloc, "ok\n")?),
         Err(halt) => Err(halt),
     }
@@ -62,30 +65,40 @@ pub fn check<H: Shelf>(alloc: Global, shelf: &mut H, program: String) -> Result<
 ///
 /// # Errors
 ///
-/// As [`read_code`].
+/// A refusal where the file can't be read, with the first fault of its bytes, or with its first unit that is too long.
 pub fn code<H: Shelf>(alloc: Global, shelf: &mut H, program: String) -> Result<String, Halt>
     ensures gives { IsTrue (H.tells shelf.old) → Gives result (WithFile (H.files shelf.old (string_bytes program)) (string_bytes program) program_limit Lists) (H.files shelf.old) (H.files shelf.new) }
     ensures stay { IsTrue (H.tells shelf.old) → AllStay (H.files shelf.old) (H.files shelf.new) }
     ensures failed { IfErr result (λ halt. halt ≡ Halt.ShelfFailed → Rose (H.faults shelf.old) (H.faults shelf.new)) }
 {
-    match read_code(alloc, shelf, program) {
+    match read_compiled(alloc, shelf, program) {
         Ok(code) => Ok(listing(alloc, &code)?),
         Err(halt) => Err(halt),
     }
 }
 
-/// The code of the program in a file.
+/// The code that is run of the program in a file.
 ///
 /// # Errors
 ///
 /// A refusal where the file can't be read, with the first fault of its bytes, or with its first unit that is too long.
 pub fn read_code<H: Shelf>(alloc: Global, shelf: &mut H, program: String) -> Result<Code, Halt>
-    ensures finds { IsTrue (H.tells shelf.old) → Finds result (λ code. HasFile (H.files shelf.old (string_bytes program)) program_limit (λ bytes. IsCompiled bytes (Ok code))) (WithFile (H.files shelf.old (string_bytes program)) (string_bytes program) program_limit (Compiles Never)) }
+    ensures finds { IsTrue (H.tells shelf.old) → Finds result (λ code. HasFile (H.files shelf.old (string_bytes program)) program_limit (λ bytes. IsRunCode bytes code)) (WithFile (H.files shelf.old (string_bytes program)) (string_bytes program) program_limit (Compiles Never)) }
     ensures sound { IfOk result (λ code. IsCode code) }
     ensures stay { IsTrue (H.tells shelf.old) → AllStay (H.files shelf.old) (H.files shelf.new) }
     ensures tells_on { IsTrue (H.tells shelf.old) → IsTrue (H.tells shelf.new) }
     ensures later { H.faults shelf.old ≤ H.faults shelf.new }
     ensures refused { H.refusals shelf.new ≡ H.refusals shelf.old }
+    ensures failed { IfErr result (λ halt. halt ≡ Halt.ShelfFailed → Rose (H.faults shelf.old) (H.faults shelf.new)) }
+{
+    let bytes = read_file(alloc, shelf, program, PROGRAM_LIMIT)?;
+    run_code_of(alloc, bytes.as_slice())
+}
+
+/// The code that the program in a file is compiled to.
+fn read_compiled<H: Shelf>(alloc: Global, shelf: &mut H, program: String) -> Result<Code, Halt>
+    ensures finds { IsTrue (H.tells shelf.old) → Finds result (λ code. HasFile (H.files shelf.old (string_bytes program)) program_limit (λ bytes. IsCompiled bytes (Ok code))) (WithFile (H.files shelf.old (string_bytes program)) (string_bytes program) program_limit (Compiles Never)) }
+    ensures stay { IsTrue (H.tells shelf.old) → AllStay (H.files shelf.old) (H.files shelf.new) }
     ensures failed { IfErr result (λ halt. halt ≡ Halt.ShelfFailed → Rose (H.faults shelf.old) (H.faults shelf.new)) }
 {
     let bytes = read_file(alloc, shelf, program, PROGRAM_LIMIT)?;
@@ -109,7 +122,23 @@ fn text_of(program: Program) -> Result<String, NoMemory>
     text
 }
 
-/// The code of the program that the bytes spell.
+/// The code that is run of the program that the bytes spell: what it is compiled to, without the barriers that test again.
+///
+/// # Errors
+///
+/// As [`compiled`].
+pub fn run_code_of(alloc: Global, bytes: &[u8]) -> Result<Code, Halt>
+    ensures finds { Finds result (λ code. IsRunCode bytes.now code) (Compiles Never bytes.now) }
+    ensures sound { IfOk result (λ code. IsCode code) }
+    ensures no_fault { IfErr result (λ halt. halt ≢ Halt.ShelfFailed) }
+{
+    match compiled(alloc, bytes) {
+        Ok(code) => Ok(thin(alloc, code)?),
+        Err(halt) => Err(halt),
+    }
+}
+
+/// The code that the program that the bytes spell is compiled to.
 ///
 /// # Errors
 ///

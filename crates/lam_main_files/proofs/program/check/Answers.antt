@@ -10,4 +10,4 @@ returns-in_ok-from_str-in-Ok-clause-gives g c = λ told.
 
 pub returns-in-Err-clause-gives : goal.returns-in-Err-clause-gives
 returns-in-Err-clause-gives g c = λ told.
-    by_no_code_found (g.H.Shelf.files c.args.shelf.now (string_bytes c.args.program)) (string_bytes c.args.program) (λ tree p. p ≡ prints (codes "ok\n")) (g.H.Shelf.files c.args.shelf.now) (g.H.Shelf.files c.read_code.new.shelf) c.in-Err.halt (c.in-Err.ensures.finds told) (c.in-Err.ensures.stay told)
+    by_no_code_found (g.H.Shelf.files c.args.shelf.now (string_bytes c.args.program)) (string_bytes c.args.program) (λ tree p. p ≡ prints (codes "ok\n")) (g.H.Shelf.files c.args.shelf.now) (g.H.Shelf.files c.read_compiled.new.shelf) c.in-Err.halt (c.in-Err.ensures.finds told) (c.in-Err.ensures.stay told)
