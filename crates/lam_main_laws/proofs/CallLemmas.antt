@@ -18,7 +18,7 @@ use Rattle.lam_main_words.specs.Words.{Text, Request, run, request_of}
 use Rattle.lam_main_plan.specs.declared.Status.{Status}
 use Rattle.lam_main_plan.specs.declared.Status.TheVariants.{NoMemory, ShelfFault, SinkFault}
 use Rattle.lam_main_plan.specs.Refusals.{Plan}
-use Rattle.lam_main_plan.specs.Reading.{HasFile, IsCompiled, program_limit, world_limit}
+use Rattle.lam_main_plan.specs.Reading.{HasFile, IsRunCode, program_limit, world_limit}
 use Rattle.lam_main_plan.specs.Replays.{Reader, an_observer, view_by, read_by, ByWorld}
 use Rattle.lam_main_plan.specs.Threads.{status_of, shows_run, IsOfThreads, ThreadFiles, TakesTurns, StartsThreads, RunsThreads, Makes, made_budget}
 use Rattle.lam_main_plan.specs.Plan.{IsPlan, IsPlanOf}
@@ -42,7 +42,7 @@ module _ (ws : List Text) (files : Files) (code : CodeTree) (start : World) (o :
   asks_planned r is =
       let run_files : ThreadFiles = record { world = r.world; out = out } in
       let reader : Reader = an_observer 3 r.label in
-      let Is : Text → Type 0 = λ bytes. IsCompiled bytes (Ok code) in
+      let Is : Text → Type 0 = λ bytes. IsRunCode bytes code in
       let planned : IsPlanOf (Ok (run r.program r.world r.label out r.workers budget)) files plan = subst (λ (request : Result Request ℕ). IsPlanOf request files plan) r.asks is in
       start_planned files run_files budget reader code start (view_lines start.names o) plan r.starts (ap (view_by 3 start.names) r.observes)
       (of_code (StartsThreads files run_files budget reader) r.compiled.bytes code plan r.compiled.follows

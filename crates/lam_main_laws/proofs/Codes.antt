@@ -14,6 +14,14 @@ use Rattle.barrier_compiler.proofs.Whole.{each_unit}
 use Rattle.lam_main_laws.proofs.Counts.{IsSmall}
 use Rattle.lam_main_laws.proofs.Constants.{of_program, in_units, few_in_all}
 
+-- what a program is compiled to is what the scheme makes of it
+pub by_scheme : (r : ResolvedTree) (code : CodeTree) → compiled r ≡ Ok code → scheme r ≡ code
+by_scheme r code e = by (first_long_unit r) e
+  where
+    by : (o : Option ℕ) → unless_long o (scheme r) ≡ Ok code → scheme r ≡ code
+    by None e = cc
+    by (Some n) e = absurd cc
+
 module _ (r : ResolvedTree) (is : IsSmall r) (slots : SlotsDiffer r) (regions : AreNumbered r) where
   few_units : length (drafts r) ≤ 5120
   few_units = let f = is.functions in let g = is.regions in omega (arith, length-append (map function_draft r.functions) (all_regions r.functions), length-map r.functions function_draft, f, g)

@@ -17,7 +17,7 @@ use Rattle.world_doc_terms.specs.Start.{start_of}
 use Rattle.world_doc_laws.specs.Starts.{TextsStart}
 use Rattle.lam_main_words.specs.Words.{Text, Request, pair}
 use Rattle.lam_main_plan.specs.Refusals.{Plan}
-use Rattle.lam_main_plan.specs.Reading.{HasFile, WithFile, IsCompiled, Compiles, program_limit, world_limit, book_limit}
+use Rattle.lam_main_plan.specs.Reading.{HasFile, WithFile, IsRunCode, program_limit, world_limit, book_limit}
 use Rattle.lam_main_plan.specs.Replays.{RunFiles, ByWorld}
 use Rattle.lam_main_plan.specs.Books.{WithStart, WithRun, ByLabel, ByTurns, WhereReady}
 use Rattle.lam_main_plan.specs.Pairs.{IsOfPair, PairsWith, PairsRuns, Pairs}
@@ -73,7 +73,7 @@ module _ (ws : List Text) (files : Files) (code : CodeTree) (o : Label) (s : Wor
       let planned : IsPlanOf (Ok (pair a.program a.first_world a.first_book a.second_world a.second_book a.label)) files plan = subst (λ (request : Result Request ℕ). IsPlanOf request files plan) a.asks is in
       runs_paired first second a.program a.label a.first a.second a.observes
       (of_code (PairsRuns files first second 6 a.label) a.first.compiled.bytes code plan a.first.compiled.follows
-      (of_bytes (files a.program) a.program program_limit (λ bytes. IsCompiled bytes (Ok code)) (Pairs files first second 6 a.label) plan a.first.compiled planned))
+      (of_bytes (files a.program) a.program program_limit (λ bytes. IsRunCode bytes code) (Pairs files first second 6 a.label) plan a.first.compiled planned))
 
 pub told : ((code : CodeTree) → PairsLookSame code) → ((code : CodeTree) → RunsStop code) → ((code : CodeTree) → TextsStart code) → (ws : List Text) (files : Files) → PairsAreTold ws files
 told look stops starts ws files code o s turns s' turns' plan a is =

@@ -6,6 +6,7 @@ use Rattle.lam_front.specs.declared.fault.ProgramFault.{ProgramFault}
 use Rattle.lam_front.specs.declared.fault.ProgramFault.TheVariants.{NotUtf8, At, NoMemory as no_memory}
 use Rattle.lam_front.proofs.Once.{fine_or_broken}
 use Rattle.lam_bytecode.specs.Codes.{CodeTree}
+use Rattle.thinned_code.specs.Thinned.{thinned}
 use Rattle.lam_machine_terms.specs.Worlds.{World}
 use Rattle.lam_machine_terms.specs.Turns.{Moment}
 use Rattle.world_doc_terms.specs.Breaks.{Break, Reading, NotJson, NoMember, BadMember, NoTag, BadPath, PathTwice}
@@ -13,7 +14,7 @@ use Rattle.lam_machine_runs.specs.declared.How.{How}
 use Rattle.lam_machine_runs.specs.declared.How.TheVariants as how
 use Rattle.lam_main_words.specs.Words.{Text}
 use Rattle.lam_main_plan.specs.Refusals.{Plan, no_program, no_world}
-use Rattle.lam_main_plan.specs.Reading.{IsUnread, HasFile, WithFile, unread, of_file, IsCompiled, ByCode, Compiles, fine, broken}
+use Rattle.lam_main_plan.specs.Reading.{IsUnread, HasFile, WithFile, unread, of_file, IsCompiled, ByCode, Compiles, fine, broken, IsRunCode, Thins}
 use Rattle.lam_main_plan.specs.Replays.{view_by, ByReader, ByWorld}
 use Rattle.lam_main_plan.specs.Threads.{status_of}
 use Rattle.lam_main_plan.proofs.PlanLemmas.{one_bytes, unread_or_of_file, one_made}
@@ -26,9 +27,12 @@ module _ (found : Option Text) (name : Text) (limit : ℕ) (Is : Text → Type 0
   of_bytes h (unread u) = absurd (unread_or_of_file found name limit (λ bytes p. Is bytes) plan plan u h)
   of_bytes h (of_file k) = subst (λ (bytes : Text). IsOf bytes plan) (one_bytes (sym k.there ∙ h.there)) k.follows
 
-pub of_code : (IsOf : CodeTree → Plan → Type 0) (bytes : Text) (code : CodeTree) (plan : Plan) → IsCompiled bytes (Ok code) → Compiles IsOf bytes plan → IsOf code plan
-of_code IsOf bytes code plan c (fine made d h) = subst (λ (it : Result CodeTree ℕ). ByCode IsOf it plan) (one_made bytes made (Ok code) d c) h
-of_code IsOf bytes code plan c (broken f b e) = absurd (fine_or_broken bytes c.program f c.fine b)
+of_compiled : (IsOf : CodeTree → Plan → Type 0) (bytes : Text) (code : CodeTree) (plan : Plan) → IsCompiled bytes (Ok code) → Compiles IsOf bytes plan → IsOf code plan
+of_compiled IsOf bytes code plan c (fine made d h) = subst (λ (it : Result CodeTree ℕ). ByCode IsOf it plan) (one_made bytes made (Ok code) d c) h
+of_compiled IsOf bytes code plan c (broken f b e) = absurd (fine_or_broken bytes c.program f c.fine b)
+
+pub of_code : (IsOf : CodeTree → Plan → Type 0) (bytes : Text) (code : CodeTree) (plan : Plan) → IsRunCode bytes code → Thins IsOf bytes plan → IsOf code plan
+of_code IsOf bytes code plan c h = subst (λ (it : CodeTree). IsOf it plan) (sym c.thin) (of_compiled (λ it. IsOf (thinned it)) bytes c.whole plan c.makes h)
 
 pub of_world : (IsOf : World → Plan → Type 0) (read : Reading World) (start : World) (plan : Plan) → read ≡ Ok start → ByWorld IsOf read plan → IsOf start plan
 of_world IsOf read start plan is h = subst (λ (it : Reading World). ByWorld IsOf it plan) is h
@@ -71,17 +75,17 @@ module _ (found : Option Text) (name : Text) (limit : ℕ) (IsOf : Text → Plan
   file_there end (unread u) = absurd (no_unread found name limit plan u end)
   file_there end (of_file h) = h
 
--- there is code, and the plan is that of it
+-- there is code that is run, and the plan is that of it
 pub record HasCode (IsOf : CodeTree → Plan → Type 0) (bytes : Text) (plan : Plan) : Type 0 where
   pub code : CodeTree
-  pub compiled : IsCompiled bytes (Ok code)
+  pub compiled : IsRunCode bytes code
   pub follows : IsOf code plan
 
-by_made : (IsOf : CodeTree → Plan → Type 0) (bytes : Text) (plan : Plan) (made : Result CodeTree ℕ) → IsRunEnd plan.status → IsCompiled bytes made → ByCode IsOf made plan → HasCode IsOf bytes plan
-by_made IsOf bytes plan (Ok code) end c h = record { code = code; compiled = c; follows = h }
+by_made : (IsOf : CodeTree → Plan → Type 0) (bytes : Text) (plan : Plan) (made : Result CodeTree ℕ) → IsRunEnd plan.status → IsCompiled bytes made → ByCode (λ it. IsOf (thinned it)) made plan → HasCode IsOf bytes plan
+by_made IsOf bytes plan (Ok whole) end c h = record { code = thinned whole; compiled = record { whole = whole; makes = c; thin = refl }; follows = h }
 by_made IsOf bytes plan (Err unit) end c h = absurd (ends_as plan _ h end)
 
-pub code_there : (IsOf : CodeTree → Plan → Type 0) (bytes : Text) (plan : Plan) → IsRunEnd plan.status → Compiles IsOf bytes plan → HasCode IsOf bytes plan
+pub code_there : (IsOf : CodeTree → Plan → Type 0) (bytes : Text) (plan : Plan) → IsRunEnd plan.status → Thins IsOf bytes plan → HasCode IsOf bytes plan
 code_there IsOf bytes plan end (fine made c h) = by_made IsOf bytes plan made end c h
 code_there IsOf bytes plan end (broken f b e) = absurd (no_fault f (ends_as plan (no_program f) e end))
 

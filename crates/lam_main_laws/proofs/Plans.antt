@@ -4,6 +4,7 @@ use Rattle.lam_io.specs.Outside.{Files}
 use Rattle.lam_bytecode.specs.Codes.{CodeTree}
 use Rattle.lam_machine_terms.specs.Worlds.{World}
 use Rattle.world_doc_terms.specs.Start.{start_of}
+use Rattle.world_doc_laws.specs.Entries.{ThinnedStarts}
 use Rattle.lam_make.specs.Made.{program_text, world_text}
 use Rattle.audit_log_notes.specs.Sums.{summary_lines}
 use Rattle.lam_main_words.specs.Words.{Text, Request}
@@ -30,11 +31,11 @@ module _ (seed threads : ℕ) (out : Text) (start : World) (starts : start_of (w
   run_planned : Makes seed threads out plan → IsOf made_code start plan × IsRunEnd plan.status
   run_planned is = let p = made_planned is in (p, subst (λ (it : Plan). IsRunEnd it.status) (sym p.is) (is_run_end p.ended))
 
-pub makes_planned : (ws : List Text) (files : Files) → MakesAreComplete ws files
-makes_planned ws files seed threads out asks =
+pub makes_planned : ((code : CodeTree) → ThinnedStarts code) → (ws : List Text) (files : Files) → MakesAreComplete ws files
+makes_planned same ws files seed threads out asks =
     let range = threads_between ws seed threads out asks in
-    let start : World = made_start made_code made_entry seed threads range.1 range.0 in
-    let starts : start_of (world_text seed threads) made_code ≡ Ok start = start_is made_code made_entry seed threads range.1 range.0 in
+    let start : World = made_start made_code (made_entry same) seed threads range.1 range.0 in
+    let starts : start_of (world_text seed threads) made_code ≡ Ok start = start_is made_code (made_entry same) seed threads range.1 range.0 in
     record {
       code = made_code;
       compiled = made_compiled;

@@ -24,7 +24,7 @@ use Rattle.lam_main_plan.specs.Refusals.{prints}
 use Rattle.lam_main_plan.specs.Reading.{WithFile, of_file, program_limit}
 use Rattle.lam_main_plan.specs.Replays.{Reader, an_observer, an_auditor, RunFiles, view_by, read_by, by_turns, by_book, IsOfBook, Starts, Runs}
 use Rattle.lam_main_plan.specs.Plan.{IsPlan, IsPlanOf}
-use Rattle.lam_main_plan.proofs.ReadLemmas.{program_then, start_then, reader_then}
+use Rattle.lam_main_plan.proofs.ReadLemmas.{thin_program_then, start_then, reader_then}
 use Rattle.lam_main_laws.specs.Calls.{HoldRun, ReplaysRun, first_lines, PrintsFirst, ReplaysAreIsolated, AuditsRun, HasRelease, AuditsArePrinted}
 
 -- ---- a run does not stop
@@ -45,7 +45,7 @@ module _ (files : Files) (run : RunFiles) (reader : Reader) (tree : CodeTree) (s
 
   run_printed : (program : Text) → RunsStop tree → read_by reader start.names ≡ Ok shown → HoldRun files program run.world run.book tree start turns → WithFile (files program) program program_limit (Runs files run reader) (prints (shown (moments tree turns start)))
   run_printed program law eyes h =
-      program_then (files program) program (Starts files run reader) (prints (shown (moments tree turns start))) tree h.compiled
+      thin_program_then (files program) program (Starts files run reader) (prints (shown (moments tree turns start))) tree h.compiled
       (start_then files run reader tree (prints (shown (moments tree turns start))) start h.starts
       (reader_then files run.book reader tree start (prints (shown (moments tree turns start))) shown eyes
       (of_file (record { bytes = h.reads.bytes; there = h.reads.there; short = h.reads.short; follows = book_read h.reads.bytes h.reads.follows (never_stops tree law turns start h.ready) }))))

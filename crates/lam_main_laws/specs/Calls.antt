@@ -17,12 +17,12 @@ use Rattle.world_doc_terms.specs.Start.{start_of}
 use Rattle.turn_book.specs.Reading.{turns_of}
 use Rattle.lam_main_words.specs.Words.{Text, replay, audit, request_of}
 use Rattle.lam_main_plan.specs.Refusals.{prints}
-use Rattle.lam_main_plan.specs.Reading.{HasFile, IsCompiled, program_limit, world_limit, book_limit}
+use Rattle.lam_main_plan.specs.Reading.{HasFile, IsRunCode, program_limit, world_limit, book_limit}
 use Rattle.lam_main_plan.specs.Plan.{IsPlan}
 
 -- the files of these names hold this code, this start and these turns, which are a run
 pub record HoldRun (files : Files) (program world book : Text) (code : CodeTree) (start : World) (turns : List ℕ) : Type 0 where
-  pub compiled : HasFile (files program) program_limit (λ bytes. IsCompiled bytes (Ok code))
+  pub compiled : HasFile (files program) program_limit (λ bytes. IsRunCode bytes code)
   pub starts : HasFile (files world) world_limit (λ bytes. start_of bytes code ≡ Ok start)
   pub reads : HasFile (files book) book_limit (λ bytes. turns_of bytes ≡ Ok turns)
   pub ready : IsRun code turns start

@@ -8,7 +8,7 @@ use Rattle.lam_make.specs.Made.{program_text, world_text}
 use Rattle.audit_log_notes.specs.Sums.{summary_lines}
 use Rattle.lam_main_words.specs.Words.{Text, make, request_of}
 use Rattle.lam_main_plan.specs.Refusals.{Plan}
-use Rattle.lam_main_plan.specs.Reading.{IsCompiled}
+use Rattle.lam_main_plan.specs.Reading.{IsRunCode}
 use Rattle.lam_main_plan.specs.Threads.{IsOfThreads, made_budget}
 use Rattle.lam_main_plan.specs.Plan.{IsPlan}
 use Rattle.lam_main_laws.specs.Headline.{IsRunEnd}
@@ -16,7 +16,7 @@ use Rattle.lam_main_laws.specs.Headline.{IsRunEnd}
 -- the made program has a code, the made document has a start of it, and each plan is that of a run of them
 pub record IsMade (ws : List Text) (files : Files) (seed threads : ℕ) (out : Text) : Type 0 where
   pub code : CodeTree
-  pub compiled : IsCompiled program_text (Ok code)
+  pub compiled : IsRunCode program_text code
   pub start : World
   pub starts : start_of (world_text seed threads) code ≡ Ok start
   pub planned : (plan : Plan) → IsPlan ws files plan → IsOfThreads code start out made_budget (summary_lines seed threads) plan × IsRunEnd plan.status

@@ -24,7 +24,7 @@ use Rattle.lam_main_words.specs.Words.{Text, run, make, request_of}
 use Rattle.lam_main_plan.specs.declared.Status.{Status}
 use Rattle.lam_main_plan.specs.declared.Status.TheVariants.{Done, SinkFault, Budget, AllWait}
 use Rattle.lam_main_plan.specs.Refusals.{Plan}
-use Rattle.lam_main_plan.specs.Reading.{HasFile, IsCompiled, program_limit, world_limit}
+use Rattle.lam_main_plan.specs.Reading.{HasFile, IsRunCode, program_limit, world_limit}
 use Rattle.lam_main_plan.specs.Threads.{status_of, IsOfThreads, made_budget}
 use Rattle.lam_main_plan.specs.Plan.{IsPlan}
 use Rattle.lam_main_plan.specs.Answer.{Outside}
@@ -39,7 +39,7 @@ pub record AsksRun (ws : List Text) (files : Files) (code : CodeTree) (start : W
   pub label : Text
   pub workers : ℕ
   pub asks : request_of ws ≡ Ok (run program world label out workers budget)
-  pub compiled : HasFile (files program) program_limit (λ bytes. IsCompiled bytes (Ok code))
+  pub compiled : HasFile (files program) program_limit (λ bytes. IsRunCode bytes code)
   pub starts : HasFile (files world) world_limit (λ bytes. start_of bytes code ≡ Ok start)
   pub observes : label_of start.names label ≡ Ok o
 
@@ -124,7 +124,7 @@ RunsAreComplete ws files =
 -- and the summary of that run was printed
 pub record Generated (seed threads : ℕ) (out : Text) (status : Status) (old new : Outside) : Type 0 where
   pub code : CodeTree
-  pub compiled : IsCompiled program_text (Ok code)
+  pub compiled : IsRunCode program_text code
   pub start : World
   pub starts : start_of (world_text seed threads) code ≡ Ok start
   pub turns : List ℕ
@@ -143,7 +143,7 @@ GeneratedRuns ws status old new =
 -- printed, and not all of it
 pub record GeneratedInPart (seed threads : ℕ) (out : Text) (old new : Outside) : Type 0 where
   pub code : CodeTree
-  pub compiled : IsCompiled program_text (Ok code)
+  pub compiled : IsRunCode program_text code
   pub start : World
   pub starts : start_of (world_text seed threads) code ≡ Ok start
   pub turns : List ℕ

@@ -6,6 +6,7 @@ use Rattle.lam_front.specs.Programs.{IsFine}
 use Rattle.lam_resolve_tree.specs.Tree.{ResolvedTree}
 use Rattle.lam_resolve_laws.specs.Resolved.{resolved}
 use Rattle.lam_bytecode.specs.Codes.{CodeTree}
+use Rattle.thinned_code.specs.Thinned.{thinned}
 use Rattle.lam_main_plan.specs.Compiled.{IsCompiledTo}
 use Rattle.lam_machine_terms.specs.Worlds.{World}
 use Rattle.world_doc_terms.specs.Start.{start_of}
@@ -20,13 +21,15 @@ pub data AskForRun (ws : List Text) (program world : Text) : Type 0 where
   audits : (book : Text) → request_of ws ≡ Ok (audit program world book) → AskForRun ws program world
   takes : (label out : Text) (workers budget : ℕ) → request_of ws ≡ Ok (run program world label out workers budget) → AskForRun ws program world
 
--- the words ask for runs of this program, whose code this is, from this start
+-- the words ask for runs of this program, of which this is the code that is run, from this start
 pub record AsksRunsOf (ws : List Text) (files : Files) (p : ProgramTree) (code : CodeTree) (start : World) : Type 0 where
   pub program : Text
   pub world : Text
   pub asks : AskForRun ws program world
   pub spells : HasFile (files program) program_limit (λ bytes. IsFine bytes p)
-  pub makes : IsCompiledTo p (Ok code)
+  pub whole : CodeTree
+  pub makes : IsCompiledTo p (Ok whole)
+  pub thin : code ≡ thinned whole
   pub starts : HasFile (files world) world_limit (λ bytes. start_of bytes code ≡ Ok start)
 
 -- The program has its names resolved, and that is its source. Whatever turns are taken from the start, the asks of each

@@ -19,11 +19,15 @@ ghost use Rattle.lam_main_laws.specs.Headline.{MakesBreakOff};
 ghost use Rattle.lam_main_laws.specs.Complete.{MakesAreComplete};
 ghost use Rattle.lam_main_laws.specs.Orderly.{MakesEnd};
 
+use world_doc_laws::entries_are_functions;
+
 /// A law: where words are those of `make`, the made program has a code, the made document has a start of it, and nothing
 /// but a run of them is planned.
 pub fn makes_are_complete()
     ensures { (ws : List Text) (files : Files) → MakesAreComplete ws files }
-{}
+{
+    entries_are_functions();
+}
 
 /// A law: a call of `make` ends as a run ends (`Done`, `Budget` or `AllWait`), unless memory runs out, or the file store or
 /// the output fails.
