@@ -24,10 +24,10 @@ use Rattle.lam_machine_replay.specs.declared.fault.RunFault.{RunFault}
 use Rattle.lam_machine_replay.specs.declared.fault.RunFault.TheVariants.{NotReady as not_ready, NoMemory as no_memory_of_run}
 use Rattle.lam_main_words.specs.Words.{Text}
 use Rattle.lam_main_plan.specs.Refusals.{Plan, prints, no_word, no_world, no_book}
-use Rattle.lam_main_plan.specs.Reading.{HasFile, WithFile, Never, Compiles, IsCompiled, program_limit, world_limit, book_limit, of_file}
+use Rattle.lam_main_plan.specs.Reading.{HasFile, WithFile, Never, Compiles, IsRunCode, program_limit, world_limit, book_limit, of_file}
 use Rattle.lam_main_plan.specs.Replays.{Reader, an_observer, RunFiles, view_by, read_by, by_turns, by_book, IsOfTurns, IsOfBook, ByReader, ByWorld, NoStart, Replays, Starts, Runs}
 use Rattle.lam_main_plan.specs.Books.{ByLabel, ByTurns, NoTurns}
-use Rattle.lam_main_plan.proofs.ReadLemmas.{file_map, same_files, program_then, no_program_then, start_then, no_start_then, reader_then, no_reader_then}
+use Rattle.lam_main_plan.proofs.ReadLemmas.{file_map, same_files, thin_program_then, no_thin_program_then, start_then, no_start_then, reader_then, no_reader_then}
 use Rattle.lam_main_files.specs.declared.halt.Refusal.TheVariants.{NotReady as not_ready_at}
 use Rattle.lam_main_files.specs.declared.halt.Halt.{Halt}
 use Rattle.lam_main_files.specs.declared.halt.Halt.TheVariants.{Refused, NoMemory, ShelfFailed}
@@ -166,15 +166,15 @@ module _ (files : Files) (run : RunFiles) (reader : Reader) (tree : CodeTree) wh
   no_start_says IsIt halt h = not_found IsIt (WithFile (files run.world) run.world world_limit (NoStart tree)) (Starts files run reader tree) (λ p k. no_start_then files run reader tree p k) halt h
 
 module _ (files : Files) (program : Text) (run : RunFiles) (reader : Reader) (new : Files) where
-  pub program_gives : (between : Files) (tree : CodeTree) (answer : Result (String Global) Halt) → AllStay files between → AllStay files new → HasFile (files program) program_limit (λ bytes. IsCompiled bytes (Ok tree)) → Says answer (Starts between run reader tree) → Gives answer (WithFile (files program) program program_limit (Runs files run reader)) files new
+  pub program_gives : (between : Files) (tree : CodeTree) (answer : Result (String Global) Halt) → AllStay files between → AllStay files new → HasFile (files program) program_limit (λ bytes. IsRunCode bytes tree) → Says answer (Starts between run reader tree) → Gives answer (WithFile (files program) program program_limit (Runs files run reader)) files new
   program_gives between tree answer stay kept has h =
       gives_of (WithFile (files program) program program_limit (Runs files run reader)) files new answer kept
-      (says_map (Starts between run reader tree) (WithFile (files program) program program_limit (Runs files run reader)) (λ p k. program_then (files program) program (Starts files run reader) p tree has (subst (λ (fs : Files). Starts fs run reader tree p) (same_files files between stay) k)) answer h)
+      (says_map (Starts between run reader tree) (WithFile (files program) program program_limit (Runs files run reader)) (λ p k. thin_program_then (files program) program (Starts files run reader) p tree has (subst (λ (fs : Files). Starts fs run reader tree p) (same_files files between stay) k)) answer h)
 
-  pub no_program_gives : (halt : Halt) → AllStay files new → Finds {X = CodeTree} (Err halt) (λ tree. HasFile (files program) program_limit (λ bytes. IsCompiled bytes (Ok tree))) (WithFile (files program) program program_limit (Compiles Never)) → Gives (Err halt) (WithFile (files program) program program_limit (Runs files run reader)) files new
+  pub no_program_gives : (halt : Halt) → AllStay files new → Finds {X = CodeTree} (Err halt) (λ tree. HasFile (files program) program_limit (λ bytes. IsRunCode bytes tree)) (WithFile (files program) program program_limit (Compiles Never)) → Gives (Err halt) (WithFile (files program) program program_limit (Runs files run reader)) files new
   no_program_gives halt kept h =
       gives_of (WithFile (files program) program program_limit (Runs files run reader)) files new (Err halt) kept
-      (not_found (λ tree. HasFile (files program) program_limit (λ bytes. IsCompiled bytes (Ok tree))) (WithFile (files program) program program_limit (Compiles Never)) (WithFile (files program) program program_limit (Runs files run reader)) (λ p k. no_program_then (files program) program (Starts files run reader) p k) halt h)
+      (not_found (λ tree. HasFile (files program) program_limit (λ bytes. IsRunCode bytes tree)) (WithFile (files program) program program_limit (Compiles Never)) (WithFile (files program) program program_limit (Runs files run reader)) (λ p k. no_thin_program_then (files program) program (Starts files run reader) p k) halt h)
 
 -- ---- faults of the shelf
 
