@@ -1,0 +1,5 @@
+pub mod Leasts
+pub mod Entries
+pub mod Listed
+pub mod AllTags
+pub mod InOrder

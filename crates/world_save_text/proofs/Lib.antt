@@ -1,0 +1,5 @@
+pub mod Seams
+pub mod Lists
+pub mod Openings
+pub mod Lengths
+pub mod Written
