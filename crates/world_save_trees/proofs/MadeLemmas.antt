@@ -91,7 +91,7 @@ module _ (P : Text → Type 0) where
   of_middle (d ∷ done) e es all = of_middle done e es all.1
 
 -- an entry is found by its name, and not among those before it
-found_middle : (done : Entries) (e : Text × Target) (es : Entries) → IsDistinct text_eq (keys_of (done ++ e ∷ es)) → (lookup (text_eq e.0) done ≡ None) × (lookup (text_eq e.0) (done ++ e ∷ es) ≡ Some e.1)
+pub found_middle : (done : Entries) (e : Text × Target) (es : Entries) → IsDistinct text_eq (keys_of (done ++ e ∷ es)) → (lookup (text_eq e.0) done ≡ None) × (lookup (text_eq e.0) (done ++ e ∷ es) ≡ Some e.1)
 unfolding IsDistinct
 found_middle [] e es distinct = (refl, ap (λ b. cond b (Some e.1) (lookup (text_eq e.0) es)) (nat_list_eq_equiv.refl e.0))
 found_middle (d ∷ done) e es distinct =
