@@ -1,0 +1,4 @@
+pub mod PlainLemmas
+pub mod TagLemmas
+pub mod CountLemmas
+pub mod ItemLemmas
