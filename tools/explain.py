@@ -20,9 +20,12 @@ DONE, NO_MEMORY, WORDS, PROGRAM, WORLD, BOOK, MISSING, SHELF, OUTPUT, BUDGET, WA
 MANY = 200_000      # turns; of a longer book nothing is said where the program has refused nothing
 
 # What the words of the forms stand for.
-FILES = {'FILE': 'the script', 'P': 'the program', 'W': 'the world', 'BOOK': 'the book', 'BOOKOUT': 'the book to be written'}
+FILES = {'FILE': 'the script', 'P': 'the program', 'W': 'the world', 'BOOK': 'the book', 'BOOKOUT': 'the book to be written',
+         'W1': 'the first world', 'BOOK1': 'the first book', 'BOOK2': 'the second book'}
 MEANT = {'FILE': 'the name of a script', 'P': 'the name of a program', 'W': 'the name of a world document',
-         'BOOK': 'the name of a book', 'OBS': "an observer's label, as '{}/{}'", 'BOOKOUT': 'a name for the book to be written'}
+         'BOOK': 'the name of a book', 'OBS': "an observer's label, as '{}/{}'", 'BOOKOUT': 'a name for the book to be written',
+         'W1': 'the name of the first world document', 'BOOK1': 'the name of the first book',
+         'W2': 'the name of a world document', 'BOOK2': 'the name of the second book'}
 RANGES = {'--workers': 'a number from 1 to 16', '--turns': 'a number from 1 to 1000000',
           'SEED': 'a number from 0 to 18446744073709551615', 'THREADS': 'a number from 1 to 64'}
 
