@@ -6,5 +6,4 @@ pub mod Meant
 pub mod Orderly
 pub mod Fronts
 pub mod Pairs
-pub mod Walks
 pub mod Saves
