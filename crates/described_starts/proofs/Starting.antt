@@ -7,7 +7,7 @@ use Rattle.lam_meaning_laws.proofs.Units.{takes_params}
 use Rattle.lam_machine_means.specs.Typing.{Typing, Are}
 use Rattle.lam_machine_means.specs.Runs.{nothing_known}
 use Rattle.described_runs.proofs.Keeping.{accesses_find_in_runs}
-use Rattle.described_starts.specs.Starts.{SchemeTakesParams, StartsAtEntries, StartsAreSound}
+use Rattle.described_starts.specs.Starts.{SchemeHasFunctions, StartsAtEntries, StartsAreSound}
 
 -- as many values as types
 as_many : (G : Typing) (ts : List ResolvedType) (vs : List Value) → Are G ts vs → length ts ≡ length vs
@@ -16,7 +16,7 @@ as_many G [] (v ∷ vs) h = absurd h
 as_many G (t ∷ ts) [] h = absurd h
 as_many G (t ∷ ts) (v ∷ vs) h = ap suc (as_many G ts vs h.1)
 
-pub scheme_takes : SchemeTakesParams
+pub scheme_takes : SchemeHasFunctions
 scheme_takes r f fn e = takes_params r f fn e
 
 pub starts_at_entries : (r : ResolvedTree) (code : CodeTree) → StartsAtEntries r code

@@ -52,6 +52,14 @@ impl Code {
         self.units.as_slice()
     }
 
+    /// The units, by number, with what every code keeps: that the regions are numbered from 0 in their order, among others.
+    pub fn kept_units(&self) -> &[CodeUnit]
+        ensures units { result.now ≡ self.now.units }
+        ensures keeps { IsCode self.now }
+    {
+        self.units.as_slice()
+    }
+
     /// The constants, by number.
     pub fn constants(&self) -> &[Value]
         ensures { result.now ≡ self.now.constants }

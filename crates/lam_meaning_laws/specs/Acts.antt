@@ -1,10 +1,11 @@
 -- That compiled code acts as its source.
-use Rattle.std.specs.Prelude.{◌≡◌, ◌≤◌, ℕ, ◌+◌, ◌*◌, List, ◌++◌, Some, slice_get}
+use Rattle.std.specs.Prelude.{◌≡◌, ◌≤◌, ℕ, ◌+◌, ◌*◌, List, ◌++◌, length, Some, slice_get}
 use Rattle.capabilities.specs.declared.Caps.{Caps}
 use Rattle.lam_value.specs.declared.values.Value.{Value}
 use Rattle.lam_asks.specs.declared.answer.Answer.{Answer}
 use Rattle.lam_asks.specs.declared.ask.Ask.{Ask}
 use Rattle.lam_bytecode.specs.Codes.{CodeTree}
+use Rattle.thread_steps.specs.Ops.{function_takes}
 use Rattle.lam_resolve_tree.specs.Tree.{ResolvedFunction, ResolvedTree}
 use Rattle.lam_resolve_tree.specs.Typing.{IsTypedTree}
 use Rattle.lam_resolve_tree.specs.Regions.{AreNumbered}
@@ -41,6 +42,10 @@ abbrev pub ActsAs : CodeTree → ResolvedTree → Type 0
 ActsAs code r =
     (n f : ℕ) (fn : ResolvedFunction) (vs : List Value) (k : Caps) (xs : List Answer) → slice_get r.functions f ≡ Some fn → AreOf fn.params vs → AllFit (asks_of (means r n f vs k) xs) xs
     → ActsWith code n r f vs k xs
+
+-- each function of a program is one of the code, by the same number, and takes as many arguments
+abbrev pub HasFunctions : CodeTree → ResolvedTree → Type 0
+HasFunctions code r = (f : ℕ) (fn : ResolvedFunction) → slice_get r.functions f ≡ Some fn → function_takes (slice_get code.units f) ≡ Some (length fn.params)
 
 -- the scheme's code of a program
 abbrev pub ActsAsSource : ResolvedTree → Type 0

@@ -1,18 +1,12 @@
 -- That thinned code acts as the program that the code acts as.
-use Rattle.std.specs.Prelude.{◌≡◌, ℕ, Some, length, slice_get}
 use Rattle.lam_bytecode.specs.Codes.{CodeTree, IsCode}
-use Rattle.thread_steps.specs.Ops.{function_takes}
-use Rattle.lam_resolve_tree.specs.Tree.{ResolvedFunction, ResolvedTree}
+use Rattle.lam_resolve_tree.specs.Tree.{ResolvedTree}
 use Rattle.lam_resolve_tree.specs.Typing.{IsTypedTree}
 use Rattle.lam_resolve_tree.specs.Regions.{AreNumbered}
 use Rattle.lam_meaning.specs.Scheme.{scheme}
-use Rattle.lam_meaning_laws.specs.Acts.{ActsAs}
+use Rattle.lam_meaning_laws.specs.Acts.{ActsAs, HasFunctions}
 use Rattle.guarded_code.specs.Breaks.{IsGuarded}
 use Rattle.thinned_code.specs.Thinned.{thinned}
-
--- each function of a program is one of the code, by the same number, and takes as many arguments
-abbrev pub HasFunctions : CodeTree → ResolvedTree → Type 0
-HasFunctions code r = (f : ℕ) (fn : ResolvedFunction) → slice_get r.functions f ≡ Some fn → function_takes (slice_get code.units f) ≡ Some (length fn.params)
 
 abbrev pub ThinnedActs : CodeTree → ResolvedTree → Type 0
 ThinnedActs code r = IsCode code → IsGuarded code → HasFunctions code r → ActsAs code r → ActsAs (thinned code) r
