@@ -30,7 +30,7 @@ use Rattle.lam_main_laws.proofs.ReplayLemmas.{never_stops}
 -- ---- what is planned of what is there
 
 module _ (files : Files) (tree : CodeTree) (plan : Plan) where
-  of_start : (world : Text) (IsOf : World → Plan → Type 0) (start : World) → HasFile (files world) world_limit (λ bytes. start_of bytes tree ≡ Ok start) → WithStart files world tree IsOf plan → IsOf start plan
+  pub of_start : (world : Text) (IsOf : World → Plan → Type 0) (start : World) → HasFile (files world) world_limit (λ bytes. start_of bytes tree ≡ Ok start) → WithStart files world tree IsOf plan → IsOf start plan
   of_start world IsOf start h is =
       let Is : Text → Type 0 = λ bytes. start_of bytes tree ≡ Ok start in
       of_world IsOf (start_of h.bytes tree) start plan h.follows
@@ -42,7 +42,7 @@ module _ (files : Files) (tree : CodeTree) (plan : Plan) where
   of_turns : (IsOf : List ℕ → Plan → Type 0) (read : Result (List ℕ) BookFault) (turns : List ℕ) → read ≡ Ok turns → ByTurns IsOf read plan → IsOf turns plan
   of_turns IsOf read turns reads is = subst (λ (r : Result (List ℕ) BookFault). ByTurns IsOf r plan) reads is
 
-  of_run : (book : Text) (start : World) (IsOf : List ℕ → Plan → Type 0) (turns : List ℕ) → HasFile (files book) book_limit (λ bytes. turns_of bytes ≡ Ok turns) → stopped_at tree turns start ≡ None → WithRun files book tree start IsOf plan → IsOf turns plan
+  pub of_run : (book : Text) (start : World) (IsOf : List ℕ → Plan → Type 0) (turns : List ℕ) → HasFile (files book) book_limit (λ bytes. turns_of bytes ≡ Ok turns) → stopped_at tree turns start ≡ None → WithRun files book tree start IsOf plan → IsOf turns plan
   of_run book start IsOf turns h none is =
       let Is : Text → Type 0 = λ bytes. turns_of bytes ≡ Ok turns in
       let Ready : List ℕ → Plan → Type 0 = λ ts. WhereReady (IsOf ts) (stopped_at tree ts start) in
