@@ -8,10 +8,10 @@ use Rattle.world_doc_terms.specs.Start.{start_of}
 use Rattle.lam_main_words.specs.Words.{Text}
 use Rattle.lam_main_plan.specs.Refusals.{Plan}
 use Rattle.lam_main_plan.specs.Answer.{OthersKept}
-use Rattle.lam_main_plan.specs.Reading.{HasFile, WithFile, of_file, Never, Compiles, IsCompiled, program_limit, world_limit}
+use Rattle.lam_main_plan.specs.Reading.{HasFile, WithFile, of_file, Never, Compiles, IsRunCode, program_limit, world_limit}
 use Rattle.lam_main_plan.specs.Replays.{Reader, ByWorld, NoStart}
 use Rattle.lam_main_plan.specs.Threads.{ThreadFiles, TakesTurns, StartsThreads, RunsThreads}
-use Rattle.lam_main_plan.proofs.ReadLemmas.{same_files, file_map, program_then, no_program_then, by_no_world, by_this_world}
+use Rattle.lam_main_plan.proofs.ReadLemmas.{same_files, file_map, thin_program_then, no_thin_program_then, by_no_world, by_this_world}
 use Rattle.lam_main_files.specs.declared.report.Report.{Report}
 use Rattle.lam_main_files.specs.declared.halt.Halt.{Halt}
 use Rattle.lam_main_files.specs.declared.halt.Halt.TheVariants.{Refused, NoMemory, ShelfFailed}
@@ -77,15 +77,15 @@ module _ (files : Files) (run : ThreadFiles) (budget : ℕ) (reader : Reader) (t
   no_start_reported IsIt halt stay h = not_reported IsIt (WithFile (files run.world) run.world world_limit (NoStart tree)) (StartsThreads files run budget reader tree) files new stay (λ p k. no_start_then p k) halt h
 
 module _ (files : Files) (program : Text) (run : ThreadFiles) (budget : ℕ) (reader : Reader) (new : Files) where
-  pub program_reported : (between : Files) (tree : CodeTree) (answer : Result Report Halt) → AllStay files between → HasFile (files program) program_limit (λ bytes. IsCompiled bytes (Ok tree)) → Reports answer (StartsThreads between run budget reader tree) between new → Reports answer (WithFile (files program) program program_limit (RunsThreads files run budget reader)) files new
+  pub program_reported : (between : Files) (tree : CodeTree) (answer : Result Report Halt) → AllStay files between → HasFile (files program) program_limit (λ bytes. IsRunCode bytes tree) → Reports answer (StartsThreads between run budget reader tree) between new → Reports answer (WithFile (files program) program program_limit (RunsThreads files run budget reader)) files new
   program_reported between tree answer stay has h =
       reports_later (StartsThreads between run budget reader tree) (WithFile (files program) program program_limit (RunsThreads files run budget reader)) files between new stay
-      (λ p k. program_then (files program) program (StartsThreads files run budget reader) p tree has (subst (λ (fs : Files). StartsThreads fs run budget reader tree p) (same_files files between stay) k)) answer h
+      (λ p k. thin_program_then (files program) program (StartsThreads files run budget reader) p tree has (subst (λ (fs : Files). StartsThreads fs run budget reader tree p) (same_files files between stay) k)) answer h
 
   pub no_program_reported : {X : Type 0} (IsIt : X → Type 0) (halt : Halt) → AllStay files new → Finds {X = X} (Err halt) IsIt (WithFile (files program) program program_limit (Compiles Never)) → Reports (Err halt) (WithFile (files program) program program_limit (RunsThreads files run budget reader)) files new
   no_program_reported IsIt halt stay h =
       not_reported IsIt (WithFile (files program) program program_limit (Compiles Never)) (WithFile (files program) program program_limit (RunsThreads files run budget reader)) files new stay
-      (λ p k. no_program_then (files program) program (StartsThreads files run budget reader) p k) halt h
+      (λ p k. no_thin_program_then (files program) program (StartsThreads files run budget reader) p k) halt h
 
 -- ---- files
 

@@ -20,10 +20,10 @@ use Rattle.lam_make.specs.Made.{program_text, world_text}
 use Rattle.audit_log_notes.specs.Sums.{summary_lines}
 use Rattle.lam_main_words.specs.Words.{Text}
 use Rattle.lam_main_plan.specs.Refusals.{Plan, prints}
-use Rattle.lam_main_plan.specs.Reading.{Never, IsCompiled, Compiles, fine}
+use Rattle.lam_main_plan.specs.Reading.{Never, Compiles, IsRunCode}
 use Rattle.lam_main_plan.specs.Replays.{by_turns, IsOfTurns, ByReader, ByWorld}
 use Rattle.lam_main_plan.specs.Threads.{status_of, IsOfThreads, made_budget, Makes}
-use Rattle.lam_main_plan.proofs.ReadLemmas.{no_code_then, by_no_world, by_this_world, by_no_reader, by_this_reader}
+use Rattle.lam_main_plan.proofs.ReadLemmas.{thin_then, no_thin_then, by_no_world, by_this_world, by_no_reader, by_this_reader}
 use Rattle.world_doc_terms.specs.declared.breaks.WorldBreak.TheVariants.{NotJson, NoMember, BadMember, NoTag, BadPath, PathTwice}
 use Rattle.lam_main_files.specs.declared.halt.Refusal.{Refusal}
 use Rattle.lam_main_files.specs.declared.halt.Refusal.TheVariants.{Word, Script, NotUtf8, Flawed, CodeTooLong, World as OfWorld, Book, NotReady as NotReadyAt, Absent, TooLong}
@@ -170,12 +170,12 @@ module _ (seed threads : ℕ) (bytes : Text) (same : bytes ≡ program_text) whe
   abbrev OfCode : Text → CodeTree → Plan → Type 0
   OfCode out code plan = ByWorld (λ start. IsOfThreads code start out made_budget (summary_lines seed threads)) (start_of (world_text seed threads) code) plan
 
-  pub made_offers : (world : Text) (code : CodeTree) (answer : Result Taken Halt) → world ≡ world_text seed threads → IsCompiled bytes (Ok code) → Offers answer (λ out. ByWorld (λ start. IsOfThreads code start out made_budget (summary_lines seed threads)) (start_of world code)) → Offers answer (Makes seed threads)
+  pub made_offers : (world : Text) (code : CodeTree) (answer : Result Taken Halt) → world ≡ world_text seed threads → IsRunCode bytes code → Offers answer (λ out. ByWorld (λ start. IsOfThreads code start out made_budget (summary_lines seed threads)) (start_of world code)) → Offers answer (Makes seed threads)
   made_offers world code answer made is h =
       offers_map (λ out. ByWorld (λ start. IsOfThreads code start out made_budget (summary_lines seed threads)) (start_of world code)) (Makes seed threads)
-      (λ out p k. fine (Ok code) (subst (λ (b : Text). IsCompiled b (Ok code)) same is) (subst (λ (w : Text). ByWorld (λ start. IsOfThreads code start out made_budget (summary_lines seed threads)) (start_of w code) p) made k)) answer h
+      (λ out p k. thin_then (OfCode out) program_text p code (subst (λ (b : Text). IsRunCode b code) same is) (subst (λ (w : Text). ByWorld (λ start. IsOfThreads code start out made_budget (summary_lines seed threads)) (start_of w code) p) made k)) answer h
 
-  pub no_made_offers : (halt : Halt) → Finds {X = CodeTree} (Err halt) (λ code. IsCompiled bytes (Ok code)) (Compiles Never bytes) → Offers (Err halt) (Makes seed threads)
+  pub no_made_offers : (halt : Halt) → Finds {X = CodeTree} (Err halt) (λ code. IsRunCode bytes code) (Compiles Never bytes) → Offers (Err halt) (Makes seed threads)
   no_made_offers halt h =
-      not_offered {X = CodeTree} (λ code. IsCompiled bytes (Ok code)) (Compiles Never bytes) (Makes seed threads)
-      (λ out p k. no_code_then (OfCode out) program_text p (subst (λ (b : Text). Compiles Never b p) same k)) halt h
+      not_offered {X = CodeTree} (λ code. IsRunCode bytes code) (Compiles Never bytes) (Makes seed threads)
+      (λ out p k. no_thin_then (OfCode out) program_text p (subst (λ (b : Text). Compiles Never b p) same k)) halt h

@@ -24,7 +24,7 @@ use audit_log_notes::summary_text;
 use lam_bytecode::Code;
 use lam_io::{Gate, Shelf};
 use lam_machine_replay::{RunFault, World, sums_of};
-use lam_main_files::{Halt, Report, compiled};
+use lam_main_files::{Halt, Report, run_code_of};
 use lam_main_replay::start_in;
 use std::alloc::Global;
 use std::sync::Wait;
@@ -108,7 +108,7 @@ fn made_texts<R: Threads + Wait + Sync, G: Gate + Sync>(
     ensures offers { Offers result (Makes seed threads) }
     ensures no_fault { IfErr result (λ halt. halt ≢ Halt.ShelfFailed) }
 {
-    match compiled(alloc, program.as_bytes()) {
+    match run_code_of(alloc, program.as_bytes()) {
         Ok(code) => made_code(rt, alloc, code, world, seed, threads, gate),
         Err(halt) => Err(halt),
     }

@@ -1,5 +1,5 @@
-use Rattle.std.proofs.Common.{Ok, string_bytes}
-use Rattle.lam_main_plan.specs.Reading.{HasFile, IsCompiled, program_limit}
+use Rattle.std.proofs.Common.{string_bytes}
+use Rattle.lam_main_plan.specs.Reading.{HasFile, IsRunCode, program_limit}
 use Rattle.lam_main_replay.specs.Asked.{reader_of}
 use Rattle.lam_main_threads.specs.Asked.{files_of}
 use Rattle.lam_main_threads.proofs.ReportLemmas.{program_reported, no_program_reported, kept_of_all, kept_later, spared_later, failed_later}
@@ -18,7 +18,7 @@ returns-in-Ok-clause-failed g c = failed_later c.run_code.result (g.H.Shelf.faul
 
 pub returns-in-Err-clause-gives : goal.returns-in-Err-clause-gives
 returns-in-Err-clause-gives g c = λ told.
-    no_program_reported (g.H.Shelf.files c.args.shelf.now) (string_bytes c.args.program) (files_of c.args.files) c.args.bounds.turns (reader_of c.args.reader.now) (g.H.Shelf.files c.read_code.new.shelf) (λ tree. HasFile (g.H.Shelf.files c.args.shelf.now (string_bytes c.args.program)) program_limit (λ bytes. IsCompiled bytes (Ok tree))) c.in-Err.halt (c.in-Err.ensures.stay told) (c.in-Err.ensures.finds told)
+    no_program_reported (g.H.Shelf.files c.args.shelf.now) (string_bytes c.args.program) (files_of c.args.files) c.args.bounds.turns (reader_of c.args.reader.now) (g.H.Shelf.files c.read_code.new.shelf) (λ tree. HasFile (g.H.Shelf.files c.args.shelf.now (string_bytes c.args.program)) program_limit (λ bytes. IsRunCode bytes tree)) c.in-Err.halt (c.in-Err.ensures.stay told) (c.in-Err.ensures.finds told)
 
 pub returns-in-Err-clause-kept : goal.returns-in-Err-clause-kept
 returns-in-Err-clause-kept g c = λ told.
