@@ -1,7 +1,7 @@
 """A program, a world and a book as one run, for the tools that tell of it."""
 import subprocess
 
-from . import code as codes, grammar, machine, types, world
+from . import code as codes, grammar, machine, thinning, types, world
 from .places import Place
 
 
@@ -25,7 +25,7 @@ class Run:
     def __init__(self, lam, program, document):
         self.program = program
         try:
-            self.code = codes.Code(text_of(program), printed(lam, 'code', program))
+            self.code = thinning.thin(codes.Code(text_of(program), printed(lam, 'code', program)))
             self.start = world.Start(text_of(document), world.functions_of(self.code))
         except (grammar.Broken, types.Break, world.Wrong, RecursionError, StopIteration) as fault:
             raise NotToRun(str(fault)) from fault
