@@ -28,7 +28,7 @@ pub(crate) struct Ending {
 }
 
 /// What is made of the end of turns, where they are a run.
-pub(crate) fn ending(
+pub(crate) fn end_of_turns(
     alloc: Global,
     code: Code,
     start: World,
@@ -48,12 +48,12 @@ pub(crate) fn ending(
         Ok(RunOf::Stops { turn, thread }) => {
             Err(Halt::Refused(Refusal::NotReady { turn, thread }))
         }
-        Ok(RunOf::Whole(run)) => ending_of(alloc, run, old),
+        Ok(RunOf::Whole(run)) => end_of_run(alloc, run, old),
     }
 }
 
 /// What is made of the end of a run.
-fn ending_of(alloc: Global, run: Run, old: &[u8]) -> Result<Ending, Halt>
+fn end_of_run(alloc: Global, run: Run, old: &[u8]) -> Result<Ending, Halt>
     requires start { start_of old.now run.code ≡ Ok run.start }
     requires forest { IsForest run.start.files }
     ensures offers { Offers result (λ out. IsOfFiles out old.now run.start.names run.start.public run.world.files) }

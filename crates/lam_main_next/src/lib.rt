@@ -24,7 +24,7 @@ ghost use Rattle.lam_main_plan.specs.Saves.{IsOfEnd, SavesRun, Saves};
 ghost use Rattle.lam_main_files.specs.Halts.{Reports};
 ghost use Rattle.lam_main_replay.specs.Asked.{files_of};
 
-use crate::ending::ending;
+use crate::ending::end_of_turns;
 use crate::writing::written;
 use lam_bytecode::Code;
 use lam_io::Shelf;
@@ -151,7 +151,7 @@ fn next_turns<H: Shelf>(
     ensures spared { IsTrue (H.tells shelf.old) → IfErr result (λ halt. halt ≡ Halt.NoMemory → ¬ Rose (H.refusals shelf.old) (H.refusals shelf.new) → AllStay (H.files shelf.old) (H.files shelf.new)) }
     ensures failed { IfErr result (λ halt. halt ≡ Halt.ShelfFailed → Rose (H.faults shelf.old) (H.faults shelf.new)) }
 {
-    match ending(alloc, code, start, turns, old) {
+    match end_of_turns(alloc, code, start, turns, old) {
         Ok(ending) => written(shelf, next_world, ending),
         Err(halt) => Err(halt),
     }

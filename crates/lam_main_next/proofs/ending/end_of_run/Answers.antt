@@ -1,5 +1,5 @@
 use Rattle.lam_main_next.proofs.EndingLemmas.{saved_offered, not_saved_offered, no_shelf_save}
-use Rattle.lam_main_next.proofs.ending.ending_of.Goals as goal
+use Rattle.lam_main_next.proofs.ending.end_of_run.Goals as goal
 
 pub returns-in_ok-told-in-Ok-clause-offers : goal.returns-in_ok-told-in-Ok-clause-offers
 returns-in_ok-told-in-Ok-clause-offers c =
