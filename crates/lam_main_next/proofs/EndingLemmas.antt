@@ -57,9 +57,9 @@ module _ (old : Text) (names : List Text) (public : Caps) (t : Tree) where
       (ap (λ (text : Text). plan_of out text ending.document.items) told.text_is ∙ ap (λ (bytes : Text). plan_of out (saved_line it.items) bytes) told.document_is)
 
   fault_offered : (f : SaveFault) → IsSaveFault names public t old f → Offers (Err (halt_of_save f)) (λ out. IsOfFiles out old names public t)
-  fault_offered (fault.Unnamed tag) h out = unnamed tag h refl
-  fault_offered (fault.BadText item) h out = untold item h refl
-  fault_offered (fault.TooBig bytes) h out = too_long bytes h refl
+  fault_offered (fault.Unnamed tag) h = λ out. unnamed tag h refl
+  fault_offered (fault.BadText item) h = λ out. untold item h refl
+  fault_offered (fault.TooBig bytes) h = λ out. too_long bytes h refl
   fault_offered fault.NoMemory h = tt
 
   pub not_saved_offered : (f : SaveFault) (halt : Halt) → IsSaveFault names public t old f → halt ≡ halt_of_save f → Offers (Err halt) (λ out. IsOfFiles out old names public t)
