@@ -1,0 +1,3 @@
+pub mod SmallLemmas
+pub mod StartLemmas
+pub mod EndLemmas
