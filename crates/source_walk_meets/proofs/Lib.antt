@@ -1,0 +1,6 @@
+pub mod Lists
+mod Asks
+mod Turns
+pub mod Runs
+pub mod Began
+mod OneAnswer
