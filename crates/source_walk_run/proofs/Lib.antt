@@ -1,0 +1,5 @@
+mod Counts
+mod Puts
+mod OneMore
+mod Starting
+mod AllDone
