@@ -1,9 +1,10 @@
 -- What the state of a walk means: the tree of asks that is left.
-use Rattle.std.specs.Prelude.{ℕ, Vec, Bool, true, false, List, [], ◌∷◌, ◌++◌, map, Option, Some, None}
+use Rattle.std.specs.Prelude.{ℕ, Vec, Bool, true, false, List, [], ◌∷◌, ◌++◌, map, Option, Some, None, slice_get}
 use Rattle.flow_labels.specs.declared.Label.{Label}
 use Rattle.capabilities.specs.declared.Caps.{Caps}
 use Rattle.lam_value.specs.declared.values.Value.{Value}
 use Rattle.lam_value.specs.declared.values.Value.TheVariants.{Int, Nothing, Obj, Arr}
+use Rattle.lam_value.specs.declared.shapes.Shape.TheVariants.{Class}
 use Rattle.lam_operators.specs.declared.BinaryOp.{BinaryOp}
 use Rattle.lam_operators.specs.declared.BinaryOp.TheVariants as binary
 use Rattle.lam_asks.specs.declared.fault.Fault.{Fault}
@@ -21,7 +22,7 @@ use Rattle.std.specs.declared.alloc.Global.{Global}
 use Rattle.lam_resolve_tree.specs.declared.Stmt.{Stmt}
 use Rattle.lam_resolve_tree.specs.Tree.{Expression, Expressions, Statement, Block, block_end, OtherBlock, while_block, expr_tree, exprs_tree, stmt_tree, stmts_tree, ResolvedTree}
 use Rattle.lam_meaning.specs.Trees.{Own, with_locals, with_local, local, asked, End, goes, raises, leaves, Tree, spent, broken, asks, on_end, next, and_then, gives, fails, done, spend, purely, value_reply, ask_value, done_reply, ask_done, ask_unit, unless_denied, on_object, on_array, on_truth, on_caps, on_region, gained}
-use Rattle.lam_meaning.specs.Means.{At, may_read, may_write, Caller, within, on_number, makes_array, two, eval, eval_all, Open, Does, take, give_back, returns, captured, caught_end, body_end, enter_reply, inside, region, throws, exec, exec_block, exec_other, calls_to, runs, block_runs, last_ask}
+use Rattle.lam_meaning.specs.Means.{At, may_read, may_write, Caller, within, on_number, makes_array, class_fields, two, eval, eval_all, Open, Does, take, give_back, returns, captured, caught_end, body_end, inside, region, throws, exec, exec_block, exec_other, calls_to, runs, block_runs, last_ask}
 use Rattle.source_walk_state.specs.declared.Sort.{Sort as Written}
 use Rattle.source_walk_state.specs.declared.Sort.TheVariants as written
 use Rattle.source_walk_state.specs.declared.Using.{Using}
@@ -116,10 +117,12 @@ region_args o x = map (λ slot. local o slot) x.captures.now
 abbrev pub region_locals : Own → Region → List Value
 region_locals o x = captured o x.captures.now x.slots
 
--- with so many slots
+-- at a label with capabilities, with so many slots
+abbrev pub enters_at : ResolvedTree → ℕ → Label → Caps → Region → ℕ → ℕ → Own → Tree (Unit {0})
+enters_at r d l k x slots n o = region l k x.number (region_args o x) (captured o x.captures.now slots) x.catch_slot (region_body r d x) (region_handler r d x) n o
+
 abbrev pub enters_by : ResolvedTree → ℕ → Value → Region → ℕ → Value → ℕ → Own → Tree (Unit {0})
-enters_by r d label x slots c n o =
-    on_region label c n o (λ l k. region l k x.number (region_args o x) (captured o x.captures.now slots) x.catch_slot (region_body r d x) (region_handler r d x) n o)
+enters_by r d label x slots c n o = on_region label c n o (λ l k. enters_at r d l k x slots n o)
 
 abbrev pub enters : ResolvedTree → ℕ → Value → Region → Value → ℕ → Own → Tree (Unit {0})
 enters r d label x c n o = enters_by r d label x x.slots c n o
@@ -260,10 +263,13 @@ after r (f ∷ fs) p e = on_end (next (continued r (open_of fs) f p) e) (after r
 
 -- ---- asks
 
-abbrev pub replied : ResolvedTree → Ask → Reply → ℕ → Own → Answer → Tree Value
-replied r a reply.Value n o x = value_reply (gained a) n o x
-replied r a reply.Done n o x = done_reply Nothing n o x
-replied r a (reply.Entered d l k region) n o x = valued (enter_reply (entered r d l k region (region_locals o region) n o) n o x)
+abbrev pub replied : Ask → Reply → ℕ → Own → Answer → Tree Value
+replied a reply.Value n o x = value_reply (gained a) n o x
+replied a reply.Done n o x = done_reply Nothing n o x
+
+-- a new object of a class
+abbrev pub makes_object : ResolvedTree → ℕ → ℕ → Own → Tree Value
+makes_object r c n o = ask_value (asked numbers (ask.New (Class c (class_fields (slice_get r.classes c))))) n o
 
 -- ---- states
 
@@ -276,7 +282,10 @@ now r os (control.Block d rest) p n o = valued (block r d os (stmts_tree rest.no
 now r os (control.Give v) p n o = gives v n o
 now r os (control.Raise f) p n o = fails f n o
 now r os (control.Leave v) p n o = valued (returns os v n o)
-now r os (control.Ask a s y) p n o = asks (asked (sort_seen s) a) (λ x. replied r a y n o x)
+now r os (control.Ask a s y) p n o = asks (asked (sort_seen s) a) (λ x. replied a y n o x)
+now r os (control.New c) p n o = makes_object r c n o
+now r os (control.Spawn f vs k) p n o = ask_value (asked numbers (ask.Spawn f vs k)) n o
+now r os (control.Enter d l k x) p n o = valued (enters_at r d l k x x.slots n o)
 now r os control.Spent p n o = spent
 now r os c p n o = broken
 

@@ -214,19 +214,12 @@ pub enum Frame<'a> {
 }
 
 /// How it goes on after an answer.
-#[derive(Drop)]
-pub enum Reply<'a> {
+#[derive(Clone, Copy, Debug, PartialEq, Eq)]
+pub enum Reply {
     /// With the answer's value, and what that brings to the context.
     Value,
     /// With null.
     Done,
-    /// In a region, at a label with capabilities.
-    Entered {
-        depth: u64,
-        label: Label,
-        caps: Caps,
-        region: Region<'a>,
-    },
 }
 
 /// What is done now.
@@ -259,7 +252,24 @@ pub enum Control<'a> {
     Ask {
         ask: Ask,
         sort: Sort,
-        reply: Reply<'a>,
+        reply: Reply,
+    },
+    /// A new object of a class is asked for.
+    New {
+        class: usize,
+    },
+    /// A new thread is asked for, that runs a function with these arguments and capabilities.
+    Spawn {
+        function: usize,
+        args: Values,
+        caps: Caps,
+    },
+    /// A region is asked for, at a label with capabilities.
+    Enter {
+        depth: u64,
+        label: Label,
+        caps: Caps,
+        region: Region<'a>,
     },
     /// The last ask.
     End(Outcome),
