@@ -9,7 +9,7 @@ use Rattle.lam_bytecode.specs.Codes.{CodeTree}
 use Rattle.lam_machine_terms.specs.Worlds.{World}
 use Rattle.lam_machine_terms.specs.Turns.{moments, IsRun}
 use Rattle.lam_machine_laws.specs.Own.{done_by}
-use Rattle.source_walk_follow.specs.declared.Beginning.{Beginning}
+use Rattle.source_walk_state.specs.declared.Beginning.{Beginning}
 use Rattle.source_walk_meets.specs.Births.{births}
 use Rattle.source_walk_meets.proofs.Runs.{runs_have}
 use Rattle.source_walk_run.specs.declared.keeping.Kept.{Kept}

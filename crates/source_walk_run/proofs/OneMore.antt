@@ -19,7 +19,7 @@ use Rattle.lam_machine_means.proofs.Alone.{asked_append}
 use Rattle.lam_machine_replay.specs.Told.{product_label, IsToldBy}
 use Rattle.lam_machine_replay.specs.Keeping.{KeptOfSoMany, KeepsEvent}
 use Rattle.source_walk_terms.specs.Walks.{asks_in}
-use Rattle.source_walk_follow.specs.declared.Beginning.{Beginning}
+use Rattle.source_walk_state.specs.declared.Beginning.{Beginning}
 use Rattle.source_walk_meets.specs.Births.{Birth, birth_of, births, AreOfThreads}
 use Rattle.source_walk_meets.proofs.Runs.{births_append}
 use Rattle.source_walk_run.specs.declared.keeping.Kept.{Kept}

@@ -11,7 +11,7 @@ use Rattle.lam_asks.specs.declared.answer.Answer.TheVariants.{Val}
 use Rattle.lam_asks.specs.declared.answer.What.{What}
 use Rattle.lam_asks.specs.declared.answer.What.TheVariants.{Private, Asked}
 use Rattle.lam_asks.specs.declared.ask.Ask.TheVariants.{Spawn}
-use Rattle.source_walk_follow.specs.declared.Beginning.{Beginning}
+use Rattle.source_walk_state.specs.declared.Beginning.{Beginning}
 use Rattle.source_walk_meets.specs.Births.{Birth, birth_by, birth_of}
 use Rattle.source_walk_run.specs.declared.keeping.Kept.{Kept}
 use Rattle.source_walk_run.specs.Putting.{lists_of, put_at, empties, only_asked, is_private, is_thread, beginning_of, Begins, Puts, Adds}

@@ -8,7 +8,7 @@ use Rattle.lam_asks.specs.declared.answer.Answer.TheVariants.{Val}
 use Rattle.lam_asks.specs.declared.answer.What.{What}
 use Rattle.lam_asks.specs.declared.answer.What.TheVariants.{Private, Asked}
 use Rattle.source_walk_meets.specs.Births.{Birth, birth_of}
-use Rattle.source_walk_follow.specs.declared.Beginning.{Beginning}
+use Rattle.source_walk_state.specs.declared.Beginning.{Beginning}
 use Rattle.source_walk_run.specs.declared.keeping.Kept.{Kept}
 
 -- the lists that vectors hold

@@ -14,7 +14,7 @@ use crate::keeping::{Kept, kept_of};
 use lam_asks::What;
 use lam_bytecode::Code;
 use lam_machine_replay::{RunFault, World, runs_are_whole};
-use source_walk_follow::Beginning;
+use source_walk_state::Beginning;
 use std::alloc::Global;
 use want_of_memory::NoMemory;
 

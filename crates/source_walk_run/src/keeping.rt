@@ -14,7 +14,7 @@ use lam_asks::{Event, What};
 use lam_bytecode::Code;
 use lam_machine_replay::{Keeps, RunFault, World, keep_turns};
 use lam_machine_world::let_go_world;
-use source_walk_follow::Beginning;
+use source_walk_state::Beginning;
 use std::alloc::Global;
 use want_of_memory::NoMemory;
 

@@ -10,7 +10,7 @@ use crate::keeping::Kept;
 use capabilities::Caps;
 use lam_asks::{Answer, Ask, Event, What, let_go_event, let_go_what};
 use lam_value::{Value, Values};
-use source_walk_follow::Beginning;
+use source_walk_state::Beginning;
 use std::alloc::Global;
 use want_of_memory::NoMemory;
 

@@ -51,6 +51,14 @@ pub enum Using<'a> {
     Spawn { function: usize, caps: Value },
 }
 
+/// How a thread begins: a function of its program by number, arguments and capabilities.
+#[derive(Drop)]
+pub struct Beginning {
+    pub function: u32,
+    pub args: Values,
+    pub caps: Caps,
+}
+
 /// What is given of a region: its number, the captured slots, how many slots it has, its body, and its catch block with
 /// the slot of the fault.
 #[derive(Clone, Copy)]
