@@ -131,7 +131,7 @@ const CASES: [Case<'static>; 8] = [
             status: Status::AllWait,
             printed: "t0 {}/{} new class 0 = obj<{}/{}|{}/{}|0>\nt0 {}/{} spawn 0 (obj<{}/{}|{}/{}|0>) caps +{}-{} = t1\nt0 {}/{} write obj<{}/{}|{}/{}|0> 0 t1 = done\nt1 {}/{} read obj<{}/{}|{}/{}|0> 0 = t1\nt1 {}/{} read obj<{}/{}|{}/{}|0> 0 = t1\n",
         },
-        book: "lam book 1\n0 11\n1 9\n",
+        book: "lam book 1\n0 11\n1 8\n",
     },
 ];
 
