@@ -13,6 +13,6 @@ mod threads;
 mod turn;
 
 pub use coming::{Coming, next};
-pub use thread_core_ops::region_in;
+pub use thread_core_ops::region_of;
 pub use threads::{advance, ask, go_on, private_step, standing, waits_for};
 pub use turn::{Standing, Turn, Waits};

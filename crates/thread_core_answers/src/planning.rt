@@ -18,7 +18,7 @@ use flow_labels::Label;
 use lam_asks::{Answer, Ask, Fault, Outcome};
 use lam_bytecode::{Code, UnitKind};
 use lam_value::{Name, Value};
-use thread_core::{Coming, next, region_in};
+use thread_core::{Coming, next, region_of};
 use thread_core_effects::{Sight, same_names, thing_in};
 use thread_core_state::{Context, Operands, Phase, filled, locals_of};
 use want_of_memory::NoMemory;
@@ -324,7 +324,7 @@ fn region_place(code: &Code, region: u32) -> (usize, u32)
     ensures number { result.0 ≡ unit_number (region_in region code.now.units) }
     ensures catch_at { result.1 ≡ catch_place (region_in region code.now.units) }
 {
-    match region_in(code.units(), region) {
+    match region_of(code, region) {
         None => (0, 0),
         Some(unit) => (unit.number, catch_place(&unit.it.kind)),
     }

@@ -1,2 +1,3 @@
 pub mod UnitLists
+pub mod CountedRegions
 pub mod Many

@@ -14,4 +14,4 @@ mod units;
 
 pub use operators::{label_from, operator, prefix, with_sign};
 pub use seeing::see;
-pub use units::{UnitAt, region_in};
+pub use units::{UnitAt, region_of};

@@ -185,7 +185,7 @@ pub fn see<'a>(c: &'a Context, code: &'a Code, op: Op) -> Sight<'a>
         Op::System(b) => system(stack, &c.label, &c.caps, b),
         Op::EnterMonitor => enter_monitor(stack),
         Op::LeaveMonitor => leave_monitor(stack, c.held.as_slice()),
-        Op::EnterRegion(region) => enter_region(stack, code.units(), region),
+        Op::EnterRegion(region) => enter_region(stack, code, region),
         Op::LeaveRegion => Sight::Leaves,
         Op::Spawn(unit) => spawn(stack, code.units(), unit),
     }

@@ -1,6 +1,6 @@
 //! Units, and the operations that begin one.
 
-ghost use Rattle.std.specs.Prelude.{◌≡◌, ◌<◌, ◌+◌, ◌∷◌, List, length, drop, slice_get};
+ghost use Rattle.std.specs.Prelude.{◌≡◌, ◌<◌, ◌+◌, ◌∷◌, true, List, length, drop, slice_get, IfSome};
 ghost use Rattle.lam_value.specs.declared.values.Value.{Value};
 ghost use Rattle.thread_steps.specs.Ops.{function_takes, is_region, region_in, region_takes, captures_of, on_caps, on_many, on_label, wants};
 ghost use Rattle.thread_core_ops.specs.Units.{unit_at};
@@ -9,7 +9,7 @@ ghost use Rattle.lam_asks.specs.declared.ask.Ask.TheVariants as ask;
 
 use flow_labels::TagSet;
 use lam_asks::Fault;
-use lam_bytecode::{CodeUnit, UnitKind};
+use lam_bytecode::{Code, CodeUnit, UnitKind};
 use lam_value::Value;
 use thread_core_effects::{Sight, Sketch};
 use thread_core_state::Operands;
@@ -45,7 +45,7 @@ fn is_region(region: u32, kind: &UnitKind) -> bool
 
 /// The first unit of a region.
 #[tactic(auto, using(crate::proofs::UnitLists::region_skip, crate::proofs::UnitLists::region_hit, crate::proofs::UnitLists::region_end))]
-pub fn region_in(units: &[CodeUnit], region: u32) -> Option<UnitAt<'_>>
+fn region_in(units: &[CodeUnit], region: u32) -> Option<UnitAt<'_>>
     ensures { unit_at result ≡ region_in region units.now }
 {
     for number in 0..units.len() {
@@ -55,6 +55,65 @@ pub fn region_in(units: &[CodeUnit], region: u32) -> Option<UnitAt<'_>>
         }
     }
     None
+}
+
+/// The place of a region where number `last` stands at `end` and each number between them in turn, if there is one.
+fn counted_back(end: usize, last: u32, region: u32) -> Option<usize>
+    ensures { IfSome result (λ place. place + last ≡ end + region) }
+{
+    if region > last {
+        return None;
+    }
+    let behind = (last - region) as usize;
+    if behind > end {
+        return None;
+    }
+    Some(end - behind)
+}
+
+/// The place of a region where regions stand last and in order. Any other place would do: it is looked at before use.
+fn numbered_from_last(units: &[CodeUnit], region: u32) -> Option<usize> {
+    let count = units.len();
+    if count == 0 {
+        return None;
+    }
+    match &units[count - 1].kind {
+        UnitKind::Function { .. } => None,
+        UnitKind::Region { region: last, .. } => counted_back(count - 1, *last, region),
+    }
+}
+
+/// The unit at a place, where it is the region's.
+fn region_at(units: &[CodeUnit], region: u32, number: usize) -> Option<UnitAt<'_>>
+    ensures { IfSome result (λ u. (slice_get units.now u.number ≡ Some u.it.now) × (is_region region u.it.now.kind ≡ true)) }
+{
+    match units.get(number) {
+        Some(it) if is_region(region, &it.kind) => Some(UnitAt { number, it }),
+        _ => None,
+    }
+}
+
+/// The unit of a region that stands where its number says, if regions stand last.
+fn region_by_number(units: &[CodeUnit], region: u32) -> Option<UnitAt<'_>>
+    ensures { IfSome result (λ u. (slice_get units.now u.number ≡ Some u.it.now) × (is_region region u.it.now.kind ≡ true)) }
+{
+    match numbered_from_last(units, region) {
+        None => None,
+        Some(place) => region_at(units, region, place),
+    }
+}
+
+/// The unit of a region. Regions are numbered in order, and mostly stand last: so the place is reckoned from the last
+/// unit's number and looked at; where it is not this region's, all are searched.
+#[tactic(auto, using(crate::proofs::CountedRegions::region_first))]
+pub fn region_of(code: &Code, region: u32) -> Option<UnitAt<'_>>
+    ensures { unit_at result ≡ region_in region code.now.units }
+{
+    let units = code.kept_units();
+    match region_by_number(units, region) {
+        None => region_in(units, region),
+        Some(unit) => Some(unit),
+    }
 }
 
 fn captures_of(kind: &UnitKind) -> u32
@@ -67,10 +126,10 @@ fn captures_of(kind: &UnitKind) -> u32
 }
 
 /// How many locals a region captures, `None` where there is no such region.
-pub fn region_takes(units: &[CodeUnit], region: u32) -> Option<u32>
-    ensures { result ≡ region_takes (region_in region units.now) }
+pub fn region_takes(code: &Code, region: u32) -> Option<u32>
+    ensures { result ≡ region_takes (region_in region code.now.units) }
 {
-    match region_in(units, region) {
+    match region_of(code, region) {
         None => None,
         Some(unit) => Some(captures_of(&unit.it.kind)),
     }
@@ -218,10 +277,10 @@ fn enter_many(stack: &Operands, region: u32, count: usize) -> Sight<'_>
 }
 
 /// Asks that a region be entered, with the label, the capabilities and the captures that stand on top.
-pub fn enter_region<'a>(stack: &'a Operands, units: &[CodeUnit], region: u32) -> Sight<'a>
-    ensures { (locals : List Value) → did_of result locals stack.now ≡ enters units.now region stack.now }
+pub fn enter_region<'a>(stack: &'a Operands, code: &Code, region: u32) -> Sight<'a>
+    ensures { (locals : List Value) → did_of result locals stack.now ≡ enters code.now.units region stack.now }
 {
-    match region_takes(units, region) {
+    match region_takes(code, region) {
         None => Sight::Breaks,
         Some(count) => enter_many(stack, region, count as usize),
     }
