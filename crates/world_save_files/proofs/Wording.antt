@@ -6,9 +6,10 @@ use Rattle.flow_labels.specs.TwoLists.{Text}
 use Rattle.capabilities.specs.declared.Caps.{Caps}
 use Rattle.lam_value.specs.Homes.{Home, IsListing}
 use Rattle.labelled_files.specs.Trees.{Tree}
+use Rattle.world_save_values.specs.Compact.{IsCompact}
 use Rattle.world_save_terms.specs.Items.{items_of}
 use Rattle.world_save_terms.specs.Rows.{Row}
-use Rattle.world_save_terms.specs.Document.{IsCompact, most_document}
+use Rattle.world_save_terms.specs.Document.{most_document}
 use Rattle.world_save_items.specs.Steps.{Found, found, path_of, items_from, IsWalk}
 use Rattle.world_save_items.specs.declared.finding.Step.{Step}
 use Rattle.world_save_text.specs.declared.document.Contents.{Contents}

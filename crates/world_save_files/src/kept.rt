@@ -1,32 +1,33 @@
 //! What the next document takes from an older one.
 
-ghost use Rattle.std.specs.Prelude.{◌≡◌, string_bytes, IsSome, IfOk, Some};
+ghost use Rattle.std.specs.Prelude.{◌≡◌, IsSome, IfOk, Some};
 ghost use Rattle.serde_json.specs.Data.{Data};
 ghost use Rattle.serde_json.specs.Read.{read};
 ghost use Rattle.serde_json.specs.Find.{get};
 ghost use Rattle.serde_json.specs.View.{view};
-ghost use Rattle.world_save_terms.specs.Document.{IsCompact};
+ghost use Rattle.world_save_values.specs.Compact.{IsCompact};
 ghost use Rattle.world_save_files.specs.Saved.{HasKept, CanBeKept};
 
 use flow_labels::NoMemory;
 use serde_json::Value;
 use std::alloc::Global;
 use std::str;
+use world_save_values::value_text;
 
 /// The texts of two values of a document, in the compact form.
 #[derive(Drop)]
 pub struct KeptTexts {
-    pub pipes: String,
-    pub threads: String,
+    pub pipes: Vec<u8>,
+    pub threads: Vec<u8>,
 }
 
 // The text of a member that is there.
-fn member_text(alloc: Global, document: &Value, name: &str) -> Result<String, NoMemory>
+fn member_text(alloc: Global, document: &Value, name: &str) -> Result<Vec<u8>, NoMemory>
     requires { IsSome (get name.now (view document.now)) }
-    ensures { IfOk result (λ s. (d : Data) → get name.now (view document.now) ≡ Some d → IsCompact d (string_bytes s)) }
+    ensures { IfOk result (λ text. (d : Data) → get name.now (view document.now) ≡ Some d → IsCompact d text.items) }
 {
     match document.get(name) {
-        Some(value) => Ok(value.to_string(alloc)?),
+        Some(value) => Ok(value_text(alloc, value)?),
         None => unreachable!(),
     }
 }
@@ -43,7 +44,7 @@ fn read_document(alloc: Global, text: &str) -> Result<Value, NoMemory>
 
 fn texts_in(alloc: Global, text: &str) -> Result<KeptTexts, NoMemory>
     requires { CanBeKept text.now }
-    ensures { IfOk result (λ k. (pipes threads : Data) → HasKept text.now pipes threads → IsCompact pipes (string_bytes k.pipes) × IsCompact threads (string_bytes k.threads)) }
+    ensures { IfOk result (λ k. (pipes threads : Data) → HasKept text.now pipes threads → IsCompact pipes k.pipes.items × IsCompact threads k.threads.items) }
 {
     let document = read_document(alloc, text)?;
     let pipes = member_text(alloc, &document, "pipes")?;
@@ -58,7 +59,7 @@ fn texts_in(alloc: Global, text: &str) -> Result<KeptTexts, NoMemory>
 /// `NoMemory` where memory is refused.
 pub fn kept_texts(alloc: Global, old: &[u8]) -> Result<KeptTexts, NoMemory>
     requires { CanBeKept old.now }
-    ensures { IfOk result (λ k. (pipes threads : Data) → HasKept old.now pipes threads → IsCompact pipes (string_bytes k.pipes) × IsCompact threads (string_bytes k.threads)) }
+    ensures { IfOk result (λ k. (pipes threads : Data) → HasKept old.now pipes threads → IsCompact pipes k.pipes.items × IsCompact threads k.threads.items) }
 {
     match str::from_utf8(old) {
         Ok(text) => texts_in(alloc, text),

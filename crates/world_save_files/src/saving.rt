@@ -113,8 +113,8 @@ fn saved_text(
         public,
         files,
         steps,
-        pipes: kept.pipes.as_bytes(),
-        threads: kept.threads.as_bytes(),
+        pipes: kept.pipes.as_slice(),
+        threads: kept.threads.as_slice(),
     };
     bounded(alloc, &contents, homes)
 }

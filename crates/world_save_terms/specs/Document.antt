@@ -3,16 +3,15 @@
 -- Members stand in byte order of their names, with no white space: `counts`, `pipes`, `tags`, `threads`, `tree`,
 -- `version`. The files and directories are those at the end of a run; `tags` says the names and kinds that it began with,
 -- and `pipes` and `threads` are the values of the document that it began with.
-use Rattle.std.specs.Prelude.{◌≡◌, ◌≤◌, ℕ, suc, Bool, true, false, cond, List, [], ◌∷◌, ◌++◌, map, Some, codes, refl}
+use Rattle.std.specs.Prelude.{◌≡◌, ℕ, suc, Bool, true, false, cond, List, [], ◌∷◌, ◌++◌, map, codes, refl}
 use Rattle.std.specs.FinSet.{contains}
-use Rattle.json.specs.Lex.{tokens}
-use Rattle.json.specs.Print.{print, quoted, escape_byte}
-use Rattle.serde_json.specs.Data.{Data, boolean, number, string, array, object, unsigned, Members, no_members, member, depth}
-use Rattle.serde_json.specs.Read.{read, max_depth}
+use Rattle.json.specs.Print.{quoted, escape_byte}
+use Rattle.serde_json.specs.Data.{Data, boolean, number, string, array, object, unsigned, Members, no_members, member}
 use Rattle.serde_json.specs.View.{items_of as data_list}
-use Rattle.serde_json.specs.Written.{IsInOrder, has_float, comma_if, compact_text}
+use Rattle.serde_json.specs.Written.{comma_if, compact_text}
 use Rattle.std.specs.Fmt.{digits}
 use Rattle.hex.specs.Hex.{encode_lower}
+use Rattle.world_save_values.specs.Compact.{IsCompact}
 use Rattle.flow_labels.specs.TwoLists.{Text}
 use Rattle.flow_labels.specs.declared.Label.{Label}
 use Rattle.flow_labels.specs.LabelText.{label_text}
@@ -94,13 +93,6 @@ parts_of names public t rows pipes threads =
 
 -- ---- its text
 
--- A text of a value in the compact form. Where the value has a number that is no whole one, its digits are the writer's.
-pub record IsCompact (d : Data) (text : Text) : Type 0 where
-  pub plain : has_float d ≡ false → text ≡ compact_text d
-  pub compact : text ≡ print (tokens text)
-  pub ordered : IsInOrder text d
-  pub reads_back : depth d ≤ max_depth → read text ≡ Some d
-
 -- a member whose value has a text, and what stands after it
 abbrev pub member_text : Bool → Text → Text → Text → Text
 member_text later name value rest = comma_if later ++ (quoted name ++ 58 ∷ (value ++ rest))
@@ -113,7 +105,7 @@ abbrev pub text_of : Parts → Text → Text → Text
 text_of p pipes threads =
     123 ∷ member_text false (codes "counts") (list_text p.counts) (member_text true (codes "pipes") pipes (member_text true (codes "tags") (list_text p.tags) (member_text true (codes "threads") threads (member_text true (codes "tree") (list_text p.tree) (member_text true (codes "version") (compact_text version_data) (125 ∷ []))))))
 
--- a text of a document in the compact form
+-- a text of a document in the compact form; where its `pipes` or its `threads` have numbers that are no whole ones, there are several
 pub record Spells (p : Parts) (text : Text) : Type 0 where
   pub pipes : Text
   pub threads : Text

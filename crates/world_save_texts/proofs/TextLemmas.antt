@@ -19,7 +19,8 @@ use Rattle.serde_json.specs.Written.{outline, items_outline, members_outline, bl
 use Rattle.serde_json.proofs.Numbers.{number_of-decimal}
 use Rattle.serde_json.proofs.Texts.{print-outline}
 use Rattle.flow_labels.specs.TwoLists.{Text}
-use Rattle.world_save_terms.specs.Document.{Parts, document, list_data, version_data, IsCompact, member_text, text_of}
+use Rattle.world_save_values.specs.Compact.{IsCompact}
+use Rattle.world_save_terms.specs.Document.{Parts, document, list_data, version_data, member_text, text_of}
 use Rattle.world_save_texts.specs.Plain.{IsPlain, SpelledDocumentsAreRead}
 
 -- ---- depths

@@ -1,8 +1,8 @@
 use Rattle.std.proofs.Common.{sym, subst}
-use Rattle.std.specs.Prelude.{IfOk, string_bytes}
+use Rattle.std.specs.Prelude.{IfOk}
 use Rattle.std.proofs.lemmas.Str.{IsUtf8-from_is_utf8}
 use Rattle.serde_json.specs.Data.{Data}
-use Rattle.world_save_terms.specs.Document.{IsCompact}
+use Rattle.world_save_values.specs.Compact.{IsCompact}
 use Rattle.world_save_files.specs.Saved.{HasKept, CanBeKept}
 use Rattle.world_save_files.proofs.kept.kept_texts.Goals as goal
 
@@ -14,4 +14,4 @@ unreachable-requires c = c.in-Err.ensures.cases.0 (IsUtf8-from_is_utf8 c.args.ol
 
 pub returns : goal.returns
 returns c =
-    subst (λ t. IfOk c.texts_in.result (λ k. (pipes threads : Data) → HasKept t pipes threads → IsCompact pipes (string_bytes k.pipes) × IsCompact threads (string_bytes k.threads))) c.in-Ok.ensures.cases.0 c.texts_in.ensures
+    subst (λ t. IfOk c.texts_in.result (λ k. (pipes threads : Data) → HasKept t pipes threads → IsCompact pipes k.pipes.items × IsCompact threads k.threads.items)) c.in-Ok.ensures.cases.0 c.texts_in.ensures

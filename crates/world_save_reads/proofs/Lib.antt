@@ -1,0 +1,5 @@
+pub mod OldLemmas
+pub mod LiveLemmas
+pub mod ReadLemmas
+pub mod RunLemmas
+pub mod Utf8Lemmas

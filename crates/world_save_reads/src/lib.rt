@@ -1,0 +1,31 @@
+//! A saved text is read back: the start of the next run has what the root reached at the end of this one, in proofs alone.
+//!
+//! The parts stand below: the text is read as its document (`world_save_texts`), its lists say the tags, the counters, and the
+//! items (`world_save_lists`), the items make the files and directories again (`world_save_trees`), as those at the end of
+//! each run can be (`world_save_ends`). Pipes and threads are those of the older document, and are read from its own values.
+//! Here the parts are one law (`specs/Saved`), and with what an observer can tell of two runs (`world_save_runs`) another
+//! (`specs/Runs`).
+#![tactic(auto)]
+
+ghost use Rattle.flow_labels.specs.declared.Label.{Label};
+ghost use Rattle.lam_bytecode.specs.Codes.{CodeTree};
+ghost use Rattle.world_save_reads.specs.Runs.{SavedStartsAgree};
+ghost use Rattle.world_save_reads.specs.Saved.{SavedTextsAreRead, NextWorldsAreRead};
+
+/// A text of files and directories, and of the document of a start, gives a start with the same tags, public capabilities,
+/// pipes and threads, and with the files and directories that the root reaches, and no others.
+pub fn saved_texts_are_read()
+    ensures { (code : CodeTree) → SavedTextsAreRead code }
+{}
+
+/// So does a text of the files and directories at the end of a run from a document.
+pub fn next_worlds_are_read()
+    ensures { (code : CodeTree) → NextWorldsAreRead code }
+{}
+
+/// Two runs of one code with starts that look the same to an observer, and with equal agendas for it, are saved. Where at
+/// their ends each seen file and directory is named in a seen directory, the starts that are read of the saved texts look
+/// the same to it.
+pub fn saved_starts_agree()
+    ensures { (code : CodeTree) (o : Label) → SavedStartsAgree code o }
+{}
