@@ -22,6 +22,8 @@ mod saved;
 #[cfg(test)]
 mod secrets;
 #[cfg(test)]
+mod stretches;
+#[cfg(test)]
 mod threads;
 #[cfg(test)]
 mod worlds;

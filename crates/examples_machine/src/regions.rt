@@ -85,7 +85,7 @@ fn exported_tag_is_added_by_all(rt: HostRuntime) -> Result<(), Fail> {
 }
 
 /// Divides its copy of a number by zero in a region, and again where that is caught.
-const FAULTS: Written<'static> = Written {
+pub const FAULTS: Written<'static> = Written {
     units: &[
         Unit {
             head: Head::Function {

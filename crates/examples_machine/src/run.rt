@@ -58,7 +58,7 @@ fn text_of(alloc: Global, given: Given<'_>, observer: &str) -> Result<String, Fa
 }
 
 /// The run with no turns.
-fn opened(alloc: Global, code: Written<'_>, world: &str) -> Result<Run, Fail> {
+pub fn opened(alloc: Global, code: Written<'_>, world: &str) -> Result<Run, Fail> {
     let code = code_of(alloc, code)?;
     let start = start_of(alloc, &code, world)?;
     Ok(Run::new(alloc, code, start)?)
@@ -87,7 +87,8 @@ fn text_after(
     Ok(text)
 }
 
-fn take_turns(run: &mut Run, turns: &[(u32, u32)]) -> Result<(), Fail> {
+/// Takes so many turns of each thread, one after another.
+pub fn take_turns(run: &mut Run, turns: &[(u32, u32)]) -> Result<(), Fail> {
     for (thread, count) in turns {
         for _ in 0..*count {
             take_turn(run, *thread)?;

@@ -171,10 +171,11 @@ const LOCKS: Given<'static> = Given {
 };
 
 const LOCKS_SEEN: &str =
-    "t0 {}/{} new class 0 = obj<{}/{}|{}/{}|0>\nt0 {}/{} new class 0 = obj<{}/{}|{}/{}|1>\nt0 {}/{} spawn 0 (obj<{}/{}|{}/{}|0>,obj<{}/{}|{}/{}|1>) caps +{}-{} = t1\nt1 {}/{} lock obj<{}/{}|{}/{}|1> = done\nt0 {}/{} lock obj<{}/{}|{}/{}|0> = done\n";
+    "t0 {}/{} new class 0 = obj<{}/{}|{}/{}|0>\nt0 {}/{} new class 0 = obj<{}/{}|{}/{}|1>\nt0 {}/{} spawn 0 (obj<{}/{}|{}/{}|0>,obj<{}/{}|{}/{}|1>) caps +{}-{} = t1\nt0 {}/{} lock obj<{}/{}|{}/{}|0> = done\nt1 {}/{} lock obj<{}/{}|{}/{}|1> = done\n";
 
-const LOCKS_BOOK: &str =
-    "lam book 1\n0 9\n1 1\n0 1\n1 1\n0 1\n1 1\n0 1\n1 1\n0 1\n1 1\n0 1\n1 1\n0 1\n1 1\n0 1\n";
+/// A pick is for one ask, or for the private turns that come up to the next one. The first thread is at turn 8 when it has
+/// started the other; then each pick is the first thread's at an even turn, and the other's at an odd one.
+const LOCKS_BOOK: &str = "lam book 1\n0 13\n1 3\n0 3\n1 4\n";
 
 const LOCKED: Wanted<'static> = Wanted {
     shows: "two threads that each hold what the other wants wait",

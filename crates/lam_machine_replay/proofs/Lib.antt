@@ -4,6 +4,6 @@ mod PrivateLemmas
 pub mod ProductLemmas
 mod PublicLemmas
 mod FrontLemmas
-mod SeenLemmas
+pub mod SeenLemmas
 mod NotedLemmas
 mod CountLemmas

@@ -91,7 +91,7 @@ seen_by-append o ms ns =
     ∙ flat_map-append shown (trace o ms) (trace o ns)
 
 -- with one moment more, what is seen of it is put behind
-seen_more : (o : Label) (ms : List Moment) (m : Moment) → IsToldBy m (product_label m.event.what) → seen_by o (ms ++ m ∷ []) ≡ seen_by o ms ++ option_to_list (seen_of o m.event m.world)
+pub seen_more : (o : Label) (ms : List Moment) (m : Moment) → IsToldBy m (product_label m.event.what) → seen_by o (ms ++ m ∷ []) ≡ seen_by o ms ++ option_to_list (seen_of o m.event m.world)
 seen_more o ms m is = seen_by-append o ms (m ∷ []) ∙ ap (λ xs. seen_by o ms ++ xs) (seen_one o m is)
 
 pub seen_kept : (o : Label) (n : ℕ) (e : Event) (after : World) (before kept : List Seen) → kept ≡ before ++ option_to_list (seen_of o e after) → KeepsEvent (λ ms all. all ≡ seen_by o ms) n e after before kept
@@ -107,7 +107,7 @@ either : {X : Type 0} (b : Bool) (x : Option X) → cond b x x ≡ x
 either true x = refl
 either false x = refl
 
-nothing_seen : (o : Label) (e : Event) (after : World) → e.what ≡ Private → seen_of o e after ≡ None
+pub nothing_seen : (o : Label) (e : Event) (after : World) → e.what ≡ Private → seen_of o e after ≡ None
 nothing_seen o e after is =
     ap (λ what. cond (seen e.label o) (cond (is_private what) None (Some (seen_as.Event e))) (past_by o e (product after e.thread what) (product_label what))) is
     ∙ either (seen e.label o) None

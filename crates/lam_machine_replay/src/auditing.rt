@@ -52,7 +52,8 @@ pub fn noted_in(
 }
 
 /// An auditor keeps what it notes.
-struct Auditor;
+#[derive(Clone, Copy)]
+pub struct Auditor;
 
 impl Keeps<Vec<Noted>> for Auditor {
     ghost AreKept = { λ _ ms all. all.items ≡ noted_in ms };
@@ -101,8 +102,12 @@ fn push_note(
     Ok(())
 }
 
-/// The capabilities that a turn took, where it is a release.
-fn taken(event: &Event) -> Result<Option<Caps>, NoMemory>
+/// The capabilities that a turn took, where it is a release, by its event.
+///
+/// # Errors
+///
+/// `NoMemory` where memory is refused.
+pub fn taken(event: &Event) -> Result<Option<Caps>, NoMemory>
     ensures { IfOk result (λ by. by ≡ taken event.now) }
 {
     match product_label(&event.what) {

@@ -43,8 +43,9 @@ pub fn sums_of(alloc: Global, code: &Code, start: World, turns: &[u32]) -> Resul
     }
 }
 
-/// Who keeps three sums.
-struct Counter;
+/// Who keeps three sums: how often something was said, released and refused.
+#[derive(Clone, Copy)]
+pub struct Counter;
 
 impl Keeps<Sums> for Counter {
     ghost AreKept = { λ _ ms kept. kept ≡ sums ms };

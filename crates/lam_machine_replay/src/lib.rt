@@ -2,11 +2,12 @@
 //!
 //! `keeping` takes the turns of a start one by one, and keeps what somebody looks for in them: [`keep_turns`] over
 //! [`Keeps`]. It stops at the first turn whose thread is not ready, and names it in a [`RunFault`]; `specs/Stops` says
-//! where turns stop to be a run, `specs/Keeping` what it is to keep something of a turn. Three look for something:
+//! where turns stop to be a run, `specs/Keeping` what it is to keep something of a turn. Whoever takes turns can hand them
+//! to one that keeps something as they are taken. Three look for something:
 //!
-//! - an observer for what it sees ([`seen_by`], `specs/Viewed`);
-//! - an auditor for each release and each refusal ([`noted_in`], `specs/Audited`);
-//! - and [`sums_of`] counts how often something is said, released and refused (`specs/Counted`).
+//! - an observer, which is its label, for what it sees ([`seen_by`], `specs/Viewed`);
+//! - an [`Auditor`] for each release and each refusal ([`noted_in`], `specs/Audited`);
+//! - and a [`Counter`] for how often something is said, released and refused ([`sums_of`], `specs/Counted`).
 //!
 //! `telling` has what a turn made: a region that was entered, or a copy, with all that is in it. It is read from the
 //! turn's event and the world after it, by [`product_label`] and [`product`], so that no turn copies more than what is
@@ -26,14 +27,14 @@ ghost use Rattle.lam_machine_replay.specs.Stops.{RunsAreWhole};
 ghost use Rattle.lam_machine_replay.specs.Laws.{CopiesAreLiving, PublicStayInRuns};
 ghost use Rattle.lam_machine_replay.specs.Told.{ProductsAreTold};
 
-pub use auditing::noted_in;
-pub use counting::sums_of;
+pub use auditing::{Auditor, noted_in, taken};
+pub use counting::{Counter, sums_of};
 pub use fault::RunFault;
 pub use keeping::{Keeps, keep_turns};
 pub use lam_machine::World;
 use lam_machine_laws::public_stay;
 pub use telling::{product, product_label};
-pub use viewing::seen_by;
+pub use viewing::{seen_by, seen_of};
 
 /// A law: turns are a run exactly where they do not stop at one whose thread is not ready.
 pub fn runs_are_whole()

@@ -90,7 +90,12 @@ fn push_seen(
     }
 }
 
-fn seen_of(
+/// What an observer sees of a turn, by the turn's event and the world after it.
+///
+/// # Errors
+///
+/// `NoMemory` where memory is refused.
+pub fn seen_of(
     alloc: Global,
     event: Event,
     world: &World,

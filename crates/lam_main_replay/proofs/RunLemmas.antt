@@ -129,23 +129,8 @@ stop_halts : (f : RunFault) (stop : Option NotReady) → IsStop f stop → Halts
 stop_halts (not_ready turn thread) stop h = h
 stop_halts no_memory_of_run stop h = tt
 
-fault_halts : (f : RunFault) (halt : Halt) (stop : Option NotReady) → IsStop f stop → halt ≡ halt_of_run f → HaltsAt halt stop
+pub fault_halts : (f : RunFault) (halt : Halt) (stop : Option NotReady) → IsStop f stop → halt ≡ halt_of_run f → HaltsAt halt stop
 fault_halts f halt stop h is = subst (λ (x : Halt). HaltsAt x stop) (sym is) (stop_halts f stop h)
-
--- what was found of turns, with its fault as a halt
-module _ {X : Type 0} where
-  abbrev Mapped : Result X RunFault → Result X Halt → Type 0
-  Mapped r answer = MatchResult r (λ x. answer ≡ Ok x) (λ f. IsErrAnd answer (λ halt. halt ≡ halt_of_run f))
-
-  pub mapped_ok : (r : Result X RunFault) (answer : Result X Halt) (Is : X → Type 0) → Mapped r answer → IfOk r Is → IfOk answer Is
-  mapped_ok (Ok x) answer Is h is = subst (λ (a : Result X Halt). IfOk a Is) (sym h) is
-  mapped_ok (Err f) (Ok y) Is h is = absurd h
-  mapped_ok (Err f) (Err halt) Is h is = tt
-
-  pub mapped_err : (r : Result X RunFault) (answer : Result X Halt) (stop : Option NotReady) → Mapped r answer → IfErr r (λ f. IsStop f stop) → IfErr answer (λ halt. HaltsAt halt stop)
-  mapped_err (Ok x) answer stop h is = subst (λ (a : Result X Halt). IfErr a (λ halt. HaltsAt halt stop)) (sym h) tt
-  mapped_err (Err f) (Ok y) stop h is = tt
-  mapped_err (Err f) (Err halt) stop h is = fault_halts f halt stop is h
 
 -- ---- one part after another
 

@@ -9,6 +9,7 @@
 
 mod document;
 mod eye;
+mod keeping;
 mod run_text;
 mod turns;
 

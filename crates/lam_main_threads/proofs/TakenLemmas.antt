@@ -1,5 +1,5 @@
 -- The turns that threads took, and what is made of them.
-use Rattle.std.proofs.Common.{◌≡◌, ◌≤◌, ℕ, List, length, Option, Some, None, Result, Ok, Err, String, string_bytes, IfOk, refl, sym, ap, subst, ◌∙◌}
+use Rattle.std.proofs.Common.{◌≡◌, ◌≤◌, ℕ, List, [], length, Option, Some, None, Result, Ok, Err, String, string_bytes, IfOk, refl, sym, ap, subst, ◌∙◌}
 use Rattle.std.specs.declared.alloc.Global.{Global}
 use Rattle.want_of_memory.specs.declared.NoMemory.{NoMemory as NoMem}
 use Rattle.lam_bytecode.specs.Codes.{CodeTree, IsCode}
@@ -11,9 +11,6 @@ use Rattle.world_doc_terms.specs.Start.{start_of}
 use Rattle.turn_book.specs.Book.{AreTurns, book}
 use Rattle.lam_machine_runs.specs.Ends.{HasEnded, Runs}
 use Rattle.lam_machine_runs.specs.declared.How.{How}
-use Rattle.lam_machine_runs.specs.Stops.{NotReady, stopped_at}
-use Rattle.lam_machine_replay.specs.Stops.{RunsAreWhole, IsStop}
-use Rattle.lam_machine_replay.specs.declared.fault.RunFault.TheVariants.{NotReady as not_ready}
 use Rattle.thread_host.specs.Runs.{Ran, IsWhole}
 use Rattle.thread_host.specs.declared.Finished.{Finished}
 use Rattle.lam_make.specs.Made.{program_text, world_text}
@@ -30,9 +27,12 @@ use Rattle.lam_main_files.specs.declared.halt.Refusal.TheVariants.{Word, Script,
 use Rattle.lam_main_files.specs.declared.halt.Halt.{Halt}
 use Rattle.lam_main_files.specs.declared.halt.Halt.TheVariants.{Refused, NoMemory, ShelfFailed}
 use Rattle.lam_main_files.specs.Halts.{refuses, Finds, Says}
+use Rattle.lam_main_replay.specs.declared.eye.Eye.{Eye}
+use Rattle.lam_main_replay.specs.declared.eye.Eye.TheVariants.{Observer, Auditor}
+use Rattle.lam_main_replay.specs.Asked.{lines_for}
 use Rattle.lam_main_threads.specs.declared.taking.Ended.{Ended}
 use Rattle.lam_main_threads.specs.declared.showing.Taken.{Taken}
-use Rattle.lam_main_threads.specs.Taken.{IsParted, IsEndedRun, CanBeShown, IsShown, planned, Offers}
+use Rattle.lam_main_threads.specs.Taken.{IsParted, IsEndedRun, HasBook, IsShown, planned, Offers}
 
 -- ---- the turns
 
@@ -55,21 +55,15 @@ module _ (finished : Finished) (ended : Ended) (parted : IsParted finished ended
         runs = same_runs finished.run.code code finished.run.start start budget finished.run.turns ended.parts.turns.items finished.how ended.how same.0 same.1 parted.turns parted.how (whole_runs finished.run budget finished.how parted.whole few how);
       }
 
-  never_stops : RunsAreWhole finished.run.code → stopped_at ended.parts.code ended.parts.turns.items ended.parts.start ≡ None
-  never_stops law =
-      subst (λ (x : CodeTree). stopped_at x ended.parts.turns.items ended.parts.start ≡ None) (sym parted.code)
-      (subst (λ (x : World). stopped_at finished.run.code ended.parts.turns.items x ≡ None) (sym parted.start)
-      (subst (λ (x : List ℕ). stopped_at finished.run.code x finished.run.start ≡ None) (sym parted.turns)
-      ((law finished.run.turns finished.run.start).0 parted.whole.run)))
+  pub parted_book : HasBook ended
+  parted_book = subst AreTurns (sym parted.turns) parted.whole.book
 
-  pub parted_shows : RunsAreWhole finished.run.code → CanBeShown ended
-  parted_shows law =
-      record {
-        code = subst IsCode (sym parted.code) parted.whole.code;
-        start = subst IsValid (sym parted.start) parted.whole.start;
-        whole = never_stops law;
-        book = subst AreTurns (sym parted.turns) parted.whole.book;
-      }
+  -- what was kept of the run is kept of its parts
+  pub parted_kept : {X : Type 0} (AreKept : List Moment → X → Type 0) (kept : X) → AreKept (moments finished.run.code finished.run.turns finished.run.start) kept → AreKept (moments ended.parts.code ended.parts.turns.items ended.parts.start) kept
+  parted_kept AreKept kept h =
+      subst (λ (x : CodeTree). AreKept (moments x ended.parts.turns.items ended.parts.start) kept) (sym parted.code)
+      (subst (λ (x : World). AreKept (moments finished.run.code ended.parts.turns.items x) kept) (sym parted.start)
+      (subst (λ (x : List ℕ). AreKept (moments finished.run.code x finished.run.start) kept) (sym parted.turns) h))
 
 -- ---- what is made of them
 
@@ -94,49 +88,19 @@ module _ (code : CodeTree) (start : World) (budget : ℕ) (shown : List Moment �
         is = same_plan out taken.how ended.how (string_bytes taken.text) (shown (moments code ended.parts.turns.items start)) taken.book.items (book ended.parts.turns.items) is.how_is (is.text_is ∙ same_text run) is.book_is;
       }
 
+-- of no turns nothing is shown
+pub none_shown : (eye : Eye) (names : List Text) → [] ≡ lines_for eye names []
+none_shown (Observer label) names = refl
+none_shown Auditor names = refl
+
+-- the text is what is shown
+pub shown_as : (ended : Ended) (text shown : Text) (answer : Result Taken NoMem) → text ≡ shown → IfOk answer (λ taken. IsShown text ended taken) → IfOk answer (λ taken. IsShown shown ended taken)
+shown_as ended text shown answer is h = subst (λ (t : Text). IfOk answer (λ taken. IsShown t ended taken)) is h
+
 -- what is made of the turns, where memory does not run out
 pub threads_shown : (code : CodeTree) (start : World) (budget : ℕ) (shown : List Moment → Text) (ended : Ended) (answer : Result Taken NoMem) → IsEndedRun code start budget ended → IfOk answer (λ taken. IsShown (shown (moments ended.parts.code ended.parts.turns.items ended.parts.start)) ended taken) → IfOk answer (λ taken. (out : Text) → IsOfThreads code start out budget shown (planned out taken))
 threads_shown code start budget shown ended (Ok taken) run is = of_threads code start budget shown ended taken run is
 threads_shown code start budget shown ended (Err error) run is = tt
-
--- ---- no turn of a run is refused
-
--- the plan of a refusal is none that prints a text
-is_no_text : (refusal : Refusal) (text : Text) → refuses refusal ≡ prints text → ⊥
-is_no_text (Word index) text e = let s = ap (λ (p : Plan). p.status) e in cc
-is_no_text (Script number) text e = let s = ap (λ (p : Plan). p.status) e in cc
-is_no_text NotUtf8 text e = let s = ap (λ (p : Plan). p.status) e in cc
-is_no_text (Flawed flaw at) text e = let s = ap (λ (p : Plan). p.status) e in cc
-is_no_text (CodeTooLong unit) text e = let s = ap (λ (p : Plan). p.status) e in cc
-is_no_text (OfWorld NotJson) text e = let s = ap (λ (p : Plan). p.status) e in cc
-is_no_text (OfWorld (NoMember name)) text e = let s = ap (λ (p : Plan). p.status) e in cc
-is_no_text (OfWorld (BadMember name)) text e = let s = ap (λ (p : Plan). p.status) e in cc
-is_no_text (OfWorld (NoTag name)) text e = let s = ap (λ (p : Plan). p.status) e in cc
-is_no_text (OfWorld (BadPath index)) text e = let s = ap (λ (p : Plan). p.status) e in cc
-is_no_text (OfWorld (PathTwice index)) text e = let s = ap (λ (p : Plan). p.status) e in cc
-is_no_text (Unnamed tag) text e = let s = ap (λ (p : Plan). p.status) e in cc
-is_no_text (BadText item) text e = let s = ap (λ (p : Plan). p.status) e in cc
-is_no_text (TooBig bytes) text e = let s = ap (λ (p : Plan). p.status) e in cc
-is_no_text (Book flaw number) text e = let s = ap (λ (p : Plan). p.status) e in cc
-is_no_text (NotReadyAt turn thread) text e = let s = ap (λ (p : Plan). p.status) e in cc
-is_no_text (Absent name) text e = let s = ap (λ (p : Plan). p.status) e in cc
-is_no_text (TooLong name) text e = let s = ap (λ (p : Plan). p.status) e in cc
-
-module _ (code : CodeTree) (start : World) (shown : List Moment → Text) (turns : List ℕ) (whole : stopped_at code turns start ≡ None) where
-  whole_prints : (p : Plan) → IsOfTurns code start shown turns p → p ≡ prints (shown (moments code turns start))
-  whole_prints p h = h ∙ ap (λ (stop : Option NotReady). by_turns stop (shown (moments code turns start))) whole
-
-  pub whole_text : (text : String Global) → Says (Ok text) (IsOfTurns code start shown turns) → string_bytes text ≡ shown (moments code turns start)
-  whole_text text h = ap (λ (p : Plan). p.text) (whole_prints (prints (string_bytes text)) h)
-
-  pub want_alone : (halt : Halt) → Says (Err halt) (IsOfTurns code start shown turns) → (halt ≡ ShelfFailed → ⊥) → halt ≡ NoMemory
-  want_alone (Refused refusal) h other = absurd (is_no_text refusal (shown (moments code turns start)) (whole_prints (refuses refusal) h))
-  want_alone NoMemory h other = refl
-  want_alone ShelfFailed h other = absurd (other refl)
-
-  -- a fault that names a turn
-  pub no_stop : (turn thread : ℕ) → IsStop (not_ready turn thread) (stopped_at code turns start) → ⊥
-  no_stop turn thread h = let e = sym whole ∙ h in cc
 
 -- ---- offers
 

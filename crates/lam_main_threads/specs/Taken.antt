@@ -1,11 +1,9 @@
 -- The turns that threads took, and what is made of them.
-use Rattle.std.specs.Prelude.{◌≡◌, ℕ, Some, None, Result, Ok, Err, string_bytes}
-use Rattle.lam_bytecode.specs.Codes.{CodeTree, IsCode}
+use Rattle.std.specs.Prelude.{◌≡◌, ℕ, Some, Result, Ok, Err, string_bytes}
+use Rattle.lam_bytecode.specs.Codes.{CodeTree}
 use Rattle.lam_machine_terms.specs.Worlds.{World}
-use Rattle.lam_machine_terms.specs.Valid.{IsValid}
 use Rattle.turn_book.specs.Book.{AreTurns, book}
 use Rattle.lam_machine_runs.specs.Ends.{Runs}
-use Rattle.lam_machine_runs.specs.Stops.{stopped_at}
 use Rattle.thread_host.specs.Runs.{IsWhole}
 use Rattle.thread_host.specs.declared.Finished.{Finished}
 use Rattle.lam_main_words.specs.Words.{Text}
@@ -33,12 +31,9 @@ pub record IsEndedRun (code : CodeTree) (start : World) (budget : ℕ) (ended : 
   pub start_is : ended.parts.start ≡ start
   pub runs : Runs code start budget ended.parts.turns.items ended.how
 
--- a text and a book can be made of the turns: none of them is of a thread that is not ready
-pub record CanBeShown (ended : Ended) : Type 0 where
-  pub code : IsCode ended.parts.code
-  pub start : IsValid ended.parts.start
-  pub whole : stopped_at ended.parts.code ended.parts.turns.items ended.parts.start ≡ None
-  pub book : AreTurns ended.parts.turns.items
+-- a book can be made of the turns
+abbrev pub HasBook : Ended → Type 0
+HasBook ended = AreTurns ended.parts.turns.items
 
 -- ---- what is made of them
 

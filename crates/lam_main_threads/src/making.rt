@@ -3,34 +3,30 @@
 ghost use Rattle.std.specs.Prelude.{◌≡◌, ◌≢◌, ◌≤◌, Some, None, IsTrue, IfOk, IfErr, string_bytes};
 ghost use Rattle.lam_io.specs.Outside.{Rose, AllStay};
 ghost use Rattle.lam_bytecode.specs.Codes.{IsCode};
-ghost use Rattle.lam_machine_terms.specs.Turns.{moments};
 ghost use Rattle.lam_machine_terms.specs.Valid.{IsValid};
 ghost use Rattle.world_doc_terms.specs.Start.{start_of};
-ghost use Rattle.lam_machine_runs.specs.Stops.{stopped_at};
 ghost use Rattle.lam_make.specs.Made.{program_text, world_text};
-ghost use Rattle.audit_log_notes.specs.Sums.{summary_lines};
+ghost use Rattle.audit_log_notes.specs.Sums.{summary_of, summary_lines};
 ghost use Rattle.lam_main_words.specs.Words.{Text};
 ghost use Rattle.lam_main_plan.specs.Answer.{OthersKept};
 ghost use Rattle.lam_main_plan.specs.Replays.{ByWorld};
 ghost use Rattle.lam_main_plan.specs.Threads.{IsOfThreads, Makes, made_budget};
 ghost use Rattle.lam_main_files.specs.Halts.{Reports};
-ghost use Rattle.lam_main_threads.specs.Taken.{CanBeShown, IsShown, planned, Offers};
+ghost use Rattle.lam_main_threads.specs.Taken.{HasBook, IsShown, planned, Offers};
 
 use crate::Bounds;
-use crate::showing::Taken;
-use crate::taking::{Ended, taken_turns};
+use crate::showing::{Taken, with_book};
+use crate::taking::{Ended, EndedKept, taken_turns};
 use crate::writing::written;
-use audit_log_notes::summary_text;
+use audit_log_notes::{Sums, summary_text};
 use lam_bytecode::Code;
 use lam_io::{Gate, Shelf};
-use lam_machine_replay::{RunFault, World, sums_of};
+use lam_machine_replay::{Counter, World};
 use lam_main_files::{Halt, Report, run_code_of};
 use lam_main_replay::start_in;
 use std::alloc::Global;
 use std::sync::Wait;
 use std::thread::Threads;
-use thread_host::RunParts;
-use turn_book::write_book;
 use want_of_memory::NoMemory;
 
 /// How many workers take the turns of a made run.
@@ -38,6 +34,13 @@ const MADE_WORKERS: u64 = 4;
 
 /// The most turns of a made run.
 const MADE_TURNS: u64 = 1_000_000;
+
+/// What is counted in no turns.
+const NO_SUMS: Sums = Sums {
+    said: 0,
+    releases: 0,
+    refused: 0,
+};
 
 /// The summary of a run of the program and the world that a number makes for so many threads, and how it ended. The book
 /// of the run is written to a file.
@@ -152,41 +155,37 @@ fn made_run<R: Threads + Wait + Sync, G: Gate + Sync>(
         workers: MADE_WORKERS,
         turns: MADE_TURNS,
     };
-    match taken_turns(rt, alloc, code, start, bounds, gate) {
-        Ok(ended) => summed_run(alloc, ended, seed, threads),
+    let counter = Counter;
+    match taken_turns(rt, alloc, code, start, bounds, gate, &counter, NO_SUMS) {
+        Ok(taken) => {
+            let EndedKept { ended, kept } = taken;
+            summed_run(alloc, ended, &kept, seed, threads)
+        }
         Err(error) => Err(error),
     }
 }
 
-/// The summary of a run, and its book.
-fn summed_run(alloc: Global, ended: Ended, seed: u64, threads: u64) -> Result<Taken, NoMemory>
-    requires { CanBeShown ended }
-    ensures { IfOk result (IsShown (summary_lines seed threads (moments ended.parts.code ended.parts.turns.items ended.parts.start)) ended) }
-{
-    let Ended { parts, how } = ended;
-    let RunParts { code, start, turns } = parts;
-    let text = summary(alloc, &code, start, turns.as_slice(), seed, threads)?;
-    let book = write_book(alloc, turns.as_slice())?;
-    Ok(Taken { how, text, book })
-}
-
-/// The summary of turns that are a run, so that no turn is refused.
-fn summary(
+/// The summary of a run by what was counted in it, and its book.
+fn summed_run(
     alloc: Global,
-    code: &Code,
-    start: World,
-    turns: &[u32],
+    ended: Ended,
+    sums: &Sums,
     seed: u64,
     threads: u64,
-) -> Result<String, NoMemory>
-    requires code { IsCode code.now }
-    requires valid { IsValid start }
-    requires whole { stopped_at code.now turns.now start ≡ None }
-    ensures { IfOk result (λ text. string_bytes text ≡ summary_lines seed threads (moments code.now turns.now start)) }
+) -> Result<Taken, NoMemory>
+    requires { HasBook ended }
+    ensures { IfOk result (IsShown (summary_of seed threads sums.now) ended) }
 {
-    match sums_of(alloc, code, start, turns) {
-        Ok(sums) => summary_text(alloc, seed, threads, &sums),
-        Err(RunFault::NoMemory) => Err(NoMemory),
-        Err(RunFault::NotReady { turn: _, thread: _ }) => unreachable!(),
+    match summary_text(alloc, seed, threads, sums) {
+        Ok(text) => with_book(alloc, ended, text),
+        Err(error) => {
+            let_go_ended(ended);
+            Err(error)
+        }
     }
+}
+
+/// Lets the turns of a run go.
+fn let_go_ended(ended: Ended) {
+    drop(ended);
 }

@@ -1,23 +1,22 @@
 //! What a reader is shown of the turns that threads took, and their book.
 
-ghost use Rattle.std.specs.Prelude.{◌≡◌, ◌≢◌, ◌<◌, ◌≤◌, None, IfOk, IfErr, string_bytes};
+ghost use Rattle.std.specs.Prelude.{◌≢◌, ◌<◌, ◌≤◌, IfOk, IfErr, string_bytes};
 ghost use Rattle.lam_bytecode.specs.Codes.{IsCode};
-ghost use Rattle.lam_machine_terms.specs.Turns.{moments};
 ghost use Rattle.lam_machine_terms.specs.Valid.{IsValid};
-ghost use Rattle.lam_machine_runs.specs.Stops.{stopped_at};
 ghost use Rattle.lam_main_words.specs.Words.{Text};
 ghost use Rattle.lam_main_plan.specs.Threads.{IsOfThreads, TakesTurns};
 ghost use Rattle.lam_main_replay.specs.Asked.{reader_of, lines_for};
-ghost use Rattle.lam_main_threads.specs.Taken.{CanBeShown, IsShown, planned, Offers};
+ghost use Rattle.lam_main_threads.specs.Taken.{HasBook, IsShown, planned, Offers};
 
 use crate::Bounds;
-use crate::taking::{Ended, taken_turns};
+use crate::taking::{Ended, EndedKept, taken_turns};
 use lam_bytecode::Code;
 use lam_io::Gate;
 use lam_machine_replay::World;
 use lam_machine_runs::How;
+use lam_machine_world::let_go_code;
 use lam_main_files::Halt;
-use lam_main_replay::{Reader, Viewer, let_go_world, shown_turns, viewer_of};
+use lam_main_replay::{Reader, Viewer, let_go_world, viewer_of};
 use std::alloc::Global;
 use std::sync::Wait;
 use std::thread::Threads;
@@ -76,49 +75,25 @@ fn viewed<R: Threads + Wait + Sync, G: Gate + Sync>(
     requires turns { (0 < bounds.turns) × (bounds.turns ≤ 1000000) }
     ensures { IfOk result (λ taken. (out : Text) → IsOfThreads code start out bounds.turns (lines_for viewer.now.eye viewer.now.names) (planned out taken)) }
 {
-    match taken_turns(rt, alloc, code, start, bounds, gate) {
-        Ok(ended) => shown_run(alloc, ended, viewer),
+    let text = String::new(alloc);
+    match taken_turns(rt, alloc, code, start, bounds, gate, viewer, text) {
+        Ok(taken) => {
+            let EndedKept { ended, kept } = taken;
+            with_book(alloc, ended, kept)
+        }
         Err(error) => Err(error),
     }
 }
 
-/// The text that a viewer is shown of a run, and its book.
-fn shown_run(alloc: Global, ended: Ended, viewer: &Viewer) -> Result<Taken, NoMemory>
-    requires { CanBeShown ended }
-    ensures { IfOk result (IsShown (lines_for viewer.now.eye viewer.now.names (moments ended.parts.code ended.parts.turns.items ended.parts.start)) ended) }
+/// The text that is shown of a run, and its book.
+pub(crate) fn with_book(alloc: Global, ended: Ended, text: String) -> Result<Taken, NoMemory>
+    requires { HasBook ended }
+    ensures { IfOk result (IsShown (string_bytes text) ended) }
 {
     let Ended { parts, how } = ended;
     let RunParts { code, start, turns } = parts;
-    let text = lines(alloc, &code, start, turns.as_slice(), viewer)?;
+    let_go_world(start);
+    let_go_code(code);
     let book = write_book(alloc, turns.as_slice())?;
     Ok(Taken { how, text, book })
-}
-
-/// What a viewer is shown of turns that are a run, so that no turn is refused.
-fn lines(
-    alloc: Global,
-    code: &Code,
-    start: World,
-    turns: &[u32],
-    viewer: &Viewer,
-) -> Result<String, NoMemory>
-    requires code { IsCode code.now }
-    requires valid { IsValid start }
-    requires whole { stopped_at code.now turns.now start ≡ None }
-    ensures { IfOk result (λ text. string_bytes text ≡ lines_for viewer.now.eye viewer.now.names (moments code.now turns.now start)) }
-{
-    match shown_turns(alloc, code, start, turns, viewer) {
-        Ok(text) => Ok(text),
-        Err(halt) => Err(want_of(halt)),
-    }
-}
-
-/// The want of memory that a halt is.
-fn want_of(halt: Halt) -> NoMemory
-    requires { halt ≡ Halt.NoMemory }
-{
-    match halt {
-        Halt::NoMemory => NoMemory,
-        Halt::Refused(_) | Halt::ShelfFailed => unreachable!(),
-    }
 }

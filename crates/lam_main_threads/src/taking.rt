@@ -1,46 +1,76 @@
-//! The turns that threads take, as the parts of their run.
+//! The turns that threads take, as the parts of their run, and what is kept of them.
 
-ghost use Rattle.std.specs.Prelude.{◌<◌, ◌≤◌, IfOk};
+ghost use Rattle.std.specs.Prelude.{◌<◌, ◌≤◌, [], IfOk};
 ghost use Rattle.lam_bytecode.specs.Codes.{IsCode};
+ghost use Rattle.lam_machine_terms.specs.Turns.{moments};
 ghost use Rattle.lam_machine_terms.specs.Valid.{IsValid};
-ghost use Rattle.lam_main_threads.specs.Taken.{IsParted, IsEndedRun, CanBeShown};
+ghost use Rattle.lam_main_threads.specs.Taken.{IsParted, IsEndedRun, HasBook};
 
 use crate::Bounds;
 use lam_bytecode::Code;
 use lam_io::Gate;
-use lam_machine_replay::{World, runs_are_whole};
+use lam_machine_replay::{Keeps, World};
 use lam_machine_runs::How;
 use std::alloc::Global;
 use std::sync::Wait;
 use std::thread::Threads;
-use thread_host::{Finished, RunParts, run_on};
+use thread_host::{Finished, FinishedKept, RunParts, run_kept};
 use want_of_memory::NoMemory;
 
 /// The turns that were taken, with the code and the start that they are of, and how their run ended.
+#[derive(Drop)]
 pub(crate) struct Ended {
     pub(crate) parts: RunParts,
     pub(crate) how: How,
 }
 
-/// A run of a code from a start, by so many workers.
-pub(crate) fn taken_turns<R: Threads + Wait + Sync, G: Gate + Sync>(
+/// The turns that were taken, and what was kept of them.
+pub(crate) struct EndedKept<Kept: Drop> {
+    pub(crate) ended: Ended,
+    pub(crate) kept: Kept,
+}
+
+/// A run of a code from a start, by so many workers, and what somebody keeps of it. `nothing` is what is kept of no turns.
+pub(crate) fn taken_turns<
+    Kept: Drop + Send,
+    K: Keeps<Kept> + Sync,
+    R: Threads + Wait + Sync,
+    G: Gate + Sync,
+>(
     rt: &R,
     alloc: Global,
     code: Code,
     start: World,
     bounds: Bounds,
     gate: &G,
-) -> Result<Ended, NoMemory>
+    who: &K,
+    nothing: Kept,
+) -> Result<EndedKept<Kept>, NoMemory>
     requires code { IsCode code }
     requires valid { IsValid start }
     requires workers { (0 < bounds.workers) × (bounds.workers ≤ 16) }
     requires turns { (0 < bounds.turns) × (bounds.turns ≤ 1000000) }
-    ensures run { IfOk result (IsEndedRun code start bounds.turns) }
-    ensures shows { IfOk result CanBeShown }
+    requires nothing { K.AreKept who.now [] nothing }
+    ensures run { IfOk result (λ e. IsEndedRun code start bounds.turns e.ended) }
+    ensures book { IfOk result (λ e. HasBook e.ended) }
+    ensures kept { IfOk result (λ e. K.AreKept who.now (moments e.ended.parts.code e.ended.parts.turns.items e.ended.parts.start) e.kept) }
 {
-    runs_are_whole();
-    match run_on(rt, alloc, code, start, bounds.workers, bounds.turns, gate) {
-        Ok(finished) => Ok(parted(finished)),
+    match run_kept(
+        rt,
+        alloc,
+        code,
+        start,
+        bounds.workers,
+        bounds.turns,
+        gate,
+        who,
+        nothing,
+    ) {
+        Ok(done) => {
+            let FinishedKept { finished, kept } = done;
+            let ended = parted(finished);
+            Ok(EndedKept { ended, kept })
+        }
         Err(error) => Err(error),
     }
 }

@@ -1,57 +1,32 @@
-//! What a run begins from, and whether a run began from it.
+//! What a shared course is one of.
 
-ghost use Rattle.std.specs.Prelude.{◌≡◌, ◌≤◌, length, IfOk};
-ghost use Rattle.lam_bytecode.specs.Codes.{IsCode};
-ghost use Rattle.lam_machine_terms.specs.Valid.{IsValid};
+use std::marker::Brand;
 
-use lam_bytecode::Code;
-use lam_machine_equal::copy_code;
-use lam_machine_world::{World, let_go_code, let_go_world};
-use std::alloc::Global;
-use thread_host_run::{Run, let_go_run};
-use want_of_memory::NoMemory;
+/// What the course under a lock is one of, the most turns that it may have, and what is to be kept of its moments. No value
+/// of it is made: each call that shares a course picks its own.
+pub trait Origin<Kept> {
+    ghost use Rattle.std.specs.Prelude.{ℕ, List};
+    ghost use Rattle.lam_bytecode.specs.Codes.{CodeTree};
+    ghost use Rattle.lam_machine_terms.specs.Worlds.{World as Plain};
+    ghost use Rattle.lam_machine_terms.specs.Turns.{Moment};
 
-/// A code and the world that a run of it starts in.
-#[derive(Drop)]
-pub struct Origin {
-    pub code: Code,
-    pub start: World,
+    ghost code: { CodeTree };
+
+    ghost start: { Plain };
+
+    ghost budget: { ℕ };
+
+    ghost AreKept: { List Moment → Kept → Type 0 };
 }
 
-/// Copies of a code and a start.
-pub fn copied(alloc: Global, code: &Code, start: &World) -> Result<Origin, NoMemory>
-    requires { IsCode code.now }
-    ensures { IfOk result (λ o. (o.code ≡ code.now) × (o.start ≡ start.now)) }
-{
-    let start = start.copy()?;
-    match copy_code(alloc, code) {
-        Ok(code) => Ok(Origin { code, start }),
-        Err(error) => {
-            let_go_world(start);
-            Err(error)
-        }
-    }
-}
+impl<Kept> Origin<Kept> for Brand {
+    ghost use Rattle.thread_host.specs.Origins.{no_code, no_world};
 
-/// The run, where it is one of this origin within the budget; else a new one of the origin.
-pub fn own_run(alloc: Global, run: Run, origin: Origin, budget: u64) -> Result<Run, NoMemory>
-    requires code { IsCode origin.code }
-    requires valid { IsValid origin.start }
-    ensures from { IfOk result (λ r. (r.code ≡ origin.code) × (r.start ≡ origin.start)) }
-    ensures within { IfOk result (λ r. length r.turns ≤ budget) }
-{
-    if run.same_start(&origin.code, &origin.start) && run.turns().len() as u64 <= budget {
-        let_go_origin(origin);
-        return Ok(run);
-    }
-    let_go_run(run);
-    let Origin { code, start } = origin;
-    Run::new(alloc, code, start)
-}
+    ghost code = { no_code };
 
-/// Lets an origin go.
-pub fn let_go_origin(origin: Origin) {
-    let Origin { code, start } = origin;
-    let_go_world(start);
-    let_go_code(code);
+    ghost start = { no_world };
+
+    ghost budget = { 0 };
+
+    ghost AreKept = { λ ms kept. Unit {0} };
 }

@@ -1,21 +1,25 @@
 //! A run on workers, to its end.
 
-ghost use Rattle.std.specs.Prelude.{◌≡◌, ◌<◌, ◌≤◌, length, IfOk};
+ghost use Rattle.std.specs.Prelude.{◌≡◌, ◌<◌, ◌≤◌, [], length, IfOk};
 ghost use Rattle.lam_bytecode.specs.Codes.{IsCode};
+ghost use Rattle.lam_machine_terms.specs.Turns.{moments};
 ghost use Rattle.lam_machine_terms.specs.Valid.{IsValid};
 ghost use Rattle.lam_machine_runs.specs.Ends.{HasEnded, EndsOnlySo};
+ghost use Rattle.thread_host_run.specs.Courses.{IsCourse, ran_to};
+ghost use Rattle.thread_host.specs.Visits.{EndsAs};
 
-use crate::origins::{Origin, copied, let_go_origin, own_run};
-use crate::seats::{Seated, go_on};
-use crate::workers::by_workers;
+use crate::keepers::Nobody;
+use crate::workers::{Ending, by_workers};
 use lam_bytecode::Code;
 use lam_io::Gate;
+use lam_machine_replay::Keeps;
 use lam_machine_runs::{How, runs_end_in_one_way};
-use lam_machine_world::World;
+use lam_machine_world::{World, let_go_code, let_go_world};
 use std::alloc::Global;
+use std::marker::Brand;
 use std::sync::Wait;
 use std::thread::Threads;
-use thread_host_run::{Run, let_go_run};
+use thread_host_run::Run;
 use want_of_memory::NoMemory;
 
 /// A run, and how it ended.
@@ -25,13 +29,22 @@ pub struct Finished {
     pub how: How,
 }
 
+/// A run that has ended, and what was kept of it.
+#[derive(Drop)]
+pub struct FinishedKept<Kept: Drop> {
+    pub finished: Finished,
+    pub kept: Kept,
+}
+
 /// The run of a code from a start by so many workers at once, with at most so many turns, and how it ended: every thread
 /// has ended, else no thread is ready, else the turns are used up. No run ends in two of these ways.
 ///
-/// The hook is asked before each turn, under the lock, with the number of turns so far and the ready threads in
-/// increasing order; its answer is taken modulo their number. After a turn it is called outside the lock. Once the workers
-/// have stopped, the caller goes on as worker 0, where something is left. A turn takes no memory for its list of ready
-/// threads.
+/// The hook is asked under the lock, once for each turn that is served and for up to 64 private turns of one thread, with the
+/// number of turns so far and the ready threads in increasing order; its answer is taken modulo their number. After each
+/// check-in it is called outside the lock. Where it picks a thread of which another worker takes private turns, the worker
+/// waits until one is back and asks anew. Private turns that would pass `turns`, or whose thread has changed, are not taken;
+/// the hook is asked anew for one turn. Once the workers have stopped, the caller goes on as worker 0, where something is
+/// left. A turn takes no memory for its list of ready threads.
 ///
 /// # Errors
 ///
@@ -54,47 +67,72 @@ pub fn run_on<R: Threads + Wait + Sync, G: Gate + Sync>(
     ensures how { IfOk result (λ f. HasEnded f.run.code f.run.world (length f.run.turns) turns f.how) }
     ensures only { IfOk result (λ f. EndsOnlySo f.run.code f.run.world f.how) }
 {
-    let origin = match copied(alloc, &code, &start) {
-        Ok(origin) => origin,
-        Err(error) => {
-            let_go_origin(Origin { code, start });
-            return Err(error);
-        }
-    };
-    let run = match Run::new(alloc, code, start) {
-        Ok(run) => run,
-        Err(error) => {
-            let_go_origin(origin);
-            return Err(error);
-        }
-    };
-    let run = match by_workers(rt, alloc, run, workers, turns, gate) {
-        Ok(run) => run,
-        Err(error) => {
-            let_go_origin(origin);
-            return Err(error);
-        }
-    };
-    let run = own_run(alloc, run, origin, turns)?;
-    finish(alloc, run, turns, gate)
+    let nobody = Nobody;
+    match run_kept(rt, alloc, code, start, workers, turns, gate, &nobody, ()) {
+        Ok(done) => Ok(done.finished),
+        Err(error) => Err(error),
+    }
 }
 
-/// The run with the turns that are left to take.
-fn finish<G: Gate>(alloc: Global, run: Run, turns: u64, gate: &G) -> Result<Finished, NoMemory>
-    requires few { turns ≤ 1000000 }
-    requires within { length run.turns ≤ turns }
-    ensures start { IfOk result (λ f. (f.run.code ≡ run.code) × (f.run.start ≡ run.start)) }
-    ensures budget { IfOk result (λ f. length f.run.turns ≤ turns) }
-    ensures how { IfOk result (λ f. HasEnded f.run.code f.run.world (length f.run.turns) turns f.how) }
-    ensures only { IfOk result (λ f. EndsOnlySo f.run.code f.run.world f.how) }
+/// The run of a code from a start, as [`run_on`], with what somebody keeps of it as its turns are taken. `nothing` is what
+/// is kept of no turns.
+///
+/// # Errors
+///
+/// `NoMemory` where memory is refused, for what is kept too, once every worker has stopped.
+pub fn run_kept<Kept: Drop + Send, K: Keeps<Kept> + Sync, R: Threads + Wait + Sync, G: Gate + Sync>(
+    rt: &R,
+    alloc: Global,
+    code: Code,
+    start: World,
+    workers: u64,
+    turns: u64,
+    gate: &G,
+    who: &K,
+    nothing: Kept,
+) -> Result<FinishedKept<Kept>, NoMemory>
+    requires code { IsCode code }
+    requires valid { IsValid start }
+    requires workers { (0 < workers) × (workers ≤ 16) }
+    requires turns { (0 < turns) × (turns ≤ 1000000) }
+    requires nothing { K.AreKept who.now [] nothing }
+    ensures start { IfOk result (λ f. (f.finished.run.code ≡ code) × (f.finished.run.start ≡ start)) }
+    ensures budget { IfOk result (λ f. length f.finished.run.turns ≤ turns) }
+    ensures how { IfOk result (λ f. HasEnded f.finished.run.code f.finished.run.world (length f.finished.run.turns) turns f.finished.how) }
+    ensures only { IfOk result (λ f. EndsOnlySo f.finished.run.code f.finished.run.world f.finished.how) }
+    ensures kept { IfOk result (λ f. K.AreKept who.now (moments f.finished.run.code f.finished.run.turns f.finished.run.start) f.kept) }
 {
-    let mut seated = Seated::new(alloc, run)?;
-    match go_on(&mut seated, turns, gate) {
-        Ok(how) => Ok(ended_so(seated.into_run(), how, turns)),
+    match by_workers::<Brand, Kept, K, R, G>(
+        rt, alloc, &code, &start, workers, turns, gate, who, nothing,
+    ) {
+        Ok(ending) => Ok(put_together(code, start, ending, turns)),
         Err(error) => {
-            let_go_run(seated.into_run());
+            let_go_world(start);
+            let_go_code(code);
             Err(error)
         }
+    }
+}
+
+/// The run that a course of a code from a start is, with what was kept of it.
+fn put_together<Kept: Drop>(
+    code: Code,
+    start: World,
+    ending: Ending<Kept>,
+    turns: u64,
+) -> FinishedKept<Kept>
+    requires course { IsCourse code start ending.course }
+    requires how { EndsAs code turns ending.course ending.how }
+    ensures run { result.finished.run ≡ ran_to code start ending.course }
+    ensures kept { result.kept ≡ ending.kept }
+    ensures how { HasEnded result.finished.run.code result.finished.run.world (length result.finished.run.turns) turns result.finished.how }
+    ensures only { EndsOnlySo result.finished.run.code result.finished.run.world result.finished.how }
+{
+    let Ending { course, how, kept } = ending;
+    let run = Run::of(code, start, course);
+    FinishedKept {
+        finished: ended_so(run, how, turns),
+        kept,
     }
 }
 

@@ -1,13 +1,21 @@
-//! One visit of a run: a turn of a ready thread, or that the run has ended.
+//! One visit of a course: a turn of a ready thread, or that the run has ended.
 
-ghost use Rattle.std.specs.Prelude.{◌≡◌, ◌<◌, ◌≤◌, true, length, IfOk, OnErr, MatchOption, vec_capacity};
+ghost use Rattle.std.specs.Prelude.{◌≡◌, ◌<◌, ◌≤◌, true, false, length, OnOk, MatchOption, vec_capacity};
 ghost use Rattle.lam_machine_terms.specs.Turns as turns;
+ghost use Rattle.lam_machine_replay.specs.Keeping.{KeptOfSoMany};
+ghost use Rattle.thread_host_run.specs.Courses.{one_more};
 ghost use Rattle.thread_host_run.specs.ReadyLists.{ready_threads};
-ghost use Rattle.thread_host.specs.Visits.{GoesOn, EndsAs, Visits};
+ghost use Rattle.thread_host.specs.Sharing.{IsShared, KeepsTaken, Unless};
+ghost use Rattle.thread_host.specs.Visits.{GoesOn, EndsAs};
 
+use crate::origins::Origin;
+use lam_asks::Event;
+use lam_bytecode::Code;
 use lam_io::Gate;
+use lam_machine_replay::{Keeps, World};
 use lam_machine_runs::How;
-use thread_host_run::{Run, turn_listed};
+use std::alloc::Global;
+use thread_host_run::{Course, list_after, living_in, was_quiet};
 use want_of_memory::NoMemory;
 
 /// What one visit did.
@@ -20,54 +28,87 @@ pub enum Visit {
 }
 
 /// How the run has ended, if it has. `ready` are its ready threads.
-pub fn how_it_stands(run: &Run, ready: &[u32], budget: u64) -> Option<How>
-    requires { ready.now ≡ ready_threads run.now.code run.now.world }
-    ensures { MatchOption result (GoesOn budget run.now) (EndsAs budget run.now) }
+pub fn how_it_stands(code: &Code, course: &Course, ready: &[u32], budget: u64) -> Option<How>
+    requires list { ready.now ≡ ready_threads code.now course.now.world }
+    requires within { length course.now.turns ≤ budget }
+    ensures { MatchOption result (GoesOn code.now budget course.now) (EndsAs code.now budget course.now) }
 {
     if ready.is_empty() {
-        return match run.find_living() {
+        return match living_in(course.world()) {
             None => Some(How::Done),
             Some(_) => Some(How::AllWait),
         };
     }
-    if run.turns().len() as u64 >= budget {
+    if course.turns().len() as u64 >= budget {
         return Some(How::Budget);
     }
     None
 }
 
 /// The thread among the ready ones that the hook picks.
-pub fn picked<G: Gate>(run: &Run, ready: &[u32], worker: u64, gate: &G) -> u32
-    requires list { ready.now ≡ ready_threads run.now.code run.now.world }
+pub fn picked<G: Gate>(code: &Code, course: &Course, ready: &[u32], worker: u64, gate: &G) -> u32
+    requires list { ready.now ≡ ready_threads code.now course.now.world }
     requires some { 0 < length ready.now }
-    ensures { turns.ready run.now.code run.now.world result ≡ true }
+    ensures { turns.ready code.now course.now.world result ≡ true }
 {
-    let turn = run.turns().len() as u64;
+    let turn = course.turns().len() as u64;
     let place = gate.pick(worker, turn, ready) % ready.len() as u64;
     ready[place as usize]
 }
 
-/// A turn of the thread that the hook picks, unless the run has ended. `list` is that of the run's ready threads, and stays
-/// so.
-pub fn take_turn<G: Gate>(
-    run: &mut Run,
+/// A turn of a thread that is ready, and what is kept of it. `list` is that of the ready threads, and stays so. Where memory
+/// is refused for what is kept, that is lost.
+pub fn take_turn<J: Origin<Kept>, Kept: Drop, K: Keeps<Kept>>(
+    alloc: Global,
+    code: &Code,
+    who: &K,
+    course: &mut Course,
     list: &mut Vec<u32>,
-    worker: u64,
+    kept: &mut Kept,
+    lost: &mut bool,
+    thread: u32,
     budget: u64,
-    gate: &G,
-) -> Result<Visit, NoMemory>
-    requires budget { budget ≤ 1000000 }
-    requires list { list.old.items ≡ ready_threads run.old.code run.old.world }
+) -> Result<(), NoMemory>
+    requires few { budget ≤ 1000000 }
+    requires ready { turns.ready code.now course.old.world thread ≡ true }
+    requires left { length course.old.turns < budget }
+    requires list { list.old.items ≡ ready_threads code.now course.old.world }
     requires room { 4096 ≤ vec_capacity list.old }
-    ensures ok { IfOk result (Visits budget run.old run.new) }
-    ensures err { OnErr result (run.new ≡ run.old) }
-    ensures list { list.new.items ≡ ready_threads run.new.code run.new.world }
+    requires shared { IsShared (K.AreKept who.now) code.now J.start budget course.old false kept.old }
+    requires still { lost.old ≡ false }
+    ensures list { list.new.items ≡ ready_threads code.now course.new.world }
     ensures room { 4096 ≤ vec_capacity list.new }
+    ensures shared { IsShared (K.AreKept who.now) code.now J.start budget course.new lost.new kept.new }
+    ensures ok { OnOk result (course.new ≡ one_more course.old thread course.new.world) }
 {
-    if let Some(how) = how_it_stands(run, list.as_slice(), budget) {
-        return Ok(Visit::Ended(how));
+    let turn = course.turns().len() as u64;
+    let taken = course.go(code, thread)?;
+    list_after(list, course.world(), code, thread, was_quiet(&taken));
+    keep_taken(alloc, who, kept, lost, turn, taken, course.world())
+}
+
+/// What is kept of a turn of this number, which is nothing where it is private.
+fn keep_taken<Kept: Drop, K: Keeps<Kept>>(
+    alloc: Global,
+    who: &K,
+    kept: &mut Kept,
+    lost: &mut bool,
+    turn: u64,
+    taken: Option<Event>,
+    world: &World,
+) -> Result<(), NoMemory>
+    requires few { turn < 1000000 }
+    requires before { KeptOfSoMany (K.AreKept who.now) turn kept.old }
+    requires still { lost.old ≡ false }
+    ensures { Unless lost.new (KeepsTaken (K.AreKept who.now) turn taken world.now kept.old kept.new) }
+{
+    who.leaves_private();
+    match taken {
+        None => Ok(()),
+        Some(event) => {
+            let ended = who.keep(alloc, kept, turn, event, world);
+            *lost = ended.is_err();
+            ended
+        }
     }
-    let thread = picked(run, list.as_slice(), worker, gate);
-    turn_listed(run, list, thread)?;
-    Ok(Visit::Took(thread))
 }

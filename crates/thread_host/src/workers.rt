@@ -1,15 +1,29 @@
-//! The workers that share a run under one lock.
+//! The workers that share a course under one lock.
 
-ghost use Rattle.std.specs.Prelude.{◌≡◌, ◌<◌, ◌≤◌, IfOk, vec_len};
+ghost use Rattle.std.specs.Prelude.{◌≡◌, ◌<◌, ◌≤◌, [], length, IfOk, vec_len};
+ghost use Rattle.lam_bytecode.specs.Codes.{IsCode};
+ghost use Rattle.lam_machine_terms.specs.Turns.{moments};
+ghost use Rattle.lam_machine_terms.specs.Valid.{IsValid};
+ghost use Rattle.thread_core_stretches.specs.Stretches.{StretchStands};
+ghost use Rattle.thread_host_run.specs.Courses.{IsCourse};
+ghost use Rattle.thread_host.specs.Sharing.{Agree};
+ghost use Rattle.thread_host.specs.Stretching.{GoesBy};
+ghost use Rattle.thread_host.specs.Visits.{EndsAs};
 
-use crate::seats::Seated;
+use crate::origins::Origin;
+use crate::sharing::Shared;
+use crate::stretching::Opening;
 use crate::visits::Visit;
+use lam_bytecode::Code;
 use lam_io::Gate;
+use lam_machine_replay::{Keeps, World};
+use lam_machine_runs::How;
 use std::alloc::Global;
-use std::sync::{Mutex, Wait};
+use std::sync::{Condvar, Mutex, Wait};
 use std::thread;
 use std::thread::Threads;
-use thread_host_run::{Run, let_go_run};
+use thread_core_stretches::{Stretch, let_go_stretch};
+use thread_host_run::Course;
 use want_of_memory::NoMemory;
 
 /// A worker: its number, and whether it met want of memory.
@@ -19,25 +33,149 @@ pub struct Worker {
     pub refused: bool,
 }
 
-/// Takes turns of the shared run until it has ended.
-pub fn work<R: Wait, G: Gate>(
+/// A course whose run has ended, how it ended, and what was kept of it.
+#[derive(Drop)]
+pub struct Ending<Kept: Drop> {
+    pub course: Course,
+    pub how: How,
+    pub kept: Kept,
+}
+
+/// What workers share: a course under its lock, and where they sleep until a thread is back.
+#[derive(Drop)]
+struct Desk<J: Origin<Kept>, Kept: Drop> {
+    shared: Mutex<Shared<J, Kept>>,
+    back: Condvar,
+}
+
+/// Takes turns of the shared course until its run has ended, and wakes whoever sleeps then.
+fn work<J: Origin<Kept>, Kept: Drop, K: Keeps<Kept>, R: Wait, G: Gate>(
     rt: &R,
-    shared: &Mutex<Seated>,
-    worker: &mut Worker,
+    alloc: Global,
+    desk: &Desk<J, Kept>,
+    code: &Code,
+    who: &K,
+    worker: u64,
     budget: u64,
     gate: &G,
 ) -> Result<(), NoMemory>
-    requires { budget ≤ 1000000 }
+    requires few { budget ≤ 1000000 }
+    requires of { (code.now ≡ J.code) × (budget ≡ J.budget) }
+    requires keeps { Agree (K.AreKept who.now) J.AreKept }
 {
-    let number = worker.number;
+    let ended = take_turns(rt, alloc, desk, code, who, worker, budget, gate);
+    if ended.is_err() {
+        desk.shared.lock(rt).lose();
+    }
+    desk.back.notify_all();
+    ended
+}
+
+/// Takes turns of the shared course until its run has ended, private ones outside the lock.
+fn take_turns<J: Origin<Kept>, Kept: Drop, K: Keeps<Kept>, R: Wait, G: Gate>(
+    rt: &R,
+    alloc: Global,
+    desk: &Desk<J, Kept>,
+    code: &Code,
+    who: &K,
+    worker: u64,
+    budget: u64,
+    gate: &G,
+) -> Result<(), NoMemory>
+    requires few { budget ≤ 1000000 }
+    requires of { (code.now ≡ J.code) × (budget ≡ J.budget) }
+    requires keeps { Agree (K.AreKept who.now) J.AreKept }
+{
     for _ in rt.forever() {
-        let visited = shared.lock(rt).visit(number, budget, gate)?;
-        match visited {
-            Visit::Took(thread) => gate.between(number, thread),
-            Visit::Ended(_) => return Ok(()),
+        let opening = opened(rt, alloc, desk, code, who, worker, budget, gate)?;
+        let outcome = match opening {
+            Opening::Away => None,
+            Opening::Took(thread) => Some(Visit::Took(thread)),
+            Opening::Ended(how) => Some(Visit::Ended(how)),
+            Opening::Out(stretch) => {
+                let gone = gone_out(stretch, code)?;
+                Some(ended(rt, alloc, desk, code, who, gone, worker, budget, gate)?)
+            }
+        };
+        match outcome {
+            None => {}
+            Some(Visit::Took(thread)) => gate.between(worker, thread),
+            Some(Visit::Ended(_)) => return Ok(()),
         }
     }
     unreachable!()
+}
+
+/// What a worker finds under the lock. Where the thread that it is to take turns of is away, it sleeps until one is back.
+fn opened<J: Origin<Kept>, Kept: Drop, K: Keeps<Kept>, R: Wait, G: Gate>(
+    rt: &R,
+    alloc: Global,
+    desk: &Desk<J, Kept>,
+    code: &Code,
+    who: &K,
+    worker: u64,
+    budget: u64,
+    gate: &G,
+) -> Result<Opening, NoMemory>
+    requires few { budget ≤ 1000000 }
+    requires of { (code.now ≡ J.code) × (budget ≡ J.budget) }
+    requires keeps { Agree (K.AreKept who.now) J.AreKept }
+    ensures { IfOk result (GoesBy code.now) }
+{
+    let mut held = desk.shared.lock(rt);
+    let opening = held.begin(alloc, code, who, worker, budget, gate)?;
+    if is_away(&opening) {
+        held.falls_asleep();
+        let mut woken = desk.back.wait(rt, held);
+        woken.wakes_up();
+    }
+    Ok(opening)
+}
+
+fn is_away(opening: &Opening) -> bool {
+    matches!(opening, Opening::Away)
+}
+
+/// A stretch comes back, and one worker that sleeps is woken.
+fn ended<J: Origin<Kept>, Kept: Drop, K: Keeps<Kept>, R: Wait, G: Gate>(
+    rt: &R,
+    alloc: Global,
+    desk: &Desk<J, Kept>,
+    code: &Code,
+    who: &K,
+    stretch: Stretch,
+    worker: u64,
+    budget: u64,
+    gate: &G,
+) -> Result<Visit, NoMemory>
+    requires few { budget ≤ 1000000 }
+    requires of { (code.now ≡ J.code) × (budget ≡ J.budget) }
+    requires keeps { Agree (K.AreKept who.now) J.AreKept }
+    requires stands { StretchStands code.now stretch }
+{
+    let mut held = desk.shared.lock(rt);
+    let visit = held.end(alloc, code, who, stretch, worker, budget, gate)?;
+    let wakes = held.has_sleepers();
+    drop(held);
+    if wakes {
+        desk.back.notify_one();
+    }
+    Ok(visit)
+}
+
+/// As many private turns as a stretch can have, taken outside the lock.
+fn gone_out(from: Stretch, code: &Code) -> Result<Stretch, NoMemory>
+    requires { StretchStands code.now from }
+    ensures { IfOk result (StretchStands code.now) }
+{
+    let mut stretch = from;
+    match stretch.go(code) {
+        Ok(()) => Ok(stretch),
+        Err(error) => {
+            let_go_stretch(stretch);
+            Err(error)
+        }
+    }
 }
 
 fn new_workers(alloc: Global, count: u64) -> Result<Vec<Worker>, NoMemory>
@@ -53,44 +191,117 @@ fn new_workers(alloc: Global, count: u64) -> Result<Vec<Worker>, NoMemory>
     Ok(workers)
 }
 
-/// What so many workers leave of a run. The lock does not tell which run it gives back.
+/// The course of a code from a start that so many workers take to its end, and then the caller, as worker 0, where something
+/// is left. The origin is what is handed in, and its caller picks it.
 ///
 /// # Errors
 ///
-/// `NoMemory` where a worker met it, once all of them have stopped.
-pub fn by_workers<R: Threads + Wait + Sync, G: Gate + Sync>(
+/// `NoMemory` where memory is refused, once every worker has stopped.
+pub fn by_workers<
+    J: Origin<Kept> + Send + Sync,
+    Kept: Drop + Send,
+    K: Keeps<Kept> + Sync,
+    R: Threads + Wait + Sync,
+    G: Gate + Sync,
+>(
     rt: &R,
     alloc: Global,
-    run: Run,
+    code: &Code,
+    start: &World,
     count: u64,
     budget: u64,
     gate: &G,
-) -> Result<Run, NoMemory>
-    requires some { 0 < count }
-    requires few { count ≤ 16 }
-    requires budget { budget ≤ 1000000 }
+    who: &K,
+    nothing: Kept,
+) -> Result<Ending<Kept>, NoMemory>
+    requires of { (code.now ≡ J.code) × (start.now ≡ J.start) × (budget ≡ J.budget) }
+    requires keeps { Agree (K.AreKept who.now) J.AreKept }
+    requires code { IsCode code.now }
+    requires valid { IsValid start.now }
+    requires nothing { K.AreKept who.now [] nothing }
+    requires workers { (0 < count) × (count ≤ 16) }
+    requires few { budget ≤ 1000000 }
+    ensures course { IfOk result (λ e. IsCourse code.now start.now e.course) }
+    ensures budget { IfOk result (λ e. length e.course.turns ≤ budget) }
+    ensures how { IfOk result (λ e. EndsAs code.now budget e.course e.how) }
+    ensures kept { IfOk result (λ e. K.AreKept who.now (moments code.now e.course.turns start.now) e.kept) }
 {
-    let mut workers = match new_workers(alloc, count) {
-        Ok(workers) => workers,
-        Err(error) => {
-            let_go_run(run);
-            return Err(error);
-        }
+    let mut workers = new_workers(alloc, count)?;
+    let desk: Desk<J, Kept> = Desk {
+        shared: Mutex::new(Shared::new(alloc, code, start, nothing)?),
+        back: Condvar::new(),
     };
-    let shared = Mutex::new(Seated::new(alloc, run)?);
-    let lock = &shared;
+    let at = &desk;
     thread::for_each_mut(
         rt,
         workers.as_mut_slice(),
         count as usize,
         &|_, worker: &mut Worker|
-            requires { budget ≤ 1000000 }
-        { worker.refused = work(rt, lock, worker, budget, gate).is_err() },
+            requires { (code.now ≡ J.code) × (budget ≡ J.budget) × (budget ≤ 1000000) × Agree (K.AreKept who.now) J.AreKept }
+        { worker.refused = work(rt, alloc, at, code, who, worker.number, budget, gate).is_err() },
     );
-    let run = shared.into_inner().into_run();
-    if workers.iter().any(|worker| worker.refused) {
-        let_go_run(run);
+    let refused = workers.iter().any(|worker| worker.refused);
+    let Desk { shared, .. } = desk;
+    finish(alloc, shared.into_inner(), refused, code, who, budget, gate)
+}
+
+/// Takes the turns that are left, unless a worker met want of memory.
+fn finish<J: Origin<Kept>, Kept: Drop, K: Keeps<Kept>, G: Gate>(
+    alloc: Global,
+    mut shared: Shared<J, Kept>,
+    refused: bool,
+    code: &Code,
+    who: &K,
+    budget: u64,
+    gate: &G,
+) -> Result<Ending<Kept>, NoMemory>
+    requires few { budget ≤ 1000000 }
+    requires of { (code.now ≡ J.code) × (budget ≡ J.budget) }
+    requires keeps { Agree (K.AreKept who.now) J.AreKept }
+    ensures course { IfOk result (λ e. IsCourse code.now J.start e.course) }
+    ensures budget { IfOk result (λ e. length e.course.turns ≤ budget) }
+    ensures how { IfOk result (λ e. EndsAs code.now budget e.course e.how) }
+    ensures kept { IfOk result (λ e. K.AreKept who.now (moments code.now e.course.turns J.start) e.kept) }
+{
+    if refused {
+        let_go(shared);
         return Err(NoMemory);
     }
-    Ok(run)
+    match go_on(alloc, &mut shared, code, who, budget, gate) {
+        Ok(how) => match shared.into_parts() {
+            None => Err(NoMemory),
+            Some((course, kept)) => Ok(Ending { course, how, kept }),
+        },
+        Err(error) => {
+            let_go(shared);
+            Err(error)
+        }
+    }
+}
+
+/// Lets what was shared go.
+fn let_go<J: Origin<Kept>, Kept: Drop>(shared: Shared<J, Kept>) {
+    drop(shared);
+}
+
+/// Takes turns alone, as worker 0, until the run has ended.
+fn go_on<J: Origin<Kept>, Kept: Drop, K: Keeps<Kept>, G: Gate>(
+    alloc: Global,
+    shared: &mut Shared<J, Kept>,
+    code: &Code,
+    who: &K,
+    budget: u64,
+    gate: &G,
+) -> Result<How, NoMemory>
+    requires few { budget ≤ 1000000 }
+    requires of { (code.now ≡ J.code) × (budget ≡ J.budget) }
+    requires keeps { Agree (K.AreKept who.now) J.AreKept }
+    ensures { IfOk result (EndsAs code.now budget shared.new) }
+{
+    loop {
+        match shared.visit(alloc, code, who, 0, budget, gate)? {
+            Visit::Took(thread) => gate.between(0, thread),
+            Visit::Ended(how) => return Ok(how),
+        }
+    }
 }

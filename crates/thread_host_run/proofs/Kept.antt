@@ -6,16 +6,9 @@ use Rattle.std.proofs.lemmas.Bool.{eqb-true, eqb-false}
 use Rattle.lam_bytecode.specs.Codes.{CodeTree}
 use Rattle.lam_machine_terms.specs.Worlds.{World}
 use Rattle.lam_machine_terms.specs.Turns.{ready}
-use Rattle.lam_machine_terms.specs.Valid.{IsValid}
-use Rattle.lam_machine_valid.proofs.WholeLemmas.{runs_valid}
-use Rattle.thread_host_run.specs.Runs.{Ran, IsWhole, HasTurn}
+use Rattle.thread_host_run.specs.Runs.{Ran, HasTurn}
 use Rattle.thread_host_run.specs.ReadyLists.{ready_threads, is_other, kept_list}
 use Rattle.thread_host_run.proofs.Others.{Moved, quiet_moves, others_ready, as_many}
-
--- ---- a run has few threads
-
-pub few_threads : (r : Ran) → IsWhole r → length r.world.threads ≤ 4096
-few_threads r h = (subst IsValid (sym h.world) (runs_valid r.code h.code r.start r.turns h.start).1).number
 
 -- ---- filters that agree
 
@@ -71,7 +64,17 @@ kept_moved code w t after h old =
     ap (λ n. filter (ready code after) (range_with_len 0 n)) (as_many w t after h)
     ∙ kept_as (ready code w) (ready code after) t (others_ready code w t after h) (range_with_len 0 (length w.threads)) (ready code after t) old refl
 
+pub kept_list_moved : (code : CodeTree) (w : World) (t : ℕ) (after : World) (xs ys : List ℕ) → Moved w t after → ready code w t ≡ true → xs ≡ ready_threads code w → ys ≡ kept_list (ready code after t) t xs → ys ≡ ready_threads code after
+kept_list_moved code w t after xs ys moved old is new = new ∙ ap (kept_list (ready code after t) t) is ∙ sym (kept_moved code w t after moved old)
+
 pub kept_list_is : (code : CodeTree) (w : World) (t : ℕ) (after : World) (xs ys : List ℕ) → HasTurn code t w true after → ready code w t ≡ true → xs ≡ ready_threads code w → ys ≡ kept_list (ready code after t) t xs → ys ≡ ready_threads code after
-kept_list_is code w t after xs ys turn old is new =
-    let moved = quiet_moves code w t _ turn.turn.is (sym turn.kind) in
-    new ∙ ap (kept_list (ready code after t) t) is ∙ sym (kept_moved code w t after moved old)
+kept_list_is code w t after xs ys turn old is new = kept_list_moved code w t after xs ys (quiet_moves code w t _ turn.turn.is (sym turn.kind)) old is new
+
+-- the list of a run after a turn, by that of its world
+pub relisted : (old new : Ran) (t : ℕ) (quiet : Bool) (xs ys : List ℕ) → new.code ≡ old.code → (w : World) (code : CodeTree) → w ≡ new.world → code ≡ new.code → HasTurn old.code t old.world quiet new.world → ready old.code old.world t ≡ true → xs ≡ ready_threads old.code old.world → ((before : World) → ready code before t ≡ true → HasTurn code t before quiet w → xs ≡ ready_threads code before → ys ≡ ready_threads code w) → ys ≡ ready_threads new.code new.world
+relisted old new t quiet xs ys same w code world_is code_is turn is_ready is lists =
+    let there : code ≡ old.code = code_is ∙ same in
+    let r = subst (λ (k : CodeTree). ready k old.world t ≡ true) (sym there) is_ready in
+    let h = subst (λ (k : CodeTree). HasTurn k t old.world quiet w) (sym there) (subst (HasTurn old.code t old.world quiet) (sym world_is) turn) in
+    let l = subst (λ (k : CodeTree). xs ≡ ready_threads k old.world) (sym there) is in
+    lists old.world r h l ∙ ap (λ (k : CodeTree). ready_threads k w) code_is ∙ ap (ready_threads new.code) world_is

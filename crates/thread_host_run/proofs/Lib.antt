@@ -1,9 +1,11 @@
 mod SeekLemmas
 mod CopyLemmas
 mod RunLemmas
+pub mod CourseLemmas
 mod PrivateLemmas
 mod ReadyLemmas
 pub mod ListedReady
 mod Others
 mod Kept
+pub mod StretchLemmas
 mod BookLemmas

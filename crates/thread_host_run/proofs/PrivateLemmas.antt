@@ -1,9 +1,9 @@
 -- A thread that was asked for a private turn.
-use Rattle.std.proofs.Common.{◌≡◌, ℕ, Bool, true, false, Result, Ok, Err, OnErr, subst, refl}
+use Rattle.std.proofs.Common.{◌≡◌, ℕ, Bool, true, false, Result, Ok, Err, OnErr, subst}
 use Rattle.lam_bytecode.specs.Codes.{CodeTree}
 use Rattle.lam_machine_terms.specs.Worlds.{World}
+use Rattle.lam_machine_turns.specs.Turned.{IsTurn}
 use Rattle.lam_machine.specs.Privately.{IsPrivateStep, private_event}
-use Rattle.thread_host_run.specs.Runs.{HasTurn}
 
 pub on_err : {A E P : Type 0} (r : Result A E) → P → OnErr r P
 on_err (Ok x) p = tt
@@ -11,9 +11,9 @@ on_err (Err e) p = p
 
 module _ (code : CodeTree) (t : ℕ) (w : World) (taken : Bool) (after : World) where
   -- it took one
-  pub was_private : IsPrivateStep code t w taken after → taken ≡ true → HasTurn code t w true after
+  pub was_private : IsPrivateStep code t w taken after → taken ≡ true → IsTurn code t w (private_event w t) after
   unfolding IsPrivateStep
-  was_private h e = let k = subst (λ b. IsPrivateStep code t w b after) e h in record { event = private_event w t; turn = k.1; kind = refl }
+  was_private h e = let k = subst (λ b. IsPrivateStep code t w b after) e h in k.1
 
   -- it has none, and the world is as it was
   pub was_not : IsPrivateStep code t w taken after → taken ≡ false → after ≡ w

@@ -6,13 +6,21 @@
 //! Its room is taken once, for as many threads as a run can have, and no turn takes more.
 
 ghost use Rattle.std.specs.Prelude.{◌≡◌, ◌<◌, ◌≤◌, true, length, IfOk, OnOk, OnErr, vec_capacity};
+ghost use Rattle.lam_machine_terms.specs.Worlds.{World as Plain};
 ghost use Rattle.lam_machine_terms.specs.Turns as turns;
-ghost use Rattle.thread_host_run.specs.Runs.{with_turn};
+ghost use Rattle.thread_core_stretches.specs.Stretches.{StretchStands};
+ghost use Rattle.thread_host_run.specs.Runs.{with_turn, HasTurn};
+ghost use Rattle.thread_host_run.specs.Stretched.{StretchFits, checked_in};
 ghost use Rattle.thread_host_run.specs.ReadyLists.{ready_threads, is_other, kept_list};
 ghost use Rattle.std.specs.List.{filter};
 
+use crate::course::Course;
+use crate::readiness::ready;
 use crate::run::Run;
+use lam_bytecode::Code;
+use lam_machine_world::World;
 use std::alloc::Global;
+use thread_core_stretches::Stretch;
 use want_of_memory::NoMemory;
 
 /// As many threads as a run can have.
@@ -25,27 +33,75 @@ pub fn roomy_list(alloc: Global) -> Result<Vec<u32>, NoMemory>
     Ok(Vec::with_capacity(alloc, THREAD_LIMIT)?)
 }
 
-/// Makes the list that of the ready threads, in increasing order, by a walk over all threads.
-pub fn relist(list: &mut Vec<u32>, run: &Run)
+/// Makes the list that of the ready threads of a world, in increasing order, by a walk over all threads.
+pub fn list_ready(list: &mut Vec<u32>, world: &World, code: &Code)
     requires { 4096 ≤ vec_capacity list.old }
-    ensures list { list.new.items ≡ ready_threads run.now.code run.now.world }
+    ensures list { list.new.items ≡ ready_threads code.now world.now }
     ensures room { 4096 ≤ vec_capacity list.new }
 {
     list.clear();
-    for thread in 0..few_threads(run) {
-        if run.ready(thread) {
+    for thread in 0..few_threads(world) {
+        if ready(world, code, thread) {
             list.push_reserved(thread);
         }
     }
 }
 
-/// How many threads there are. That a run is whole, and so has few, is known where its turns are read.
-fn few_threads(run: &Run) -> u32
-    ensures count { result ≡ length run.now.world.threads }
+/// How many threads there are.
+fn few_threads(world: &World) -> u32
+    ensures count { result ≡ length world.now.threads }
     ensures few { result ≤ 4096 }
 {
-    let _turns = run.turns();
-    run.thread_count()
+    world.threads().len() as u32
+}
+
+/// After a turn of a thread, which left this world: the list stays that of the ready threads.
+pub fn list_after(list: &mut Vec<u32>, world: &World, code: &Code, thread: u32, quiet: bool)
+    requires { 4096 ≤ vec_capacity list.old }
+    ensures list { (before : Plain) → turns.ready code.now before thread ≡ true → HasTurn code.now thread before quiet world.now → list.old.items ≡ ready_threads code.now before → list.new.items ≡ ready_threads code.now world.now }
+    ensures room { 4096 ≤ vec_capacity list.new }
+{
+    if quiet {
+        after_quiet(list, world, code, thread);
+    } else {
+        list_ready(list, world, code);
+    }
+}
+
+/// Checks a stretch of some turns in; the list stays that of the ready threads, and only the stretch's thread is looked at.
+///
+/// # Errors
+///
+/// `NoMemory` where memory is refused; nothing has changed then, and the stretch is let go.
+pub fn check_in_listed(
+    course: &mut Course,
+    list: &mut Vec<u32>,
+    code: &Code,
+    stretch: Stretch,
+) -> Result<(), NoMemory>
+    requires stands { StretchStands code.now stretch }
+    requires some { 0 < stretch.count }
+    requires fits { StretchFits course.old stretch }
+    requires list { list.old.items ≡ ready_threads code.now course.old.world }
+    requires room { 4096 ≤ vec_capacity list.old }
+    ensures ok { OnOk result (course.new ≡ checked_in course.old stretch) }
+    ensures err { OnErr result (course.new ≡ course.old) }
+    ensures list { list.new.items ≡ ready_threads code.now course.new.world }
+    ensures room { 4096 ≤ vec_capacity list.new }
+{
+    let thread = stretch.thread;
+    course.check_in(stretch)?;
+    after_quiet(list, course.world(), code, thread);
+    Ok(())
+}
+
+/// Makes the list that of the ready threads of a run, as [`list_ready`].
+pub fn relist(list: &mut Vec<u32>, run: &Run)
+    requires { 4096 ≤ vec_capacity list.old }
+    ensures list { list.new.items ≡ ready_threads run.now.code run.now.world }
+    ensures room { 4096 ≤ vec_capacity list.new }
+{
+    list_ready(list, run.now(), run.code());
 }
 
 /// One turn of a thread that is ready; the list stays that of the ready threads.
@@ -59,20 +115,17 @@ pub fn turn_listed(run: &mut Run, list: &mut Vec<u32>, thread: u32) -> Result<()
     ensures list { list.new.items ≡ ready_threads run.new.code run.new.world }
     ensures room { 4096 ≤ vec_capacity list.new }
 {
-    if run.go(thread)? {
-        after_quiet(list, run, thread);
-    } else {
-        relist(list, run);
-    }
+    let quiet = run.go(thread)?;
+    list_after(list, run.now(), run.code(), thread, quiet);
     Ok(())
 }
 
 /// After a quiet turn of a thread: it leaves the list where it is no longer ready.
-fn after_quiet(list: &mut Vec<u32>, run: &Run, thread: u32)
-    ensures list { list.new.items ≡ kept_list (turns.ready run.now.code run.now.world thread) thread list.old.items }
+fn after_quiet(list: &mut Vec<u32>, world: &World, code: &Code, thread: u32)
+    ensures list { list.new.items ≡ kept_list (turns.ready code.now world.now thread) thread list.old.items }
     ensures room { vec_capacity list.new ≡ vec_capacity list.old }
 {
-    if !run.ready(thread) {
+    if !ready(world, code, thread) {
         leave(list, thread);
     }
 }

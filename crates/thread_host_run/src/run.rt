@@ -1,6 +1,6 @@
 //! The type of runs.
 
-ghost use Rattle.std.specs.Prelude.{◌≡◌, ◌↔◌, ◌<◌, true, length, IsTrue, IfOk, OnErr, MatchOption};
+ghost use Rattle.std.specs.Prelude.{◌≡◌, ◌↔◌, ◌<◌, true, length, IsTrue, IfOk, OnOk, OnErr, MatchOption};
 ghost use Rattle.lam_bytecode.specs.Codes.{IsCode};
 ghost use Rattle.lam_machine_terms.specs.Worlds.{thread_at};
 ghost use Rattle.lam_machine_terms.specs.Turns as turns;
@@ -8,16 +8,21 @@ ghost use Rattle.lam_machine_terms.specs.Turns.{IsDone, AllWait, is_living};
 ghost use Rattle.lam_machine_terms.specs.Valid.{IsValid};
 ghost use Rattle.lam_machine_runs.specs.Ends.{NoneReady};
 ghost use Rattle.lam_machine_turns.specs.Turned.{IsTurn};
+ghost use Rattle.thread_core_stretches.specs.Stretches.{StretchStands};
+ghost use Rattle.thread_host_run.specs.Courses.{IsCourse, ran_to, progress_of, was_quiet};
 ghost use Rattle.thread_host_run.specs.Runs.{IsWhole, HasTurn, opened, with_turn};
+ghost use Rattle.thread_host_run.specs.Stretched.{StretchFits, checked_in};
 
+use crate::course::Course;
 use crate::seeking::{count_of, living_in, ready_in};
-use crate::taking::{go_turn, take_turn};
-use lam_asks::Event;
+use crate::taking::was_quiet;
+use lam_asks::{Event, let_go_event};
 use lam_bytecode::Code;
 use lam_machine_equal::{same_code, same_world};
 use lam_machine_world::{World, let_go_code, let_go_world};
 use std::alloc::Global;
 use std::marker::Model;
+use thread_core_stretches::Stretch;
 use want_of_memory::NoMemory;
 
 /// The number of turns that a run may have: as many as a book of turns.
@@ -28,8 +33,7 @@ pub const TURN_LIMIT: u64 = 1_000_000;
 pub struct Run {
     code: Code,
     start: World,
-    turns: Vec<u32>,
-    world: World,
+    course: Course,
 }
 
 impl Model for Run {
@@ -41,9 +45,9 @@ impl Model for Run {
 
     ghost use Rattle.thread_host_run.specs.Runs.{IsWhole};
 
-    ghost view = { λ r. record { code = r.code; start = r.start; turns = r.turns.items; world = r.world } };
+    ghost view = { λ r. record { code = r.code; start = r.start; turns = r.course.turns; world = r.course.world } };
 
-    ghost invariant = { λ r. IsWhole (record { code = r.code; start = r.start; turns = r.turns.items; world = r.world }) };
+    ghost invariant = { λ r. IsWhole (record { code = r.code; start = r.start; turns = r.course.turns; world = r.course.world }) };
 }
 
 /// Lets a run go.
@@ -73,18 +77,29 @@ impl Run {
         requires valid { IsValid start }
         ensures { IfOk result (λ r. r ≡ opened code start) }
     {
-        match start.copy() {
-            Ok(world) => Ok(Run {
+        match Course::new(alloc, &start) {
+            Ok(course) => Ok(Run {
                 code,
                 start,
-                turns: Vec::new(alloc),
-                world,
+                course,
             }),
             Err(error) => {
                 let_go_world(start);
                 let_go_code(code);
                 Err(error)
             }
+        }
+    }
+
+    /// The run of a code from a start that has come as far as this course of them. Nothing is copied or compared.
+    pub fn of(code: Code, start: World, course: Course) -> Run
+        requires { IsCourse code start course }
+        ensures { result ≡ ran_to code start course }
+    {
+        Run {
+            code,
+            start,
+            course,
         }
     }
 
@@ -107,7 +122,7 @@ impl Run {
         ensures is { result.now ≡ self.now.world }
         ensures valid { IsValid self.now.world }
     {
-        &self.world
+        self.course.world()
     }
 
     /// The threads of the turns, in order: they are a run of the code from the start, and leave the world that is now.
@@ -115,7 +130,7 @@ impl Run {
         ensures is { result.now ≡ self.now.turns }
         ensures whole { IsWhole self.now }
     {
-        self.turns.as_slice()
+        self.course.turns()
     }
 
     /// Whether this is a run of that code from that start.
@@ -125,32 +140,39 @@ impl Run {
         same_code(&self.code, code) && same_world(&self.start, start)
     }
 
+    /// Whether this is a run of that code.
+    pub fn same_code(&self, code: &Code) -> bool
+        ensures { IsTrue result ↔ (self.now.code ≡ code.now) }
+    {
+        same_code(&self.code, code)
+    }
+
     /// How many threads there are now.
     pub fn thread_count(&self) -> u32
         ensures { result ≡ length self.now.world.threads }
     {
-        count_of(&self.world)
+        count_of(self.course.world())
     }
 
     /// Whether a thread is ready for a turn. Takes no memory.
     pub fn ready(&self, thread: u32) -> bool
         ensures { result ≡ turns.ready self.now.code self.now.world thread }
     {
-        crate::ready(&self.world, &self.code, thread)
+        crate::ready(self.course.world(), &self.code, thread)
     }
 
     /// A thread that lives, `None` where every thread has ended.
     pub fn find_living(&self) -> Option<u32>
         ensures { MatchOption result (IsDone self.now.world) (λ t. is_living (thread_at self.now.world t) ≡ true) }
     {
-        living_in(&self.world)
+        living_in(self.course.world())
     }
 
     /// A thread that is ready, `None` where none is.
     pub fn find_ready(&self) -> Option<u32>
         ensures { MatchOption result (NoneReady self.now.code self.now.world) (λ t. turns.ready self.now.code self.now.world t ≡ true) }
     {
-        ready_in(&self.world, &self.code)
+        ready_in(self.course.world(), &self.code)
     }
 
     /// Whether every thread has ended.
@@ -185,7 +207,7 @@ impl Run {
         ensures ok { IfOk result (λ e. IsTurn self.old.code thread self.old.world e self.new.world × (self.new ≡ with_turn self.old thread self.new.world)) }
         ensures err { OnErr result (self.new ≡ self.old) }
     {
-        let event = take_turn(&mut self.turns, &mut self.world, &self.code, thread)?;
+        let event = self.course.turn(&self.code, thread)?;
         Ok(event)
     }
 
@@ -201,8 +223,31 @@ impl Run {
         ensures ok { IfOk result (λ quiet. HasTurn self.old.code thread self.old.world quiet self.new.world × (self.new ≡ with_turn self.old thread self.new.world)) }
         ensures err { OnErr result (self.new ≡ self.old) }
     {
-        let quiet = go_turn(&mut self.turns, &mut self.world, &self.code, thread)?;
-        Ok(quiet)
+        let taken = self.course.go(&self.code, thread)?;
+        Ok(let_go_taken(taken))
+    }
+
+    /// Whether a stretch can be checked in: its thread is there as it was when the stretch began, and the turns with those
+    /// of the stretch are at most [`TURN_LIMIT`]. Takes no memory.
+    pub fn fits(&self, stretch: &Stretch) -> bool
+        ensures { IsTrue result ↔ StretchFits (progress_of self.now) stretch.now }
+    {
+        self.course.fits(stretch)
+    }
+
+    /// Checks a stretch of the run's code in: so many turns of its thread more, which becomes what the stretch left.
+    ///
+    /// # Errors
+    ///
+    /// `NoMemory` where memory is refused; the run is then as it was, and the stretch is let go.
+    pub fn check_in(&mut self, stretch: Stretch) -> Result<(), NoMemory>
+        requires stands { StretchStands self.old.code stretch }
+        requires fits { StretchFits (progress_of self.old) stretch }
+        ensures ok { OnOk result (self.new ≡ ran_to self.old.code self.old.start (checked_in (progress_of self.old) stretch)) }
+        ensures err { OnErr result (self.new ≡ self.old) }
+    {
+        self.course.check_in(stretch)?;
+        Ok(())
     }
 
     /// The code, the start and the turns. The world that they leave is let go.
@@ -213,10 +258,20 @@ impl Run {
         let Run {
             code,
             start,
-            turns,
-            world,
+            course,
         } = self;
-        let_go_world(world);
+        let turns = course.into_turns();
         RunParts { code, start, turns }
     }
+}
+
+/// Lets the event of a turn go, where one was made: whether the turn was quiet.
+fn let_go_taken(taken: Option<Event>) -> bool
+    ensures { result ≡ was_quiet taken }
+{
+    let quiet = was_quiet(&taken);
+    if let Some(event) = taken {
+        let_go_event(event);
+    }
+    quiet
 }

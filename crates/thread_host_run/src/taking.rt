@@ -1,13 +1,13 @@
-//! One turn of a run, with its event, or with no more than whether it was quiet: every other thread is ready where it was.
+//! One turn of a run with its event, and whether it was quiet: every other thread is ready where it was.
 
 ghost use Rattle.std.specs.Prelude.{◌≡◌, true, ◌++◌, ◌∷◌, [], IfOk, OnOk, OnErr};
 ghost use Rattle.lam_machine_terms.specs.Turns.{ready};
 ghost use Rattle.lam_machine_turns.specs.Turned.{IsTurn};
 ghost use Rattle.lam_machine.specs.Machine.{CopiesLive};
 ghost use Rattle.thread_host_run.specs.Quiet.{touches_others, is_quiet};
-ghost use Rattle.thread_host_run.specs.Runs.{HasTurn};
+ghost use Rattle.thread_host_run.specs.Courses.{TookTurn, was_quiet};
 
-use lam_asks::{Ask, Event, What, let_go_event};
+use lam_asks::{Ask, Event, What};
 use lam_bytecode::Code;
 use lam_machine::{step, step_privately};
 use lam_machine_world::World;
@@ -40,44 +40,55 @@ pub fn take_turn(
     }
 }
 
-/// As [`take_turn`], where nobody asks for the event: whether the turn was quiet.
+/// As [`take_turn`], where no event is made of a private turn.
 pub fn go_turn(
     turns: &mut Vec<u32>,
     world: &mut World,
     code: &Code,
     thread: u32,
-) -> Result<bool, NoMemory>
+) -> Result<Option<Event>, NoMemory>
     requires ready { ready code.now world.old thread ≡ true }
     requires living { CopiesLive code.now world.old thread }
-    ensures turn { IfOk result (λ quiet. HasTurn code.now thread world.old quiet world.new) }
+    ensures turn { IfOk result (λ o. TookTurn code.now thread world.old o world.new) }
     ensures turns { OnOk result (turns.new.items ≡ turns.old.items ++ thread ∷ []) }
     ensures same_world { OnErr result (world.new ≡ world.old) }
     ensures same_turns { OnErr result (turns.new.items ≡ turns.old.items) }
 {
     turns.reserve(1)?;
     let alloc = *turns.allocator();
-    let quiet = go_step(alloc, world, code, thread)?;
+    let taken = go_step(alloc, world, code, thread)?;
     turns.push_reserved(thread);
-    Ok(quiet)
+    Ok(taken)
 }
 
-/// A thread that is ready takes a turn: whether it was quiet.
-fn go_step(alloc: Global, world: &mut World, code: &Code, thread: u32) -> Result<bool, NoMemory>
+/// A thread that is ready takes a turn: its event, or `None` where it is private.
+fn go_step(
+    alloc: Global,
+    world: &mut World,
+    code: &Code,
+    thread: u32,
+) -> Result<Option<Event>, NoMemory>
     requires ready { ready code.now world.old thread ≡ true }
     requires living { CopiesLive code.now world.old thread }
-    ensures turn { IfOk result (λ quiet. HasTurn code.now thread world.old quiet world.new) }
+    ensures turn { IfOk result (λ o. TookTurn code.now thread world.old o world.new) }
     ensures same_world { OnErr result (world.new ≡ world.old) }
 {
     if step_privately(world, code, thread)? {
-        return Ok(true);
+        return Ok(None);
     }
     match step(alloc, world, code, thread)? {
         None => unreachable!(),
-        Some(event) => {
-            let quiet = is_quiet(&event.what);
-            let_go_event(event);
-            Ok(quiet)
-        }
+        Some(event) => Ok(Some(event)),
+    }
+}
+
+/// Whether a turn was quiet, so that every other thread is ready where it was.
+pub fn was_quiet(taken: &Option<Event>) -> bool
+    ensures { result ≡ was_quiet taken.now }
+{
+    match taken {
+        None => true,
+        Some(event) => is_quiet(&event.what),
     }
 }
 

@@ -4,7 +4,6 @@ use Rattle.thread_host.proofs.visits.picked.Goals as goal
 
 pub returns : goal.returns
 returns g c =
-    let run = c.args.run.now in
     let some = c.requires.some in
     let lt : c.pick.result % length c.args.ready.now < length c.args.ready.now = omega (arith, some) in
-    listed_ready run.code run.world c.args.ready.now (c.pick.result % length c.args.ready.now) 0 c.requires.list lt
+    listed_ready c.args.code.now c.args.course.now.world c.args.ready.now (c.pick.result % length c.args.ready.now) 0 c.requires.list lt

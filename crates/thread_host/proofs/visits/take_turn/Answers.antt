@@ -1,6 +1,39 @@
-use Rattle.std.proofs.Common.{◌∙◌}
-use Rattle.thread_host_run.proofs.ListedReady.{some_listed}
+use Rattle.std.proofs.Common.{length, ap, sym, subst, ◌∙◌}
+use Rattle.lam_machine_terms.specs.Worlds.{World}
+use Rattle.thread_host_run.specs.Courses.{Progress, TookTurn}
+use Rattle.thread_host_run.specs.ReadyLists.{ready_threads}
+use Rattle.thread_host_run.proofs.CourseLemmas.{course_valid, has_turn}
+use Rattle.thread_host.specs.Sharing.{Unless, IsShared, KeepsTaken}
+use Rattle.thread_host.proofs.Keeping.{kept_so_far, shared_more}
 use Rattle.thread_host.proofs.visits.take_turn.Goals as goal
 
-pub picked-thread-requires-clause-some : goal.picked-thread-requires-clause-some
-picked-thread-requires-clause-some g c = some_listed _ _ c.as_slice-2.result.now (c.as_slice-2.ensures.value ∙ c.requires.list) c.in_default.ensures.some
+pub returns-clause-shared : goal.returns-clause-shared
+returns-clause-shared g c =
+    let code = c.args.code.now in
+    let start = g.J.Origin.start in
+    let kept = g.K.Keeps.AreKept c.args.who.now in
+    let count = length c.turns.result.now in
+    let after = c.go.new.self.world in
+    let lost = c.keep_taken.new.lost in
+    let new = c.keep_taken.new.kept in
+    let keeps = subst (λ (w : World). Unless lost (KeepsTaken kept count c.in_ok-taken.taken w c.args.kept.now new)) c.world-2.ensures c.keep_taken.ensures in
+    let same = ap length c.turns.ensures in
+    let more = shared_more kept code start c.args.budget c.args.course.now c.args.kept.now c.requires.shared count c.args.thread c.in_ok-taken.taken after new same c.in_ok-taken.ensures.ok.0 c.requires.left c.requires.few lost keeps in
+    subst (λ (p : Progress). IsShared kept code start c.args.budget p lost new) (sym c.in_ok-taken.ensures.ok.1) more
+
+pub go-requires-clause-valid : goal.go-requires-clause-valid
+go-requires-clause-valid g c = course_valid c.args.code.now g.J.Origin.start c.args.course.now c.requires.shared.course
+
+pub keep_taken-requires-clause-before : goal.keep_taken-requires-clause-before
+keep_taken-requires-clause-before g c =
+    kept_so_far (g.K.Keeps.AreKept c.args.who.now) c.args.code.now g.J.Origin.start c.args.budget c.args.course.now c.args.kept.now c.requires.shared (length c.turns.result.now) (ap length c.turns.ensures)
+
+pub returns-clause-list : goal.returns-clause-list
+returns-clause-list g c =
+    let code = c.args.code.now in
+    let before = c.args.course.now.world in
+    let taken = c.in_ok-taken.taken in
+    let w = c.world.result.now in
+    let took = subst (λ (v : World). TookTurn code c.args.thread before taken v) (sym c.world.ensures) c.in_ok-taken.ensures.ok.0 in
+    let turn = has_turn code c.args.thread before taken w c.was_quiet.result took c.was_quiet.ensures in
+    c.list_after.ensures.list before c.requires.ready turn c.requires.list ∙ ap (ready_threads code) c.world.ensures

@@ -31,8 +31,4 @@ pub returns-clause-turn : goal.returns-clause-turn
 returns-clause-turn c =
     let same = was_not c.args.code.now c.args.thread c.args.world.now c.in_ok-step_privately.field-0 c.step_privately.new.world c.in_ok-step_privately.ensures.ok c.if-branch.false in
     let turn = subst (λ o. IsStep c.args.code.now c.args.thread c.step_privately.new.world o c.step.new.world) c.in-Some.is c.in_ok-step.ensures.ok in
-    record {
-      event = c.in-Some.event;
-      turn = subst (λ (w : World). IsTurn c.args.code.now c.args.thread w c.in-Some.event c.step.new.world) same turn;
-      kind = c.is_quiet-quiet.ensures;
-    }
+    subst (λ (w : World). IsTurn c.args.code.now c.args.thread w c.in-Some.event c.step.new.world) same turn

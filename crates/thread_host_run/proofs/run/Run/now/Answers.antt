@@ -1,5 +1,6 @@
 use Rattle.std.proofs.Common.{subst}
 use Rattle.lam_machine_terms.specs.Valid.{IsValid}
+use Rattle.thread_host_run.specs.Courses.{ran_to}
 use Rattle.thread_host_run.specs.Runs.{Ran}
 use Rattle.thread_host_run.proofs.RunLemmas.{valid_now}
 use Rattle.thread_host_run.proofs.run.Run.now.Goals as goal
@@ -7,4 +8,4 @@ use Rattle.thread_host_run.proofs.run.Run.now.Goals as goal
 pub returns-clause-valid : goal.returns-clause-valid
 returns-clause-valid c =
     let run = c.self.inside in
-    subst (λ (r : Ran). IsValid r.world) c.self.view_is (valid_now (record { code = run.code; start = run.start; turns = run.turns.items; world = run.world }) c.self.invariant)
+    subst (λ (r : Ran). IsValid r.world) c.self.view_is (valid_now (ran_to run.code run.start run.course) c.self.invariant)

@@ -1,0 +1,130 @@
+//! The two texts that are read of a run, written as its turns are taken.
+//!
+//! `audit_log` writes the lines of a list of what was seen, or of what was noted. Here the lines of a turn are written from its
+//! event and the world after it, and nothing but the text is kept: [`push_view`] for an observer, and [`push_audit`] for an
+//! auditor. `specs/Kept` says what is kept of the moments of a run, in the form of `Keeps` (`lam_machine_replay`). A private turn
+//! has no line ([`views_leave_private`], [`audits_leave_private`]).
+#![tactic(auto)]
+
+ghost use Rattle.std.specs.Prelude.{◌≡◌, ◌++◌, ℕ, List, OnOk, string_bytes};
+ghost use Rattle.std.specs.Option.{option_to_list};
+ghost use Rattle.flow_labels.specs.TwoLists.{Text};
+ghost use Rattle.flow_labels.specs.declared.Label.{Label as Plain};
+ghost use Rattle.lam_machine_replay.specs.Audited.{taken};
+ghost use Rattle.lam_machine_replay.specs.Keeping.{KeepsEvent, LeavesPrivate};
+ghost use Rattle.lam_machine_replay.specs.Viewed.{seen_of};
+ghost use Rattle.audit_log.specs.Log.{note_line, seen_lines};
+ghost use Rattle.audit_log_lines.specs.Kept.{IsView, IsAudit};
+
+use audit_log::{audits_are_read, push_noted, push_seen, views_are_read};
+use audit_log_notes::{Noted, Seen};
+use capabilities::Caps;
+use flow_labels::{Label, TagNames};
+use lam_asks::{Event, let_go_event};
+use lam_machine_replay::{World, seen_of, taken};
+use std::alloc::Global;
+use want_of_memory::NoMemory;
+
+/// A law: an observer's text has no line of a private turn.
+pub fn views_leave_private()
+    ensures { (names : List Text) (o : Plain) → LeavesPrivate (IsView names o) }
+{
+    views_are_read();
+}
+
+/// A law: an auditor's text has no line of a private turn.
+pub fn audits_leave_private()
+    ensures { (names : List Text) → LeavesPrivate (IsAudit names) }
+{}
+
+/// Writes the line of what an observer sees of a turn, by its event and the world after it, at the end of a text.
+///
+/// # Errors
+///
+/// `NoMemory` where memory is refused.
+pub fn push_view(
+    alloc: Global,
+    text: &mut String,
+    event: Event,
+    world: &World,
+    label: &Label,
+    names: &TagNames,
+) -> Result<(), NoMemory>
+    ensures { OnOk result ((n : ℕ) → KeepsEvent (IsView names.now label.now) n event world.now text.old text.new) }
+{
+    views_are_read();
+    push_seen_of(alloc, text, event, world, label, names)
+}
+
+fn push_seen_of(
+    alloc: Global,
+    text: &mut String,
+    event: Event,
+    world: &World,
+    label: &Label,
+    names: &TagNames,
+) -> Result<(), NoMemory>
+    ensures { OnOk result (string_bytes text.new ≡ string_bytes text.old ++ seen_lines names.now (option_to_list (seen_of label.now event world.now))) }
+{
+    match seen_of(alloc, event, world, label)? {
+        None => Ok(()),
+        Some(one) => {
+            let pushed = push_seen(text, &one, names);
+            let_go_seen(one);
+            pushed
+        }
+    }
+}
+
+/// Lets what was seen go.
+fn let_go_seen(one: Seen) {
+    drop(one);
+}
+
+/// Writes the line of a release or a refusal, where a turn was one, by its event and the world after it, at the end of a text.
+///
+/// # Errors
+///
+/// `NoMemory` where memory is refused.
+pub fn push_audit(
+    text: &mut String,
+    turn: u64,
+    event: Event,
+    world: &World,
+    names: &TagNames,
+) -> Result<(), NoMemory>
+    ensures { OnOk result (KeepsEvent (IsAudit names.now) turn event world.now text.old text.new) }
+{
+    match taken(&event) {
+        Ok(by) => push_note(text, turn, event, by, public_in(world), names),
+        Err(error) => {
+            let_go_event(event);
+            Err(error)
+        }
+    }
+}
+
+/// What is public in a world.
+fn public_in(world: &World) -> &Caps
+    ensures { result.now ≡ world.now.public }
+{
+    &world.stores().public
+}
+
+/// Writes the line of a turn that took these capabilities.
+fn push_note(
+    text: &mut String,
+    turn: u64,
+    event: Event,
+    by: Option<Caps>,
+    public: &Caps,
+    names: &TagNames,
+) -> Result<(), NoMemory>
+    ensures { OnOk result (string_bytes text.new ≡ string_bytes text.old ++ note_line names.now public.now turn event by) }
+{
+    let noted = Noted { turn, event, by };
+    let pushed = push_noted(text, &noted, names, public);
+    let Noted { event, .. } = noted;
+    let_go_event(event);
+    pushed
+}

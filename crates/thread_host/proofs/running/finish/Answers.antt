@@ -1,8 +1,0 @@
-use Rattle.std.proofs.Common.{length, sym, subst}
-use Rattle.lam_machine_runs.specs.Ends.{HasEnded}
-use Rattle.thread_host_run.specs.Runs.{Ran}
-use Rattle.thread_host.proofs.running.finish.Goals as goal
-
-pub ended_so-requires : goal.ended_so-requires
-ended_so-requires g c =
-    subst (λ (r : Ran). HasEnded r.code r.world (length r.turns) c.args.turns c.in-Ok.how) (sym c.into_run.ensures) c.in-Ok.ensures.how

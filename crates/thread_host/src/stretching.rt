@@ -1,0 +1,98 @@
+//! Private turns of a thread that are taken outside the lock: how they begin, and how they come back.
+
+ghost use Rattle.std.specs.Prelude.{◌≡◌, ◌+◌, ◌<◌, ◌≤◌, ◌↔◌, true, false, length, IsTrue, IfOk, IfSome, OnOk, vec_capacity};
+ghost use Rattle.thread_core_stretches.specs.Stretches.{StretchStands, begun};
+ghost use Rattle.thread_host_run.specs.Stretched.{StretchFits, checked_in};
+ghost use Rattle.thread_host_run.specs.ReadyLists.{ready_threads};
+ghost use Rattle.thread_host.specs.Sharing.{IsShared};
+ghost use Rattle.thread_host.specs.Stretching.{StretchOf, StretchKeepsTo};
+
+use crate::origins::Origin;
+use lam_bytecode::Code;
+use lam_machine_replay::Keeps;
+use lam_machine_runs::How;
+use thread_core::{Standing, standing};
+use thread_core_state::LamThread;
+use thread_core_stretches::Stretch;
+use thread_host_run::{Course, check_in_listed};
+use want_of_memory::NoMemory;
+
+/// What a worker found under the lock.
+#[derive(Drop)]
+pub enum Opening {
+    /// The next turn of the thread that the hook picked is private: turns of it are to be taken outside the lock.
+    Out(Stretch),
+    /// It was not: a turn of this thread.
+    Took(u32),
+    /// Nothing now: another worker takes turns of the thread that the hook picked.
+    Away,
+    /// Nothing: the run has ended.
+    Ended(How),
+}
+
+/// A stretch of a thread with no turn yet, where the next turn of the thread is private.
+pub fn stretch_of(course: &Course, code: &Code, thread: u32) -> Result<Option<Stretch>, NoMemory>
+    ensures { IfOk result (λ o. IfSome o (λ s. (s.thread ≡ thread) × StretchOf code.now course.now s)) }
+{
+    match course.world().threads().get(thread as usize) {
+        None => Ok(None),
+        Some(found) => private_stretch(found, code, thread),
+    }
+}
+
+/// A stretch of this thread, where its next turn is private.
+fn private_stretch(found: &LamThread, code: &Code, thread: u32) -> Result<Option<Stretch>, NoMemory>
+    ensures { IfOk result (λ o. IfSome o (λ s. s ≡ begun thread found.now)) }
+{
+    match standing(found, code) {
+        Standing::Private => {
+            let stretch = Stretch::begin(thread, found)?;
+            Ok(Some(stretch))
+        }
+        Standing::Shared => Ok(None),
+        Standing::Stuck => Ok(None),
+        Standing::Ended => Ok(None),
+    }
+}
+
+/// Whether a stretch can be checked in within the budget.
+pub fn keeps_to(course: &Course, stretch: &Stretch, budget: u64) -> bool
+    requires { budget ≤ 1000000 }
+    ensures { IsTrue result ↔ StretchKeepsTo budget course.now stretch.now }
+{
+    stretch.count > 0 && is_within(course.turns(), stretch.count, budget) && course.fits(stretch)
+}
+
+/// Whether so many turns more keep to the budget.
+fn is_within(turns: &[u32], count: u64, budget: u64) -> bool
+    ensures { IsTrue result ↔ (length turns.now + count ≤ budget) }
+{
+    let taken = turns.len() as u64;
+    taken <= budget && count <= budget - taken
+}
+
+/// Checks a stretch in. `list` is that of the ready threads, and stays so; nothing is kept of private turns.
+pub fn take_stretch<J: Origin<Kept>, Kept: Drop, K: Keeps<Kept>>(
+    code: &Code,
+    who: &K,
+    course: &mut Course,
+    list: &mut Vec<u32>,
+    kept: &Kept,
+    stretch: Stretch,
+    budget: u64,
+) -> Result<(), NoMemory>
+    requires stands { StretchStands code.now stretch }
+    requires keeps { StretchKeepsTo budget course.old stretch }
+    requires few { budget ≤ 1000000 }
+    requires list { list.old.items ≡ ready_threads code.now course.old.world }
+    requires room { 4096 ≤ vec_capacity list.old }
+    requires shared { IsShared (K.AreKept who.now) code.now J.start budget course.old false kept.now }
+    ensures list { list.new.items ≡ ready_threads code.now course.new.world }
+    ensures room { 4096 ≤ vec_capacity list.new }
+    ensures shared { IsShared (K.AreKept who.now) code.now J.start budget course.new false kept.now }
+    ensures ok { OnOk result (course.new ≡ checked_in course.old stretch) }
+{
+    who.leaves_private();
+    check_in_listed(course, list, code, stretch)?;
+    Ok(())
+}

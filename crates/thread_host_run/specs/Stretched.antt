@@ -1,0 +1,14 @@
+-- A stretch of private turns, checked in to a course: what it was taken from is still there, and so its turns are some of the
+-- course.
+use Rattle.std.specs.Prelude.{◌≡◌, ◌+◌, ◌≤◌, ◌++◌, Some, length, replicate}
+use Rattle.lam_machine_terms.specs.Worlds.{thread_at, with_thread}
+use Rattle.thread_core_stretches.specs.declared.stretch.Stretch.{Stretch}
+use Rattle.thread_host_run.specs.Courses.{Progress}
+
+-- there is room for its turns, and its thread is there as it was when the stretch began
+abbrev pub StretchFits : Progress → Stretch → Type 0
+StretchFits p s = (length p.turns + s.count ≤ 1000000) × (thread_at p.world s.thread ≡ Some s.before)
+
+-- as many turns of its thread more, and the thread as the stretch left it; all else stays
+abbrev pub checked_in : Progress → Stretch → Progress
+checked_in p s = record { turns = p.turns ++ replicate s.count s.thread; world = with_thread p.world s.thread s.after }

@@ -1,0 +1,147 @@
+//! The part of a run that moves.
+
+ghost use Rattle.std.specs.Prelude.{◌≡◌, ◌↔◌, ◌<◌, true, [], length, IsTrue, IfOk, OnOk, OnErr};
+ghost use Rattle.lam_bytecode.specs.Codes.{CodeTree, IsCode};
+ghost use Rattle.lam_machine_terms.specs.Worlds.{World as Plain};
+ghost use Rattle.lam_machine_terms.specs.Turns as turns;
+ghost use Rattle.lam_machine_terms.specs.Valid.{IsValid};
+ghost use Rattle.lam_machine_turns.specs.Turned.{IsTurn};
+ghost use Rattle.thread_core_stretches.specs.Stretches.{StretchStands};
+ghost use Rattle.thread_host_run.specs.Courses.{IsCourse, one_more, TookTurn};
+ghost use Rattle.thread_host_run.specs.Stretched.{StretchFits, checked_in};
+
+use crate::stretches;
+use crate::taking::{go_turn, take_turn};
+use lam_asks::Event;
+use lam_bytecode::Code;
+use lam_machine_world::{World, let_go_world};
+use std::alloc::Global;
+use std::marker::Model;
+use thread_core_stretches::Stretch;
+use want_of_memory::NoMemory;
+
+/// The turns of a run and the world that they leave.
+///
+/// It holds neither the code nor the start, so that whoever shares it under a lock lends both to all from outside. Each call
+/// says that it stays a course of the code that it is given, from whatever start it is one.
+#[derive(Drop)]
+pub struct Course {
+    turns: Vec<u32>,
+    world: World,
+}
+
+impl Model for Course {
+    ghost use Rattle.thread_host_run.specs.Courses.{Progress, coded_progress};
+
+    ghost Value = { Progress };
+
+    ghost coded = { coded_progress };
+
+    ghost view = { λ c. record { turns = c.turns.items; world = c.world } };
+}
+
+/// Lets a course go.
+pub fn let_go_course(course: Course) {
+    let Course { world, .. } = course;
+    let_go_world(world);
+}
+
+impl Course {
+    /// No turn yet, from a copy of the start.
+    ///
+    /// # Errors
+    ///
+    /// `NoMemory` where memory is refused.
+    pub fn new(alloc: Global, start: &World) -> Result<Course, NoMemory>
+        ensures { IfOk result (λ c. c ≡ record { turns = []; world = start.now }) }
+    {
+        let world = start.copy()?;
+        Ok(Course {
+            turns: Vec::new(alloc),
+            world,
+        })
+    }
+
+    /// The world that the turns leave.
+    pub fn world(&self) -> &World
+        ensures { result.now ≡ self.now.world }
+    {
+        &self.world
+    }
+
+    /// The threads of the turns, in order.
+    pub fn turns(&self) -> &[u32]
+        ensures { result.now ≡ self.now.turns }
+    {
+        self.turns.as_slice()
+    }
+
+    /// One turn of a thread that is ready: the event that it is.
+    ///
+    /// # Errors
+    ///
+    /// `NoMemory` where memory is refused; the course is then as it was.
+    pub fn turn(&mut self, code: &Code, thread: u32) -> Result<Event, NoMemory>
+        requires code { IsCode code.now }
+        requires valid { IsValid self.old.world }
+        requires ready { turns.ready code.now self.old.world thread ≡ true }
+        requires room { length self.old.turns < 1000000 }
+        ensures ok { IfOk result (λ e. IsTurn code.now thread self.old.world e self.new.world × (self.new ≡ one_more self.old thread self.new.world)) }
+        ensures err { OnErr result (self.new ≡ self.old) }
+        ensures course { OnOk result ((start : Plain) → IsCourse code.now start self.old → IsCourse code.now start self.new) }
+    {
+        let event = take_turn(&mut self.turns, &mut self.world, code, thread)?;
+        Ok(event)
+    }
+
+    /// One turn of a thread that is ready: the event that it is, or `None` where it is private, of which no event is made.
+    ///
+    /// # Errors
+    ///
+    /// `NoMemory` where memory is refused; the course is then as it was.
+    pub fn go(&mut self, code: &Code, thread: u32) -> Result<Option<Event>, NoMemory>
+        requires code { IsCode code.now }
+        requires valid { IsValid self.old.world }
+        requires ready { turns.ready code.now self.old.world thread ≡ true }
+        requires room { length self.old.turns < 1000000 }
+        ensures ok { IfOk result (λ o. TookTurn code.now thread self.old.world o self.new.world × (self.new ≡ one_more self.old thread self.new.world)) }
+        ensures err { OnErr result (self.new ≡ self.old) }
+        ensures course { OnOk result ((start : Plain) → IsCourse code.now start self.old → IsCourse code.now start self.new) }
+    {
+        let taken = go_turn(&mut self.turns, &mut self.world, code, thread)?;
+        Ok(taken)
+    }
+
+    /// Whether a stretch can be checked in: its thread is there as it was when the stretch began, and the turns with those
+    /// of the stretch are at most [`TURN_LIMIT`](crate::TURN_LIMIT). Takes no memory.
+    pub fn fits(&self, stretch: &Stretch) -> bool
+        ensures { IsTrue result ↔ StretchFits self.now stretch.now }
+    {
+        stretches::fits(self.turns.as_slice(), &self.world, stretch)
+    }
+
+    /// Checks a stretch in: so many turns of its thread more, which becomes what the stretch left. Of whatever code the
+    /// stretch is, the course stays one of that code, from whatever start it is one.
+    ///
+    /// # Errors
+    ///
+    /// `NoMemory` where memory is refused; the course is then as it was, and the stretch is let go.
+    pub fn check_in(&mut self, stretch: Stretch) -> Result<(), NoMemory>
+        requires { StretchFits self.old stretch }
+        ensures ok { OnOk result (self.new ≡ checked_in self.old stretch) }
+        ensures err { OnErr result (self.new ≡ self.old) }
+        ensures course { OnOk result ((code : CodeTree) (start : Plain) → StretchStands code stretch → IsCourse code start self.old → IsCourse code start self.new) }
+    {
+        stretches::check_in(&mut self.turns, &mut self.world, stretch)?;
+        Ok(())
+    }
+
+    /// The turns. The world that they leave is let go.
+    pub fn into_turns(self) -> Vec<u32>
+        ensures { result.items ≡ self.turns }
+    {
+        let Course { turns, world } = self;
+        let_go_world(world);
+        turns
+    }
+}
