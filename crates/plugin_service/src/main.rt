@@ -3,8 +3,7 @@
 //! Two users have a wage each, which is secret, and a plug-in serves both. It may read what it likes, and holds no
 //! capability: it writes each user's tax where that user's wage is, and then tries to carry Ann's wage to Bob. The
 //! host's caller starts the three others; these act at once, on threads of their own. `story` has the program and the
-//! world that they act in, `opening` makes a shared run of the two, `callers` takes the turns, and `auditing` reads the
-//! book of what they did.
+//! world that they act in, `callers` takes the turns, and `auditing` reads the book of what they did.
 //!
 //! It prints what each caller saw of its own turns, one caller after another, and the audit of the book. The number of
 //! a turn hangs on who was quick, so the audit is printed without it. Nothing is written to a file.
@@ -12,7 +11,6 @@
 
 mod auditing;
 mod callers;
-mod opening;
 mod stop;
 mod story;
 
@@ -20,12 +18,13 @@ ghost use Rattle.std.specs.Prelude.{◌≡◌};
 
 use crate::auditing::audited;
 use crate::callers::{Done, all_act};
-use crate::opening::{Opened, open_run};
 use crate::stop::Stop;
 use crate::story::{PROGRAM, WORLD};
 use flow_labels::TagNames;
 use seat_host::Closed;
+use seat_opening::{Opened, open_run};
 use std::alloc::Global;
+use std::mem::forget;
 use std::process::ExitCode;
 use std::sync::Wait;
 use std::thread::Threads;
@@ -47,11 +46,15 @@ fn main(rt: HostRuntime) -> ExitCode {
     }
 }
 
-/// What the callers saw, and the audit of their book.
+/// What the callers saw, and the audit of their book. What a refusal of the program or the world tells is left to the end of
+/// the process.
 fn service<R: Threads + Wait + Clock + Sync>(rt: &R, alloc: Global) -> Result<String, Stop> {
-    match open_run(alloc, PROGRAM, WORLD) {
+    match open_run(alloc, PROGRAM.as_bytes(), WORLD.as_bytes()) {
         Ok(opened) => served(rt, alloc, opened),
-        Err(stop) => Err(stop),
+        Err(halt) => {
+            forget(halt);
+            Err(Stop::NotOpened)
+        }
     }
 }
 

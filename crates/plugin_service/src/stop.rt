@@ -6,10 +6,8 @@ use want_of_memory::NoMemory;
 /// Why the program stops early.
 #[derive(Clone, Copy)]
 pub enum Stop {
-    /// The program is refused.
-    Program,
-    /// The world is refused.
-    World,
+    /// The program or the world is refused, or memory ran out while they were read.
+    NotOpened,
     /// A caller's thread can take no turn, and has not ended.
     Unfinished,
     /// The run is full.
@@ -26,8 +24,7 @@ impl Stop {
     /// The words for it.
     pub fn reason(self) -> &'static str {
         match self {
-            Stop::Program => "the program is refused",
-            Stop::World => "the world is refused",
+            Stop::NotOpened => "the run is not opened",
             Stop::Unfinished => "a thread waits without an end",
             Stop::Full => "the run is full",
             Stop::NotClosed => "the run is not closed",

@@ -1,0 +1,106 @@
+//! Opens shared runs: from the bytes of a program and of a world's document to a run whose turns callers take by seats.
+//!
+//! It is the first call of a program that embeds such a run. The bytes are compiled and read as the tool does it, without the
+//! barriers that test again, so they are refused for the same faults, and the tool replays the book of the run; `seat_host`
+//! has what comes then.
+#![tactic(auto)]
+
+ghost use Rattle.std.specs.Prelude.{◌≡◌, ◌≢◌, IfOk, IfErr};
+ghost use Rattle.lam_bytecode.specs.Codes.{IsCode};
+ghost use Rattle.lam_machine_terms.specs.Valid.{IsValid};
+ghost use Rattle.lam_main_plan.specs.Reading.{Thins};
+ghost use Rattle.lam_main_plan.specs.Replays.{NoStart};
+ghost use Rattle.lam_main_files.specs.Halts.{Finds};
+ghost use Rattle.seat_host.specs.Seats.{new_seat};
+ghost use Rattle.seat_opening.specs.Opens.{IsOpened, RunsFrom, Shares};
+
+use flow_labels::TagNames;
+use lam_bytecode::Code;
+use lam_machine_world::{World, let_go_code, let_go_world};
+use lam_main_files::{Halt, run_code_of};
+use lam_main_replay::start_in;
+use seat_host::{Seat, SeatRun};
+use std::alloc::Global;
+use want_of_memory::NoMemory;
+
+/// A shared run with no turns, a seat of it that has seen nothing, and the names of its tags.
+pub struct Opened {
+    pub run: SeatRun,
+    pub seat: Seat,
+    pub names: TagNames,
+}
+
+/// A shared run of the program that bytes spell, from the world of a document.
+///
+/// # Errors
+///
+/// A refusal with the first fault of the program, with its first unit that is too long, or with the first break of the
+/// document, in this order; `NoMemory`.
+pub fn open_run(alloc: Global, program: &[u8], world: &[u8]) -> Result<Opened, Halt>
+    ensures finds { Finds result (IsOpened program.now world.now) (Thins (λ code. NoStart code world.now) program.now) }
+    ensures seat { IfOk result (λ o. o.seat ≡ new_seat o.run) }
+    ensures no_fault { IfErr result (λ halt. halt ≢ Halt.ShelfFailed) }
+{
+    match run_code_of(alloc, program) {
+        Ok(code) => run_code(alloc, code, world),
+        Err(halt) => Err(halt),
+    }
+}
+
+/// A shared run of a code, from the world of a document.
+fn run_code(alloc: Global, code: Code, world: &[u8]) -> Result<Opened, Halt>
+    requires { IsCode code }
+    ensures finds { Finds result (RunsFrom code world.now) (NoStart code world.now) }
+    ensures seat { IfOk result (λ o. o.seat ≡ new_seat o.run) }
+    ensures no_fault { IfErr result (λ halt. halt ≢ Halt.ShelfFailed) }
+{
+    match start_in(alloc, &code, world) {
+        Ok(start) => shared_or_none(alloc, code, start),
+        Err(halt) => {
+            let_go_code(code);
+            Err(halt)
+        }
+    }
+}
+
+/// A shared run of a code from a world, or want of memory as the tool says it.
+fn shared_or_none(alloc: Global, code: Code, start: World) -> Result<Opened, Halt>
+    requires code { IsCode code }
+    requires valid { IsValid start }
+    ensures shares { IfOk result (Shares code start) }
+    ensures err { IfErr result (λ halt. halt ≡ Halt.NoMemory) }
+{
+    match shared(alloc, code, start) {
+        Ok(opened) => Ok(opened),
+        Err(_) => Err(Halt::NoMemory),
+    }
+}
+
+/// A shared run of a code from a world.
+fn shared(alloc: Global, code: Code, start: World) -> Result<Opened, NoMemory>
+    requires code { IsCode code }
+    requires valid { IsValid start }
+    ensures { IfOk result (Shares code start) }
+{
+    match start.stores().names.copy() {
+        Ok(names) => seated(alloc, code, start, names),
+        Err(error) => {
+            let_go_code(code);
+            let_go_world(start);
+            Err(error)
+        }
+    }
+}
+
+/// A shared run of a code from a world, with the names of its tags.
+fn seated(alloc: Global, code: Code, start: World, names: TagNames) -> Result<Opened, NoMemory>
+    requires code { IsCode code }
+    requires valid { IsValid start }
+    requires names { names ≡ start.names }
+    ensures { IfOk result (Shares code start) }
+{
+    match SeatRun::new(alloc, code, start) {
+        Ok((run, seat)) => Ok(Opened { run, seat, names }),
+        Err(error) => Err(error),
+    }
+}
