@@ -1,0 +1,4 @@
+pub mod Opened
+pub mod ExprForms
+pub mod StmtForms
+pub mod Signing

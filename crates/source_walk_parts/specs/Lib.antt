@@ -1,0 +1,4 @@
+pub mod Weights
+pub mod States
+pub mod Controls
+pub mod Accesses
