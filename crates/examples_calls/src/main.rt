@@ -3,8 +3,9 @@
 //!
 //! A line of `calls` is what stands at a terminal: `lam` and the words of the call, each after one space, so that a
 //! second space begins an empty word. It is printed after `$ `, then what the call prints, and then the number of its
-//! status. A line that is empty or begins with `#` is printed as it is. The calls are made from the first to the last,
-//! so that one can read the book that another has written.
+//! status. A line `cat NAME` is printed so, too, and then the text of that file and the end of a line. A line that is
+//! empty or begins with `#` is printed as it is. The calls are made from the first to the last, so that one can read the
+//! book that another has written.
 //!
 //! The program ends with 0 where it made each call, however these ended, and else with the status of what failed.
 #![tactic(auto)]
@@ -19,7 +20,7 @@ use std::thread::Threads;
 /// The name of the file of the calls.
 const CALLS: &str = "calls";
 
-/// The greatest length of that file.
+/// The greatest length of a file that is read here.
 const LONGEST: u64 = 1_048_576;
 
 fn main(rt: HostRuntime) -> ExitCode {
@@ -42,6 +43,8 @@ fn make_calls<R: Threads + Wait + Sync + AllocGlobal, H: Shelf, O: Sink>(
         if line.is_empty() || line.starts_with('#') {
             print(out, line)?;
             print(out, "\n")?;
+        } else if let Some(name) = line.strip_prefix("cat ") {
+            print_file(rt.alloc(), line, name, shelf, out)?;
         } else {
             make_call(rt, line, shelf, out)?;
         }
@@ -49,9 +52,30 @@ fn make_calls<R: Threads + Wait + Sync + AllocGlobal, H: Shelf, O: Sink>(
     Ok(())
 }
 
+/// Prints a line that asks for a file, and the text of the file.
+fn print_file<H: Shelf, O: Sink>(
+    alloc: Global,
+    line: &str,
+    name: &str,
+    shelf: &mut H,
+    out: &mut O,
+) -> Result<(), Status> {
+    print(out, "$ ")?;
+    print(out, line)?;
+    print(out, "\n")?;
+    let text = text_of(alloc, name, shelf)?;
+    print(out, text.as_str())?;
+    print(out, "\n")
+}
+
 /// The text of the file of the calls.
 fn text_of_calls<H: Shelf>(alloc: Global, shelf: &mut H) -> Result<String, Status> {
-    match shelf.read(alloc, CALLS, LONGEST) {
+    text_of(alloc, CALLS, shelf)
+}
+
+/// The text of a file.
+fn text_of<H: Shelf>(alloc: Global, name: &str, shelf: &mut H) -> Result<String, Status> {
+    match shelf.read(alloc, name, LONGEST) {
         Ok(Got::Found(bytes)) => String::from_utf8(bytes).map_err(|_| Status::Words),
         Ok(Got::Absent) | Ok(Got::TooLong) => Err(Status::Missing),
         Err(ShelfFault::Failed) => Err(Status::ShelfFault),
