@@ -1,0 +1,154 @@
+#!/usr/bin/env python3
+"""Times the proved program on inputs that are within the limits and take it longest, and prints a table for docs/MEASURED.md.
+
+Usage: tools/limits.py [WORD ..]      (the rows whose name has one of the words; all of them where none is given)
+       LAM=PROGRAM tools/limits.py    (another program than crates/lam/out/lam)
+
+Each input is made anew in a temporary folder, and each call is made once: these take seconds. A row has the processor
+seconds of the call, the most memory that it held, and how it ended.
+"""
+import json
+import os
+import subprocess
+import sys
+import tempfile
+
+HERE = os.path.dirname(os.path.abspath(__file__))
+LAM = os.path.abspath(os.environ.get('LAM') or os.path.join(HERE, '..', 'crates', 'lam', 'out', 'lam'))
+MILLION = '1000000'
+
+
+def thread(args=(), plus=(), minus=(), function='main'):
+    return {'run': function, 'args': list(args), 'caps': {'plus': list(plus), 'minus': list(minus)}}
+
+
+def world(threads, tags=(), tree=()):
+    return json.dumps({'version': 1, 'tags': list(tags), 'tree': list(tree), 'pipes': [], 'threads': threads})
+
+
+def bare(text):
+    """A program that one thread runs on nothing."""
+    return {'P': text, 'W': world([thread()])}
+
+
+def waiting():
+    return bare('class C { v: int; }\n'
+                'fn wait(c: C): int { sync (c) { } return 0; }\n'
+                'fn main(): int {\n  let c: C = new C();\n  let n: int = 0;\n'
+                '  sync (c) {\n    while (n < 4094) { spawn(caps{}) wait(c); n = n + 1; }\n'
+                '    while (true) { say("x"); }\n  }\n  return 0;\n}\n')
+
+
+def many_tags():
+    tags = [f't{n}' for n in range(60_000)]
+    label = '{' + ','.join(tags) + '}/{}'
+    text = ('class C { v: int; }\nfn main(): int {\n'
+            '  region (label_of(open_file(root(), "f")), caps{}) [] {\n'
+            '    let c: C = new C();\n    while (true) { c.v = c.v + 1; }\n  } catch (e) { }\n  return 0;\n}\n')
+    return {'P': text, 'W': world([thread(plus=tags)], tags, [{'path': 'f', 'label': label, 'text': ''}])}
+
+
+def last_region(which):
+    regions = ''.join('  region (label{;}, caps{}) [] { } catch (e) { }\n' for _ in range(4095))
+    loop = '  while (true) { region (label{;}, caps{}) [] { } catch (e) { } }\n'
+    return bare('fn others(): int {\n' + regions + '  return 0;\n}\nfn main(): int {\n' + loop + '  return 0;\n}\n'
+                if which == 'last' else 'fn main(): int {\n' + loop + '  return 0;\n}\nfn others(): int {\n' + regions + '  return 0;\n}\n')
+
+
+def minting():
+    return bare('fn main(): int { let n: int = 0; while (n < 65000) { mint(); n = n + 1; } return 0; }\n')
+
+
+def holding(body):
+    tags = [f't{n}' for n in range(60_000)]
+    return {'P': 'fn idle(): int { return 0; }\nfn main(): int {\n  let n: int = 0;\n' + body + '  return 0;\n}\n', 'W': world([thread(plus=tags)], tags)}
+
+
+def reading():
+    tree = [{'path': 'f', 'label': '{}/{}', 'text': 'x' * 65_536}]
+    text = 'fn main(): int { let f: file = open_file(root(), "f"); while (true) { read(f, 0, 65536); } return 0; }\n'
+    return {'P': text, 'W': world([thread()], (), tree)}
+
+
+def byte_values():
+    double = '  let b: bytes = "x";\n  let n: int = 0;\n  while (n < 16) { b = cat(b, b); n = n + 1; }\n'
+    text = ('fn main(): int {\n' + double + '  let a: [bytes] = new [bytes](25000);\n  n = 0;\n'
+            '  while (n < 25000) { a[n] = b; n = n + 1; }\n  return 0;\n}\n')
+    return bare(text)
+
+
+def byte_frames():
+    double = '  let b: bytes = "x";\n  let n: int = 0;\n  while (n < 16) { b = cat(b, b); n = n + 1; }\n'
+    names = ', '.join(f'b{n}: bytes' for n in range(60))
+    args = ', '.join(f'b{n}' for n in range(60))
+    text = (f'fn deep(n: int, {names}): int {{ if (n == 0) {{ return 0; }} return deep(n - 1, {args}); }}\n'
+            'fn main(): int {\n' + double + '  return deep(200, ' + ', '.join(['b'] * 60) + ');\n}\n')
+    return bare(text)
+
+
+def removing():
+    text = ('fn main(): int {\n  let n: int = 0;\n  while (n < 4090) { make_file(root(), text(n), label{;}); n = n + 1; }\n'
+            '  n = 0;\n  while (true) {\n    remove(root(), text(n));\n    make_file(root(), text(n), label{;});\n'
+            '    n = n + 1;\n    if (n == 4090) { n = 0; }\n  }\n  return 0;\n}\n')
+    return bare(text)
+
+
+LOOP = ('  while (i < len(ys)) {\n    if (ys[i] > x && i % 2 == 0) {\n      sum = sum + ys[i] * 3 - (x - 1);\n'
+        '    } else {\n      sum = sum - 1;\n    }\n    i = i + 1;\n  }\n')
+
+
+def mebibyte():
+    parts, total = [], 0
+    while total < 1_045_000:
+        parts.append(f'fn f{len(parts)}(x: int, ys: [int]): int {{\n  let sum: int = 0;\n  let i: int = 0;\n{LOOP * 6}  return sum;\n}}\n\n')
+        total += len(parts[-1])
+    return {'P': ''.join(parts)}
+
+
+def run(turns=MILLION):
+    return ['run', 'P', 'W', '{}/{}', 'B', '--workers', '1', '--turns', turns]
+
+
+ROWS = [
+    ('4,094 threads that wait, one that speaks, 1,000,000 turns', waiting, run()),
+    ('a label of 60,000 tags, accesses, 400,000 turns', many_tags, run('400000')),
+    ('entering the first of 4,096 regions, 1,000,000 turns', lambda: last_region('first'), run()),
+    ('entering the last of 4,096 regions, 1,000,000 turns', lambda: last_region('last'), run()),
+    ('`mint()` 65,000 times', minting, run()),
+    ('60,000 capabilities held, 4,000 spawns that pass all',
+     lambda: holding('  while (n < 4000) { spawn(my_caps()) idle(); n = n + 1; }\n'), run()),
+    ('60,000 capabilities held, 40,000 regions that pass all',
+     lambda: holding('  while (n < 40000) { region (label{;}, my_caps()) [] { } catch (e) { } n = n + 1; }\n'), run()),
+    ('`read` of 64 KB in a loop, seen, 300,000 turns', reading, run('300000')),
+    ('an array of 25,000 byte values of 64 KB', byte_values, run()),
+    ('200 frames with 60 byte values of 64 KB', byte_frames, run()),
+    ('removing and making the first of 4,090 entries, 1,000,000 turns', removing, run()),
+    ('`check` of a mebibyte', mebibyte, ['check', 'P']),
+    ('`format` of a mebibyte', mebibyte, ['format', 'P']),
+]
+
+
+def taken(files, words):
+    """The processor seconds of a call, its most memory in MB, and how it ended."""
+    with tempfile.TemporaryDirectory() as room:
+        for name, text in files.items():
+            with open(os.path.join(room, name), 'w', encoding='utf-8') as file:
+                file.write(text)
+        done = subprocess.Popen([LAM] + words, cwd=room, stdout=subprocess.DEVNULL)
+        _, status, used = os.wait4(done.pid, 0)
+        done.returncode = os.waitstatus_to_exitcode(status)
+    return used.ru_utime + used.ru_stime, used.ru_maxrss / 1024, done.returncode
+
+
+def main():
+    wanted = sys.argv[1:]
+    print('| input | seconds | MB | status |')
+    print('|---|---|---|---|')
+    for name, files, words in ROWS:
+        if not wanted or any(word in name for word in wanted):
+            seconds, most, status = taken(files(), words)
+            print(f'| {name} | {seconds:.2f} | {most:.0f} | {status} |', flush=True)
+
+
+if __name__ == '__main__':
+    main()
