@@ -1,7 +1,9 @@
 -- laws of lists of names
 use Rattle.std.proofs.lemmas.List.{take_more, length-map, get_or-map}
 use Rattle.std.proofs.Common.{◌≡◌, ℕ, ◌+◌, ◌<◌, Bool, true, false, cond, ◌||◌, ◌&&◌, ltb, leb, lit<, List, [], ◌∷◌, ◌++◌, Some, None, map, refl, sym, ap, subst, ◌∙◌, length, take, get_or, zero, suc, arith}
-use Rattle.std.specs.HashMap.{HashMap, get_by_text}
+use Rattle.std.specs.BTreeMap.{BTreeMap, get_by_text, is_at}
+use Rattle.std.specs.Cmp.Lexicographic.{slice_cmp}
+use Rattle.std.specs.Ordering.{nat_cmp}
 use Rattle.std.specs.Map.{lookup, update}
 use Rattle.std.specs.Str.{bytes_eq, IsUtf8}
 use Rattle.std.specs.Prelude.{String, string_bytes}
@@ -81,26 +83,26 @@ place_push ns n text none =
           position_from-zero (bytes_eq text) ns ∙ sym (found_before (bytes_eq text) 0 ns n (bytes_eq_sym text n ∙ e)) ∙ sym (position_from-zero (bytes_eq text) (ns ++ n ∷ []))
     ] refl
 
-module _ {A S : Type 0} where
+module _ {A : Type 0} where
   -- no names, with a map that has nothing
-  pub kept_none : (tags : HashMap (String A) ℕ S) (ns : List (List ℕ)) → tags.entries ≡ [] → ns ≡ [] → AreKept tags ns
+  pub kept_none : (tags : BTreeMap (String A) ℕ) (ns : List (List ℕ)) → tags.entries ≡ [] → ns ≡ [] → AreKept tags ns
   kept_none tags ns empty none = record {
     named = AreNames_same [] ns (sym none) tt;
-    found = λ text. ap (lookup (λ k. bytes_eq text (string_bytes k))) empty ∙ ap (λ ms. place_of ms text) (sym none);
+    found = λ text. ap (lookup (is_at (λ k. slice_cmp nat_cmp text (string_bytes k)))) empty ∙ ap (λ ms. place_of ms text) (sym none);
   }
 
   -- a new name, kept after the others
-  pub kept_push : (old new : HashMap (String A) ℕ S) (ns all : List (List ℕ)) (n : List ℕ) (tag : ℕ) → AreKept old ns → is_name n ≡ true → place_of ns n ≡ None → tag ≡ length ns → all ≡ ns ++ n ∷ [] → ((text : List ℕ) → get_by_text new text ≡ update bytes_eq (get_by_text old) n (Some tag) text) → AreKept new all
+  pub kept_push : (old new : BTreeMap (String A) ℕ) (ns all : List (List ℕ)) (n : List ℕ) (tag : ℕ) → AreKept old ns → is_name n ≡ true → place_of ns n ≡ None → tag ≡ length ns → all ≡ ns ++ n ∷ [] → ((text : List ℕ) → get_by_text new text ≡ update bytes_eq (get_by_text old) n (Some tag) text) → AreKept new all
   kept_push old new ns all n tag kept is none last made put = record {
     named = AreNames_push ns all n kept.named is none made;
     found = λ text. put text ∙ (λ i. cond (bytes_eq n text) (Some (last i)) (kept.found text i)) ∙ place_push ns n text none ∙ ap (λ ms. place_of ms text) (sym made);
   }
 
   -- the same names, with a map that finds the same
-  pub kept_same : (old new : HashMap (String A) ℕ S) (ms ns : List (List ℕ)) → AreKept old ms → new.entries ≡ old.entries → ns ≡ ms → AreKept new ns
+  pub kept_same : (old new : BTreeMap (String A) ℕ) (ms ns : List (List ℕ)) → AreKept old ms → new.entries ≡ old.entries → ns ≡ ms → AreKept new ns
   kept_same old new ms ns kept same e = record {
     named = AreNames_same ms ns (sym e) kept.named;
-    found = λ text. ap (lookup (λ k. bytes_eq text (string_bytes k))) same ∙ kept.found text ∙ ap (λ ls. place_of ls text) (sym e);
+    found = λ text. ap (lookup (is_at (λ k. slice_cmp nat_cmp text (string_bytes k)))) same ∙ kept.found text ∙ ap (λ ls. place_of ls text) (sym e);
   }
 
 -- ---- copying

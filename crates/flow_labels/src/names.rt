@@ -4,7 +4,7 @@
 //! world runs have no name; a text shows them as `#` and their number.
 
 ghost use Rattle.std.specs.Prelude.{◌≡◌, ℕ, List, ◌++◌, ◌∷◌, [], length, true, false, IsSome, OnOk, OnErr, IfOk, IsErrOf, ◌↔◌, slice_get, None, Some};
-ghost use Rattle.std.specs.HashMap.{get_by_text};
+ghost use Rattle.std.specs.BTreeMap.{get_by_text};
 ghost use Rattle.std.specs.Option.{option_copied};
 ghost use Rattle.std.specs.List.{list_all};
 ghost use Rattle.std.specs.Map.{update};
@@ -13,7 +13,7 @@ ghost use Rattle.flow_labels.specs.Names.{is_letter, is_word, is_name, place_of}
 ghost use Rattle.flow_labels.specs.declared.names.NameFault.TheVariants.{NoMemory as no_memory};
 
 use std::alloc::{AllocError, AllocFailed, Global};
-use std::collections::HashMap;
+use std::collections::BTreeMap;
 use std::marker::Model;
 use std::str;
 use tag_sets::{NoMemory, TagId};
@@ -55,11 +55,12 @@ impl<T: Drop> From<AllocFailed<T>> for NameFault {
 
 /// The names of the tags, all different. The name at place n is that of tag n.
 ///
-/// Each text stands twice: at its place, and as the key at which its tag is found.
+/// Each text stands twice: at its place, and as the key at which its tag is found, in the order of texts: no choice of names
+/// makes that slow.
 #[derive(Drop)]
 pub struct TagNames {
     texts: Vec<String>,
-    tags: HashMap<String, TagId>,
+    tags: BTreeMap<String, TagId>,
 }
 
 impl Model for TagNames {
@@ -80,7 +81,7 @@ impl TagNames {
     {
         TagNames {
             texts: Vec::new(alloc),
-            tags: HashMap::new(alloc),
+            tags: BTreeMap::new(alloc),
         }
     }
 
@@ -174,7 +175,7 @@ impl TagNames {
 
 /// Lets a name have a tag. After an error nothing has changed.
 fn put_tag(
-    tags: &mut HashMap<String, TagId>,
+    tags: &mut BTreeMap<String, TagId>,
     alloc: Global,
     name: &str,
     tag: TagId,

@@ -1,21 +1,27 @@
-//! Byte strings.
+//! Byte strings, whose copies share their bytes.
 
-ghost use Rattle.std.specs.Prelude.{◌≡◌, ℕ, List, IsTrue, ◌↔◌, IfOk};
+ghost use Rattle.std.specs.Prelude.{◌≡◌, IsTrue, ◌↔◌, IfOk};
+ghost use Rattle.std.specs.Arc.{arc_slice_items};
 
 use lam_value_homes::NoMemory;
 use std::alloc::Global;
 use std::marker::Model;
+use std::sync::ArcSlice;
 
-/// A string of bytes, whatever bytes they are.
+/// A string of bytes, whatever bytes they are. It is made once, and its copies share the bytes.
 #[derive(Drop)]
 pub struct ByteText {
-    bytes: Vec<u8>,
+    alloc: Global,
+    bytes: ArcSlice<u8>,
 }
 
 impl Model for ByteText {
+    ghost use Rattle.std.specs.Prelude.{ℕ, List};
+    ghost use Rattle.std.specs.Arc.{arc_slice_items};
+
     ghost Value = { List ℕ };
 
-    ghost view = { λ t. t.bytes.items };
+    ghost view = { λ t. arc_slice_items t.bytes };
 }
 
 impl ByteText {
@@ -27,15 +33,21 @@ impl ByteText {
     pub fn from_slice(alloc: Global, bytes: &[u8]) -> Result<ByteText, NoMemory>
         ensures { IfOk result (λ t. t ≡ bytes.now) }
     {
-        let bytes = Vec::from_slice(alloc, bytes)?;
-        Ok(ByteText { bytes })
+        let bytes = ArcSlice::from_slice(alloc, bytes)?;
+        Ok(ByteText { alloc, bytes })
     }
 
     /// The text that a buffer holds, which is not copied.
-    pub fn from_vec(bytes: Vec<u8>) -> ByteText
-        ensures { result ≡ bytes.items }
+    ///
+    /// # Errors
+    ///
+    /// `NoMemory` where memory is refused.
+    pub fn from_vec(bytes: Vec<u8>) -> Result<ByteText, NoMemory>
+        ensures { IfOk result (λ t. t ≡ bytes.items) }
     {
-        ByteText { bytes }
+        let alloc = *bytes.allocator();
+        let bytes = ArcSlice::from_vec(bytes)?;
+        Ok(ByteText { alloc, bytes })
     }
 
     /// The bytes of the text.
@@ -47,18 +59,22 @@ impl ByteText {
 
     /// The allocator that the text keeps.
     pub fn allocator(&self) -> Global {
-        *self.bytes.allocator()
+        self.alloc
     }
 
-    /// An equal text.
+    /// An equal text, which shares its bytes with this one: no memory is taken.
     ///
     /// # Errors
     ///
-    /// `NoMemory` where memory is refused.
+    /// `NoMemory` where the text has 2 ^ 63 copies.
     pub fn copy(&self) -> Result<ByteText, NoMemory>
         ensures { IfOk result (λ t. t ≡ self.now) }
     {
-        ByteText::from_slice(*self.bytes.allocator(), self.bytes.as_slice())
+        let bytes = self.bytes.clone()?;
+        Ok(ByteText {
+            alloc: self.alloc,
+            bytes,
+        })
     }
 
     /// Whether two texts are equal.

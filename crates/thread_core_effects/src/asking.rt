@@ -277,7 +277,7 @@ fn joined(alloc: Global, a: &[u8], b: &[u8]) -> Result<Value, NoMemory>
 {
     let mut bytes = Vec::from_slice(alloc, a)?;
     bytes.extend_from_slice(b)?;
-    Ok(Value::Bytes(ByteText::from_vec(bytes)))
+    Ok(Value::Bytes(ByteText::from_vec(bytes)?))
 }
 
 fn text_of(alloc: Global, n: i64) -> Result<Value, NoMemory>
@@ -285,7 +285,7 @@ fn text_of(alloc: Global, n: i64) -> Result<Value, NoMemory>
 {
     let mut bytes = Vec::new(alloc);
     push_int_bytes(&mut bytes, n)?;
-    Ok(Value::Bytes(ByteText::from_vec(bytes)))
+    Ok(Value::Bytes(ByteText::from_vec(bytes)?))
 }
 
 fn copied(alloc: Global, bytes: &[u8]) -> Result<Value, NoMemory>
