@@ -1,0 +1,6 @@
+mod Sorts
+mod Programs
+mod Beginnings
+mod Telling
+mod Starting
+mod Counted

@@ -1,0 +1,9 @@
+pub mod Standing
+pub mod Lists
+pub mod Along
+pub mod StepLaws
+pub mod Given
+pub mod Replies
+pub mod GoesBy
+pub mod Compared
+pub mod Beginning
