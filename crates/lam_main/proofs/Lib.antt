@@ -1,3 +1,4 @@
 pub mod PrintLemmas
 pub mod EndLemmas
 pub mod WordLemmas
+pub mod DoneLemmas

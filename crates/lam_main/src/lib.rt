@@ -1,13 +1,13 @@
 //! The tool as one call: [`lam`] takes the words of the command line, a file store, an output stream and a
 //! scheduler's hook, and gives the status that the process ends with.
 //!
-//! Its contract is the tool's. The *plan* of the words and the files (`lam_main_plan`) says what is printed, which file is
-//! written and how the call ends where nothing fails; the call answers to it, unless memory runs out or the file
+//! Its contract is the tool's. The *plan* of the words and the files (`lam_main_plan`) says what is printed, which file
+//! is written and how the call ends where nothing fails; the call answers to it, unless memory runs out or the file
 //! store or the output fails, which is answered only where its count of faults rose in the call. `lam_main_words` tells
-//! which command is asked; `lam_main_files`, `lam_main_replay`, `lam_main_threads`, `lam_main_pair` and
-//! `lam_main_next` read the files that it names, run its threads and make its text; and `print` prints that or the line of
-//! a refusal. The program `lam` calls it with the current folder and standard output, and tests with a store and a stream
-//! in memory (`lam_io`).
+//! which command is asked; `lam_main_files`, `lam_main_replay`, `lam_main_threads`, `lam_main_pair`, `lam_main_next`
+//! and `lam_main_walk` read the files that it names, run its threads and make its text; and `print` prints that or the
+//! line of a refusal. The program `lam` calls it with the current folder and standard output, and tests with a store
+//! and a stream in memory (`lam_io`).
 //!
 //! What `format` prints is read again as the same program, and printed the same, under two conditions: the depth sum of
 //! the printed text passes its limit at no token, and its length does not pass that of a program file
@@ -31,6 +31,7 @@ ghost use Rattle.lam_main_laws.specs.Orderly.{OrderlyCallsAreDone, OrderlyRunsEn
 ghost use Rattle.lam_main_laws.specs.Meant.{CallsRunAsMeant};
 ghost use Rattle.lam_main_laws.specs.Pairs.{PairsAreTold};
 ghost use Rattle.lam_main_laws.specs.Saves.{SavesAreTold};
+ghost use Rattle.lam_main_laws.specs.Walks.{WalksAreTold};
 ghost use Rattle.lam_main_files.specs.Halts.{Says, Gives, Reports};
 ghost use Rattle.lam_main_threads.specs.Asked.{reader_of};
 ghost use Rattle.lam_main.specs.Ends.{Ends};
@@ -44,11 +45,13 @@ use lam_main_laws::{
     fronts_are_printed, generated_runs_are_recorded, makes_are_complete, makes_end,
     orderly_calls_are_done, orderly_runs_end, pairs_are_told, refusals_are_exact,
     replays_are_isolated, runs_are_complete, runs_are_recorded, runs_end_in_order, saves_are_told,
+    walks_are_told,
 };
 use lam_main_next::next;
 use lam_main_pair::pair;
 pub use lam_main_plan::Status;
 use lam_main_threads::{Bounds, Reader, RunFiles, ThreadFiles, make, replay, run};
+use lam_main_walk::walk;
 pub use lam_main_words::{Command, WordFault, help_text, read_words};
 use lam_print_laws::{
     canonical_text_is_lexed, canonical_text_is_read_as_the_tree, canonical_text_is_steady,
@@ -140,6 +143,9 @@ pub fn lam<R: Threads + Wait + Sync, H: Shelf, O: Sink, G: Gate + Sync>(
     // there is no such document.
     ensures saved { SavesAreTold (map string_bytes words.now) (H.files shelf.old) }
 
+    // What `walk` prints is how many asks stand in its run, and the source of the program makes each of them.
+    ensures walked { WalksAreTold (map string_bytes words.now) (H.files shelf.old) }
+
     // What is printed of a program is read as that program.
     ensures steady { FormatIsSteady (map string_bytes words.now) (H.files shelf.old) }
 {
@@ -161,6 +167,7 @@ pub fn lam<R: Threads + Wait + Sync, H: Shelf, O: Sink, G: Gate + Sync>(
     calls_run_as_meant();
     pairs_are_told();
     saves_are_told();
+    walks_are_told();
     canonical_text_is_lexed();
     canonical_text_is_read_as_the_tree();
     canonical_text_is_steady();
@@ -301,6 +308,11 @@ fn shown_answer<H: Shelf>(alloc: Global, command: Command, shelf: &mut H) -> Res
             let second = run_files(second_world, second_book);
             pair(alloc, shelf, program, first, second, PAIR_OBSERVER, obs)
         }
+        Command::Walk {
+            program,
+            world,
+            book,
+        } => walk(alloc, shelf, program, RunFiles { world, book }),
         _ => unreachable!(),
     }
 }

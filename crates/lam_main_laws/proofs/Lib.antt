@@ -20,4 +20,5 @@ pub mod Meaning
 pub mod Orderly
 pub mod FrontLemmas
 pub mod PairLemmas
+pub mod WalkLemmas
 pub mod SaveLemmas

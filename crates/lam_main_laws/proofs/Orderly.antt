@@ -22,10 +22,11 @@ use Rattle.lam_main_plan.proofs.FormatLemmas.{planned}
 use Rattle.lam_main_plan.proofs.ReadLemmas.{program_then}
 use Rattle.lam_main_laws.specs.Headline.{IsRunEnd, MakesBreakOff, RunsAreComplete}
 use Rattle.lam_main_laws.specs.Complete.{MakesAreComplete}
-use Rattle.lam_main_laws.specs.Orderly.{IsUnfailed, IsOrderly, plays, checks, formats, lists, replays, audits, helps, pairs, saves, OrderlyCallsAreDone, OrderlyRunsEnd, MakesEnd, IsRefusedAs, RefusalsAreExact}
+use Rattle.lam_main_laws.specs.Orderly.{IsUnfailed, IsOrderly, plays, checks, formats, lists, replays, audits, helps, pairs, walks, saves, OrderlyCallsAreDone, OrderlyRunsEnd, MakesEnd, IsRefusedAs, RefusalsAreExact}
 use Rattle.lam_main_laws.proofs.CallLemmas.{Did, did, broken_did, broken_front, does_run, keeps_run}
 use Rattle.lam_main_laws.proofs.ReplayLemmas.{view_printed, audit_printed}
 use Rattle.lam_main_laws.proofs.PairLemmas.{pair_planned}
+use Rattle.lam_main_laws.proofs.WalkLemmas.{walk_planned}
 use Rattle.lam_main_laws.proofs.SaveLemmas.{save_planned, save_done}
 
 -- ---- what the call did
@@ -73,6 +74,7 @@ module _ (stops : (tree : CodeTree) → RunsStop tree) where
   orderly_plan one ws files plan (audits tree start turns r) is = orderly_text one ws files plan (record { text = audit_lines start.names (moments tree turns start); is = audit_printed ws files tree start turns (stops tree) r; alone = ap leaves_open r.asks }) is
   orderly_plan one ws files plan (helps ask) is = orderly_text one ws files plan (asks ws files help (help_lines commands) ask refl refl) is
   orderly_plan one ws files plan (pairs tree o s turns s' turns' a) is = ap (λ (it : Plan). it.status) (pair_planned ws files tree o s turns s' turns' plan (stops tree) a is).is
+  orderly_plan one ws files plan (walks tree start turns a) is = ap (λ (it : Plan). it.status) (walk_planned ws files tree start turns plan (stops tree) a is).tells.is
   orderly_plan one ws files plan (saves tree start turns a can) is = save_done a.out a.holds.starts.bytes tree start turns plan can (save_planned ws files tree start turns plan (stops tree) a is)
 
   pub orderly_done : PlansAreOne → (ws : List Text) (status : Status) (old new : Outside) → IsPlanned status (IsPlan ws old.files) old new → OrderlyCallsAreDone ws status old

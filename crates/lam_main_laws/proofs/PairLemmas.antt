@@ -6,7 +6,6 @@ use Rattle.flow_labels.specs.declared.texts.LabelFault.{LabelFault}
 use Rattle.lam_io.specs.Outside.{Files}
 use Rattle.lam_bytecode.specs.Codes.{CodeTree}
 use Rattle.lam_machine_terms.specs.Worlds.{World}
-use Rattle.lam_machine_terms.specs.Turns.{moments}
 use Rattle.lam_machine_terms.specs.Valid.{IsValid}
 use Rattle.lam_machine_runs.specs.Runs.{RunsStop}
 use Rattle.lam_machine_runs.specs.Stops.{NotReady, stopped_at}
@@ -17,13 +16,13 @@ use Rattle.world_doc_terms.specs.Start.{start_of}
 use Rattle.world_doc_laws.specs.Starts.{TextsStart}
 use Rattle.lam_main_words.specs.Words.{Text, Request, pair}
 use Rattle.lam_main_plan.specs.Refusals.{Plan}
-use Rattle.lam_main_plan.specs.Reading.{HasFile, WithFile, IsRunCode, program_limit, world_limit, book_limit}
+use Rattle.lam_main_plan.specs.Reading.{HasFile, IsRunCode, program_limit, world_limit, book_limit}
 use Rattle.lam_main_plan.specs.Replays.{RunFiles, ByWorld}
 use Rattle.lam_main_plan.specs.Books.{WithStart, WithRun, ByLabel, ByTurns, WhereReady}
 use Rattle.lam_main_plan.specs.Pairs.{IsOfPair, PairsWith, PairsRuns, Pairs}
 use Rattle.lam_main_plan.specs.Plan.{IsPlan, IsPlanOf}
 use Rattle.lam_main_laws.specs.Calls.{HoldRun}
-use Rattle.lam_main_laws.specs.Pairs.{AsksPair, TellsPair, PairsAreTold}
+use Rattle.lam_main_laws.specs.Pairs.{AsksPair, PairsAreTold}
 use Rattle.lam_main_laws.proofs.PlanLemmas.{of_bytes, of_code, of_world}
 use Rattle.lam_main_laws.proofs.ReplayLemmas.{never_stops}
 

@@ -1,23 +1,30 @@
 -- From what files hold to what `next` does.
-use Rattle.std.proofs.Common.{◌≡◌, ◌<◌, ◌≤◌, List, ℕ, Option, Some, None, Result, Ok, length, sym, ap, subst, ◌∙◌, arith}
+use Rattle.std.proofs.Common.{◌≡◌, ◌<◌, ◌≤◌, List, [], ℕ, Option, Some, None, Result, Ok, length, sym, ap, subst, ◌∙◌, arith}
 use Rattle.lam_io.specs.Outside.{Files}
-use Rattle.lam_bytecode.specs.Codes.{CodeTree}
+use Rattle.lam_bytecode.specs.Codes.{CodeTree, IsCode}
+use Rattle.thinned_code.specs.Facts.{StaysCode}
 use Rattle.lam_machine_terms.specs.Worlds.{World}
+use Rattle.lam_machine_terms.specs.Turns.{replay}
 use Rattle.lam_machine_runs.specs.Runs.{RunsStop}
 use Rattle.world_doc_terms.specs.Start.{start_of}
 use Rattle.lam_main_words.specs.Words.{Text, Request, next}
-use Rattle.lam_main_plan.specs.declared.Status.{Status}
 use Rattle.lam_main_plan.specs.declared.Status.TheVariants.{Done}
 use Rattle.lam_main_plan.specs.Refusals.{Plan}
 use Rattle.lam_main_plan.specs.Reading.{IsRunCode, program_limit, world_limit}
 use Rattle.lam_main_plan.specs.Replays.{RunFiles, ByWorld}
 use Rattle.lam_main_plan.specs.Books.{WithRun}
-use Rattle.lam_main_plan.specs.Saves.{IsOfFiles, saved, unnamed, untold, too_long, IsOfEnd, SavesRun, Saves}
+use Rattle.lam_main_plan.specs.Saves.{saved, unnamed, untold, too_long, IsOfEnd, SavesRun, Saves}
 use Rattle.lam_main_plan.specs.Plan.{IsPlan, IsPlanOf}
-use Rattle.lam_main_laws.specs.Saves.{AsksNext, CanBeSaved, SavesAreTold}
+use Rattle.world_save_files.specs.Saved.{IsTextOf}
+use Rattle.world_save_reads.specs.Runs.{IsSavedRun}
+use Rattle.world_save_reads.proofs.ReadLemmas.{next_read}
+use Rattle.world_save_reads.proofs.RunLemmas.{starts_agree}
+use Rattle.lam_main_laws.specs.Calls.{HoldRun}
+use Rattle.lam_main_laws.specs.Saves.{AsksNext, CanBeSaved, SavesAreTold, NextWorldsAreRead, WritesNext, NextStartsAgree}
 use Rattle.lam_main_laws.proofs.PlanLemmas.{of_bytes, of_code, of_world}
 use Rattle.lam_main_laws.proofs.PairLemmas.{of_run}
 use Rattle.lam_main_laws.proofs.ReplayLemmas.{never_stops}
+use Rattle.lam_main_laws.proofs.Meaning.{run_code}
 
 pub save_planned : (ws : List Text) (files : Files) (code : CodeTree) (start : World) (turns : List ℕ) (plan : Plan) → RunsStop code → (a : AsksNext ws files code start turns) → IsPlan ws files plan → IsOfEnd a.out code a.holds.starts.bytes start turns plan
 save_planned ws files code start turns plan law a is =
@@ -47,3 +54,45 @@ save_done out old code start turns plan can (saved text items h e) = ap (λ (it 
 save_done out old code start turns plan can (unnamed tag h e) = absurd (can.have.0 tag h.is)
 save_done out old code start turns plan can (untold item h e) = absurd (some_item (sym h.1 ∙ can.have.1))
 save_done out old code start turns plan can (too_long bytes h e) = absurd (too_many 16777216 (length h.text) h.long (can.fits h.text h.text_is))
+
+-- ---- what is written is read
+
+abbrev text_in : Option (Text × Text) → Text
+text_in None = []
+text_in (Some x) = x.1
+
+some_text : (out : Text) (a b : Text) → ◌≡◌ {A = Option (Text × Text)} (Some (out, a)) (Some (out, b)) → a ≡ b
+some_text out a b e = ap text_in e
+
+no_text : (x : Text × Text) → ◌≡◌ {A = Option (Text × Text)} None (Some x) → ⊥
+no_text x e = cc
+
+-- a text that is written is one of the files at the end
+written_text : (out old : Text) (code : CodeTree) (start : World) (turns : List ℕ) (plan : Plan) (text : Text) → IsOfEnd out code old start turns plan → plan.writes ≡ Some (out, text) → IsTextOf start.names start.public (replay code turns start).files old text
+written_text out old code start turns plan text (saved found items h e) w =
+    subst (IsTextOf start.names start.public (replay code turns start).files old) (some_text out found text (sym (ap (λ (it : Plan). it.writes) e) ∙ w)) h.text_is
+written_text out old code start turns plan text (unnamed tag h e) w = absurd (no_text (out, text) (sym (ap (λ (it : Plan). it.writes) e) ∙ w))
+written_text out old code start turns plan text (untold item h e) w = absurd (no_text (out, text) (sym (ap (λ (it : Plan). it.writes) e) ∙ w))
+written_text out old code start turns plan text (too_long bytes h e) w = absurd (no_text (out, text) (sym (ap (λ (it : Plan). it.writes) e) ∙ w))
+
+module _ (stops : (code : CodeTree) → RunsStop code) (stays : StaysCode) where
+  its_code : (files : Files) (program world book : Text) (code : CodeTree) (start : World) (turns : List ℕ) → HoldRun files program world book code start turns → IsCode code
+  its_code files program world book code start turns h = run_code stays h.compiled.bytes code h.compiled.follows
+
+  its_text : (ws : List Text) (files : Files) (code : CodeTree) (start : World) (turns : List ℕ) (plan : Plan) (text : Text) (a : AsksNext ws files code start turns) → IsPlan ws files plan → plan.writes ≡ Some (a.out, text)
+      → IsTextOf start.names start.public (replay code turns start).files a.holds.starts.bytes text
+  its_text ws files code start turns plan text a is w = written_text a.out a.holds.starts.bytes code start turns plan text (save_planned ws files code start turns plan (stops code) a is) w
+
+  pub worlds_read : (ws : List Text) (files : Files) → NextWorldsAreRead ws files
+  worlds_read ws files code start turns plan text a is w bytes =
+      next_read code (its_code files a.program a.world a.book code start turns a.holds) a.holds.starts.bytes text start turns a.holds.starts.follows bytes (its_text ws files code start turns plan text a is w)
+
+  saved_run : (ws : List Text) (files : Files) (code : CodeTree) (start : World) (turns : List ℕ) (text : Text) → WritesNext ws files code start turns text → IsSavedRun code start turns text
+  saved_run ws files code start turns text w =
+      let a = w.asks in
+      record { old = a.holds.starts.bytes; starts = a.holds.starts.follows; run = a.holds.ready; bytes = w.bytes; saved = its_text ws files code start turns w.plan text a w.planned w.writes }
+
+  pub worlds_agree : (ws ws' : List Text) (files files' : Files) → NextStartsAgree ws ws' files files'
+  worlds_agree ws ws' files files' code o s s' turns turns' text text' w w' agree agendas named named' v v' e e' =
+      let a = w.asks in
+      starts_agree code o (its_code files a.program a.world a.book code s turns a.holds) s s' turns turns' text text' (saved_run ws files code s turns text w) (saved_run ws' files' code s' turns' text' w') agree agendas named named' v v' e e'

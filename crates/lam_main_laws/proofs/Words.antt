@@ -42,7 +42,7 @@ one = (omega arith, omega arith)
 asked_between : (ws : List Text) → IsBetween 1 64 (threads_asked (request_of ws))
 asked_between ws =
     of_found (λ o. IsBetween 1 64 (threads_asked (request_in ws o))) (is_in ws) one forms
-    (one, (one, (one, (one, (one, (one, (one, (one, (one, (one, (between 1 64 (number_of (word ws 2)) (omega arith), (one, (one, (one, tt))))))))))))))
+    (one, (one, (one, (one, (one, (one, (one, (one, (one, (one, (between 1 64 (number_of (word ws 2)) (omega arith), (one, (one, (one, (one, tt)))))))))))))))
 
 pub threads_between : (ws : List Text) (seed threads : ℕ) (out : Text) → request_of ws ≡ Ok (make seed threads out) → (1 ≤ threads) × (threads ≤ 64)
 threads_between ws seed threads out e = subst (λ (it : Result Request ℕ). IsBetween 1 64 (threads_asked it)) e (asked_between ws)

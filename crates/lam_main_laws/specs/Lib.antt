@@ -6,4 +6,5 @@ pub mod Meant
 pub mod Orderly
 pub mod Fronts
 pub mod Pairs
+pub mod Walks
 pub mod Saves

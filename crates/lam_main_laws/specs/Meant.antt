@@ -7,12 +7,13 @@ use Rattle.lam_resolve_tree.specs.Tree.{ResolvedTree}
 use Rattle.lam_resolve_laws.specs.Resolved.{resolved}
 use Rattle.lam_bytecode.specs.Codes.{CodeTree}
 use Rattle.thinned_code.specs.Thinned.{thinned}
-use Rattle.lam_main_plan.specs.Compiled.{IsCompiledTo}
+use Rattle.barrier_compiler.specs.Compiled.{IsCompiledTo}
 use Rattle.lam_machine_terms.specs.Worlds.{World}
 use Rattle.world_doc_terms.specs.Start.{start_of}
 use Rattle.world_doc_laws.specs.Documents.{RunMeans}
 use Rattle.lam_main_words.specs.Words.{Text, replay, audit, run, request_of}
-use Rattle.lam_main_plan.specs.Reading.{HasFile, program_limit, world_limit}
+use Rattle.lam_main_plan.specs.Reading.{HasFile, IsRunCode, program_limit, world_limit}
+use Rattle.lam_main_plan.specs.Walks.{IsSource}
 
 -- the words ask for a run of the program in one file from the document in another: for one that a book holds, as an
 -- observer or an auditor sees it, or for one that threads take
@@ -43,3 +44,13 @@ pub record RunsAsMeant (p : ProgramTree) (code : CodeTree) (start : World) : Typ
 abbrev pub CallsRunAsMeant : List Text → Files → Type 0
 CallsRunAsMeant ws files =
     (p : ProgramTree) (code : CodeTree) (start : World) → AsksRunsOf ws files p code start → RunsAsMeant p code start
+
+-- ---- every program
+
+-- every run of a code means this source, whatever document it starts from and whatever turns are taken
+abbrev pub MeansEverywhere : ResolvedTree → CodeTree → Type 0
+MeansEverywhere r code = (text : Text) (start : World) → start_of text code ≡ Ok start → (turns : List ℕ) → RunMeans r code start turns
+
+-- so does the code that is run of a program, of the program with its names resolved
+abbrev pub SourcesRunAsMeant : Type 0
+SourcesRunAsMeant = (bytes : Text) (code : CodeTree) (r : ResolvedTree) → IsRunCode bytes code → IsSource bytes r → MeansEverywhere r code

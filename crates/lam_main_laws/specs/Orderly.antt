@@ -16,6 +16,7 @@ use Rattle.lam_main_plan.specs.Answer.{Outside, AsPlanned}
 use Rattle.lam_main_laws.specs.Headline.{AsksRun, IsRunEnd}
 use Rattle.lam_main_laws.specs.Calls.{ReplaysRun, AuditsRun}
 use Rattle.lam_main_laws.specs.Pairs.{AsksPair}
+use Rattle.lam_main_laws.specs.Walks.{AsksWalk}
 use Rattle.lam_main_laws.specs.Saves.{AsksNext, CanBeSaved}
 
 -- memory did not run out, and neither the file store nor the output failed
@@ -39,6 +40,7 @@ pub data IsOrderly (ws : List Text) (files : Files) : Type 0 where
   audits : (tree : CodeTree) (start : World) (turns : List ℕ) → AuditsRun ws files tree start turns → IsOrderly ws files
   helps : request_of ws ≡ Ok help → IsOrderly ws files
   pairs : (tree : CodeTree) (o : Label) (s : World) (turns : List ℕ) (s' : World) (turns' : List ℕ) → AsksPair ws files tree o s turns s' turns' → IsOrderly ws files
+  walks : (tree : CodeTree) (start : World) (turns : List ℕ) → AsksWalk ws files tree start turns → IsOrderly ws files
   saves : (tree : CodeTree) (start : World) (turns : List ℕ) (a : AsksNext ws files tree start turns) → CanBeSaved a.holds.starts.bytes tree start turns → IsOrderly ws files
 
 -- such a call is done

@@ -13,8 +13,8 @@ ghost use Rattle.lam_main_laws.specs.Orderly.{OrderlyCallsAreDone, RefusalsAreEx
 use lam_machine_runs::runs_stop;
 use lam_main_plan::{plans_are_one, refusals_are_one};
 
-/// A law: a call of `play`, `check`, `format`, `code`, `replay`, `audit`, `help` or `pair` whose words and files are in order is
-/// done, unless memory runs out, or the file store or the output fails.
+/// A law: a call of a command that starts no thread, whose words and files are in order, is done, unless memory runs out, or
+/// the file store or the output fails.
 pub fn orderly_calls_are_done()
     ensures { (ws : List Text) (status : Status) (old new : Outside) → IsPlanned status (IsPlan ws old.files) old new → OrderlyCallsAreDone ws status old }
 {

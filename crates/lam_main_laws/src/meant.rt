@@ -11,7 +11,7 @@
 ghost use Rattle.std.specs.Prelude.{List};
 ghost use Rattle.lam_io.specs.Outside.{Files};
 ghost use Rattle.lam_main_words.specs.Words.{Text};
-ghost use Rattle.lam_main_laws.specs.Meant.{CallsRunAsMeant};
+ghost use Rattle.lam_main_laws.specs.Meant.{CallsRunAsMeant, SourcesRunAsMeant};
 
 use compiled_code_guarded::compiled_code_is_guarded;
 use thinned_code::thinned_code_keeps_units;
@@ -23,6 +23,18 @@ use world_doc_laws::{entries_are_functions, runs_of_documents_mean};
 /// the first that is not ready, and of those that threads take.
 pub fn calls_run_as_meant()
     ensures { (ws : List Text) (files : Files) → CallsRunAsMeant ws files }
+{
+    compiled_code_is_guarded();
+    thinned_scheme_acts();
+    thinned_code_keeps_units();
+    entries_are_functions();
+    runs_of_documents_mean();
+}
+
+/// A law: every run of the code that is run of a program means the program with its names resolved, whatever document it
+/// starts from. As of [`calls_run_as_meant`], this speaks of every list of turns.
+pub fn sources_run_as_meant()
+    ensures { SourcesRunAsMeant }
 {
     compiled_code_is_guarded();
     thinned_scheme_acts();

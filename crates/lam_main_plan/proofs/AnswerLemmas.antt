@@ -1,7 +1,7 @@
 -- From what became of a plan to how the call answers to it.
 use Rattle.std.proofs.Common.{◌≡◌, ℕ, false, [], Option, Some, None, Result, Ok, Err, refl, subst}
 use Rattle.lam_io.specs.Outside.{Files, AllStay, Took}
-use Rattle.lam_main_words.specs.Words.{Text, Request, play, check, format, code, replay, run, audit, make, help, next, pair}
+use Rattle.lam_main_words.specs.Words.{Text, Request, play, check, format, code, replay, run, audit, make, help, next, pair, walk}
 use Rattle.lam_main_plan.specs.declared.Status.{Status}
 use Rattle.lam_main_plan.specs.declared.Status.TheVariants.{NoMemory, ShelfFault, SinkFault}
 use Rattle.lam_main_plan.specs.Refusals.{Plan}
@@ -46,6 +46,7 @@ nothing_written (Ok (make seed threads out)) none = absurd (let no : ⊥ = cc in
 nothing_written (Ok help) none = refl
 nothing_written (Ok (next program world book out)) none = absurd (let no : ⊥ = cc in no)
 nothing_written (Ok (pair program first_world first_book second_world second_book label)) none = refl
+nothing_written (Ok (walk program world book)) none = refl
 
 pub all_stay : (request : Result Request ℕ) (old new : Files) → leaves_open request ≡ false → OthersKept (written_by request) old new → AllStay old new
 all_stay request old new none kept = subst (λ (name : Option Text). OthersKept name old new) (nothing_written request none) kept

@@ -18,7 +18,7 @@ use Rattle.audit_log_notes.specs.Sums.{summary_lines}
 use Rattle.world_doc_terms.specs.Breaks.{Reading}
 use Rattle.world_doc_terms.specs.Start.{start_of}
 use Rattle.lam_front.specs.Programs.{IsFine}
-use Rattle.lam_main_words.specs.Words.{Text, Request, play, check, format, code, replay, run, audit, make, help, next, pair, request_of}
+use Rattle.lam_main_words.specs.Words.{Text, Request, play, check, format, code, replay, run, audit, make, help, next, pair, walk, request_of}
 use Rattle.lam_main_plan.specs.Refusals.{Plan, prints, no_program, unnamed_tag, bad_text, too_big}
 use Rattle.lam_main_plan.specs.Reading.{IsUnread, HasFile, WithFile, unread, of_file, script_limit, program_limit, world_limit, book_limit, IsCompiled, ByCode, Compiles, fine, broken, Thins}
 use Rattle.lam_main_plan.specs.Replays.{Reader, an_observer, an_auditor, RunFiles, read_by, IsOfBook, ByReader, ByWorld, Replays, Starts, Runs}
@@ -38,6 +38,8 @@ use Rattle.capabilities.specs.declared.Caps.{Caps}
 use Rattle.labelled_files.specs.Trees.{Tree}
 use Rattle.world_save_terms.specs.Refusals.{bad_path}
 use Rattle.lam_main_plan.specs.Saves.{IsOfFiles, saved, unnamed, untold, too_long, IsOfEnd, SavesRun, Saves}
+use Rattle.source_walk_terms.specs.declared.Walked.TheVariants.{Same}
+use Rattle.lam_main_plan.specs.Walks.{same_line, IsOfWalk, WalksRun, Walks}
 use Rattle.lam_main_plan.specs.Plan.{Plays, Formats, canonical, misspelt, Checks, Lists, IsPlanOf, starts_threads, saves, leaves_open, PlansAreOne, IsRefused, IsTold, RefusalsAreOne}
 
 pub one_bytes : {bs cs : Text} → Some bs ≡ Some cs → bs ≡ cs
@@ -168,6 +170,18 @@ module _ (p q : Plan) where
     one_pairs : (first second : RunFiles) (index : ℕ) (label bytes : Text) → Pairs files first second index label bytes p → Pairs files first second index label bytes q → p ≡ q
     one_pairs first second index label bytes h k = one_thins (PairsRuns files first second index label) (one_pair first second index label) bytes h k
 
+    -- how many asks stand in a run, the source does not say
+    one_of_walk : (bytes : Text) (tree : CodeTree) (start : World) (turns : List ℕ) → IsOfWalk bytes tree start turns p → IsOfWalk bytes tree start turns q → p ≡ q
+    one_of_walk bytes tree start turns h k = h.tells.is ∙ ap (λ (asks : ℕ). prints (same_line asks)) (h.tells.walked.1 ∙ sym k.tells.walked.1) ∙ sym k.tells.is
+
+    one_walk : (asked : RunFiles) (bytes : Text) (tree : CodeTree) → WalksRun files asked bytes tree p → WalksRun files asked bytes tree q → p ≡ q
+    one_walk asked bytes tree h k =
+        one_with_start asked.world tree (λ start. WithRun files asked.book tree start (IsOfWalk bytes tree start))
+        (λ start. one_with_run asked.book tree start (IsOfWalk bytes tree start) (one_of_walk bytes tree start)) h k
+
+    one_walks : (asked : RunFiles) (bytes : Text) → Walks files asked bytes p → Walks files asked bytes q → p ≡ q
+    one_walks asked bytes h k = one_thins (WalksRun files asked bytes) (one_walk asked bytes) bytes h k
+
   -- ---- a run whose turns threads take
 
   -- plans of runs of one code from one start are one
@@ -225,6 +239,7 @@ module _ (p q : Plan) where
   one_plan_of (Ok help) files one save h k = h ∙ sym k
   one_plan_of (Ok (next program world book out)) files one save h k = one_with_file (files program) program program_limit (Saves files (record { world = world; book = book }) out) (one_saves files (save refl) (record { world = world; book = book }) out) h k
   one_plan_of (Ok (pair program first_world first_book second_world second_book label)) files one save h k = one_with_file (files program) program program_limit (Pairs files (record { world = first_world; book = first_book }) (record { world = second_world; book = second_book }) 6 label) (one_pairs files (record { world = first_world; book = first_book }) (record { world = second_world; book = second_book }) 6 label) h k
+  one_plan_of (Ok (walk program world book)) files one save h k = one_with_file (files program) program program_limit (Walks files (record { world = world; book = book })) (one_walks files (record { world = world; book = book })) h k
 
 -- what starts threads or writes a world leaves something open
 starts_open : (r : Result Request ℕ) → leaves_open r ≡ false → starts_threads r ≡ true → ⊥

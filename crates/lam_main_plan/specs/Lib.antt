@@ -5,6 +5,7 @@ pub mod Replays
 pub mod Threads
 pub mod Books
 pub mod Pairs
+pub mod Walks
 pub mod Saves
 pub mod Plan
 pub mod Answer

@@ -17,7 +17,7 @@ use Rattle.lam_print.specs.Canon.{canon}
 use Rattle.lam_front.specs.declared.fault.ProgramFault.{ProgramFault}
 use Rattle.lam_front.specs.Programs.{IsSpelt, IsMisspelt}
 use Rattle.lam_bytecode.specs.Listing.{listing_text}
-use Rattle.lam_main_words.specs.Words.{Text, Request, play, check, format, code, replay, run, audit, make, help, next, pair, request_of, commands, help_lines}
+use Rattle.lam_main_words.specs.Words.{Text, Request, play, check, format, code, replay, run, audit, make, help, next, pair, walk, request_of, commands, help_lines}
 use Rattle.lam_main_plan.specs.declared.Status.{Status}
 use Rattle.lam_main_plan.specs.declared.Status.TheVariants.{Words, Program, World, Book, Missing}
 use Rattle.lam_main_plan.specs.Refusals.{Plan, prints, no_word, no_script, no_program, absent, too_big}
@@ -26,6 +26,7 @@ use Rattle.lam_main_plan.specs.Replays.{an_observer, an_auditor, Runs}
 use Rattle.lam_main_plan.specs.Threads.{RunsThreads, Makes}
 use Rattle.lam_main_plan.specs.Pairs.{Pairs}
 use Rattle.lam_main_plan.specs.Saves.{Saves}
+use Rattle.lam_main_plan.specs.Walks.{Walks}
 
 -- ---- `play`
 
@@ -73,6 +74,7 @@ IsPlanOf (Ok (make seed threads out)) files plan = Makes seed threads out plan
 IsPlanOf (Ok help) files plan = plan ≡ prints (help_lines commands)
 IsPlanOf (Ok (next program world book out)) files plan = WithFile (files program) program program_limit (Saves files (record { world = world; book = book }) out) plan
 IsPlanOf (Ok (pair program first_world first_book second_world second_book label)) files plan = WithFile (files program) program program_limit (Pairs files (record { world = first_world; book = first_book }) (record { world = second_world; book = second_book }) 6 label) plan
+IsPlanOf (Ok (walk program world book)) files plan = WithFile (files program) program program_limit (Walks files (record { world = world; book = book })) plan
 
 -- the plan of words and files, in the order of reading: words, file, and then what the file is read for
 abbrev pub IsPlan : List Text → Files → Plan → Type 0

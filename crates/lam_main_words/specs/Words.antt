@@ -8,11 +8,11 @@ use Rattle.flow_labels.specs.declared.two_lists.Form.TheVariants.{Label}
 use Rattle.lam_main_words.specs.declared.Kind.{Kind}
 use Rattle.lam_main_words.specs.declared.Kind.TheVariants.{Name, File, Observer, WorkersOption, TurnsOption, Number}
 use Rattle.lam_main_words.specs.declared.Form.{Form}
-use Rattle.lam_main_words.specs.declared.Form.TheVariants.{Play as play_form, Check as check_form, Format as format_form, Code as code_form, Replay as replay_form, Run as run_form, Audit as audit_form, Make as make_form, Help as help_form, Next as next_form, Pair as pair_form}
+use Rattle.lam_main_words.specs.declared.Form.TheVariants.{Play as play_form, Check as check_form, Format as format_form, Code as code_form, Replay as replay_form, Run as run_form, Audit as audit_form, Make as make_form, Help as help_form, Next as next_form, Pair as pair_form, Walk as walk_form}
 use Rattle.lam_main_words.specs.declared.Options.{Options}
 use Rattle.lam_main_words.specs.declared.Options.TheVariants.{Neither, Workers, Turns, Both}
 use Rattle.lam_main_words.specs.declared.Command.{Command}
-use Rattle.lam_main_words.specs.declared.Command.TheVariants.{Play, Check, Format, Code, Replay, Run, Audit, Make, Help, Next, Pair}
+use Rattle.lam_main_words.specs.declared.Command.TheVariants.{Play, Check, Format, Code, Replay, Run, Audit, Make, Help, Next, Pair, Walk}
 use Rattle.lam_main_words.specs.declared.WordFault.{WordFault}
 use Rattle.lam_main_words.specs.declared.WordFault.TheVariants.{Word, NoMemory}
 
@@ -52,10 +52,11 @@ name make_form = codes "make"
 name help_form = codes "help"
 name next_form = codes "next"
 name pair_form = codes "pair"
+name walk_form = codes "walk"
 
 -- the commands as a reader of the help text sees them
 abbrev pub commands : List Text
-commands = codes "play FILE OBS" ∷ codes "check P" ∷ codes "format P" ∷ codes "code P" ∷ codes "replay P W BOOK OBS" ∷ codes "run P W OBS BOOKOUT [--workers N] [--turns N]" ∷ codes "audit P W BOOK" ∷ codes "make SEED THREADS BOOKOUT" ∷ codes "help" ∷ codes "next P W BOOK W2" ∷ codes "pair P W1 BOOK1 W2 BOOK2 OBS" ∷ []
+commands = codes "play FILE OBS" ∷ codes "check P" ∷ codes "format P" ∷ codes "code P" ∷ codes "replay P W BOOK OBS" ∷ codes "run P W OBS BOOKOUT [--workers N] [--turns N]" ∷ codes "audit P W BOOK" ∷ codes "make SEED THREADS BOOKOUT" ∷ codes "help" ∷ codes "next P W BOOK W2" ∷ codes "pair P W1 BOOK1 W2 BOOK2 OBS" ∷ codes "walk P W BOOK" ∷ []
 
 -- a line for each command
 abbrev pub help_lines : List Text → Text
@@ -101,9 +102,10 @@ kinds make_form = Name make_form ∷ Number 0 most_seed ∷ Number 1 most_thread
 kinds help_form = Name help_form ∷ []
 kinds next_form = Name next_form ∷ File ∷ File ∷ File ∷ File ∷ []
 kinds pair_form = Name pair_form ∷ File ∷ File ∷ File ∷ File ∷ File ∷ Observer ∷ []
+kinds walk_form = Name walk_form ∷ File ∷ File ∷ File ∷ []
 
 abbrev pub forms : List Form
-forms = play_form ∷ check_form ∷ format_form ∷ code_form ∷ replay_form ∷ run_form Neither ∷ run_form Workers ∷ run_form Turns ∷ run_form Both ∷ audit_form ∷ make_form ∷ help_form ∷ next_form ∷ pair_form ∷ []
+forms = play_form ∷ check_form ∷ format_form ∷ code_form ∷ replay_form ∷ run_form Neither ∷ run_form Workers ∷ run_form Turns ∷ run_form Both ∷ audit_form ∷ make_form ∷ help_form ∷ next_form ∷ pair_form ∷ walk_form ∷ []
 
 -- with how many first words the words of a form agree
 abbrev pub agreed : List Kind → List Text → ℕ
@@ -132,6 +134,7 @@ pub data Request : Type 0 where
   help : Request
   next : (program world book out : Text) → Request
   pair : (program first_world first_book second_world second_book observer : Text) → Request
+  walk : (program world book : Text) → Request
 
 abbrev pub word : List Text → ℕ → Text
 word ws index = unwrap_or (slice_get ws index) []
@@ -165,6 +168,7 @@ requested ws make_form = make (number ws 1 0 most_seed) (number ws 2 1 most_thre
 requested ws help_form = help
 requested ws next_form = next (word ws 1) (word ws 2) (word ws 3) (word ws 4)
 requested ws pair_form = pair (word ws 1) (word ws 2) (word ws 3) (word ws 4) (word ws 5) (word ws 6)
+requested ws walk_form = walk (word ws 1) (word ws 2) (word ws 3)
 
 abbrev pub request_in : List Text → Option Form → Result Request ℕ
 request_in ws None = Err (longest ws)
@@ -187,6 +191,7 @@ asked (Make seed threads out) = make seed threads (string_bytes out)
 asked Help = help
 asked (Next program world book out) = next (string_bytes program) (string_bytes world) (string_bytes book) (string_bytes out)
 asked (Pair program first_world first_book second_world second_book observer) = pair (string_bytes program) (string_bytes first_world) (string_bytes first_book) (string_bytes second_world) (string_bytes second_book) (string_bytes observer)
+asked (Walk program world book) = walk (string_bytes program) (string_bytes world) (string_bytes book)
 
 -- the workers and turns of `run`
 pub record RunsInRange (workers turns : ℕ) : Type 0 where
@@ -302,8 +307,14 @@ words_of_pair = refl
 no_label_of_pair : request_of (codes "pair" ∷ codes "p" ∷ codes "v" ∷ codes "b" ∷ codes "w" ∷ codes "c" ∷ codes "{}" ∷ []) ≡ Err 6
 no_label_of_pair = refl
 
+words_of_walk : request_of (codes "walk" ∷ codes "p" ∷ codes "w" ∷ codes "b" ∷ []) ≡ Ok (walk (codes "p") (codes "w") (codes "b"))
+words_of_walk = refl
+
+word_too_many_of_walk : request_of (codes "walk" ∷ codes "p" ∷ codes "w" ∷ codes "b" ∷ codes "{}/{}" ∷ []) ≡ Err 4
+word_too_many_of_walk = refl
+
 -- the help text
-text_of_help : help_lines commands ≡ codes "lam play FILE OBS\nlam check P\nlam format P\nlam code P\nlam replay P W BOOK OBS\nlam run P W OBS BOOKOUT [--workers N] [--turns N]\nlam audit P W BOOK\nlam make SEED THREADS BOOKOUT\nlam help\nlam next P W BOOK W2\nlam pair P W1 BOOK1 W2 BOOK2 OBS\n"
+text_of_help : help_lines commands ≡ codes "lam play FILE OBS\nlam check P\nlam format P\nlam code P\nlam replay P W BOOK OBS\nlam run P W OBS BOOKOUT [--workers N] [--turns N]\nlam audit P W BOOK\nlam make SEED THREADS BOOKOUT\nlam help\nlam next P W BOOK W2\nlam pair P W1 BOOK1 W2 BOOK2 OBS\nlam walk P W BOOK\n"
 text_of_help = refl
 
 -- an empty word fits nothing

@@ -56,6 +56,8 @@ enum Form {
     Next,
     /// `pair P W1 BOOK1 W2 BOOK2 OBS`
     Pair,
+    /// `walk P W BOOK`
+    Walk,
 }
 
 /// The options of `run` that the words have, in this order.
@@ -88,6 +90,7 @@ impl Form {
             Form::Help => "help",
             Form::Next => "next",
             Form::Pair => "pair",
+            Form::Walk => "walk",
         }
     }
 
@@ -131,6 +134,7 @@ impl Form {
                 Kind::File,
                 Kind::Observer,
             ],
+            Form::Walk => &[Kind::Name(Form::Walk), Kind::File, Kind::File, Kind::File],
         }
     }
 }
@@ -248,6 +252,7 @@ fn forms() -> &'static [Form]
         Form::Help,
         Form::Next,
         Form::Pair,
+        Form::Walk,
     ]
 }
 
@@ -321,6 +326,12 @@ pub enum Command {
         second_world: String,
         second_book: String,
         obs: String,
+    },
+    /// `walk P W BOOK`: how many asks stand in such a run, each of which the source of the program makes.
+    Walk {
+        program: String,
+        world: String,
+        book: String,
     },
 }
 
@@ -400,6 +411,7 @@ pub fn read_words(alloc: Global, words: &[String]) -> Result<Command, WordFault>
         Form::Help => Ok(Command::Help),
         Form::Next => next_command(alloc, words),
         Form::Pair => pair_command(alloc, words),
+        Form::Walk => walk_command(alloc, words),
     }
 }
 
@@ -454,6 +466,17 @@ fn pair_command(alloc: Global, words: &[String]) -> Result<Command, WordFault>
     })
 }
 
+fn walk_command(alloc: Global, words: &[String]) -> Result<Command, WordFault>
+    ensures value { ReadsCommand result (Ok (requested (map string_bytes words.now) Form.Walk)) }
+    ensures ranges { IfOk result (λ c. InRange (asked c)) }
+{
+    Ok(Command::Walk {
+        program: String::from_str(alloc, word_at(words, 1))?,
+        world: String::from_str(alloc, word_at(words, 2))?,
+        book: String::from_str(alloc, word_at(words, 3))?,
+    })
+}
+
 /// The workers that words of `run` ask.
 fn workers_in(words: &[String], options: Options) -> u64
     ensures value { result ≡ workers_in (map string_bytes words.now) options }
@@ -489,7 +512,7 @@ pub fn help_text(alloc: Global) -> Result<String, NoMemory>
 {
     Ok(String::from_str(
         alloc,
-        "lam play FILE OBS\nlam check P\nlam format P\nlam code P\nlam replay P W BOOK OBS\nlam run P W OBS BOOKOUT [--workers N] [--turns N]\nlam audit P W BOOK\nlam make SEED THREADS BOOKOUT\nlam help\nlam next P W BOOK W2\nlam pair P W1 BOOK1 W2 BOOK2 OBS\n",
+        "lam play FILE OBS\nlam check P\nlam format P\nlam code P\nlam replay P W BOOK OBS\nlam run P W OBS BOOKOUT [--workers N] [--turns N]\nlam audit P W BOOK\nlam make SEED THREADS BOOKOUT\nlam help\nlam next P W BOOK W2\nlam pair P W1 BOOK1 W2 BOOK2 OBS\nlam walk P W BOOK\n",
     )?)
 }
 

@@ -101,3 +101,6 @@ returns-clause-paired g c = c.pairs_are_told.ensures (map string_bytes c.args.wo
 
 pub returns-clause-saved : goal.returns-clause-saved
 returns-clause-saved g c = c.saves_are_told.ensures (map string_bytes c.args.words.now) (g.H.Shelf.files c.args.shelf.now)
+
+pub returns-clause-walked : goal.returns-clause-walked
+returns-clause-walked g c = c.walks_are_told.ensures (map string_bytes c.args.words.now) (g.H.Shelf.files c.args.shelf.now)

@@ -1,0 +1,54 @@
+//! What a walk over the source of a run is told by: the line of how many asks there are.
+
+ghost use Rattle.std.specs.Prelude.{◌≡◌, ◌≢◌, ℕ, List, IfOk, IfErr, string_bytes};
+ghost use Rattle.lam_resolve_tree.specs.Tree.{resolved_tree};
+ghost use Rattle.lam_machine_terms.specs.Valid.{IsValid};
+ghost use Rattle.lam_machine_runs.specs.Stops.{stopped_at};
+ghost use Rattle.world_doc_laws.specs.Documents.{RunMeans};
+ghost use Rattle.lam_main_plan.specs.Books.{WhereReady};
+ghost use Rattle.lam_main_plan.specs.Walks.{same_line, TellsSame};
+ghost use Rattle.lam_main_files.specs.Halts.{Says};
+ghost use Rattle.lam_main_walk.specs.Sources.{IsSound};
+
+use crate::source::Source;
+use decimal_text::push_number;
+use lam_machine_world::World;
+use lam_main_files::Halt;
+use lam_main_replay::run_halt;
+use source_walk::{Walked, walk_turns};
+use source_walk_meets::meant_runs_are_same;
+use std::alloc::Global;
+use want_of_memory::NoMemory;
+
+/// The line of how many asks there are in turns, where they are a run. Each thread of every run of the source means it, so
+/// none departs from it.
+pub(crate) fn told(
+    alloc: Global,
+    source: &Source,
+    start: World,
+    turns: &[u32],
+) -> Result<String, Halt>
+    requires sound { IsSound source.now }
+    requires valid { IsValid start }
+    requires means { (ts : List ℕ) → RunMeans (resolved_tree source.now.program) source.now.code start ts }
+    ensures says { Says result (WhereReady (TellsSame (resolved_tree source.now.program) source.now.code start turns.now) (stopped_at source.now.code turns.now start)) }
+    ensures no_fault { IfErr result (λ halt. halt ≢ Halt.ShelfFailed) }
+{
+    meant_runs_are_same();
+    match walk_turns(alloc, &source.program, &source.code, start, turns) {
+        Ok(Walked::Same { asks }) => Ok(same_text(alloc, asks)?),
+        Ok(Walked::Departs { thread: _, ask: _ }) => unreachable!(),
+        Err(fault) => Err(run_halt(fault)),
+    }
+}
+
+/// The line of so many asks.
+fn same_text(alloc: Global, asks: u64) -> Result<String, NoMemory>
+    ensures { IfOk result (λ text. string_bytes text ≡ same_line asks) }
+{
+    let mut text = String::new(alloc);
+    text.push_str("same ")?;
+    push_number(&mut text, asks)?;
+    text.push('\n')?;
+    Ok(text)
+}
