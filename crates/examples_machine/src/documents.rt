@@ -1,12 +1,12 @@
 //! Documents that are broken in their version or their tags.
 
-use crate::codes::{Written, code_of};
 use decimal_text::push_number;
 use std::alloc::Global;
 use std::mem::forget;
 use std::process::Abort;
 use std::test::Fail;
 use world_doc::{WorldBreak, WorldFault, start};
+use written_code::{Written, code_of};
 
 /// A code without a function: tags are looked at before threads.
 const NO_CODE: Written<'static> = Written {

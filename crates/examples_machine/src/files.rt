@@ -1,10 +1,10 @@
 //! Files: how long they get, and which entries may be made.
 
-use crate::codes::{Constant, Head, Unit, Written};
 use crate::run::{Given, ends};
 use lam_builtins::Builtin;
 use lam_bytecode::Op;
 use std::test::Fail;
+use written_code::{Constant, Head, Unit, Written};
 
 /// Makes a file of 1,048,575 bytes, puts two more behind them, reads its length and its end, cuts it to three, reads
 /// these, and makes it once more. Another thread makes an entry that no name has.

@@ -1,12 +1,10 @@
 //! Worked examples of the machine: code that is written by hand, the document of a world and a list of turns in, and what
 //! an observer sees of the run out.
 //!
-//! `codes` makes code of parts that are written down, `run` takes the turns, and the others are the examples; those of
-//! `documents` and `saved` are no worlds, and come to no turn. No program is parsed or compiled here. The expected lines come from the descriptions, never from the machine.
+//! `run` takes the turns, and the others are the examples; those of `documents` and `saved` are no worlds, and come to no
+//! turn. No program is parsed or compiled here. The expected lines come from the descriptions, never from the machine.
 #![tactic(auto)]
 
-#[cfg(test)]
-mod codes;
 #[cfg(test)]
 mod documents;
 #[cfg(test)]

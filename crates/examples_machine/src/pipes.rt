@@ -1,11 +1,11 @@
 //! Pipes: what they keep, in which order, and how many there may be.
 
-use crate::codes::{Constant, Head, Unit, Written};
 use crate::run::{Given, ends, shows};
 use crate::worlds::{BARE, ONE_PIPE};
 use lam_builtins::Builtin;
 use lam_bytecode::{ArgKind, Op};
 use std::test::Fail;
+use written_code::{Constant, Head, Unit, Written};
 
 /// Sends the numbers from 0 to 1,024, and then receives for as long as they come in their order: how many came.
 const FILLS: Written<'static> = Written {

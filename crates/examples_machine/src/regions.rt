@@ -1,12 +1,12 @@
 //! Regions that are entered, left and refused, and copies to higher labels.
 
-use crate::codes::{Constant, Head, Unit, Written};
 use crate::run::{Given, notes, shows};
 use crate::worlds::{BARE, EXPORTED, HOLDS_BOTH, HOLDS_NOTHING, HOLDS_PLUS};
 use lam_builtins::Builtin;
 use lam_bytecode::{ArgKind, Op};
 use lam_value::Kind;
 use std::test::Fail;
+use written_code::{Constant, Head, Unit, Written};
 
 /// Enters a region at the tag that it is given, with a copy of a number, and returns the number.
 const ENTERS: Written<'static> = Written {

@@ -3,7 +3,6 @@
 ghost use Rattle.std.specs.Prelude.{IfOk};
 ghost use Rattle.lam_machine_terms.specs.Valid.{IsValid};
 
-use crate::codes::{Written, code_of};
 use audit_log::{audit_text, view_text};
 use audit_log_notes::{Noted, Seen};
 use capabilities::Caps;
@@ -20,6 +19,7 @@ use std::test::Fail;
 use thread_host_run::{Run, TURN_LIMIT};
 use world_doc::start;
 use world_doc_laws::texts_start;
+use written_code::{Written, code_of};
 
 /// A code, the document of the world that it starts from, and whose turns come: so many of each thread, one after another.
 #[derive(Clone, Copy)]

@@ -1,11 +1,11 @@
 //! Two worlds that differ in a secret, and look the same.
 
-use crate::codes::{Constant, Head, Unit, Written};
 use crate::run::{Given, shows};
 use lam_builtins::Builtin;
 use lam_bytecode::{ArgKind, Op};
 use lam_value::Kind;
 use std::test::Fail;
+use written_code::{Constant, Head, Unit, Written};
 
 /// In a region at the tag that it is given, makes as many things as a secret file says, and one more thing after it.
 const SECRET_LOOP: Written<'static> = Written {

@@ -1,12 +1,12 @@
 //! Threads that wait.
 
-use crate::codes::{Constant, Head, Unit, Written};
 use crate::run::{Given, shows};
 use crate::worlds::BARE;
 use lam_builtins::Builtin;
 use lam_bytecode::{ArgKind, Op};
 use lam_value::Kind;
 use std::test::Fail;
+use written_code::{Constant, Head, Unit, Written};
 
 /// Starts a thread that joins the thread in a field, puts it into that field, and joins it.
 const JOINS: Written<'static> = Written {

@@ -4,7 +4,7 @@ use Rattle.std.proofs.lemmas.List.Elements.{recursion_from_All}
 use Rattle.lam_value.specs.declared.values.Value.{Value}
 use Rattle.lam_bytecode.specs.declared.unit.CodeUnit.{CodeUnit}
 use Rattle.lam_bytecode.specs.Codes.{IsUnit, IsConstant, AreCounted, region_numbers}
-use Rattle.examples_machine.proofs.codes.tested_code.Goals as goal
+use Rattle.written_code.proofs.tested_code.Goals as goal
 
 pub new-requires : goal.new-requires
 new-requires c =

@@ -1,13 +1,19 @@
-//! Code that is written by hand.
+//! Code that is written by hand, for worked examples: of the machine and of the verifier, which take code that no compiler
+//! made.
+//!
+//! A code is written down as a constant of Rust's plain slices and texts; `code_of` makes it into what runs and is
+//! verified, where it is what every code is. No program is parsed or compiled here, and the tool does not stand on it.
+#![tactic(auto)]
 
-ghost use Rattle.std.specs.Prelude.{◌≡◌, ◌<◌, ◌^◌, true, IfOk};
+ghost use Rattle.std.specs.Prelude.{◌≡◌, ◌<◌, ◌^◌, true, map, IfOk};
 ghost use Rattle.std.specs.List.{All};
-ghost use Rattle.lam_bytecode.specs.Codes.{given, IsUnit, IsConstant, IsCode, AreCounted, region_numbers};
+ghost use Rattle.lam_bytecode.specs.Codes.{given, IsUnit, IsConstant, IsCode, AreCounted, region_numbers, code_of as code_tree};
+ghost use Rattle.written_code.specs.Writing.{kind_of, unit_of, units_from, number_after, constant_of, classes_of, code_of};
 
 use lam_bytecode::{ArgKind, ArgKinds, Code, CodeUnit, FunctionName, Kinds, Op, Ops, UnitKind};
 use lam_value::{ByteText, Kind, Value, Values};
-use std::alloc::Global;
-use std::test::Fail;
+use std::alloc::{AllocError, AllocFailed, Global};
+use want_of_memory::NoMemory;
 
 /// What a unit is the code of. Each function gives a number, and the regions are numbered as they come.
 #[derive(Clone, Copy)]
@@ -28,6 +34,7 @@ pub struct Unit<'a> {
 #[derive(Clone, Copy)]
 pub enum Constant<'a> {
     Int(i64),
+    Bool(bool),
     Bytes(&'a str),
     Nothing,
 }
@@ -40,13 +47,41 @@ pub struct Written<'a> {
     pub classes: &'a [&'a [Kind]],
 }
 
+/// Why what is written down gives no code.
+#[derive(Clone, Copy, Debug, PartialEq, Eq)]
+pub enum WrittenFault {
+    /// It is not what every code is: a unit has fewer locals than it is given, or there are too many of something.
+    NotCode,
+    /// Memory was refused.
+    NoMemory,
+}
+
+impl From<NoMemory> for WrittenFault {
+    fn from(_e: NoMemory) -> WrittenFault {
+        WrittenFault::NoMemory
+    }
+}
+
+impl From<AllocError> for WrittenFault {
+    fn from(_e: AllocError) -> WrittenFault {
+        WrittenFault::NoMemory
+    }
+}
+
+impl<T: Drop> From<AllocFailed<T>> for WrittenFault {
+    fn from(_e: AllocFailed<T>) -> WrittenFault {
+        WrittenFault::NoMemory
+    }
+}
+
 /// The code that is written down.
 ///
 /// # Errors
 ///
-/// Where it is not what every code is, or memory is refused.
-pub fn code_of(alloc: Global, written: Written<'_>) -> Result<Code, Fail>
-    ensures { IfOk result IsCode }
+/// `NotCode` where it is not what every code is, `NoMemory` where memory is refused.
+pub fn code_of(alloc: Global, written: Written<'_>) -> Result<Code, WrittenFault>
+    ensures same { IfOk result (λ c. c ≡ code_of written.entry) }
+    ensures keeps { IfOk result IsCode }
 {
     let units = units_of(alloc, written.units)?;
     let constants = constants_of(alloc, written.constants)?;
@@ -55,8 +90,13 @@ pub fn code_of(alloc: Global, written: Written<'_>) -> Result<Code, Fail>
 }
 
 /// The code of these parts, where they are what every code is of.
-fn tested_code(units: Vec<CodeUnit>, constants: Values, classes: Vec<Kinds>) -> Result<Code, Fail>
-    ensures { IfOk result IsCode }
+fn tested_code(
+    units: Vec<CodeUnit>,
+    constants: Values,
+    classes: Vec<Kinds>,
+) -> Result<Code, WrittenFault>
+    ensures same { IfOk result (λ c. c ≡ code_tree units.items constants classes.items) }
+    ensures keeps { IfOk result IsCode }
 {
     if can_count(units.len())
         && can_count(constants.as_slice().len())
@@ -67,7 +107,7 @@ fn tested_code(units: Vec<CodeUnit>, constants: Values, classes: Vec<Kinds>) -> 
     {
         return Ok(Code::new(units, constants, classes));
     }
-    Err(Fail::new("no code"))
+    Err(WrittenFault::NotCode)
 }
 
 /// Whether code can count so many things.
@@ -140,19 +180,34 @@ fn are_counted(units: &[CodeUnit]) -> bool
     true
 }
 
-fn units_of(alloc: Global, written: &[Unit<'_>]) -> Result<Vec<CodeUnit>, Fail> {
+fn units_of(alloc: Global, written: &[Unit<'_>]) -> Result<Vec<CodeUnit>, WrittenFault>
+    ensures { IfOk result (λ v. v.items ≡ units_from 0 written.now) }
+{
     let mut units = Vec::new(alloc);
-    let mut regions = 0u32;
+    let mut regions = 0;
     for unit in written {
         units.push(unit_of(alloc, unit, regions)?)?;
-        if let Head::Region { .. } = unit.head {
-            regions = regions.saturating_add(1);
-        }
+        regions = number_after(regions, unit.head)?;
     }
     Ok(units)
 }
 
-fn unit_of(alloc: Global, unit: &Unit<'_>, regions: u32) -> Result<CodeUnit, Fail> {
+/// The number of the next region after a unit. There are not so many that it has none.
+fn number_after(regions: u32, head: Head<'_>) -> Result<u32, WrittenFault>
+    ensures { IfOk result (λ n. n ≡ number_after regions head.entry) }
+{
+    match head {
+        Head::Function { .. } => Ok(regions),
+        Head::Region { .. } => match regions.checked_add(1) {
+            Some(next) => Ok(next),
+            None => Err(WrittenFault::NotCode),
+        },
+    }
+}
+
+fn unit_of(alloc: Global, unit: &Unit<'_>, regions: u32) -> Result<CodeUnit, WrittenFault>
+    ensures { IfOk result (λ u. u ≡ unit_of regions unit.now) }
+{
     let kind = kind_of(alloc, unit.head, regions)?;
     let ops = Ops::from_vec(unit.ops.to_vec(alloc)?);
     Ok(CodeUnit {
@@ -162,7 +217,9 @@ fn unit_of(alloc: Global, unit: &Unit<'_>, regions: u32) -> Result<CodeUnit, Fai
     })
 }
 
-fn kind_of(alloc: Global, head: Head<'_>, regions: u32) -> Result<UnitKind, Fail> {
+fn kind_of(alloc: Global, head: Head<'_>, regions: u32) -> Result<UnitKind, WrittenFault>
+    ensures { IfOk result (λ k. k ≡ kind_of regions head.entry) }
+{
     match head {
         Head::Function { name, takes } => {
             let name = FunctionName::from_string(String::from_str(alloc, name)?);
@@ -180,7 +237,9 @@ fn kind_of(alloc: Global, head: Head<'_>, regions: u32) -> Result<UnitKind, Fail
     }
 }
 
-fn constants_of(alloc: Global, written: &[Constant<'_>]) -> Result<Values, Fail> {
+fn constants_of(alloc: Global, written: &[Constant<'_>]) -> Result<Values, WrittenFault>
+    ensures { IfOk result (λ vs. vs ≡ map constant_of written.now) }
+{
     let mut values = Vec::new(alloc);
     for constant in written {
         values.push(constant_of(alloc, *constant)?)?;
@@ -188,15 +247,20 @@ fn constants_of(alloc: Global, written: &[Constant<'_>]) -> Result<Values, Fail>
     Ok(Values::from_vec(values))
 }
 
-fn constant_of(alloc: Global, constant: Constant<'_>) -> Result<Value, Fail> {
+fn constant_of(alloc: Global, constant: Constant<'_>) -> Result<Value, WrittenFault>
+    ensures { IfOk result (λ v. v ≡ constant_of constant.entry) }
+{
     match constant {
         Constant::Int(n) => Ok(Value::Int(n)),
+        Constant::Bool(b) => Ok(Value::Bool(b)),
         Constant::Bytes(text) => Ok(Value::Bytes(ByteText::from_slice(alloc, text.as_bytes())?)),
         Constant::Nothing => Ok(Value::Nothing),
     }
 }
 
-fn classes_of(alloc: Global, written: &[&[Kind]]) -> Result<Vec<Kinds>, Fail> {
+fn classes_of(alloc: Global, written: &[&[Kind]]) -> Result<Vec<Kinds>, WrittenFault>
+    ensures { IfOk result (λ v. v.items ≡ classes_of written.now) }
+{
     let mut classes = Vec::new(alloc);
     for kinds in written {
         classes.push(Kinds::from_vec(kinds.to_vec(alloc)?))?;

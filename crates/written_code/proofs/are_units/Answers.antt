@@ -3,7 +3,7 @@ use Rattle.std.proofs.lemmas.List.{take_all}
 use Rattle.std.proofs.lemmas.List.Elements.{All-more}
 use Rattle.std.specs.List.{All}
 use Rattle.lam_bytecode.specs.Codes.{IsUnit}
-use Rattle.examples_machine.proofs.codes.are_units.Goals as goal
+use Rattle.written_code.proofs.are_units.Goals as goal
 
 pub loop-unit-preserved : goal.loop-unit-preserved
 loop-unit-preserved c =

@@ -3,7 +3,7 @@ use Rattle.std.proofs.lemmas.List.{take_all}
 use Rattle.std.proofs.lemmas.List.Elements.{All-more}
 use Rattle.std.specs.List.{All}
 use Rattle.lam_bytecode.specs.Codes.{IsConstant}
-use Rattle.examples_machine.proofs.codes.are_constants.Goals as goal
+use Rattle.written_code.proofs.are_constants.Goals as goal
 
 pub loop-value-preserved : goal.loop-value-preserved
 loop-value-preserved c =
