@@ -117,8 +117,8 @@ impl<J: Origin<Kept>, Kept: Drop> Shared<J, Kept> {
         Ok(Visit::Took(thread))
     }
 
-    /// Asks the hook for a thread, unless the run has ended, and copies it where its next turn is private; else takes a turn
-    /// of it. Where another worker takes turns of it there is nothing to do now.
+    /// Asks the hook for a thread, unless the run has ended, and copies it where its next turn is private and a copy costs
+    /// little; else takes a turn of it. Where another worker takes turns of it there is nothing to do now.
     ///
     /// # Errors
     ///

@@ -7,6 +7,7 @@ ghost use Rattle.thread_host_run.specs.ReadyLists.{ready_threads};
 ghost use Rattle.thread_host.specs.Sharing.{IsShared};
 ghost use Rattle.thread_host.specs.Stretching.{StretchOf, StretchKeepsTo};
 
+use crate::lightness::is_light;
 use crate::origins::Origin;
 use lam_bytecode::Code;
 use lam_machine_replay::Keeps;
@@ -20,7 +21,8 @@ use want_of_memory::NoMemory;
 /// What a worker found under the lock.
 #[derive(Drop)]
 pub enum Opening {
-    /// The next turn of the thread that the hook picked is private: turns of it are to be taken outside the lock.
+    /// The next turn of the thread that the hook picked is private, and the thread is light: turns of it are to be taken
+    /// outside the lock.
     Out(Stretch),
     /// It was not: a turn of this thread.
     Took(u32),
@@ -30,7 +32,7 @@ pub enum Opening {
     Ended(How),
 }
 
-/// A stretch of a thread with no turn yet, where the next turn of the thread is private.
+/// A stretch of a thread with no turn yet, where the next turn of the thread is private and the thread is light.
 pub fn stretch_of(course: &Course, code: &Code, thread: u32) -> Result<Option<Stretch>, NoMemory>
     ensures { IfOk result (λ o. IfSome o (λ s. (s.thread ≡ thread) × StretchOf code.now course.now s)) }
 {
@@ -40,12 +42,15 @@ pub fn stretch_of(course: &Course, code: &Code, thread: u32) -> Result<Option<St
     }
 }
 
-/// A stretch of this thread, where its next turn is private.
+/// A stretch of this thread, where its next turn is private and it is light.
 fn private_stretch(found: &LamThread, code: &Code, thread: u32) -> Result<Option<Stretch>, NoMemory>
     ensures { IfOk result (λ o. IfSome o (λ s. s ≡ begun thread found.now)) }
 {
     match standing(found, code) {
         Standing::Private => {
+            if !is_light(found) {
+                return Ok(None);
+            }
             let stretch = Stretch::begin(thread, found)?;
             Ok(Some(stretch))
         }
