@@ -77,11 +77,11 @@ def byte_values():
     return bare(text)
 
 
-def byte_frames():
+def byte_frames(goes_on='return 0;'):
     double = '  let b: bytes = "x";\n  let n: int = 0;\n  while (n < 16) { b = cat(b, b); n = n + 1; }\n'
     names = ', '.join(f'b{n}: bytes' for n in range(60))
     args = ', '.join(f'b{n}' for n in range(60))
-    text = (f'fn deep(n: int, {names}): int {{ if (n == 0) {{ return 0; }} return deep(n - 1, {args}); }}\n'
+    text = (f'fn deep(n: int, {names}): int {{ if (n == 0) {{ {goes_on} }} return deep(n - 1, {args}); }}\n'
             'fn main(): int {\n' + double + '  return deep(200, ' + ', '.join(['b'] * 60) + ');\n}\n')
     return bare(text)
 
@@ -122,6 +122,8 @@ ROWS = [
     ('`read` of 64 KB in a loop, seen, 300,000 turns', reading, run('300000')),
     ('an array of 25,000 byte values of 64 KB', byte_values, run()),
     ('200 frames with 60 byte values of 64 KB', byte_frames, run()),
+    ('200 frames with 60 byte values of 64 KB, and then a loop, 1,000,000 turns',
+     lambda: byte_frames('while (true) { n = n + 1; } return 0;'), run()),
     ('removing and making the first of 4,090 entries, 1,000,000 turns', removing, run()),
     ('`check` of a mebibyte', mebibyte, ['check', 'P']),
     ('`format` of a mebibyte', mebibyte, ['format', 'P']),
