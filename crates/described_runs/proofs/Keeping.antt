@@ -120,7 +120,7 @@ module _ (code : CodeTree) (is : IsCode code) (guarded : IsGuarded code) where
 
   -- ---- the acting context of a thread after turns
 
-  acting : (w : World) (t : ℕ) (c : Context) (rest : List Context) → AreDescribed code w → IsActing w t c rest → IsDescribedContext code c
+  pub acting : (w : World) (t : ℕ) (c : Context) (rest : List Context) → AreDescribed code w → IsActing w t c rest → IsDescribedContext code c
   acting w t c rest h a = by (thread_at w t) refl a
     where
       by : (x : Option Thread) → thread_at w t ≡ x → contexts_in x ≡ c ∷ rest → IsDescribedContext code c

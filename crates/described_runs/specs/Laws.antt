@@ -7,10 +7,11 @@ use Rattle.thread_steps.specs.Threads.{Context}
 use Rattle.thread_steps.specs.Next.{next_by, next_of}
 use Rattle.lam_machine_terms.specs.Worlds.{World}
 use Rattle.lam_machine_terms.specs.Turns.{Moment, step, moments, replay}
+use Rattle.lam_machine_terms.specs.Valid.{IsValid}
 use Rattle.lam_machine_laws.specs.Laws.{IsActing}
 use Rattle.guarded_code.specs.Breaks.{IsGuarded}
 use Rattle.described_threads.specs.Accesses.{StandsAt, Finds, IsAccess, accessed}
-use Rattle.described_runs.specs.Worlds.{AreDescribed, AreAtEntries}
+use Rattle.described_runs.specs.Worlds.{AreDescribed, AreAtEntries, IsSound}
 
 -- threads at entries are described
 abbrev pub EntriesAreDescribed : CodeTree → Type 0
@@ -39,3 +40,24 @@ NoSecondTestInRuns code =
     IsCode code → IsGuarded code → (w : World) (turns : List ℕ) → AreAtEntries code w →
     (t : ℕ) (c : Context) (rest : List Context) (op : Op) → IsActing (replay code turns w) t c rest → StandsAt code c op → IsAccess op →
     next_of code c ≡ next_by code c.phase c.inside (accessed op c.inside.frame.stack)
+
+-- ---- worlds from which runs are sound
+
+-- a valid world whose threads are at entries of guarded code is one
+abbrev pub EntriesAreSound : CodeTree → Type 0
+EntriesAreSound code = IsCode code → IsGuarded code → (w : World) → IsValid w → AreAtEntries code w → IsSound code w
+
+-- the world that a turn of any thread leaves is one, where that before it was
+abbrev pub TurnsKeepSound : CodeTree → Type 0
+TurnsKeepSound code = (w : World) (t : ℕ) (m : Moment) → IsSound code w → step code w t ≡ Some m → IsSound code m.world
+
+-- so is every world of a run from one
+abbrev pub RunsKeepSound : CodeTree → Type 0
+RunsKeepSound code =
+    (w : World) (turns : List ℕ) → IsSound code w → AllByRecursion (λ (m : Moment). IsSound code m.world) (moments code turns w) × IsSound code (replay code turns w)
+
+-- and in it an access finds a reference that is not null and whose rule holds
+abbrev pub SoundAccessesFind : CodeTree → Type 0
+SoundAccessesFind code =
+    (w : World) → IsSound code w →
+    (t : ℕ) (c : Context) (rest : List Context) (op : Op) → IsActing w t c rest → StandsAt code c op → Finds c.label op c.inside.frame.stack

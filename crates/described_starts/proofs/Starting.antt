@@ -1,12 +1,18 @@
 -- Threads that just start stand at entries.
 use Rattle.std.proofs.Common.{◌≡◌, suc, List, [], ◌∷◌, Some, length, refl, ap, ◌∙◌}
 use Rattle.lam_value.specs.declared.values.Value.{Value}
-use Rattle.lam_bytecode.specs.Codes.{CodeTree}
+use Rattle.lam_bytecode.specs.Codes.{CodeTree, IsCode}
 use Rattle.lam_resolve_tree.specs.Tree.{ResolvedType, ResolvedTree}
+use Rattle.lam_meaning_laws.specs.Acts.{HasFunctions}
 use Rattle.lam_meaning_laws.proofs.Units.{takes_params}
+use Rattle.lam_machine_terms.specs.Worlds.{World}
+use Rattle.lam_machine_terms.specs.Valid.{IsValid}
 use Rattle.lam_machine_means.specs.Typing.{Typing, Are}
-use Rattle.lam_machine_means.specs.Runs.{nothing_known}
+use Rattle.lam_machine_means.specs.Runs.{nothing_known, ThreadsStart}
+use Rattle.guarded_code.specs.Breaks.{IsGuarded}
+use Rattle.described_runs.specs.Worlds.{IsSound}
 use Rattle.described_runs.proofs.Keeping.{accesses_find_in_runs}
+use Rattle.described_runs.proofs.Sound.{sound_entries}
 use Rattle.described_starts.specs.Starts.{SchemeHasFunctions, StartsAtEntries, StartsAreSound}
 
 -- as many values as types
@@ -33,3 +39,6 @@ starts_at_entries r code takes w starts t th at =
 
 pub starts_are_sound : (r : ResolvedTree) (code : CodeTree) → StartsAreSound r code
 starts_are_sound r code is guarded takes w turns starts = accesses_find_in_runs code is guarded w turns (starts_at_entries r code takes w starts)
+
+pub sound_start : (r : ResolvedTree) (code : CodeTree) (w : World) → IsCode code → IsGuarded code → HasFunctions code r → IsValid w → ThreadsStart r code w → IsSound code w
+sound_start r code w is guarded takes valid starts = sound_entries code w is guarded valid (starts_at_entries r code takes w starts)

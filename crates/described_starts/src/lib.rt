@@ -6,13 +6,14 @@
 
 ghost use Rattle.lam_bytecode.specs.Codes.{CodeTree};
 ghost use Rattle.lam_resolve_tree.specs.Tree.{ResolvedTree};
-ghost use Rattle.described_starts.specs.Starts.{SchemeHasFunctions, StartsAtEntries, StartsAreSound};
+ghost use Rattle.described_starts.specs.Starts.{SchemeHasFunctions, StartsAtEntries, StartsAreSound, StartsGiveSound};
 
 /// Threads of a program that just start are at the entries of their functions, in the scheme's code and in any other whose
 /// functions take what the program's do. So where that code is guarded, each access of every run from there finds a
-/// reference that is not null and whose rule holds.
+/// reference that is not null and whose rule holds, and a valid world of such threads is one from which runs are sound.
 pub fn starts_are_at_entries()
     ensures scheme { SchemeHasFunctions }
     ensures entries { (r : ResolvedTree) (code : CodeTree) → StartsAtEntries r code }
     ensures sound { (r : ResolvedTree) (code : CodeTree) → StartsAreSound r code }
+    ensures worlds { (r : ResolvedTree) (code : CodeTree) → StartsGiveSound r code }
 {}

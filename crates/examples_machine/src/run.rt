@@ -1,15 +1,17 @@
 //! One run of code from the document of a world.
 
 ghost use Rattle.std.specs.Prelude.{IfOk};
-ghost use Rattle.lam_machine_terms.specs.Valid.{IsValid};
+ghost use Rattle.lam_bytecode.specs.Codes.{IsCode};
+ghost use Rattle.described_runs.specs.Worlds.{IsSound};
 
 use audit_log::{audit_text, view_text};
 use audit_log_notes::{Noted, Seen};
 use capabilities::Caps;
+use code_verify::verify;
 use decimal_text::push_number;
 use flow_labels::{Label, TagNames, parse_label};
+use guarded_code::Verified;
 use lam_asks::let_go_event;
-use lam_bytecode::Code;
 use lam_machine_replay::{noted_in, seen_by};
 use lam_machine_world::World;
 use std::alloc::Global;
@@ -18,7 +20,7 @@ use std::process::Abort;
 use std::test::Fail;
 use thread_host_run::{Run, TURN_LIMIT};
 use world_doc::start;
-use world_doc_laws::texts_start;
+use world_doc_entries::starts_are_entered;
 use written_code::{Written, code_of};
 
 /// A code, the document of the world that it starts from, and whose turns come: so many of each thread, one after another.
@@ -57,19 +59,20 @@ fn text_of(alloc: Global, given: Given<'_>, observer: &str) -> Result<String, Fa
     text
 }
 
-/// The run with no turns.
+/// The run with no turns. Code that is not guarded has none.
 pub fn opened(alloc: Global, code: Written<'_>, world: &str) -> Result<Run, Fail> {
-    let code = code_of(alloc, code)?;
+    let code = verify(alloc, code_of(alloc, code)?)?;
     let start = start_of(alloc, &code, world)?;
     Ok(Run::new(alloc, code, start)?)
 }
 
-/// The world of a document. It is a valid one.
-fn start_of(alloc: Global, code: &Code, world: &str) -> Result<World, Fail>
-    ensures { IfOk result IsValid }
+/// The world of a document. Runs of the code from there are sound.
+fn start_of(alloc: Global, code: &Verified, world: &str) -> Result<World, Fail>
+    requires { IsCode code.now }
+    ensures { IfOk result (IsSound code.now) }
 {
-    texts_start();
-    match start(alloc, world.as_bytes(), code) {
+    starts_are_entered();
+    match start(alloc, world.as_bytes(), code.code()) {
         Ok(start) => Ok(start),
         Err(_) => Err(Fail::new("no world")),
     }

@@ -6,8 +6,8 @@ ghost use Rattle.thread_core_stretches.specs.Stretches.{StretchStands};
 use crate::regions::FAULTS;
 use crate::run::{opened, take_turns};
 use crate::worlds::BARE;
+use guarded_code::Verified;
 use lam_asks::{Ask, What, let_go_event};
-use lam_bytecode::Code;
 use std::mem::forget;
 use std::test::Fail;
 use thread_core_stretches::{Stretch, let_go_stretch};
@@ -64,7 +64,7 @@ fn three_turns(run: &Run) -> Result<Stretch, Fail>
 }
 
 /// Takes three private turns, and no fourth.
-fn steps(stretch: &mut Stretch, code: &Code) -> Result<(), Fail>
+fn steps(stretch: &mut Stretch, code: &Verified) -> Result<(), Fail>
     ensures { StretchStands code.now stretch.old → StretchStands code.now stretch.new }
 {
     let first = stretch.step(code)?;

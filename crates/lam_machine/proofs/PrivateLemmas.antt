@@ -5,9 +5,11 @@ use Rattle.std.proofs.lemmas.Option.{slice_get_read, slice_get_past}
 use Rattle.lam_bytecode.specs.Codes.{CodeTree}
 use Rattle.thread_steps.specs.Threads.{Context, Thread}
 use Rattle.thread_steps.specs.Next as next
-use Rattle.thread_steps.specs.Next.{Next, goes, asks, stuck, next_of, stands, standing}
+use Rattle.thread_steps.specs.Next.{Next, goes, asks, stuck, next_of, stands}
 use Rattle.thread_core.specs.Turning.{turned, turn_of, stepped}
 use Rattle.thread_core.specs.Turning as turning
+use Rattle.thread_core.specs.Untested.{StandsAs}
+use Rattle.thread_core.proofs.Untested.{near_same}
 use Rattle.thread_core.specs.declared.turn.Turn.{Turn}
 use Rattle.thread_core.specs.declared.turn.Turn.TheVariants as turn
 use Rattle.lam_machine_terms.specs.Worlds.{World, thread_at}
@@ -42,11 +44,11 @@ module _ (code : CodeTree) (w : World) (t : ℕ) (after : World) where
   by_turn turn.Ended e h = (e, (ended_still code w t turn.Ended after h refl).1)
 
 -- a thread that is there
-pub goes_on : (code : CodeTree) (s : Stores) (threads : List Thread) (t : ℕ) (th to : Thread) (x : next.Standing) → t < length threads → th ≡ get_or threads t th → x ≡ standing code th → to ≡ stepped code th
+pub goes_on : (code : CodeTree) (s : Stores) (threads : List Thread) (t : ℕ) (th to : Thread) (x : next.Standing) → t < length threads → th ≡ get_or threads t th → StandsAs code th x → to ≡ stepped code th
     → IsPrivateStep code t (world_of s threads) (is_private_standing x) (world_of s (set threads t to))
 goes_on code s threads t th to x k e f g =
     let at : slice_get threads t ≡ Some th = slice_get_read threads (length threads) t th refl k e in
-    let is : is_private_standing x ≡ is_private (turn_of code th) = ap is_private_standing f ∙ stands_as code th.contexts in
+    let is : is_private_standing x ≡ is_private (turn_of code th) = near_same is_private_standing refl code th x f ∙ stands_as code th.contexts in
     subst (λ b. IsPrivateStep code t (world_of s threads) b (world_of s (set threads t to))) (sym is)
     (by_turn code (world_of s threads) t (world_of s (set threads t to)) (turn_of code th) (ap (has_private_turn code) at ∙ stands_as code th.contexts) (advances code s threads t th to (turn_of code th) k e refl g))
 

@@ -11,8 +11,8 @@ ghost use Rattle.lam_machine_effects.specs.Parts.{world_of};
 ghost use Rattle.lam_machine_turns.specs.Turned.{IsTurn};
 ghost use Rattle.lam_machine.specs.Asking.{label_at, IsReadiness, MayAsk, Serves, Fits, Applied, with_born, Took, TookAt};
 
+use guarded_code::Verified;
 use lam_asks::{Answer, Ask, Outcome};
-use lam_bytecode::Code;
 use lam_machine_effects::{Deed, Effect, Stores, apply};
 use lam_machine_world::{deed_of, is_ready};
 use lam_value::Value;
@@ -51,7 +51,7 @@ pub fn take_ask(
     alloc: Global,
     stores: &mut Stores,
     threads: &mut Vec<LamThread>,
-    code: &Code,
+    code: &Verified,
     thread: u32,
     ask: &Ask,
 ) -> Result<Answer, NoMemory>
@@ -99,7 +99,7 @@ fn enact(
     stores: &mut Stores,
     threads: &mut Vec<LamThread>,
     thread: u32,
-    code: &Code,
+    code: &Verified,
     ask: &Ask,
     answer: Answer,
     effect: Effect,
@@ -133,7 +133,7 @@ fn enact(
 fn add_born(
     alloc: Global,
     threads: &mut Vec<LamThread>,
-    code: &Code,
+    code: &Verified,
     effect: &Effect,
 ) -> Result<usize, NoMemory>
     ensures ok { IfOk result (λ n. (n ≡ length threads.old.items) × (threads.new.items ≡ with_born code.now effect.now threads.old.items)) }
@@ -148,7 +148,7 @@ fn add_born(
 fn push_born(
     alloc: Global,
     threads: &mut Vec<LamThread>,
-    code: &Code,
+    code: &Verified,
     effect: &Effect,
 ) -> Result<(), NoMemory>
     ensures ok { OnOk result (threads.new.items ≡ with_born code.now effect.now threads.old.items) }
@@ -158,7 +158,7 @@ fn push_born(
         Effect::AddsThread { unit, args, caps } => {
             let caps = caps.copy()?;
             let args = args.copy()?;
-            let thread = LamThread::start(alloc, code, *unit, args, caps)?;
+            let thread = LamThread::start(alloc, code.code(), *unit, args, caps)?;
             threads.push(thread)?;
             Ok(())
         }
@@ -173,7 +173,7 @@ fn settle_at(
     stores: &mut Stores,
     threads: &mut Vec<LamThread>,
     thread: u32,
-    code: &Code,
+    code: &Verified,
     ask: &Ask,
     answer: Answer,
     effect: Effect,
@@ -197,7 +197,7 @@ fn settle(
     stores: &mut Stores,
     slot: &mut LamThread,
     thread: u32,
-    code: &Code,
+    code: &Verified,
     ask: &Ask,
     answer: Answer,
     effect: Effect,
@@ -239,7 +239,7 @@ fn put(slot: &mut LamThread, thread: LamThread)
 /// A thread takes all memory that an answer needs, or is as it was.
 fn make_ready(
     thread: LamThread,
-    code: &Code,
+    code: &Verified,
     ask: &Ask,
     answer: Answer,
 ) -> Result<Prepared, LamThread>

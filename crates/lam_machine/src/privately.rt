@@ -6,7 +6,7 @@ ghost use Rattle.lam_machine_effects.specs.Parts.{world_of};
 ghost use Rattle.thread_core.specs.Turning.{standing_of};
 ghost use Rattle.lam_machine.specs.Privately.{IsPrivateStep, is_private_standing};
 
-use lam_bytecode::Code;
+use guarded_code::Verified;
 use lam_machine_world::World;
 use thread_core::{Standing, go_on};
 use thread_core_state::LamThread;
@@ -18,7 +18,7 @@ use want_of_memory::NoMemory;
 /// # Errors
 ///
 /// `NoMemory` where memory is refused; the world is then as it was.
-pub fn step_privately(world: &mut World, code: &Code, thread: u32) -> Result<bool, NoMemory>
+pub fn step_privately(world: &mut World, code: &Verified, thread: u32) -> Result<bool, NoMemory>
     ensures ok { IfOk result (λ taken. IsPrivateStep code.now thread world.old taken world.new) }
     ensures err { OnErr result (world.new ≡ world.old) }
 {
@@ -27,7 +27,7 @@ pub fn step_privately(world: &mut World, code: &Code, thread: u32) -> Result<boo
 
 /// A private turn of a thread of many. A thread that is not there has none.
 #[tactic(auto, using(crate::proofs::PrivateLemmas::goes_on, crate::proofs::PrivateLemmas::absent, crate::proofs::AdvanceLemmas::kept_at))]
-fn go_on_at(threads: &mut Vec<LamThread>, code: &Code, thread: u32) -> Result<bool, NoMemory>
+fn go_on_at(threads: &mut Vec<LamThread>, code: &Verified, thread: u32) -> Result<bool, NoMemory>
     ensures ok { IfOk result (λ taken. (s : Stores) → IsPrivateStep code.now thread (world_of s threads.old.items) taken (world_of s threads.new.items)) }
     ensures few { length threads.new.items ≡ length threads.old.items }
     ensures err { OnErr result (threads.new.items ≡ threads.old.items) }

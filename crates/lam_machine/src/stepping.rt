@@ -1,18 +1,21 @@
 //! Steps.
 
-ghost use Rattle.std.specs.Prelude.{◌≡◌, ◌≤◌, length, slice_get, IfOk, OnErr};
+ghost use Rattle.std.specs.Prelude.{◌≡◌, ◌≤◌, Some, length, slice_get, IfOk, OnErr};
 ghost use Rattle.flow_labels.specs.declared.Label.{Label as LabelOf};
+ghost use Rattle.thread_steps.specs.Threads.{Thread};
 ghost use Rattle.lam_machine_effects.specs.declared.stores.Stores.{Stores};
 ghost use Rattle.lam_machine_terms.specs.Limits.{most_threads};
 ghost use Rattle.lam_machine_terms.specs.Worlds.{contexts_in};
 ghost use Rattle.lam_machine_effects.specs.Parts.{world_of};
+ghost use Rattle.described_runs.specs.Worlds.{IsSound};
+ghost use Rattle.thread_core.specs.Untested.{ThreadFinds};
 ghost use Rattle.lam_machine.specs.Machine.{CopiesLive, IsStep};
 ghost use Rattle.lam_machine.specs.Asking.{top_label, label_at, asked_event, AsksNext, Advances};
 
 use crate::asking::{asks_ready, take_ask, top_of};
 use flow_labels::Label;
+use guarded_code::Verified;
 use lam_asks::{Answer, Ask, Event, What, let_go};
-use lam_bytecode::Code;
 use lam_machine_effects::Stores;
 use lam_machine_world::World;
 use std::alloc::Global;
@@ -22,7 +25,8 @@ use want_of_memory::NoMemory;
 
 /// One turn of a thread, where it is ready: the event that it is. Else `None`, and the world stays as it is.
 ///
-/// What the turn copies has to live, as it does in every valid world.
+/// The code is guarded and the world is one of its runs, or agrees with its descriptions as these do: so an access finds a reference
+/// that its rule allows, and tests nothing.
 ///
 /// # Errors
 ///
@@ -30,10 +34,10 @@ use want_of_memory::NoMemory;
 pub fn step(
     alloc: Global,
     world: &mut World,
-    code: &Code,
+    code: &Verified,
     thread: u32,
 ) -> Result<Option<Event>, NoMemory>
-    requires living { CopiesLive code.now world.old thread }
+    requires sound { IsSound code.now world.old }
     ensures ok { IfOk result (λ o. IsStep code.now thread world.old o world.new) }
     ensures err { OnErr result (world.new ≡ world.old) }
 {
@@ -44,11 +48,11 @@ fn take_step(
     alloc: Global,
     stores: &mut Stores,
     threads: &mut Vec<LamThread>,
-    code: &Code,
+    code: &Verified,
     thread: u32,
 ) -> Result<Option<Event>, NoMemory>
     requires few { length threads.old.items ≤ most_threads }
-    requires living { CopiesLive code.now (world_of stores.old threads.old.items) thread }
+    requires sound { IsSound code.now (world_of stores.old threads.old.items) }
     ensures ok { IfOk result (λ o. IsStep code.now thread (world_of stores.old threads.old.items) o (world_of stores.new threads.new.items)) }
     ensures few { length threads.new.items ≤ most_threads }
     ensures same_stores { OnErr result (stores.new ≡ stores.old) }
@@ -85,7 +89,8 @@ fn acting_label(alloc: Global, threads: &[LamThread], thread: u32) -> Result<Lab
 
 /// A private turn of a thread is taken, and an ask is handed out. A thread that is not there has nothing to do.
 #[tactic(auto, using(crate::proofs::AdvanceLemmas::advances, crate::proofs::AdvanceLemmas::absent, crate::proofs::AdvanceLemmas::kept_at))]
-fn advance_at(threads: &mut Vec<LamThread>, code: &Code, thread: u32) -> Result<Turn, NoMemory>
+fn advance_at(threads: &mut Vec<LamThread>, code: &Verified, thread: u32) -> Result<Turn, NoMemory>
+    requires finds { (th : Thread) → slice_get threads.old.items thread ≡ Some th → ThreadFinds code.now th }
     ensures ok { IfOk result (λ x. (s : Stores) → Advances code.now (world_of s threads.old.items) thread x (world_of s threads.new.items)) }
     ensures few { length threads.new.items ≡ length threads.old.items }
     ensures err { OnErr result (threads.new.items ≡ threads.old.items) }
@@ -103,7 +108,7 @@ fn step_asking(
     alloc: Global,
     stores: &mut Stores,
     threads: &mut Vec<LamThread>,
-    code: &Code,
+    code: &Verified,
     label: Label,
     thread: u32,
     ask: Ask,
@@ -141,7 +146,7 @@ fn answer_ask(
     alloc: Global,
     stores: &mut Stores,
     threads: &mut Vec<LamThread>,
-    code: &Code,
+    code: &Verified,
     thread: u32,
     ask: &Ask,
 ) -> Result<Option<Answer>, NoMemory>

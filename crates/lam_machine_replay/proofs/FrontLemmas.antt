@@ -5,25 +5,25 @@ use Rattle.std.specs.Prelude.{slice_get}
 use Rattle.std.specs.Option.{option_map}
 use Rattle.std.proofs.lemmas.Option.{slice_get_past, slice_get-get_or}
 use Rattle.std.proofs.lemmas.List.{take_more, take_all, take-append-drop, length-take-le}
-use Rattle.lam_bytecode.specs.Codes.{CodeTree, IsCode}
+use Rattle.lam_bytecode.specs.Codes.{CodeTree}
 use Rattle.lam_machine_terms.specs.Worlds.{World}
 use Rattle.lam_machine_terms.specs.Turns.{Moment, step, and_then, moments, replay, IsRun}
-use Rattle.lam_machine_terms.specs.Valid.{IsValid}
 use Rattle.lam_machine_runs.specs.Stops.{stopped_at}
 use Rattle.lam_machine_runs.proofs.RunLemmas.{joined_runs, stopped_runs}
-use Rattle.lam_machine_valid.proofs.WholeLemmas.{stay_valid}
+use Rattle.described_runs.specs.Worlds.{IsSound}
+use Rattle.described_runs.proofs.Sound.{sound_step}
 use Rattle.lam_machine_replay.specs.Keeping.{KeptOfSoMany, TakesTurn}
 
 -- so many turns are a run, which leaves this world, and this is kept of its moments
 pub record IsFront (X : Type 0) (AreKept : List Moment → X → Type 0) (code : CodeTree) (start : World) (turns : List ℕ) (n : ℕ) (w : World) (x : X) : Type 0 where
-  pub valid : IsValid w
+  pub sound : IsSound code w
   pub run : IsRun code (take n turns) start
   pub world : w ≡ replay code (take n turns) start
   pub kept : AreKept (moments code (take n turns) start) x
 
 module _ {X : Type 0} (AreKept : List Moment → X → Type 0) (code : CodeTree) (start : World) (turns : List ℕ) where
-  pub no_turns : (x : X) → IsValid start → AreKept [] x → IsFront X AreKept code start turns 0 start x
-  no_turns x valid nothing = record { valid = valid; run = tt; world = refl; kept = nothing }
+  pub no_turns : (x : X) → IsSound code start → AreKept [] x → IsFront X AreKept code start turns 0 start x
+  no_turns x sound nothing = record { sound = sound; run = tt; world = refl; kept = nothing }
 
   module _ (n : ℕ) (w : World) (x : X) (front : IsFront X AreKept code start turns n w x) where
     -- there are as many moments
@@ -40,15 +40,15 @@ module _ {X : Type 0} (AreKept : List Moment → X → Type 0) (code : CodeTree)
 
     module _ (within : n < length turns) (taken : Bool) (after : World) (y : X) (takes : TakesTurn code (get_or turns n 0) AreKept n w x taken after y) where
       -- it is taken: one turn more is a run, and it is kept
-      one_taken : IsCode code → TakesTurn code (get_or turns n 0) AreKept n w x true after y → IsFront X AreKept code start turns (n + 1) after y
-      one_taken is_code it =
+      one_taken : TakesTurn code (get_or turns n 0) AreKept n w x true after y → IsFront X AreKept code start turns (n + 1) after y
+      one_taken it =
           let t : ℕ = get_or turns n 0 in
           let m : Moment = record { event = it.0; made = it.1.made; world = after } in
           let at : step code (replay code (take n turns) start) t ≡ Some m = subst (λ (v : World). step code v t ≡ Some m) front.world it.1.is in
           let grown = (joined_runs code).grows start (take n turns) t m front.run at in
           let more : take (n + 1) turns ≡ take n turns ++ t ∷ [] = take_more turns n 0 within in
           record {
-            valid = stay_valid code is_code w t m front.valid it.1.is;
+            sound = sound_step code w t m front.sound it.1.is;
             run = subst (λ (ts : List ℕ). IsRun code ts start) (sym more) grown.0;
             world = sym (ap (λ (ts : List ℕ). replay code ts start) more ∙ grown.2);
             kept =
@@ -56,8 +56,8 @@ module _ {X : Type 0} (AreKept : List Moment → X → Type 0) (code : CodeTree)
                 (it.2 (moments code (take n turns) start) (as_many (omega arith)) front.kept);
           }
 
-      pub goes_on : IsCode code → taken ≡ true → IsFront X AreKept code start turns (n + 1) after y
-      goes_on is_code is = one_taken is_code (subst (λ (b : Bool). TakesTurn code (get_or turns n 0) AreKept n w x b after y) is takes)
+      pub goes_on : taken ≡ true → IsFront X AreKept code start turns (n + 1) after y
+      goes_on is = one_taken (subst (λ (b : Bool). TakesTurn code (get_or turns n 0) AreKept n w x b after y) is takes)
 
       -- it is not: the turns stop here
       not_ready : step code w (get_or turns n 0) ≡ None → length (moments code turns start) ≡ n

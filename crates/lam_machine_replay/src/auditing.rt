@@ -2,9 +2,8 @@
 
 ghost use Rattle.std.specs.Prelude.{◌≡◌, ◌++◌, None, IfOk, OnOk, IfErr};
 ghost use Rattle.std.specs.Option.{option_to_list};
-ghost use Rattle.lam_bytecode.specs.Codes.{IsCode};
 ghost use Rattle.lam_machine_terms.specs.Turns.{moments};
-ghost use Rattle.lam_machine_terms.specs.Valid.{IsValid};
+ghost use Rattle.described_runs.specs.Worlds.{IsSound};
 ghost use Rattle.audit_log_notes.specs.Notes.{noted_in, refusal_of};
 ghost use Rattle.lam_machine_runs.specs.Stops.{stopped_at};
 ghost use Rattle.lam_machine_replay.specs.Stops.{IsStop};
@@ -16,8 +15,8 @@ use crate::telling::product_label;
 use audit_log_notes::{Noted, refusal_of};
 use capabilities::Caps;
 use flow_labels::flows;
+use guarded_code::Verified;
 use lam_asks::{Event, let_go_event};
-use lam_bytecode::Code;
 use lam_machine::World;
 use std::alloc::Global;
 use want_of_memory::NoMemory;
@@ -31,12 +30,11 @@ use want_of_memory::NoMemory;
 /// `NotReady` at the first turn whose thread is not ready, exactly where there is one; `NoMemory`.
 pub fn noted_in(
     alloc: Global,
-    code: &Code,
+    code: &Verified,
     start: World,
     turns: &[u32],
 ) -> Result<Vec<Noted>, RunFault>
-    requires code { IsCode code.now }
-    requires valid { IsValid start }
+    requires sound { IsSound code.now start }
     ensures ok { IfOk result (λ n. n.items ≡ noted_in (moments code.now turns.now start)) }
     ensures run { OnOk result (stopped_at code.now turns.now start ≡ None) }
     ensures stops { IfErr result (λ f. IsStop f (stopped_at code.now turns.now start)) }

@@ -1,9 +1,8 @@
 //! Counting in turns, one by one.
 
 ghost use Rattle.std.specs.Prelude.{◌≡◌, None, IfOk, OnOk, IfErr};
-ghost use Rattle.lam_bytecode.specs.Codes.{IsCode};
 ghost use Rattle.lam_machine_terms.specs.Turns.{moments};
-ghost use Rattle.lam_machine_terms.specs.Valid.{IsValid};
+ghost use Rattle.described_runs.specs.Worlds.{IsSound};
 ghost use Rattle.audit_log_notes.specs.Sums.{sums};
 ghost use Rattle.lam_machine_runs.specs.Stops.{stopped_at};
 ghost use Rattle.lam_machine_replay.specs.Stops.{IsStop};
@@ -12,8 +11,8 @@ use crate::events::with_turn;
 use crate::fault::RunFault;
 use crate::keeping::{Keeps, keep_turns};
 use audit_log_notes::Sums;
+use guarded_code::Verified;
 use lam_asks::{Event, let_go_event};
-use lam_bytecode::Code;
 use lam_machine::World;
 use std::alloc::Global;
 use want_of_memory::NoMemory;
@@ -25,9 +24,13 @@ use want_of_memory::NoMemory;
 /// # Errors
 ///
 /// `NotReady` at the first turn whose thread is not ready, exactly where there is one; `NoMemory`.
-pub fn sums_of(alloc: Global, code: &Code, start: World, turns: &[u32]) -> Result<Sums, RunFault>
-    requires code { IsCode code.now }
-    requires valid { IsValid start }
+pub fn sums_of(
+    alloc: Global,
+    code: &Verified,
+    start: World,
+    turns: &[u32],
+) -> Result<Sums, RunFault>
+    requires sound { IsSound code.now start }
     ensures ok { IfOk result (λ s. s ≡ sums (moments code.now turns.now start)) }
     ensures run { OnOk result (stopped_at code.now turns.now start ≡ None) }
     ensures stops { IfErr result (λ f. IsStop f (stopped_at code.now turns.now start)) }

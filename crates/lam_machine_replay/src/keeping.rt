@@ -1,17 +1,15 @@
 //! One pass over the turns of a run, whatever it keeps of them.
 
 ghost use Rattle.std.specs.Prelude.{◌≡◌, ◌-◌, ◌^◌, ◌<◌, List, [], None, IfOk, OnOk, IfErr};
-ghost use Rattle.lam_bytecode.specs.Codes.{IsCode};
 ghost use Rattle.lam_machine_terms.specs.Turns.{Moment, moments};
-ghost use Rattle.lam_machine_terms.specs.Valid.{IsValid};
-ghost use Rattle.lam_machine.specs.Machine.{CopiesLive};
+ghost use Rattle.described_runs.specs.Worlds.{IsSound};
 ghost use Rattle.lam_machine_runs.specs.Stops.{stopped_at};
 ghost use Rattle.lam_machine_replay.specs.Stops.{IsStop};
 ghost use Rattle.lam_machine_replay.specs.Keeping.{KeptOfSoMany, KeepsEvent, LeavesPrivate, TakesTurn};
 
 use crate::fault::RunFault;
+use guarded_code::Verified;
 use lam_asks::Event;
-use lam_bytecode::Code;
 use lam_machine::{World, step, step_privately};
 use lam_machine_world::let_go_world;
 use std::alloc::Global;
@@ -52,12 +50,11 @@ pub fn keep_turns<Kept, K: Keeps<Kept>>(
     alloc: Global,
     who: &K,
     kept: &mut Kept,
-    code: &Code,
+    code: &Verified,
     start: World,
     turns: &[u32],
 ) -> Result<(), RunFault>
-    requires code { IsCode code.now }
-    requires valid { IsValid start }
+    requires sound { IsSound code.now start }
     requires nothing { K.AreKept who.now [] kept.old }
     ensures ok { OnOk result (K.AreKept who.now (moments code.now turns.now start) kept.new) }
     ensures run { OnOk result (stopped_at code.now turns.now start ≡ None) }
@@ -74,11 +71,10 @@ fn over_turns<Kept, K: Keeps<Kept>>(
     who: &K,
     kept: &mut Kept,
     world: &mut World,
-    code: &Code,
+    code: &Verified,
     turns: &[u32],
 ) -> Result<(), RunFault>
-    requires code { IsCode code.now }
-    requires valid { IsValid world.old }
+    requires sound { IsSound code.now world.old }
     requires nothing { K.AreKept who.now [] kept.old }
     ensures ok { OnOk result (K.AreKept who.now (moments code.now turns.now world.old) kept.new) }
     ensures run { OnOk result (stopped_at code.now turns.now world.old ≡ None) }
@@ -104,11 +100,11 @@ fn take_turn<Kept, K: Keeps<Kept>>(
     who: &K,
     kept: &mut Kept,
     world: &mut World,
-    code: &Code,
+    code: &Verified,
     turn: u64,
     thread: u32,
 ) -> Result<bool, NoMemory>
-    requires living { CopiesLive code.now world.old thread }
+    requires sound { IsSound code.now world.old }
     requires few { turn < 2 ^ 64 - 1 }
     requires before { KeptOfSoMany (K.AreKept who.now) turn kept.old }
     ensures { IfOk result (λ taken. TakesTurn code.now thread (K.AreKept who.now) turn world.old kept.old taken world.new kept.new) }
@@ -126,11 +122,11 @@ fn take_step<Kept, K: Keeps<Kept>>(
     who: &K,
     kept: &mut Kept,
     world: &mut World,
-    code: &Code,
+    code: &Verified,
     turn: u64,
     thread: u32,
 ) -> Result<bool, NoMemory>
-    requires living { CopiesLive code.now world.old thread }
+    requires sound { IsSound code.now world.old }
     requires few { turn < 2 ^ 64 - 1 }
     requires before { KeptOfSoMany (K.AreKept who.now) turn kept.old }
     ensures { IfOk result (λ taken. TakesTurn code.now thread (K.AreKept who.now) turn world.old kept.old taken world.new kept.new) }

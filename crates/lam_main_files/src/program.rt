@@ -1,6 +1,7 @@
 //! The commands on a program alone, `format`, `check` and `code`, and the code that is run of a program.
 //!
-//! `check` and `code` are of the code that a program is compiled to. What is run has no barrier that tests again.
+//! `check` and `code` are of the code that a program is compiled to. What is run has no barrier that tests again. Compiled
+//! code is guarded (`compiled_code_guarded`), and so is what is run: nobody verifies it at run time.
 
 ghost use Rattle.std.specs.Prelude.{◌≡◌, ◌≢◌, ◌≤◌, ◌⊎◌, ℕ, Ok, Err, IsTrue, IfOk, IfErr, string_bytes};
 ghost use Rattle.lam_io.specs.Outside.{Rose, AllStay};
@@ -16,7 +17,8 @@ ghost use Rattle.lam_main_files.specs.Halts.{Says, Finds, Gives};
 
 use crate::files::read_file;
 use crate::halt::Halt;
-use barrier_thin::thin;
+use barrier_thin::thin_verified;
+use guarded_code::Verified;
 use lam_bytecode::{Code, listing};
 use lam_front::{check_program, read_program};
 use lam_io::Shelf;
@@ -77,12 +79,12 @@ pub fn code<H: Shelf>(alloc: Global, shelf: &mut H, program: String) -> Result<S
     }
 }
 
-/// The code that is run of the program in a file.
+/// The code that is run of the program in a file. It is guarded.
 ///
 /// # Errors
 ///
 /// A refusal where the file can't be read, with the first fault of its bytes, or with its first unit that is too long.
-pub fn read_code<H: Shelf>(alloc: Global, shelf: &mut H, program: String) -> Result<Code, Halt>
+pub fn read_code<H: Shelf>(alloc: Global, shelf: &mut H, program: String) -> Result<Verified, Halt>
     ensures finds { IsTrue (H.tells shelf.old) → Finds result (λ code. HasFile (H.files shelf.old (string_bytes program)) program_limit (λ bytes. IsRunCode bytes code)) (WithFile (H.files shelf.old (string_bytes program)) (string_bytes program) program_limit (Compiles Never)) }
     ensures sound { IfOk result (λ code. IsCode code) }
     ensures stay { IsTrue (H.tells shelf.old) → AllStay (H.files shelf.old) (H.files shelf.new) }
@@ -122,18 +124,22 @@ fn text_of(program: Program) -> Result<String, NoMemory>
     text
 }
 
-/// The code that is run of the program that the bytes spell: what it is compiled to, without the barriers that test again.
+/// The code that is run of the program that the bytes spell: what it is compiled to, without the barriers that test again. It is
+/// guarded.
 ///
 /// # Errors
 ///
 /// As [`compiled`].
-pub fn run_code_of(alloc: Global, bytes: &[u8]) -> Result<Code, Halt>
+pub fn run_code_of(alloc: Global, bytes: &[u8]) -> Result<Verified, Halt>
     ensures finds { Finds result (λ code. IsRunCode bytes.now code) (Compiles Never bytes.now) }
     ensures sound { IfOk result (λ code. IsCode code) }
     ensures no_fault { IfErr result (λ halt. halt ≢ Halt.ShelfFailed) }
 {
     match compiled(alloc, bytes) {
-        Ok(code) => Ok(thin(alloc, code)?),
+        Ok(code) => {
+            let whole = Verified::of(code);
+            Ok(thin_verified(alloc, &whole)?)
+        }
         Err(halt) => Err(halt),
     }
 }

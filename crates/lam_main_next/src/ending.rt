@@ -1,8 +1,7 @@
 //! What is made of the end of a run: the document of the next run's world, and the line of how many items it has.
 
 ghost use Rattle.std.specs.Prelude.{◌≡◌, ◌≢◌, ◌≤◌, Ok, length, IfOk, IfErr, string_bytes};
-ghost use Rattle.lam_bytecode.specs.Codes.{IsCode};
-ghost use Rattle.lam_machine_terms.specs.Valid.{IsValid};
+ghost use Rattle.described_runs.specs.Worlds.{IsSound};
 ghost use Rattle.lam_machine_runs.specs.Stops.{stopped_at};
 ghost use Rattle.world_doc_terms.specs.Start.{start_of};
 ghost use Rattle.world_forest.specs.Forest.{IsForest};
@@ -11,7 +10,7 @@ ghost use Rattle.lam_main_plan.specs.Saves.{saved_line, IsOfFiles, IsOfEnd};
 ghost use Rattle.lam_main_next.specs.Endings.{Offers, IsToldOf, halt_of_save};
 
 use decimal_text::push_number;
-use lam_bytecode::Code;
+use guarded_code::Verified;
 use lam_machine_world::World;
 use lam_main_files::{Halt, Refusal};
 use std::alloc::Global;
@@ -30,13 +29,12 @@ pub(crate) struct Ending {
 /// What is made of the end of turns, where they are a run.
 pub(crate) fn end_of_turns(
     alloc: Global,
-    code: Code,
+    code: Verified,
     start: World,
     turns: &[u32],
     old: &[u8],
 ) -> Result<Ending, Halt>
-    requires code { IsCode code }
-    requires valid { IsValid start }
+    requires sound { IsSound code start }
     requires document { start_of old.now code ≡ Ok start }
     requires few { length turns.now ≤ 1000000 }
     ensures offers { Offers result (λ out. WhereReady (IsOfEnd out code old.now start turns.now) (stopped_at code turns.now start)) }

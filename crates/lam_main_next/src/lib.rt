@@ -13,7 +13,7 @@ mod writing;
 ghost use Rattle.std.specs.Prelude.{◌≡◌, ◌≤◌, Ok, Some, length, IsTrue, IfErr, string_bytes};
 ghost use Rattle.lam_io.specs.Outside.{Rose, AllStay};
 ghost use Rattle.lam_bytecode.specs.Codes.{IsCode};
-ghost use Rattle.lam_machine_terms.specs.Valid.{IsValid};
+ghost use Rattle.described_runs.specs.Worlds.{IsSound};
 ghost use Rattle.world_doc_terms.specs.Start.{start_of};
 ghost use Rattle.lam_main_plan.specs.Answer.{OthersKept};
 ghost use Rattle.lam_main_plan.specs.Reading.{WithFile, program_limit};
@@ -26,7 +26,7 @@ ghost use Rattle.lam_main_replay.specs.Asked.{files_of};
 
 use crate::ending::end_of_turns;
 use crate::writing::written;
-use lam_bytecode::Code;
+use guarded_code::Verified;
 use lam_io::Shelf;
 use lam_machine_world::{World, let_go_world};
 use lam_main_files::{Halt, Report, read_code, read_file};
@@ -67,7 +67,7 @@ pub fn next<H: Shelf>(
 fn next_code<H: Shelf>(
     alloc: Global,
     shelf: &mut H,
-    code: Code,
+    code: Verified,
     files: RunFiles,
     next_world: String,
 ) -> Result<Report, Halt>
@@ -88,7 +88,7 @@ fn next_code<H: Shelf>(
 fn next_world_of<H: Shelf>(
     alloc: Global,
     shelf: &mut H,
-    code: Code,
+    code: Verified,
     old: &[u8],
     book: String,
     next_world: String,
@@ -109,14 +109,13 @@ fn next_world_of<H: Shelf>(
 fn next_from<H: Shelf>(
     alloc: Global,
     shelf: &mut H,
-    code: Code,
+    code: Verified,
     start: World,
     old: &[u8],
     book: String,
     next_world: String,
 ) -> Result<Report, Halt>
-    requires code { IsCode code }
-    requires valid { IsValid start }
+    requires sound { IsSound code start }
     requires document { start_of old.now code ≡ Ok start }
     ensures gives { IsTrue (H.tells shelf.old) → Reports result (WithRun (H.files shelf.old) (string_bytes book) code start (IsOfEnd (string_bytes next_world) code old.now start)) (H.files shelf.old) (H.files shelf.new) }
     ensures kept { IsTrue (H.tells shelf.old) → OthersKept (Some (string_bytes next_world)) (H.files shelf.old) (H.files shelf.new) }
@@ -136,14 +135,13 @@ fn next_from<H: Shelf>(
 fn next_turns<H: Shelf>(
     alloc: Global,
     shelf: &mut H,
-    code: Code,
+    code: Verified,
     start: World,
     turns: &[u32],
     old: &[u8],
     next_world: String,
 ) -> Result<Report, Halt>
-    requires code { IsCode code }
-    requires valid { IsValid start }
+    requires sound { IsSound code start }
     requires document { start_of old.now code ≡ Ok start }
     requires few { length turns.now ≤ 1000000 }
     ensures gives { IsTrue (H.tells shelf.old) → Reports result (WhereReady (IsOfEnd (string_bytes next_world) code old.now start turns.now) (stopped_at code turns.now start)) (H.files shelf.old) (H.files shelf.new) }

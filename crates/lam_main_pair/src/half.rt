@@ -2,15 +2,14 @@
 
 ghost use Rattle.std.specs.Prelude.{◌≡◌, ◌≢◌, ◌≤◌, IsTrue, IfErr, string_bytes};
 ghost use Rattle.lam_io.specs.Outside.{Rose, AllStay};
-ghost use Rattle.lam_bytecode.specs.Codes.{IsCode};
-ghost use Rattle.lam_machine_terms.specs.Valid.{IsValid};
+ghost use Rattle.described_runs.specs.Worlds.{IsSound};
 ghost use Rattle.lam_machine_runs.specs.Stops.{stopped_at};
 ghost use Rattle.lam_main_plan.specs.Books.{WhereReady, WithRun};
 ghost use Rattle.lam_main_files.specs.Halts.{Finds};
 ghost use Rattle.lam_main_pair.specs.Halves.{NoRun, IsNoted, IsHalfOf};
 
 use flow_labels::Label;
-use lam_bytecode::Code;
+use guarded_code::Verified;
 use lam_io::Shelf;
 use lam_machine_world::{World, let_go_world};
 use lam_main_files::Halt;
@@ -40,13 +39,12 @@ pub(crate) fn let_go_half(half: Half) {
 pub(crate) fn half_of<H: Shelf>(
     alloc: Global,
     shelf: &mut H,
-    code: &Code,
+    code: &Verified,
     start: World,
     book: String,
     observer: &Label,
 ) -> Result<Half, Halt>
-    requires code { IsCode code.now }
-    requires valid { IsValid start }
+    requires sound { IsSound code.now start }
     ensures finds { IsTrue (H.tells shelf.old) → Finds result (IsHalfOf (H.files shelf.old) (string_bytes book) code.now observer.now start) (WithRun (H.files shelf.old) (string_bytes book) code.now start NoRun) }
     ensures stay { IsTrue (H.tells shelf.old) → AllStay (H.files shelf.old) (H.files shelf.new) }
     ensures tells_on { IsTrue (H.tells shelf.old) → IsTrue (H.tells shelf.new) }
@@ -65,13 +63,12 @@ pub(crate) fn half_of<H: Shelf>(
 /// A run from a world with these turns.
 fn noted(
     alloc: Global,
-    code: &Code,
+    code: &Verified,
     start: World,
     turns: &[u32],
     observer: &Label,
 ) -> Result<Half, Halt>
-    requires code { IsCode code.now }
-    requires valid { IsValid start }
+    requires sound { IsSound code.now start }
     ensures finds { Finds result (IsNoted code.now observer.now start turns.now) (WhereReady (NoRun turns.now) (stopped_at code.now turns.now start)) }
     ensures no_fault { IfErr result (λ halt. halt ≢ Halt.ShelfFailed) }
 {

@@ -14,7 +14,7 @@ ghost use Rattle.std.specs.Prelude.{◌≡◌, IsTrue, IfErr, string_bytes};
 ghost use Rattle.flow_labels.specs.LabelText.{label_of};
 ghost use Rattle.lam_io.specs.Outside.{Rose, AllStay};
 ghost use Rattle.lam_bytecode.specs.Codes.{IsCode};
-ghost use Rattle.lam_machine_terms.specs.Valid.{IsValid};
+ghost use Rattle.described_runs.specs.Worlds.{IsSound};
 ghost use Rattle.lam_main_plan.specs.Reading.{WithFile, program_limit};
 ghost use Rattle.lam_main_plan.specs.Books.{ByLabel, WithStart, WithRun};
 ghost use Rattle.lam_main_plan.specs.Pairs.{PairsWith, PairsRuns, Pairs};
@@ -25,7 +25,7 @@ ghost use Rattle.lam_main_pair.specs.Halves.{OfFirst, OfSecond, OfBoth};
 use crate::half::{Half, half_of, let_go_half};
 use crate::text::answered;
 use flow_labels::Label;
-use lam_bytecode::Code;
+use guarded_code::Verified;
 use lam_io::Shelf;
 use lam_machine_world::{World, let_go_world};
 use lam_main_files::{Halt, read_code};
@@ -63,7 +63,7 @@ pub fn pair<H: Shelf>(
 fn pair_code<H: Shelf>(
     alloc: Global,
     shelf: &mut H,
-    code: &Code,
+    code: &Verified,
     first: RunFiles,
     second: RunFiles,
     index: u64,
@@ -85,15 +85,14 @@ fn pair_code<H: Shelf>(
 fn pair_from<H: Shelf>(
     alloc: Global,
     shelf: &mut H,
-    code: &Code,
+    code: &Verified,
     start: World,
     book: String,
     second: RunFiles,
     index: u64,
     label: String,
 ) -> Result<String, Halt>
-    requires code { IsCode code.now }
-    requires valid { IsValid start }
+    requires sound { IsSound code.now start }
     ensures says { IsTrue (H.tells shelf.old) → Says result (OfFirst (H.files shelf.old) (string_bytes book) (files_of second) index (string_bytes label) code.now start) }
     ensures stay { IsTrue (H.tells shelf.old) → AllStay (H.files shelf.old) (H.files shelf.new) }
     ensures failed { IfErr result (λ halt. halt ≡ Halt.ShelfFailed → Rose (H.faults shelf.old) (H.faults shelf.new)) }
@@ -111,14 +110,13 @@ fn pair_from<H: Shelf>(
 fn pair_first<H: Shelf>(
     alloc: Global,
     shelf: &mut H,
-    code: &Code,
+    code: &Verified,
     start: World,
     book: String,
     second: RunFiles,
     observer: &Label,
 ) -> Result<String, Halt>
-    requires code { IsCode code.now }
-    requires valid { IsValid start }
+    requires sound { IsSound code.now start }
     ensures says { IsTrue (H.tells shelf.old) → Says result (WithRun (H.files shelf.old) (string_bytes book) code.now start (PairsWith (H.files shelf.old) (files_of second) code.now observer.now start)) }
     ensures stay { IsTrue (H.tells shelf.old) → AllStay (H.files shelf.old) (H.files shelf.new) }
     ensures failed { IfErr result (λ halt. halt ≡ Halt.ShelfFailed → Rose (H.faults shelf.old) (H.faults shelf.new)) }
@@ -133,7 +131,7 @@ fn pair_first<H: Shelf>(
 fn pair_second<H: Shelf>(
     alloc: Global,
     shelf: &mut H,
-    code: &Code,
+    code: &Verified,
     first: Half,
     second: RunFiles,
     observer: &Label,
@@ -157,14 +155,13 @@ fn pair_second<H: Shelf>(
 fn pair_both<H: Shelf>(
     alloc: Global,
     shelf: &mut H,
-    code: &Code,
+    code: &Verified,
     first: Half,
     start: World,
     book: String,
     observer: &Label,
 ) -> Result<String, Halt>
-    requires code { IsCode code.now }
-    requires valid { IsValid start }
+    requires sound { IsSound code.now start }
     ensures says { IsTrue (H.tells shelf.old) → OfBoth result (H.files shelf.old) (string_bytes book) code.now observer.now first start }
     ensures stay { IsTrue (H.tells shelf.old) → AllStay (H.files shelf.old) (H.files shelf.new) }
     ensures failed { IfErr result (λ halt. halt ≡ Halt.ShelfFailed → Rose (H.faults shelf.old) (H.faults shelf.new)) }

@@ -7,6 +7,7 @@ use Rattle.flow_labels.specs.declared.Label.{Label}
 use Rattle.flow_labels.specs.declared.texts.LabelFault.{LabelFault}
 use Rattle.lam_io.specs.Outside.{Files, AllStay, Rose}
 use Rattle.lam_bytecode.specs.Codes.{CodeTree}
+use Rattle.guarded_code.specs.Breaks.{IsGuarded}
 use Rattle.lam_machine_terms.specs.Worlds.{World}
 use Rattle.lam_machine_terms.specs.Turns.{Moment, moments}
 use Rattle.world_doc_terms.specs.Breaks.{Break, break_seen, Reading}
@@ -48,6 +49,17 @@ module _ {X : Type 0} (IsIt : X → Type 0) (tree : CodeTree) (bytes : Text) whe
 
   pub no_start_found : (f : WorldFault) (halt : Halt) → document_reading.Fails f (start_of bytes tree) → halt ≡ halt_of_world f → Finds {X = X} (Err halt) IsIt (NoStart tree bytes)
   no_start_found f halt h is = subst (λ (x : Halt). Finds {X = X} (Err x) IsIt (NoStart tree bytes)) (sym is) (broken_start f h)
+
+-- what holds of a code that is lent holds of whose it is
+module _ (tree lent : CodeTree) where
+  pub lent_guarded : lent ≡ tree → IsGuarded lent → IsGuarded tree
+  lent_guarded same guarded = subst IsGuarded same guarded
+
+  pub lent_start : (bytes : Text) (start : World) → lent ≡ tree → start_of bytes lent ≡ Ok start → start_of bytes tree ≡ Ok start
+  lent_start bytes start same is = subst (λ (c : CodeTree). start_of bytes c ≡ Ok start) same is
+
+  pub lent_break : (bytes : Text) (f : WorldFault) → lent ≡ tree → document_reading.Fails f (start_of bytes lent) → document_reading.Fails f (start_of bytes tree)
+  lent_break bytes f same h = subst (λ (c : CodeTree). document_reading.Fails f (start_of bytes c)) same h
 
 -- no fault of a document is one of the shelf
 pub no_shelf_world : (f : WorldFault) (halt : Halt) → halt ≡ halt_of_world f → halt ≡ ShelfFailed → ⊥

@@ -1,27 +1,29 @@
-//! The start of a run: the world of a document.
+//! The start of a run: the world of a document. Its threads stand at the entries of functions (`world_doc_entries`), so that
+//! runs of a guarded code from there are sound.
 
 ghost use Rattle.std.specs.Prelude.{◌≡◌, ◌≢◌, ◌≤◌, Ok, IsTrue, IfOk, IfErr, string_bytes};
 ghost use Rattle.lam_io.specs.Outside.{Rose, AllStay};
-ghost use Rattle.lam_machine_terms.specs.Valid.{IsValid};
+ghost use Rattle.lam_bytecode.specs.Codes.{IsCode};
+ghost use Rattle.described_runs.specs.Worlds.{IsSound};
 ghost use Rattle.world_doc_terms.specs.Start.{start_of};
 ghost use Rattle.lam_main_plan.specs.Reading.{HasFile, WithFile, world_limit};
 ghost use Rattle.lam_main_plan.specs.Replays.{NoStart};
 ghost use Rattle.lam_main_files.specs.Halts.{Finds};
 ghost use Rattle.lam_main_replay.specs.Asked.{IsStartOf, halt_of_world};
 
-use lam_bytecode::Code;
+use guarded_code::Verified;
 use lam_io::Shelf;
 use lam_machine_replay::World;
 use lam_main_files::{Halt, Refusal, read_file};
 use std::alloc::Global;
 use world_doc::start;
-use world_doc_laws::texts_start;
+use world_doc_entries::starts_are_entered;
 use world_doc_stores::WorldFault;
 
 /// The most bytes of the document of a world.
 const WORLD_LIMIT: u64 = 16_777_216;
 
-/// The world of the document in a file, from which a code starts. It is a valid one.
+/// The world of the document in a file, from which a code starts. Runs of the code from there are sound.
 ///
 /// # Errors
 ///
@@ -30,12 +32,13 @@ const WORLD_LIMIT: u64 = 16_777_216;
 pub fn read_start<H: Shelf>(
     alloc: Global,
     shelf: &mut H,
-    code: &Code,
+    code: &Verified,
     world: String,
 ) -> Result<World, Halt>
+    requires { IsCode code.now }
     ensures finds { IsTrue (H.tells shelf.old) → Finds result (λ start. HasFile (H.files shelf.old (string_bytes world)) world_limit (λ bytes. start_of bytes code.now ≡ Ok start)) (WithFile (H.files shelf.old (string_bytes world)) (string_bytes world) world_limit (NoStart code.now)) }
     ensures given { IfOk result (IsStartOf code.now) }
-    ensures valid { IfOk result IsValid }
+    ensures sound { IfOk result (IsSound code.now) }
     ensures stay { IsTrue (H.tells shelf.old) → AllStay (H.files shelf.old) (H.files shelf.new) }
     ensures tells_on { IsTrue (H.tells shelf.old) → IsTrue (H.tells shelf.new) }
     ensures later { H.faults shelf.old ≤ H.faults shelf.new }
@@ -46,18 +49,19 @@ pub fn read_start<H: Shelf>(
     start_in(alloc, code, bytes.as_slice())
 }
 
-/// The world of the document in a file's bytes. It is a valid one.
+/// The world of the document in a file's bytes. Runs of the code from there are sound.
 ///
 /// # Errors
 ///
 /// A refusal with the first break of the document; `NoMemory`.
-pub fn start_in(alloc: Global, code: &Code, bytes: &[u8]) -> Result<World, Halt>
+pub fn start_in(alloc: Global, code: &Verified, bytes: &[u8]) -> Result<World, Halt>
+    requires { IsCode code.now }
     ensures finds { Finds result (λ start. start_of bytes.now code.now ≡ Ok start) (NoStart code.now bytes.now) }
-    ensures valid { IfOk result IsValid }
+    ensures sound { IfOk result (IsSound code.now) }
     ensures no_fault { IfErr result (λ halt. halt ≢ Halt.ShelfFailed) }
 {
-    texts_start();
-    match start(alloc, bytes, code) {
+    starts_are_entered();
+    match start(alloc, bytes, code.code()) {
         Ok(start) => Ok(start),
         Err(fault) => Err(world_halt(fault)),
     }

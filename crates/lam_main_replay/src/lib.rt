@@ -16,7 +16,7 @@ mod turns;
 ghost use Rattle.std.specs.Prelude.{◌≡◌, IsTrue, IfErr, string_bytes};
 ghost use Rattle.lam_io.specs.Outside.{Rose, AllStay};
 ghost use Rattle.lam_bytecode.specs.Codes.{IsCode};
-ghost use Rattle.lam_machine_terms.specs.Valid.{IsValid};
+ghost use Rattle.described_runs.specs.Worlds.{IsSound};
 ghost use Rattle.lam_main_plan.specs.Reading.{WithFile, program_limit, book_limit};
 ghost use Rattle.lam_main_plan.specs.Replays.{IsOfBook, Replays, Starts, Runs};
 ghost use Rattle.lam_main_files.specs.Halts.{Says, Gives};
@@ -26,7 +26,7 @@ pub use crate::document::{read_start, start_in};
 pub use crate::eye::{Eye, Viewer, viewer_of};
 pub use crate::run_text::shown_turns;
 pub use crate::turns::{read_label, read_turns, run_halt};
-use lam_bytecode::Code;
+use guarded_code::Verified;
 use lam_io::Shelf;
 use lam_machine_replay::World;
 pub use lam_machine_world::let_go_world;
@@ -79,7 +79,7 @@ pub fn replay<H: Shelf>(
 fn replay_code<H: Shelf>(
     alloc: Global,
     shelf: &mut H,
-    code: &Code,
+    code: &Verified,
     files: RunFiles,
     reader: &Reader,
 ) -> Result<String, Halt>
@@ -98,13 +98,12 @@ fn replay_code<H: Shelf>(
 fn replay_from<H: Shelf>(
     alloc: Global,
     shelf: &mut H,
-    code: &Code,
+    code: &Verified,
     start: World,
     book: String,
     reader: &Reader,
 ) -> Result<String, Halt>
-    requires code { IsCode code.now }
-    requires valid { IsValid start }
+    requires sound { IsSound code.now start }
     ensures says { IsTrue (H.tells shelf.old) → Says result (Replays (H.files shelf.old) (string_bytes book) (reader_of reader.now) code.now start) }
     ensures stay { IsTrue (H.tells shelf.old) → AllStay (H.files shelf.old) (H.files shelf.new) }
     ensures failed { IfErr result (λ halt. halt ≡ Halt.ShelfFailed → Rose (H.faults shelf.old) (H.faults shelf.new)) }
@@ -122,13 +121,12 @@ fn replay_from<H: Shelf>(
 fn replay_book<H: Shelf>(
     alloc: Global,
     shelf: &mut H,
-    code: &Code,
+    code: &Verified,
     start: World,
     book: String,
     viewer: &Viewer,
 ) -> Result<String, Halt>
-    requires code { IsCode code.now }
-    requires valid { IsValid start }
+    requires sound { IsSound code.now start }
     ensures says { IsTrue (H.tells shelf.old) → Says result (WithFile (H.files shelf.old (string_bytes book)) (string_bytes book) book_limit (IsOfBook code.now start (lines_for viewer.now.eye viewer.now.names))) }
     ensures stay { IsTrue (H.tells shelf.old) → AllStay (H.files shelf.old) (H.files shelf.new) }
     ensures failed { IfErr result (λ halt. halt ≡ Halt.ShelfFailed → Rose (H.faults shelf.old) (H.faults shelf.new)) }

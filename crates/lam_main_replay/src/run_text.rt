@@ -1,15 +1,14 @@
 //! The text of the run of turns.
 
 ghost use Rattle.std.specs.Prelude.{◌≡◌, ◌≢◌, IfErr};
-ghost use Rattle.lam_bytecode.specs.Codes.{IsCode};
-ghost use Rattle.lam_machine_terms.specs.Valid.{IsValid};
+ghost use Rattle.described_runs.specs.Worlds.{IsSound};
 ghost use Rattle.lam_main_plan.specs.Replays.{IsOfTurns};
 ghost use Rattle.lam_main_files.specs.Halts.{Says};
 ghost use Rattle.lam_main_replay.specs.Asked.{lines_for};
 
 use crate::eye::Viewer;
 use crate::turns::run_halt;
-use lam_bytecode::Code;
+use guarded_code::Verified;
 use lam_machine_replay::{World, keep_turns};
 use lam_main_files::Halt;
 use std::alloc::Global;
@@ -21,13 +20,12 @@ use std::alloc::Global;
 /// A refusal with the first turn whose thread is not ready; `NoMemory`.
 pub fn shown_turns(
     alloc: Global,
-    code: &Code,
+    code: &Verified,
     start: World,
     turns: &[u32],
     viewer: &Viewer,
 ) -> Result<String, Halt>
-    requires code { IsCode code.now }
-    requires valid { IsValid start }
+    requires sound { IsSound code.now start }
     ensures says { Says result (IsOfTurns code.now start (lines_for viewer.now.eye viewer.now.names) turns.now) }
     ensures no_fault { IfErr result (λ halt. halt ≢ Halt.ShelfFailed) }
 {

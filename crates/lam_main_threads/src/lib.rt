@@ -15,7 +15,7 @@ mod writing;
 ghost use Rattle.std.specs.Prelude.{◌≡◌, ◌<◌, ◌≤◌, Some, IsTrue, IfErr, string_bytes};
 ghost use Rattle.lam_io.specs.Outside.{Rose, AllStay};
 ghost use Rattle.lam_bytecode.specs.Codes.{IsCode};
-ghost use Rattle.lam_machine_terms.specs.Valid.{IsValid};
+ghost use Rattle.described_runs.specs.Worlds.{IsSound};
 ghost use Rattle.lam_main_plan.specs.Answer.{OthersKept};
 ghost use Rattle.lam_main_plan.specs.Reading.{WithFile, program_limit};
 ghost use Rattle.lam_main_plan.specs.Threads.{TakesTurns, StartsThreads, RunsThreads};
@@ -26,7 +26,7 @@ ghost use Rattle.lam_main_threads.specs.Asked.{files_of};
 pub use crate::making::make;
 use crate::showing::shown;
 use crate::writing::written;
-use lam_bytecode::Code;
+use guarded_code::Verified;
 use lam_io::{Gate, Shelf};
 use lam_machine_replay::World;
 use lam_main_files::{Halt, Report, read_code};
@@ -91,7 +91,7 @@ fn run_code<R: Threads + Wait + Sync, H: Shelf, G: Gate + Sync>(
     rt: &R,
     alloc: Global,
     shelf: &mut H,
-    code: Code,
+    code: Verified,
     files: ThreadFiles,
     reader: &Reader,
     bounds: Bounds,
@@ -126,15 +126,14 @@ fn run_from<R: Threads + Wait + Sync, H: Shelf, G: Gate + Sync>(
     rt: &R,
     alloc: Global,
     shelf: &mut H,
-    code: Code,
+    code: Verified,
     start: World,
     book_out: String,
     reader: &Reader,
     bounds: Bounds,
     gate: &G,
 ) -> Result<Report, Halt>
-    requires code { IsCode code }
-    requires valid { IsValid start }
+    requires sound { IsSound code start }
     requires workers { (0 < bounds.workers) × (bounds.workers ≤ 16) }
     requires turns { (0 < bounds.turns) × (bounds.turns ≤ 1000000) }
     ensures gives { IsTrue (H.tells shelf.old) → Reports result (TakesTurns (string_bytes book_out) bounds.turns (reader_of reader.now) code start) (H.files shelf.old) (H.files shelf.new) }

@@ -3,7 +3,7 @@
 ghost use Rattle.std.specs.Prelude.{◌≡◌, ◌≢◌, ◌≤◌, Some, None, IsTrue, IfOk, IfErr, string_bytes};
 ghost use Rattle.lam_io.specs.Outside.{Rose, AllStay};
 ghost use Rattle.lam_bytecode.specs.Codes.{IsCode};
-ghost use Rattle.lam_machine_terms.specs.Valid.{IsValid};
+ghost use Rattle.described_runs.specs.Worlds.{IsSound};
 ghost use Rattle.world_doc_terms.specs.Start.{start_of};
 ghost use Rattle.lam_make.specs.Made.{program_text, world_text};
 ghost use Rattle.audit_log_notes.specs.Sums.{summary_of, summary_lines};
@@ -19,7 +19,7 @@ use crate::showing::{Taken, with_book};
 use crate::taking::{Ended, EndedKept, taken_turns};
 use crate::writing::written;
 use audit_log_notes::{Sums, summary_text};
-use lam_bytecode::Code;
+use guarded_code::Verified;
 use lam_io::{Gate, Shelf};
 use lam_machine_replay::{Counter, World};
 use lam_main_files::{Halt, Report, run_code_of};
@@ -121,7 +121,7 @@ fn made_texts<R: Threads + Wait + Sync, G: Gate + Sync>(
 fn made_code<R: Threads + Wait + Sync, G: Gate + Sync>(
     rt: &R,
     alloc: Global,
-    code: Code,
+    code: Verified,
     world: &str,
     seed: u64,
     threads: u64,
@@ -141,14 +141,13 @@ fn made_code<R: Threads + Wait + Sync, G: Gate + Sync>(
 fn made_run<R: Threads + Wait + Sync, G: Gate + Sync>(
     rt: &R,
     alloc: Global,
-    code: Code,
+    code: Verified,
     start: World,
     seed: u64,
     threads: u64,
     gate: &G,
 ) -> Result<Taken, NoMemory>
-    requires code { IsCode code }
-    requires valid { IsValid start }
+    requires sound { IsSound code start }
     ensures { IfOk result (λ taken. (out : Text) → IsOfThreads code start out made_budget (summary_lines seed threads) (planned out taken)) }
 {
     let bounds = Bounds {

@@ -1,8 +1,7 @@
 //! What a reader is shown of the turns that threads took, and their book.
 
 ghost use Rattle.std.specs.Prelude.{◌≢◌, ◌<◌, ◌≤◌, IfOk, IfErr, string_bytes};
-ghost use Rattle.lam_bytecode.specs.Codes.{IsCode};
-ghost use Rattle.lam_machine_terms.specs.Valid.{IsValid};
+ghost use Rattle.described_runs.specs.Worlds.{IsSound};
 ghost use Rattle.lam_main_words.specs.Words.{Text};
 ghost use Rattle.lam_main_plan.specs.Threads.{IsOfThreads, TakesTurns};
 ghost use Rattle.lam_main_replay.specs.Asked.{reader_of, lines_for};
@@ -10,17 +9,17 @@ ghost use Rattle.lam_main_threads.specs.Taken.{HasBook, IsShown, planned, Offers
 
 use crate::Bounds;
 use crate::taking::{Ended, EndedKept, taken_turns};
-use lam_bytecode::Code;
+use guarded_code::Verified;
 use lam_io::Gate;
 use lam_machine_replay::World;
 use lam_machine_runs::How;
-use lam_machine_world::let_go_code;
 use lam_main_files::Halt;
 use lam_main_replay::{Reader, Viewer, let_go_world, viewer_of};
 use std::alloc::Global;
 use std::sync::Wait;
 use std::thread::Threads;
 use thread_host::RunParts;
+use thread_host_run::let_go_verified;
 use turn_book::write_book;
 use want_of_memory::NoMemory;
 
@@ -37,14 +36,13 @@ pub(crate) struct Taken {
 pub(crate) fn shown<R: Threads + Wait + Sync, G: Gate + Sync>(
     rt: &R,
     alloc: Global,
-    code: Code,
+    code: Verified,
     start: World,
     reader: &Reader,
     bounds: Bounds,
     gate: &G,
 ) -> Result<Taken, Halt>
-    requires code { IsCode code }
-    requires valid { IsValid start }
+    requires sound { IsSound code start }
     requires workers { (0 < bounds.workers) × (bounds.workers ≤ 16) }
     requires turns { (0 < bounds.turns) × (bounds.turns ≤ 1000000) }
     ensures offers { Offers result (λ out. TakesTurns out bounds.turns (reader_of reader.now) code start) }
@@ -63,14 +61,13 @@ pub(crate) fn shown<R: Threads + Wait + Sync, G: Gate + Sync>(
 fn viewed<R: Threads + Wait + Sync, G: Gate + Sync>(
     rt: &R,
     alloc: Global,
-    code: Code,
+    code: Verified,
     start: World,
     viewer: &Viewer,
     bounds: Bounds,
     gate: &G,
 ) -> Result<Taken, NoMemory>
-    requires code { IsCode code }
-    requires valid { IsValid start }
+    requires sound { IsSound code start }
     requires workers { (0 < bounds.workers) × (bounds.workers ≤ 16) }
     requires turns { (0 < bounds.turns) × (bounds.turns ≤ 1000000) }
     ensures { IfOk result (λ taken. (out : Text) → IsOfThreads code start out bounds.turns (lines_for viewer.now.eye viewer.now.names) (planned out taken)) }
@@ -93,7 +90,7 @@ pub(crate) fn with_book(alloc: Global, ended: Ended, text: String) -> Result<Tak
     let Ended { parts, how } = ended;
     let RunParts { code, start, turns } = parts;
     let_go_world(start);
-    let_go_code(code);
+    let_go_verified(code);
     let book = write_book(alloc, turns.as_slice())?;
     Ok(Taken { how, text, book })
 }

@@ -1,13 +1,12 @@
 //! The turns that threads take, as the parts of their run, and what is kept of them.
 
 ghost use Rattle.std.specs.Prelude.{◌<◌, ◌≤◌, [], IfOk};
-ghost use Rattle.lam_bytecode.specs.Codes.{IsCode};
+ghost use Rattle.described_runs.specs.Worlds.{IsSound};
 ghost use Rattle.lam_machine_terms.specs.Turns.{moments};
-ghost use Rattle.lam_machine_terms.specs.Valid.{IsValid};
 ghost use Rattle.lam_main_threads.specs.Taken.{IsParted, IsEndedRun, HasBook};
 
 use crate::Bounds;
-use lam_bytecode::Code;
+use guarded_code::Verified;
 use lam_io::Gate;
 use lam_machine_replay::{Keeps, World};
 use lam_machine_runs::How;
@@ -39,15 +38,14 @@ pub(crate) fn taken_turns<
 >(
     rt: &R,
     alloc: Global,
-    code: Code,
+    code: Verified,
     start: World,
     bounds: Bounds,
     gate: &G,
     who: &K,
     nothing: Kept,
 ) -> Result<EndedKept<Kept>, NoMemory>
-    requires code { IsCode code }
-    requires valid { IsValid start }
+    requires sound { IsSound code start }
     requires workers { (0 < bounds.workers) × (bounds.workers ≤ 16) }
     requires turns { (0 < bounds.turns) × (bounds.turns ≤ 1000000) }
     requires nothing { K.AreKept who.now [] nothing }

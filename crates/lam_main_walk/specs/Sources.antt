@@ -21,7 +21,7 @@ abbrev pub IsOfProgram : Source → Type 0
 IsOfProgram s = (bytes : Text) × IsSourceOf bytes s
 
 -- what holds of the code and the names of every program
-pub record IsSound (s : Source) : Type 0 where
+pub record IsSoundSource (s : Source) : Type 0 where
   pub code : IsCode s.code
   pub limits : WithinLimits (resolved_tree s.program)
 

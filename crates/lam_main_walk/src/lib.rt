@@ -11,7 +11,7 @@ mod telling;
 
 ghost use Rattle.std.specs.Prelude.{◌≡◌, ℕ, List, IsTrue, IfErr, string_bytes};
 ghost use Rattle.lam_io.specs.Outside.{Rose, AllStay};
-ghost use Rattle.lam_machine_terms.specs.Valid.{IsValid};
+ghost use Rattle.described_runs.specs.Worlds.{IsSound};
 ghost use Rattle.lam_main_plan.specs.Reading.{WithFile, program_limit};
 ghost use Rattle.lam_main_plan.specs.Books.{WithRun};
 ghost use Rattle.lam_resolve_tree.specs.Tree.{resolved_tree};
@@ -20,7 +20,7 @@ ghost use Rattle.lam_main_plan.specs.Walks.{TellsSame, Walks};
 ghost use Rattle.lam_main_files.specs.Halts.{Says, Gives};
 ghost use Rattle.lam_main_replay.specs.Asked.{files_of};
 ghost use Rattle.lam_main_laws.specs.Meant.{MeansEverywhere};
-ghost use Rattle.lam_main_walk.specs.Sources.{IsSound, Tells};
+ghost use Rattle.lam_main_walk.specs.Sources.{IsSoundSource, Tells};
 
 use crate::source::{Source, let_go_source, read_source};
 use crate::telling::told;
@@ -66,7 +66,7 @@ fn walk_source<H: Shelf>(
     source: &Source,
     files: RunFiles,
 ) -> Result<String, Halt>
-    requires sound { IsSound source.now }
+    requires sound { IsSoundSource source.now }
     requires means { MeansEverywhere (resolved_tree source.now.program) source.now.code }
     ensures says { IsTrue (H.tells shelf.old) → Says result (Tells (H.files shelf.old) (files_of files) source.now) }
     ensures stay { IsTrue (H.tells shelf.old) → AllStay (H.files shelf.old) (H.files shelf.new) }
@@ -87,8 +87,8 @@ fn walk_from<H: Shelf>(
     start: World,
     book: String,
 ) -> Result<String, Halt>
-    requires sound { IsSound source.now }
-    requires valid { IsValid start }
+    requires sound { IsSoundSource source.now }
+    requires start { IsSound source.now.code start }
     requires means { (turns : List ℕ) → RunMeans (resolved_tree source.now.program) source.now.code start turns }
     ensures says { IsTrue (H.tells shelf.old) → Says result (WithRun (H.files shelf.old) (string_bytes book) source.now.code start (TellsSame (resolved_tree source.now.program) source.now.code start)) }
     ensures stay { IsTrue (H.tells shelf.old) → AllStay (H.files shelf.old) (H.files shelf.new) }

@@ -2,13 +2,13 @@
 
 ghost use Rattle.std.specs.Prelude.{◌≡◌, ◌≢◌, ℕ, List, IfOk, IfErr, string_bytes};
 ghost use Rattle.lam_resolve_tree.specs.Tree.{resolved_tree};
-ghost use Rattle.lam_machine_terms.specs.Valid.{IsValid};
+ghost use Rattle.described_runs.specs.Worlds.{IsSound};
 ghost use Rattle.lam_machine_runs.specs.Stops.{stopped_at};
 ghost use Rattle.world_doc_laws.specs.Documents.{RunMeans};
 ghost use Rattle.lam_main_plan.specs.Books.{WhereReady};
 ghost use Rattle.lam_main_plan.specs.Walks.{same_line, TellsSame};
 ghost use Rattle.lam_main_files.specs.Halts.{Says};
-ghost use Rattle.lam_main_walk.specs.Sources.{IsSound};
+ghost use Rattle.lam_main_walk.specs.Sources.{IsSoundSource};
 
 use crate::source::Source;
 use decimal_text::push_number;
@@ -28,8 +28,8 @@ pub(crate) fn told(
     start: World,
     turns: &[u32],
 ) -> Result<String, Halt>
-    requires sound { IsSound source.now }
-    requires valid { IsValid start }
+    requires sound { IsSoundSource source.now }
+    requires start { IsSound source.now.code start }
     requires means { (ts : List ℕ) → RunMeans (resolved_tree source.now.program) source.now.code start ts }
     ensures says { Says result (WhereReady (TellsSame (resolved_tree source.now.program) source.now.code start turns.now) (stopped_at source.now.code turns.now start)) }
     ensures no_fault { IfErr result (λ halt. halt ≢ Halt.ShelfFailed) }

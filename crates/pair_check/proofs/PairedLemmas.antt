@@ -1,11 +1,12 @@
 -- Two starts that agree, and two agendas that meet.
-use Rattle.std.proofs.Common.{◌≡◌, ℕ, List, None, ◌∙◌, subst}
+use Rattle.std.proofs.Common.{◌≡◌, ℕ, List, None, sym, ◌∙◌, subst}
 use Rattle.flow_labels.specs.declared.Label.{Label}
 use Rattle.lam_bytecode.specs.Codes.{CodeTree}
 use Rattle.lam_machine_terms.specs.Worlds.{World}
 use Rattle.lam_machine_terms.specs.Turns.{moments}
 use Rattle.lam_machine_terms.specs.Views.{Item, Agree, agenda}
 use Rattle.lam_machine_runs.specs.Stops.{stopped_at}
+use Rattle.described_runs.specs.Worlds.{IsSound}
 use Rattle.pair_check_terms.specs.declared.answer.PairAnswer.{PairAnswer}
 use Rattle.pair_check_terms.specs.declared.answer.PairAnswer.TheVariants.{WorldsDiffer, TurnsDiffer, ReleaseDiffers, Agree as agree_up_to}
 use Rattle.pair_check_terms.specs.Pairs.{IsMet, IsPairedBy}
@@ -22,6 +23,9 @@ moved {X} P s s' w w' e f h = subst (λ (x : X). P x w') e (subst (λ (y : X). P
 
 -- turns that were read of a run, with its code and its start
 module _ (c c' : CodeTree) (ts ts' : List ℕ) (w w' : World) (code : c ≡ c') (turns : ts ≡ ts') (start : w ≡ w') where
+  pub sound_read : IsSound c' w' → IsSound c w
+  sound_read h = subst (λ (x : CodeTree). IsSound x w) (sym code) (subst (λ (v : World). IsSound c' v) (sym start) h)
+
   pub whole_read : stopped_at c' ts' w' ≡ None → stopped_at c ts w ≡ None
   whole_read h = (λ i. stopped_at (code i) (turns i) (start i)) ∙ h
 

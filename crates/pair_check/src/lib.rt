@@ -9,15 +9,14 @@
 #![tactic(auto)]
 
 ghost use Rattle.std.specs.Prelude.{◌≡◌, None, IfOk};
-ghost use Rattle.lam_bytecode.specs.Codes.{IsCode};
 ghost use Rattle.lam_machine_terms.specs.Turns.{moments};
-ghost use Rattle.lam_machine_terms.specs.Valid.{IsValid};
+ghost use Rattle.described_runs.specs.Worlds.{IsSound};
 ghost use Rattle.lam_machine_terms.specs.Views.{Agree, agenda};
 ghost use Rattle.lam_machine_runs.specs.Stops.{stopped_at};
 ghost use Rattle.pair_check_terms.specs.Pairs.{IsPairedBy, IsPaired};
 
 use flow_labels::Label;
-use lam_bytecode::Code;
+use guarded_code::Verified;
 use lam_machine_replay::{RunFault, World, runs_are_whole};
 use pair_check_agenda::answer_of;
 pub use pair_check_agenda::{Agenda, agenda_of};
@@ -67,13 +66,12 @@ fn agenda_of_run(alloc: Global, run: &Run, observer: &Label) -> Result<Agenda, N
 /// What an observer notes of turns that are a run, so that none is refused.
 fn agenda_of_whole(
     alloc: Global,
-    code: &Code,
+    code: &Verified,
     start: World,
     turns: &[u32],
     observer: &Label,
 ) -> Result<Agenda, NoMemory>
-    requires code { IsCode code.now }
-    requires valid { IsValid start }
+    requires sound { IsSound code.now start }
     requires whole { stopped_at code.now turns.now start ≡ None }
     ensures { IfOk result (λ noted. noted ≡ agenda observer.now (moments code.now turns.now start)) }
 {

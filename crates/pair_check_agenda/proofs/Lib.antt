@@ -1,4 +1,3 @@
-mod FrontLemmas
 mod MadeLemmas
 mod NotedLemmas
 mod TakenLemmas

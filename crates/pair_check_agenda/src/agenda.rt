@@ -1,9 +1,8 @@
 //! Agendas.
 
 ghost use Rattle.std.specs.Prelude.{◌≡◌, None, IfOk, OnOk, IfErr};
-ghost use Rattle.lam_bytecode.specs.Codes.{IsCode};
 ghost use Rattle.lam_machine_terms.specs.Turns.{moments};
-ghost use Rattle.lam_machine_terms.specs.Valid.{IsValid};
+ghost use Rattle.described_runs.specs.Worlds.{IsSound};
 ghost use Rattle.lam_machine_terms.specs.Views.{agenda};
 ghost use Rattle.lam_machine_runs.specs.Stops.{stopped_at};
 ghost use Rattle.lam_machine_replay.specs.Stops.{IsStop};
@@ -13,7 +12,7 @@ use crate::entry::Entry;
 use crate::meeting::meeting;
 use crate::taking::take_turns;
 use flow_labels::Label;
-use lam_bytecode::Code;
+use guarded_code::Verified;
 use lam_machine_replay::{RunFault, World};
 use lam_machine_world::let_go_world;
 use pair_check_terms::PairAnswer;
@@ -50,13 +49,12 @@ impl Model for Agenda {
 /// `NotReady` at the first turn whose thread is not ready, exactly where there is one; `NoMemory`.
 pub fn agenda_of(
     alloc: Global,
-    code: &Code,
+    code: &Verified,
     start: World,
     turns: &[u32],
     observer: &Label,
 ) -> Result<Agenda, RunFault>
-    requires code { IsCode code.now }
-    requires valid { IsValid start }
+    requires sound { IsSound code.now start }
     ensures ok { IfOk result (λ a. a ≡ agenda observer.now (moments code.now turns.now start)) }
     ensures run { OnOk result (stopped_at code.now turns.now start ≡ None) }
     ensures stops { IfErr result (λ f. IsStop f (stopped_at code.now turns.now start)) }

@@ -2,12 +2,10 @@
 
 ghost use Rattle.std.specs.Prelude.{◌≡◌, ℕ, [], None, IfOk, OnOk, IfErr};
 ghost use Rattle.flow_labels.specs.Flow.{seen};
-ghost use Rattle.lam_bytecode.specs.Codes.{IsCode};
 ghost use Rattle.lam_machine_terms.specs.Turns.{moments};
-ghost use Rattle.lam_machine_terms.specs.Valid.{IsValid};
+ghost use Rattle.described_runs.specs.Worlds.{IsSound};
 ghost use Rattle.lam_machine_terms.specs.Views.{agenda};
 ghost use Rattle.lam_machine.specs.Asking.{label_at};
-ghost use Rattle.lam_machine.specs.Machine.{CopiesLive};
 ghost use Rattle.lam_machine_runs.specs.Stops.{stopped_at};
 ghost use Rattle.lam_machine_replay.specs.Stops.{IsStop};
 ghost use Rattle.lam_machine_replay.specs.Keeping.{TakesTurn};
@@ -16,7 +14,7 @@ ghost use Rattle.pair_check_agenda.specs.Agendas.{items_in, IsAgenda};
 use crate::entry::Entry;
 use crate::noting::{note_event, note_private};
 use flow_labels::{Label, seen};
-use lam_bytecode::Code;
+use guarded_code::Verified;
 use lam_machine::{step, step_privately};
 use lam_machine_replay::{RunFault, World};
 use std::alloc::Global;
@@ -27,12 +25,11 @@ pub(crate) fn take_turns(
     alloc: Global,
     entries: &mut Vec<Entry>,
     world: &mut World,
-    code: &Code,
+    code: &Verified,
     turns: &[u32],
     observer: &Label,
 ) -> Result<(), RunFault>
-    requires code { IsCode code.now }
-    requires valid { IsValid world.old }
+    requires sound { IsSound code.now world.old }
     requires nothing { items_in entries.old.items ≡ [] }
     ensures ok { OnOk result (items_in entries.new.items ≡ agenda observer.now (moments code.now turns.now world.old)) }
     ensures run { OnOk result (stopped_at code.now turns.now world.old ≡ None) }
@@ -56,11 +53,11 @@ fn take_turn(
     alloc: Global,
     entries: &mut Vec<Entry>,
     world: &mut World,
-    code: &Code,
+    code: &Verified,
     thread: u32,
     observer: &Label,
 ) -> Result<bool, NoMemory>
-    requires living { CopiesLive code.now world.old thread }
+    requires sound { IsSound code.now world.old }
     ensures { IfOk result (λ taken. (n : ℕ) → TakesTurn code.now thread (IsAgenda observer.now) n world.old (items_in entries.old.items) taken world.new (items_in entries.new.items)) }
 {
     let is_seen = sees_acting(alloc, world, thread, observer);
@@ -90,11 +87,11 @@ fn take_step(
     alloc: Global,
     entries: &mut Vec<Entry>,
     world: &mut World,
-    code: &Code,
+    code: &Verified,
     thread: u32,
     observer: &Label,
 ) -> Result<bool, NoMemory>
-    requires living { CopiesLive code.now world.old thread }
+    requires sound { IsSound code.now world.old }
     ensures { IfOk result (λ taken. (n : ℕ) → TakesTurn code.now thread (IsAgenda observer.now) n world.old (items_in entries.old.items) taken world.new (items_in entries.new.items)) }
 {
     match step(alloc, world, code, thread)? {

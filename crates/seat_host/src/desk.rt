@@ -3,7 +3,7 @@
 ghost use Rattle.std.specs.Prelude.{◌≡◌, ℕ, ◌+◌, ◌<◌, ◌≤◌, ◌++◌, [], ◌∷◌, length, true, false, IfOk, IfErr};
 ghost use mathlib.Core.List.{IsPrefix};
 ghost use Rattle.lam_bytecode.specs.Codes.{IsCode};
-ghost use Rattle.lam_machine_terms.specs.Valid.{IsValid};
+ghost use Rattle.described_runs.specs.Worlds.{IsSound};
 ghost use Rattle.thread_host_run.specs.Runs.{opened};
 ghost use Rattle.seat_host.specs.Places.{shared};
 ghost use Rattle.seat_host.specs.Answers.{holding, Comes};
@@ -14,13 +14,14 @@ use crate::answer::{CloseFault, Closed, TurnAnswer};
 use crate::book::{Book, let_go_book};
 use crate::law::{Draw, Finish, Fork, Given, Glue, Law, Learn, Look, Serve, View};
 use atomic_table::{Refused, Seat, Table};
+use guarded_code::Verified;
 use lam_bytecode::Code;
 use lam_machine_equal::copy_code;
 use lam_machine_world::{World, let_go_code, let_go_world};
 use std::alloc::Global;
 use std::sync::Wait;
 use std::thread;
-use thread_host_run::Run;
+use thread_host_run::{Run, let_go_verified};
 use want_of_memory::NoMemory;
 
 /// The ticket word, the serving word, and the slot with the book.
@@ -35,9 +36,8 @@ pub(crate) type Pass = Seat<Book, View>;
 
 impl Desk {
     /// A table with a run of no turns, and a pass that has seen nothing.
-    pub fn new(alloc: Global, code: Code, start: World) -> Result<(Desk, Pass), NoMemory>
-        requires code { IsCode code }
-        requires valid { IsValid start }
+    pub fn new(alloc: Global, code: Verified, start: World) -> Result<(Desk, Pass), NoMemory>
+        requires sound { IsSound code start }
         ensures given { IfOk result (λ r. (r.0.table.shared.key.code ≡ code) × (r.0.table.shared.key.start ≡ start)) }
         ensures seat { IfOk result (λ r. (r.1.table_id ≡ r.0.table.shared.table_id) × (r.1.me ≡ (newcomer r.0.table.shared.key, []))) }
     {
@@ -163,13 +163,12 @@ impl Desk {
 }
 
 /// What the table is told, and the run with no turns.
-fn begun(alloc: Global, code: Code, start: World) -> Result<(Given, Run), NoMemory>
-    requires code { IsCode code }
-    requires valid { IsValid start }
+fn begun(alloc: Global, code: Verified, start: World) -> Result<(Given, Run), NoMemory>
+    requires sound { IsSound code start }
     ensures given { IfOk result (λ r. (r.0.code ≡ code) × (r.0.start ≡ start)) }
     ensures run { IfOk result (λ r. r.1 ≡ opened code start) }
 {
-    match told(alloc, &code, &start) {
+    match told(alloc, code.code(), &start) {
         Ok(given) => match Run::new(alloc, code, start) {
             Ok(run) => Ok((given, run)),
             Err(error) => {
@@ -178,7 +177,7 @@ fn begun(alloc: Global, code: Code, start: World) -> Result<(Given, Run), NoMemo
             }
         },
         Err(error) => {
-            let_go_code(code);
+            let_go_verified(code);
             let_go_world(start);
             Err(error)
         }

@@ -2,13 +2,12 @@
 
 ghost use Rattle.std.specs.Prelude.{◌≡◌, ◌<◌, ◌^◌, length, IfOk, IfErr};
 ghost use mathlib.Core.List.{IsPrefix};
-ghost use Rattle.lam_bytecode.specs.Codes.{IsCode};
-ghost use Rattle.lam_machine_terms.specs.Valid.{IsValid};
+ghost use Rattle.described_runs.specs.Worlds.{IsSound};
 ghost use Rattle.seat_host.specs.Seats.{new_seat, without_calls, both_seats, TookTurn, Closes, StaysOpen, seen_after};
 
 use crate::answer::{CloseFault, Closed, TurnAnswer};
 use crate::desk::{Desk, Pass};
-use lam_bytecode::Code;
+use guarded_code::Verified;
 use lam_machine_world::World;
 use std::alloc::Global;
 use std::marker::Model;
@@ -67,9 +66,8 @@ impl SeatRun {
     /// # Errors
     ///
     /// `NoMemory` where memory is refused.
-    pub fn new(alloc: Global, code: Code, start: World) -> Result<(SeatRun, Seat), NoMemory>
-        requires code { IsCode code }
-        requires valid { IsValid start }
+    pub fn new(alloc: Global, code: Verified, start: World) -> Result<(SeatRun, Seat), NoMemory>
+        requires sound { IsSound code start }
         ensures run { IfOk result (λ r. (r.0.code ≡ code) × (r.0.start ≡ start)) }
         ensures seat { IfOk result (λ r. r.1 ≡ new_seat r.0) }
     {

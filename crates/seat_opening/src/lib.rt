@@ -7,7 +7,7 @@
 
 ghost use Rattle.std.specs.Prelude.{◌≡◌, ◌≢◌, IfOk, IfErr};
 ghost use Rattle.lam_bytecode.specs.Codes.{IsCode};
-ghost use Rattle.lam_machine_terms.specs.Valid.{IsValid};
+ghost use Rattle.described_runs.specs.Worlds.{IsSound};
 ghost use Rattle.lam_main_plan.specs.Reading.{Thins};
 ghost use Rattle.lam_main_plan.specs.Replays.{NoStart};
 ghost use Rattle.lam_main_files.specs.Halts.{Finds};
@@ -15,12 +15,13 @@ ghost use Rattle.seat_host.specs.Seats.{new_seat};
 ghost use Rattle.seat_opening.specs.Opens.{IsOpened, RunsFrom, Shares};
 
 use flow_labels::TagNames;
-use lam_bytecode::Code;
-use lam_machine_world::{World, let_go_code, let_go_world};
+use guarded_code::Verified;
+use lam_machine_world::{World, let_go_world};
 use lam_main_files::{Halt, run_code_of};
 use lam_main_replay::start_in;
 use seat_host::{Seat, SeatRun};
 use std::alloc::Global;
+use thread_host_run::let_go_verified;
 use want_of_memory::NoMemory;
 
 /// A shared run with no turns, a seat of it that has seen nothing, and the names of its tags.
@@ -48,7 +49,7 @@ pub fn open_run(alloc: Global, program: &[u8], world: &[u8]) -> Result<Opened, H
 }
 
 /// A shared run of a code, from the world of a document.
-fn run_code(alloc: Global, code: Code, world: &[u8]) -> Result<Opened, Halt>
+fn run_code(alloc: Global, code: Verified, world: &[u8]) -> Result<Opened, Halt>
     requires { IsCode code }
     ensures finds { Finds result (RunsFrom code world.now) (NoStart code world.now) }
     ensures seat { IfOk result (λ o. o.seat ≡ new_seat o.run) }
@@ -57,16 +58,15 @@ fn run_code(alloc: Global, code: Code, world: &[u8]) -> Result<Opened, Halt>
     match start_in(alloc, &code, world) {
         Ok(start) => shared_or_none(alloc, code, start),
         Err(halt) => {
-            let_go_code(code);
+            let_go_verified(code);
             Err(halt)
         }
     }
 }
 
 /// A shared run of a code from a world, or want of memory as the tool says it.
-fn shared_or_none(alloc: Global, code: Code, start: World) -> Result<Opened, Halt>
-    requires code { IsCode code }
-    requires valid { IsValid start }
+fn shared_or_none(alloc: Global, code: Verified, start: World) -> Result<Opened, Halt>
+    requires sound { IsSound code start }
     ensures shares { IfOk result (Shares code start) }
     ensures err { IfErr result (λ halt. halt ≡ Halt.NoMemory) }
 {
@@ -77,15 +77,14 @@ fn shared_or_none(alloc: Global, code: Code, start: World) -> Result<Opened, Hal
 }
 
 /// A shared run of a code from a world.
-fn shared(alloc: Global, code: Code, start: World) -> Result<Opened, NoMemory>
-    requires code { IsCode code }
-    requires valid { IsValid start }
+fn shared(alloc: Global, code: Verified, start: World) -> Result<Opened, NoMemory>
+    requires sound { IsSound code start }
     ensures { IfOk result (Shares code start) }
 {
     match start.stores().names.copy() {
         Ok(names) => seated(alloc, code, start, names),
         Err(error) => {
-            let_go_code(code);
+            let_go_verified(code);
             let_go_world(start);
             Err(error)
         }
@@ -93,9 +92,8 @@ fn shared(alloc: Global, code: Code, start: World) -> Result<Opened, NoMemory>
 }
 
 /// A shared run of a code from a world, with the names of its tags.
-fn seated(alloc: Global, code: Code, start: World, names: TagNames) -> Result<Opened, NoMemory>
-    requires code { IsCode code }
-    requires valid { IsValid start }
+fn seated(alloc: Global, code: Verified, start: World, names: TagNames) -> Result<Opened, NoMemory>
+    requires sound { IsSound code start }
     requires names { names ≡ start.names }
     ensures { IfOk result (Shares code start) }
 {

@@ -6,7 +6,7 @@ ghost use Rattle.lam_resolve_tree.specs.Limits.{WithinLimits};
 ghost use Rattle.source_walk_terms.specs.Walks.{StandsAtEntry};
 ghost use Rattle.source_walk.specs.Starts.{AreAtEntries, BeginsAt, AreBeginnings};
 
-use lam_bytecode::Code;
+use guarded_code::Verified;
 use lam_resolve_tree::Resolved;
 use source_walk_state::Beginning;
 use std::alloc::Global;
@@ -21,7 +21,7 @@ use want_of_memory::NoMemory;
 pub(crate) fn beginnings(
     alloc: Global,
     program: &Resolved,
-    code: &Code,
+    code: &Verified,
     threads: &[LamThread],
 ) -> Result<Vec<Beginning>, NoMemory>
     requires entries { AreAtEntries (resolved_tree program.now) code.now threads.now }
@@ -39,7 +39,7 @@ pub(crate) fn beginnings(
 fn beginning(
     alloc: Global,
     program: &Resolved,
-    code: &Code,
+    code: &Verified,
     thread: &LamThread,
 ) -> Result<Beginning, NoMemory>
     requires entry { StandsAtEntry (resolved_tree program.now) code.now thread.now }

@@ -1,10 +1,9 @@
 //! The walk over the threads of a run.
 
 ghost use Rattle.std.specs.Prelude.{◌≡◌, ◌+◌, ◌<◌, ◌≤◌, ◌++◌, length, slice_get, Some, None, IfOk, OnOk, IfErr};
-ghost use Rattle.lam_bytecode.specs.Codes.{IsCode};
 ghost use Rattle.lam_resolve_tree.specs.Tree.{resolved_tree};
 ghost use Rattle.lam_resolve_tree.specs.Limits.{WithinLimits};
-ghost use Rattle.lam_machine_terms.specs.Valid.{IsValid};
+ghost use Rattle.described_runs.specs.Worlds.{IsSound};
 ghost use Rattle.lam_machine_terms.specs.Limits.{most_threads};
 ghost use Rattle.lam_machine_runs.specs.Stops.{stopped_at};
 ghost use Rattle.lam_machine_replay.specs.Stops.{IsStop};
@@ -14,8 +13,8 @@ ghost use Rattle.source_walk.specs.Walking.{IsMet, IsMetAt, TellsAnswer};
 
 use crate::entries::is_entry;
 use crate::starts::beginnings;
+use guarded_code::Verified;
 use lam_asks::What;
-use lam_bytecode::Code;
 use lam_machine_replay::{RunFault, World};
 use lam_machine_valid::runs_stay_valid;
 use lam_machine_world::let_go_world;
@@ -39,12 +38,11 @@ use want_of_memory::NoMemory;
 pub fn walk_turns(
     alloc: Global,
     program: &Resolved,
-    code: &Code,
+    code: &Verified,
     start: World,
     turns: &[u32],
 ) -> Result<Walked, RunFault>
-    requires code { IsCode code.now }
-    requires valid { IsValid start }
+    requires sound { IsSound code.now start }
     requires entries { ThreadsAtEntries (resolved_tree program.now) code.now start }
     requires limits { WithinLimits (resolved_tree program.now) }
     ensures ok { IfOk result (IsWalked (resolved_tree program.now) code.now start turns.now) }
@@ -65,12 +63,11 @@ fn walk_from(
     alloc: Global,
     program: &Resolved,
     starts: Vec<Beginning>,
-    code: &Code,
+    code: &Verified,
     start: World,
     turns: &[u32],
 ) -> Result<Walked, RunFault>
-    requires code { IsCode code.now }
-    requires valid { IsValid start }
+    requires sound { IsSound code.now start }
     requires starts { AreBeginnings (resolved_tree program.now) code.now start.threads starts.items }
     ensures ok { IfOk result (IsWalked (resolved_tree program.now) code.now start turns.now) }
     ensures run { OnOk result (stopped_at code.now turns.now start ≡ None) }

@@ -1,9 +1,8 @@
 //! What the threads of a run did.
 
 ghost use Rattle.std.specs.Prelude.{◌≡◌, length, None, IfOk, OnOk, IfErr};
-ghost use Rattle.lam_bytecode.specs.Codes.{IsCode};
 ghost use Rattle.lam_machine_terms.specs.Turns.{moments};
-ghost use Rattle.lam_machine_terms.specs.Valid.{IsValid};
+ghost use Rattle.described_runs.specs.Worlds.{IsSound};
 ghost use Rattle.lam_machine_runs.specs.Stops.{stopped_at};
 ghost use Rattle.lam_machine_replay.specs.Stops.{IsStop};
 ghost use Rattle.source_walk_run.specs.Counting.{AreTurnsOf};
@@ -11,8 +10,8 @@ ghost use Rattle.source_walk_run.specs.Doings.{AreDoings};
 
 use crate::counting::turns_of_each;
 use crate::keeping::{Kept, kept_of};
+use guarded_code::Verified;
 use lam_asks::What;
-use lam_bytecode::Code;
 use lam_machine_replay::{RunFault, World, runs_are_whole};
 use source_walk_state::Beginning;
 use std::alloc::Global;
@@ -40,12 +39,11 @@ pub struct Doings {
 /// `NotReady` at the first turn whose thread is not ready, exactly where there is one; `NoMemory`.
 pub fn doings_of(
     alloc: Global,
-    code: &Code,
+    code: &Verified,
     start: World,
     turns: &[u32],
 ) -> Result<Doings, RunFault>
-    requires code { IsCode code.now }
-    requires valid { IsValid start }
+    requires sound { IsSound code.now start }
     ensures ok { IfOk result (AreDoings (length start.threads) (moments code.now turns.now start)) }
     ensures run { OnOk result (stopped_at code.now turns.now start ≡ None) }
     ensures stops { IfErr result (λ f. IsStop f (stopped_at code.now turns.now start)) }

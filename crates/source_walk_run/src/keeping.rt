@@ -1,17 +1,16 @@
 //! The pass over the turns of a run.
 
 ghost use Rattle.std.specs.Prelude.{◌≡◌, length, replicate, [], None, IfOk, OnOk, IfErr};
-ghost use Rattle.lam_bytecode.specs.Codes.{IsCode};
 ghost use Rattle.lam_machine_terms.specs.Turns.{moments};
-ghost use Rattle.lam_machine_terms.specs.Valid.{IsValid};
+ghost use Rattle.described_runs.specs.Worlds.{IsSound};
 ghost use Rattle.lam_machine_runs.specs.Stops.{stopped_at};
 ghost use Rattle.lam_machine_replay.specs.Stops.{IsStop};
 ghost use Rattle.source_walk_run.specs.Putting.{lists_of};
 ghost use Rattle.source_walk_run.specs.Doings.{IsKept};
 
 use crate::putting::keep_turn;
+use guarded_code::Verified;
 use lam_asks::{Event, What};
-use lam_bytecode::Code;
 use lam_machine_replay::{Keeps, RunFault, World, keep_turns};
 use lam_machine_world::let_go_world;
 use source_walk_state::Beginning;
@@ -34,12 +33,11 @@ pub(crate) struct Kept {
 /// `NotReady` at the first turn whose thread is not ready, exactly where there is one; `NoMemory`.
 pub(crate) fn kept_of(
     alloc: Global,
-    code: &Code,
+    code: &Verified,
     start: World,
     turns: &[u32],
 ) -> Result<Kept, RunFault>
-    requires code { IsCode code.now }
-    requires valid { IsValid start }
+    requires sound { IsSound code.now start }
     ensures ok { IfOk result (IsKept (length start.threads) (moments code.now turns.now start)) }
     ensures run { OnOk result (stopped_at code.now turns.now start ≡ None) }
     ensures stops { IfErr result (λ f. IsStop f (stopped_at code.now turns.now start)) }
@@ -59,12 +57,11 @@ fn kept_from(
     alloc: Global,
     who: &Clerk,
     kept: Kept,
-    code: &Code,
+    code: &Verified,
     start: World,
     turns: &[u32],
 ) -> Result<Kept, RunFault>
-    requires code { IsCode code.now }
-    requires valid { IsValid start }
+    requires sound { IsSound code.now start }
     requires nothing { IsKept who.now.threads [] kept }
     ensures ok { IfOk result (IsKept who.now.threads (moments code.now turns.now start)) }
     ensures run { OnOk result (stopped_at code.now turns.now start ≡ None) }

@@ -5,10 +5,11 @@ use Rattle.lam_asks.specs.declared.answer.Outcome.{Outcome}
 use Rattle.lam_bytecode.specs.Codes.{CodeTree}
 use Rattle.thread_steps.specs.Threads.{Context, Thread}
 use Rattle.thread_core_state.specs.Stacked.{is_bottom, has_contexts, AreStacked, IsThread}
-use Rattle.thread_steps.specs.Next.{Next, goes, asks, stuck, next_of, standing_in, standing, is_ended}
+use Rattle.thread_steps.specs.Next.{Next, goes, asks, stuck, next_of, is_ended}
 use Rattle.thread_core.specs.declared.turn.Standing.{Standing}
 use Rattle.thread_core.specs.declared.turn.Standing.TheVariants as written
 use Rattle.thread_core.specs.Turning.{moved, stepped_in, stepped, standing_of}
+use Rattle.thread_core.specs.Untested.{untested_next, untested_standing_in, untested_standing}
 use Rattle.thread_core.proofs.Cases.{stands_there}
 
 moved_phase : (c : Context) (n : Next) → (moved c n).phase ≡ c.phase
@@ -41,11 +42,11 @@ is_last written.Shared e = cc
 is_last written.Stuck e = cc
 is_last written.Ended e = refl
 
-by_result : (code : CodeTree) (cs : List Context) (r : Option Outcome) (s : Standing) → standing_of s ≡ standing_in code cs → is_some r ≡ not (has_contexts cs) → IsTrue (is_some r) ↔ (s ≡ written.Ended)
+by_result : (code : CodeTree) (cs : List Context) (r : Option Outcome) (s : Standing) → standing_of s ≡ untested_standing_in code cs → is_some r ≡ not (has_contexts cs) → IsTrue (is_some r) ↔ (s ≡ written.Ended)
 by_result code [] None s e h = absurd cc
 by_result code [] (Some o) s e h = (λ t. is_last s e, λ g. refl)
-by_result code (c ∷ cs) None s e h = (λ t. absurd cc, λ g. absurd (stands_there (next_of code c) (sym e ∙ ap standing_of g)))
+by_result code (c ∷ cs) None s e h = (λ t. absurd cc, λ g. absurd (stands_there (untested_next code c) (sym e ∙ ap standing_of g)))
 by_result code (c ∷ cs) (Some o) s e h = absurd cc
 
-pub ended_where : (code : CodeTree) (th : Thread) (s : Standing) → standing_of s ≡ standing code th → IsThread th → IsTrue (is_some th.result) ↔ (s ≡ written.Ended)
+pub ended_where : (code : CodeTree) (th : Thread) (s : Standing) → standing_of s ≡ untested_standing code th → IsThread th → IsTrue (is_some th.result) ↔ (s ≡ written.Ended)
 ended_where code th s e h = by_result code th.contexts th.result s e h.ended

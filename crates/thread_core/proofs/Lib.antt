@@ -1,3 +1,4 @@
+pub mod Untested
 pub mod Tops
 pub mod Cases
 pub mod Kept

@@ -1,8 +1,9 @@
 //! What comes next of a context.
 
 ghost use Rattle.std.specs.Prelude.{◌≡◌, ◌<◌, ◌+◌, ◌^◌, IfSome, slice_get};
-ghost use Rattle.thread_steps.specs.Next.{ops_of, next_of};
+ghost use Rattle.thread_steps.specs.Next.{ops_of};
 ghost use Rattle.thread_core.specs.Coming.{next_from, HasPlace};
+ghost use Rattle.thread_core.specs.Untested.{untested_next};
 
 use lam_asks::Fault;
 use lam_bytecode::{Code, Op};
@@ -35,10 +36,10 @@ fn op_at(code: &Code, unit: usize, at: usize) -> Option<Op>
     }
 }
 
-/// What comes next of a context, exactly. Takes no memory.
-#[tactic(auto, unfolding(thread_steps::specs::Next::next_of))]
+/// What comes next of a context, exactly, where an access goes by the barrier before it. Takes no memory.
+#[tactic(auto, unfolding(crate::specs::Untested::untested_next))]
 pub fn next<'a>(c: &'a Context, code: &'a Code) -> Coming<'a>
-    ensures next { next_from code.now c.now result ≡ next_of code.now c.now }
+    ensures next { next_from code.now c.now result ≡ untested_next code.now c.now }
     ensures place { HasPlace c.now result }
 {
     if let Some(fault) = c.fault {

@@ -4,12 +4,13 @@ ghost use Rattle.std.specs.Prelude.{◌≡◌, ◌<◌, ◌+◌, ◌^◌, ◌∷
 ghost use Rattle.lam_bytecode.specs.Codes.{CodeTree};
 ghost use Rattle.thread_steps.specs.Threads.{Inside};
 ghost use Rattle.thread_core_state.specs.Stacked.{is_bottom};
-ghost use Rattle.thread_steps.specs.Next.{next_of, stands, leaving, is_shared, is_stuck};
+ghost use Rattle.thread_steps.specs.Next.{stands, leaving, is_shared, is_stuck};
 ghost use Rattle.thread_core_state.specs.Seen.{phase_of};
 ghost use Rattle.thread_core_effects.specs.Acting.{ask_of};
 ghost use Rattle.thread_core_effects.specs.Reading.{thing_in};
 ghost use Rattle.thread_core.specs.Turning.{moved, standing_of, asked, awaited, awaited_by, monitor_of, end_of};
 ghost use Rattle.thread_core.specs.Coming.{next_from};
+ghost use Rattle.thread_core.specs.Untested.{untested_next};
 ghost use Rattle.thread_core.specs.Steps.{changed, stands_by, moved_by, HasNext};
 ghost use Rattle.thread_core.specs.Moves.{dropped, put, jumped, called_with, failed, raised_ask, with_result, caller_with, acting};
 
@@ -253,8 +254,8 @@ fn leaves(phase: Phase) -> Standing
 /// What a context does in its next turn where this is private, with its value made.
 #[tactic(auto, using(crate::proofs::Cases::raised_stands, crate::proofs::Cases::raised_moved, crate::proofs::Cases::leaving_moved))]
 fn step_of(c: &Context, code: &Code) -> Result<Step, NoMemory>
-    ensures stands { IfOk result (λ s. stands_by code.now c.now s ≡ stands (next_of code.now c.now)) }
-    ensures new { IfOk result (λ s. moved_by code.now c.now s ≡ moved c.now (next_of code.now c.now)) }
+    ensures stands { IfOk result (λ s. stands_by code.now c.now s ≡ stands (untested_next code.now c.now)) }
+    ensures new { IfOk result (λ s. moved_by code.now c.now s ≡ moved c.now (untested_next code.now c.now)) }
     ensures place { IfOk result (λ s. HasNext c.now s) }
 {
     match next(c, code) {
@@ -325,8 +326,8 @@ fn take_step(c: &mut Context, code: &Code, step: Step) -> Result<Standing, NoMem
 ///
 /// `NoMemory` where memory is refused; the context is then as it was.
 pub fn go_on_in(c: &mut Context, code: &Code) -> Result<Standing, NoMemory>
-    ensures stands { IfOk result (λ s. standing_of s ≡ stands (next_of code.now c.old)) }
-    ensures new { OnOk result (c.new ≡ moved c.old (next_of code.now c.old)) }
+    ensures stands { IfOk result (λ s. standing_of s ≡ stands (untested_next code.now c.old)) }
+    ensures new { OnOk result (c.new ≡ moved c.old (untested_next code.now c.old)) }
     ensures err { OnErr result (c.new ≡ c.old) }
 {
     let step = step_of(c, code)?;
@@ -364,7 +365,7 @@ fn returning(c: &Context) -> Standing
 /// How a context stands.
 #[tactic(auto, using(crate::proofs::Cases::raised_stands, crate::proofs::Cases::leaving_stands))]
 pub fn context_stands(c: &Context, code: &Code) -> Standing
-    ensures { standing_of result ≡ stands (next_of code.now c.now) }
+    ensures { standing_of result ≡ stands (untested_next code.now c.now) }
 {
     match next(c, code) {
         Coming::Nothing => Standing::Stuck,
@@ -411,7 +412,7 @@ fn returning_ask(c: &Context) -> Result<Option<Ask>, NoMemory>
 /// `NoMemory` where memory is refused.
 #[tactic(auto, using(crate::proofs::Cases::raised_asked, crate::proofs::Cases::leaving_asked, crate::proofs::Cases::set_asked))]
 pub fn context_ask(c: &Context, code: &Code) -> Result<Option<Ask>, NoMemory>
-    ensures { IfOk result (λ a. a ≡ asked (next_of code.now c.now)) }
+    ensures { IfOk result (λ a. a ≡ asked (untested_next code.now c.now)) }
 {
     match next(c, code) {
         Coming::Nothing => Ok(None),
@@ -481,7 +482,7 @@ fn awaited_by_sketch<'a>(p: &Label, sketch: &Sketch<'a>) -> Waits<'a>
 /// What a context's next ask waits for, where that is not free or lives.
 #[tactic(auto, using(crate::proofs::Cases::raised_waits, crate::proofs::Cases::returned_waits, crate::proofs::Cases::leaving_waits, crate::proofs::Cases::set_waits))]
 pub fn context_waits<'a>(c: &'a Context, code: &'a Code) -> Waits<'a>
-    ensures { awaited_by result ≡ awaited c.now.label (asked (next_of code.now c.now)) }
+    ensures { awaited_by result ≡ awaited c.now.label (asked (untested_next code.now c.now)) }
 {
     match next(c, code) {
         Coming::Nothing => Waits::Nobody,

@@ -2,26 +2,30 @@
 
 ghost use Rattle.std.specs.Prelude.{◌≡◌, ◌↔◌, IsTrue, Some, None, is_some, reverse, IfOk, OnOk, OnErr};
 ghost use Rattle.thread_core_state.specs.Stacked.{IsThread};
-ghost use Rattle.thread_steps.specs.Next.{standing, standing_in, is_private, is_shared};
+ghost use Rattle.thread_steps.specs.Next.{standing, is_private, is_shared};
 ghost use Rattle.thread_core.specs.Turning.{turn_of, stepped, stepped_in, standing_of, ask_of, awaited_of, awaited_by};
+ghost use Rattle.thread_core.specs.Untested.{untested_standing, untested_standing_in, ThreadFinds, StandsAs};
 
 use crate::stepping::{context_ask, context_stands, context_waits, go_on_in};
 use crate::turn::{Standing, Turn, Waits};
+use guarded_code::Verified;
 use lam_asks::Ask;
 use lam_bytecode::Code;
 use thread_core_state::{Context, LamThread};
 use want_of_memory::NoMemory;
 
-/// How a thread stands: ended exactly where it has a result.
-pub fn standing(thread: &LamThread, code: &Code) -> Standing
-    ensures standing { standing_of result ≡ standing code.now thread.now }
+/// How a thread stands: ended exactly where it has a result. At an access no rule is tested: it stands shared there also where
+/// the rule fails, which no run of guarded code meets.
+pub fn standing(thread: &LamThread, code: &Verified) -> Standing
+    ensures near { StandsAs code.now thread.now (standing_of result) }
+    ensures standing { ThreadFinds code.now thread.now → standing_of result ≡ standing code.now thread.now }
     ensures ended { IsThread thread.now → IsTrue (is_some thread.now.result) ↔ (result ≡ Standing.Ended) }
 {
-    stands(thread, code)
+    stands(thread, code.code())
 }
 
 fn stands(thread: &LamThread, code: &Code) -> Standing
-    ensures { standing_of result ≡ standing code.now thread.now }
+    ensures { standing_of result ≡ untested_standing code.now thread.now }
 {
     match thread.top() {
         None => Standing::Ended,
@@ -32,7 +36,13 @@ fn stands(thread: &LamThread, code: &Code) -> Standing
 /// What a thread's next ask waits for, where that is not free or lives: the monitor that it is to take, where the acting
 /// label is that of the monitor's thing, or the end of the thread that it joins, where the acting label may read what is
 /// public. It waits for nobody where it asks anything else, or where the rule fails: the answer is then a refusal.
-pub fn waits_for<'a>(thread: &'a LamThread, code: &'a Code) -> Waits<'a>
+pub fn waits_for<'a>(thread: &'a LamThread, code: &'a Verified) -> Waits<'a>
+    ensures { awaited_by result ≡ awaited_of code.now thread.now }
+{
+    waits(thread, code.code())
+}
+
+fn waits<'a>(thread: &'a LamThread, code: &'a Code) -> Waits<'a>
     ensures { awaited_by result ≡ awaited_of code.now thread.now }
 {
     match thread.top() {
@@ -42,7 +52,7 @@ pub fn waits_for<'a>(thread: &'a LamThread, code: &'a Code) -> Waits<'a>
 }
 
 fn asked(thread: &LamThread, code: &Code) -> Result<Option<Ask>, NoMemory>
-    ensures { IfOk result (λ a. a ≡ ask_of code.now thread.now) }
+    ensures { IfOk result (λ a. standing code.now thread.now ≡ is_shared → a ≡ ask_of code.now thread.now) }
 {
     match thread.top() {
         None => Ok(None),
@@ -56,11 +66,11 @@ fn asked(thread: &LamThread, code: &Code) -> Result<Option<Ask>, NoMemory>
 ///
 /// `NoMemory` where memory is refused.
 #[tactic(auto, using(crate::proofs::Cases::shared_asks))]
-pub fn ask(thread: &LamThread, code: &Code) -> Result<Ask, NoMemory>
+pub fn ask(thread: &LamThread, code: &Verified) -> Result<Ask, NoMemory>
     requires { standing code.now thread.now ≡ is_shared }
     ensures { IfOk result (λ a. ask_of code.now thread.now ≡ Some a) }
 {
-    match asked(thread, code)? {
+    match asked(thread, code.code())? {
         Some(ask) => Ok(ask),
         None => unreachable!(),
     }
@@ -68,7 +78,7 @@ pub fn ask(thread: &LamThread, code: &Code) -> Result<Ask, NoMemory>
 
 #[tactic(auto, using(crate::proofs::Tops::standing_top, crate::proofs::Tops::stepped_top, crate::proofs::Tops::kept_top))]
 fn go_on_last(contexts: &mut Vec<Context>, code: &Code) -> Result<Standing, NoMemory>
-    ensures stands { IfOk result (λ s. standing_of s ≡ standing_in code.now (reverse contexts.old.items)) }
+    ensures stands { IfOk result (λ s. standing_of s ≡ untested_standing_in code.now (reverse contexts.old.items)) }
     ensures new { OnOk result (reverse contexts.new.items ≡ stepped_in code.now (reverse contexts.old.items)) }
     ensures err { OnErr result (contexts.new.items ≡ contexts.old.items) }
 {
@@ -80,27 +90,38 @@ fn go_on_last(contexts: &mut Vec<Context>, code: &Code) -> Result<Standing, NoMe
     Ok(standing)
 }
 
-/// Takes the next turn of a thread where it is private, and says how the thread stood before it.
-///
-/// # Errors
-///
-/// `NoMemory` where memory is refused; the thread is then as it was.
-pub fn go_on(thread: &mut LamThread, code: &Code) -> Result<Standing, NoMemory>
-    ensures stands { IfOk result (λ s. standing_of s ≡ standing code.now thread.old) }
+fn go_on_by(thread: &mut LamThread, code: &Code) -> Result<Standing, NoMemory>
+    ensures stands { IfOk result (λ s. standing_of s ≡ untested_standing code.now thread.old) }
     ensures ok { OnOk result (thread.new ≡ stepped code.now thread.old) }
     ensures err { OnErr result (thread.new ≡ thread.old) }
-    ensures kept { IsThread thread.old → IsThread thread.new }
 {
     go_on_last(&mut thread.contexts, code)
 }
 
-/// The next turn of a thread: a private one is taken, and an ask is handed out.
+/// Takes the next turn of a thread where it is private, and says how the thread stood before it, as [`standing`] does.
+///
+/// # Errors
+///
+/// `NoMemory` where memory is refused; the thread is then as it was.
+pub fn go_on(thread: &mut LamThread, code: &Verified) -> Result<Standing, NoMemory>
+    ensures near { IfOk result (λ s. StandsAs code.now thread.old (standing_of s)) }
+    ensures stands { IfOk result (λ s. ThreadFinds code.now thread.old → standing_of s ≡ standing code.now thread.old) }
+    ensures ok { OnOk result (thread.new ≡ stepped code.now thread.old) }
+    ensures err { OnErr result (thread.new ≡ thread.old) }
+    ensures kept { IsThread thread.old → IsThread thread.new }
+{
+    go_on_by(thread, code.code())
+}
+
+/// The next turn of a thread, which finds a reference that the rule allows where it is an access: a private one is taken, and an
+/// ask is handed out.
 ///
 /// # Errors
 ///
 /// `NoMemory` where memory is refused; the thread is then as it was.
 #[tactic(auto, using(crate::proofs::Cases::turn_private, crate::proofs::Cases::turn_shared, crate::proofs::Cases::turn_stuck, crate::proofs::Cases::turn_ended, crate::proofs::Cases::shared_stays))]
-pub fn advance(thread: &mut LamThread, code: &Code) -> Result<Turn, NoMemory>
+pub fn advance(thread: &mut LamThread, code: &Verified) -> Result<Turn, NoMemory>
+    requires finds { ThreadFinds code.now thread.old }
     ensures turn { IfOk result (λ t. t ≡ turn_of code.now thread.old) }
     ensures ok { OnOk result (thread.new ≡ stepped code.now thread.old) }
     ensures err { OnErr result (thread.new ≡ thread.old) }
@@ -119,7 +140,7 @@ pub fn advance(thread: &mut LamThread, code: &Code) -> Result<Turn, NoMemory>
 /// # Errors
 ///
 /// `NoMemory` where memory is refused; the thread is then as it was.
-pub fn private_step(thread: &mut LamThread, code: &Code) -> Result<(), NoMemory>
+pub fn private_step(thread: &mut LamThread, code: &Verified) -> Result<(), NoMemory>
     requires { standing code.now thread.old ≡ is_private }
     ensures ok { OnOk result (thread.new ≡ stepped code.now thread.old) }
     ensures err { OnErr result (thread.new ≡ thread.old) }

@@ -11,6 +11,7 @@ ghost use Rattle.thread_core_answers.specs.Preparing.{result_or};
 use crate::doing::{do_plan, undo_plan};
 use crate::plan::Plan;
 use crate::planning::{ending_of, plan_answer};
+use guarded_code::Verified;
 use lam_asks::{Answer, Ask, Outcome};
 use lam_bytecode::Code;
 use lam_value::Value;
@@ -47,6 +48,20 @@ impl Model for Prepared {
 ///
 /// The thread as it was, where memory is refused.
 pub fn prepare(
+    thread: LamThread,
+    code: &Verified,
+    ask: &Ask,
+    answer: Answer,
+) -> Result<Prepared, LamThread>
+    ensures before { IfOk result (λ p. p.before ≡ thread) }
+    ensures after { IfOk result (λ p. (c : Context) (rest : List Context) (i : Inside) → thread.contexts ≡ c ∷ rest → next_of code.now c ≡ asks ask.now i → p.after ≡ takes code.now thread c rest i ask.now answer) }
+    ensures kept { IfOk result (λ p. (s : Sort) → ask_of code.now thread ≡ Some ask.now → IsTrue (suits s ask.now answer) → IsThread thread → IsThread p.after) }
+    ensures err { IfErr result (λ t. t ≡ thread) }
+{
+    prepare_by(thread, code.code(), ask, answer)
+}
+
+fn prepare_by(
     thread: LamThread,
     code: &Code,
     ask: &Ask,
@@ -152,7 +167,7 @@ fn put(slot: &mut LamThread, thread: LamThread)
 /// `NoMemory` where memory is refused; the thread is then as it was.
 pub fn take_answer(
     thread: &mut LamThread,
-    code: &Code,
+    code: &Verified,
     ask: &Ask,
     answer: Answer,
 ) -> Result<(), NoMemory>

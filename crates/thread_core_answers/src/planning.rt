@@ -9,6 +9,7 @@ ghost use Rattle.capabilities.specs.Changes.{joined};
 ghost use Rattle.lam_value.specs.declared.names.Name.{Name as NameOf};
 ghost use Rattle.thread_core_state.specs.Seen.{phase_of};
 ghost use Rattle.thread_core_effects.specs.Reading.{thing_in};
+ghost use Rattle.thread_core.specs.Untested.{untested_next};
 ghost use Rattle.thread_core_answers.specs.Preparing.{held_after, held_before, taken_by, given_by, catch_place_in, after_of, nulls, without_at, caps_or, gone, undone, done_in, undone_in, ending_of};
 
 use crate::both::both;
@@ -33,10 +34,10 @@ fn stays(c: &Context) -> Left
     }
 }
 
-/// What will stand of the acting call when its ask was answered.
+/// What will stand of the acting call when its ask was answered, where an access goes by the barrier before it.
 #[tactic(auto, using(crate::proofs::Leaving::wanted_left, thread_core::proofs::Cases::raised_left, thread_core::proofs::Cases::returned_left, thread_core::proofs::Cases::leaving_left, thread_core::proofs::Cases::set_left))]
-fn left(c: &Context, code: &Code) -> Left
-    ensures { (a : Ask) (i : Inside) → next_of code.now c.now ≡ asks a i → i ≡ after_of result c.now.inside }
+fn left_untested(c: &Context, code: &Code) -> Left
+    ensures { (a : Ask) (i : Inside) → untested_next code.now c.now ≡ asks a i → i ≡ after_of result c.now.inside }
 {
     match next(c, code) {
         Coming::Nothing => stays(c),
@@ -62,6 +63,14 @@ fn left(c: &Context, code: &Code) -> Left
             Sight::Breaks => stays(c),
         },
     }
+}
+
+/// What will stand of the acting call when its ask was answered.
+#[tactic(auto, using(thread_core::proofs::Untested::asks_same))]
+fn left(c: &Context, code: &Code) -> Left
+    ensures { (a : Ask) (i : Inside) → next_of code.now c.now ≡ asks a i → i ≡ after_of result c.now.inside }
+{
+    left_untested(c, code)
 }
 
 /// Null is put on the operands, where the ask leaves it. How many were put.

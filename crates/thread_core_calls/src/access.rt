@@ -1,11 +1,17 @@
 //! Barriers, accesses, monitors, and what is made.
+//!
+//! A barrier tests its rule, and an access does not test it a second time: in a run of guarded code it finds a reference whose
+//! rule holds. Only where an element's place is outside the length is the rule tested, since an access whose rule fails
+//! raises nothing.
 
 ghost use Rattle.std.specs.Prelude.{◌≡◌, ◌∷◌, true, reverse, List};
 ghost use Rattle.lam_asks.specs.declared.ask.Ask.TheVariants as ask;
-ghost use Rattle.thread_steps.specs.Ops.{tested, on_thing, may_read, may_write, barrier, gets_field, puts_field, gets_element, puts_element, new_array, on_any, on_int, monitor_of, is_held};
+ghost use Rattle.thread_steps.specs.Ops.{tested, on_thing, may_read, may_write, barrier, unless_denied, fails, new_array, on_any, on_int, monitor_of, is_held};
 ghost use Rattle.lam_value.specs.declared.values.Value.{Value};
 ghost use Rattle.thread_core_effects.specs.Acting.{did_of, makes_object};
 ghost use Rattle.thread_core_effects.specs.Fitting.{place_in};
+ghost use Rattle.thread_core_calls.specs.Reaching.{reads_field, writes_field, reads_element, writes_element};
+ghost use Rattle.lam_asks.specs.declared.fault.Fault.TheVariants as fault;
 
 use flow_labels::{Denied, Label, read_rule, write_rule};
 use lam_asks::Fault;
@@ -74,19 +80,16 @@ pub fn write_barrier(stack: &Operands, below: usize, label: &Label) -> Sight<'st
     }
 }
 
-/// Asks for a field of the object on top.
-pub fn get_field<'a>(stack: &'a Operands, at: u32, label: &Label) -> Sight<'a>
-    ensures { (locals : List Value) → did_of result locals stack.now ≡ gets_field label.now at stack.now }
+/// Asks for a field of the object on top, with no test.
+pub fn get_field(stack: &Operands, at: u32) -> Sight<'_>
+    ensures { (locals : List Value) → did_of result locals stack.now ≡ reads_field at stack.now }
 {
     let Some(r) = stack.get(0) else {
         return Sight::Breaks;
     };
-    let Value::Obj(name) = r else {
+    let Value::Obj(_) = r else {
         return Sight::Breaks;
     };
-    if read_rule(label, name.own()).is_some() {
-        return Sight::Breaks;
-    }
     let at = u64::from(at);
     Sight::Asks {
         ask: Sketch::Read { r, at },
@@ -95,9 +98,9 @@ pub fn get_field<'a>(stack: &'a Operands, at: u32, label: &Label) -> Sight<'a>
     }
 }
 
-/// Asks that the top operand be put into a field of the object below it.
-pub fn put_field<'a>(stack: &'a Operands, at: u32, label: &Label) -> Sight<'a>
-    ensures { (locals : List Value) → did_of result locals stack.now ≡ on_any stack.now (λ v s. puts_field label.now at v s) }
+/// Asks that the top operand be put into a field of the object below it, with no test.
+pub fn put_field(stack: &Operands, at: u32) -> Sight<'_>
+    ensures { (locals : List Value) → did_of result locals stack.now ≡ on_any stack.now (λ v s. writes_field at v s) }
 {
     let Some(v) = stack.get(0) else {
         return Sight::Breaks;
@@ -105,12 +108,9 @@ pub fn put_field<'a>(stack: &'a Operands, at: u32, label: &Label) -> Sight<'a>
     let Some(r) = stack.get(1) else {
         return Sight::Breaks;
     };
-    let Value::Obj(name) = r else {
+    let Value::Obj(_) = r else {
         return Sight::Breaks;
     };
-    if write_rule(label, name.own()).is_some() {
-        return Sight::Breaks;
-    }
     let at = u64::from(at);
     Sight::Asks {
         ask: Sketch::Write { r, at, v },
@@ -130,9 +130,19 @@ fn place_of(i: i64, len: u64) -> Option<u64>
     if at < len { Some(at) } else { None }
 }
 
+/// An element outside the length: Index is raised, where the rule of the access holds.
+fn outside(denied: Option<Denied>) -> Sight<'static>
+    ensures { (locals s : List Value) → did_of result locals s ≡ unless_denied denied (fails fault.Index) }
+{
+    match denied {
+        None => Sight::Fails(Fault::Index),
+        Some(_) => Sight::Breaks,
+    }
+}
+
 /// Asks for an element, at the number on top, of the array below it.
 pub fn get_element<'a>(stack: &'a Operands, label: &Label) -> Sight<'a>
-    ensures { (locals : List Value) → did_of result locals stack.now ≡ on_int stack.now (λ i s. gets_element label.now i s) }
+    ensures { (locals : List Value) → did_of result locals stack.now ≡ on_int stack.now (λ i s. reads_element label.now i s) }
 {
     let Some(Value::Int(i)) = stack.get(0) else {
         return Sight::Breaks;
@@ -143,11 +153,8 @@ pub fn get_element<'a>(stack: &'a Operands, label: &Label) -> Sight<'a>
     let Value::Arr { name, len } = r else {
         return Sight::Breaks;
     };
-    if read_rule(label, name.own()).is_some() {
-        return Sight::Breaks;
-    }
     match place_of(*i, *len) {
-        None => Sight::Fails(Fault::Index),
+        None => outside(read_rule(label, name.own())),
         Some(at) => Sight::Asks {
             ask: Sketch::Read { r, at },
             takes: 2,
@@ -158,7 +165,7 @@ pub fn get_element<'a>(stack: &'a Operands, label: &Label) -> Sight<'a>
 
 /// Asks that the top operand be put into an element, at the number below it, of the array below that.
 pub fn put_element<'a>(stack: &'a Operands, label: &Label) -> Sight<'a>
-    ensures { (locals : List Value) → did_of result locals stack.now ≡ on_any stack.now (λ v s. on_int s (λ i s. puts_element label.now i v s)) }
+    ensures { (locals : List Value) → did_of result locals stack.now ≡ on_any stack.now (λ v s. on_int s (λ i s. writes_element label.now i v s)) }
 {
     let Some(v) = stack.get(0) else {
         return Sight::Breaks;
@@ -172,11 +179,8 @@ pub fn put_element<'a>(stack: &'a Operands, label: &Label) -> Sight<'a>
     let Value::Arr { name, len } = r else {
         return Sight::Breaks;
     };
-    if write_rule(label, name.own()).is_some() {
-        return Sight::Breaks;
-    }
     match place_of(*i, *len) {
-        None => Sight::Fails(Fault::Index),
+        None => outside(write_rule(label, name.own())),
         Some(at) => Sight::Asks {
             ask: Sketch::Write { r, at, v },
             takes: 3,

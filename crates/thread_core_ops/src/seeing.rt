@@ -2,10 +2,11 @@
 
 ghost use Rattle.std.specs.Prelude.{◌≡◌, ◌+◌, if◌then◌else◌, List, slice_get, length};
 ghost use Rattle.lam_value.specs.declared.values.Value.{Value};
-ghost use Rattle.thread_steps.specs.Ops.{effect, on_constant, on_any, on_truth, on_int, stores, at_address, gives, jumps, fails, returns};
+ghost use Rattle.thread_steps.specs.Ops.{on_constant, on_any, on_truth, on_int, stores, at_address, gives, jumps, fails, returns};
 ghost use Rattle.lam_asks.specs.declared.fault.Fault.TheVariants as fault;
 ghost use Rattle.thread_steps.specs.Next.{around, ops_of};
 ghost use Rattle.thread_core_effects.specs.Acting.{did_of, calls_unit};
+ghost use Rattle.thread_core_ops.specs.Untested.{untested};
 
 use crate::operators::{add_cap, before, between, make_label};
 use crate::units::{enter_region, function_takes, spawn};
@@ -138,10 +139,10 @@ fn size_of(code: &Code, unit: usize) -> usize
     }
 }
 
-/// What an operation does in the acting call of a context, exactly.
-#[tactic(auto, unfolding(thread_steps::specs::Ops::effect))]
+/// What an operation does in the acting call of a context, exactly, where an access goes by the barrier before it.
+#[tactic(auto, unfolding(thread_steps::specs::Ops::effect, crate::specs::Untested::untested))]
 pub fn see<'a>(c: &'a Context, code: &'a Code, op: Op) -> Sight<'a>
-    ensures { did_of result c.now.inside.frame.locals c.now.inside.frame.stack ≡ effect (around code.now c.now) c.now.inside.frame.stack op }
+    ensures { did_of result c.now.inside.frame.locals c.now.inside.frame.stack ≡ untested (around code.now c.now) c.now.inside.frame.stack op }
 {
     let stack = &c.stack;
     match op {
@@ -169,8 +170,8 @@ pub fn see<'a>(c: &'a Context, code: &'a Code, op: Op) -> Sight<'a>
         Op::Throw => throw(stack),
         Op::ReadBarrier(below) => read_barrier(stack, below as usize, &c.label),
         Op::WriteBarrier(below) => write_barrier(stack, below as usize, &c.label),
-        Op::GetField(at) => get_field(stack, at, &c.label),
-        Op::PutField(at) => put_field(stack, at, &c.label),
+        Op::GetField(at) => get_field(stack, at),
+        Op::PutField(at) => put_field(stack, at),
         Op::GetElement => get_element(stack, &c.label),
         Op::PutElement => put_element(stack, &c.label),
         Op::NewObject(class) => new_object(code.classes(), class),

@@ -3,7 +3,7 @@
 ghost use Rattle.std.specs.Prelude.{◌≡◌, IfOk, OnErr};
 ghost use Rattle.thread_core_stretches.specs.Stretches.{StretchStands, begun, goes_further, further, IsFurther};
 
-use lam_bytecode::Code;
+use guarded_code::Verified;
 use thread_core::{Standing, go_on};
 use thread_core_state::LamThread;
 use want_of_memory::NoMemory;
@@ -55,7 +55,8 @@ impl Stretch {
     /// # Errors
     ///
     /// `NoMemory` where memory is refused; the stretch is then as it was.
-    pub fn step(&mut self, code: &Code) -> Result<bool, NoMemory>
+    #[tactic(auto, using(crate::proofs::Rows::near_private))]
+    pub fn step(&mut self, code: &Verified) -> Result<bool, NoMemory>
         ensures taken { IfOk result (λ b. b ≡ goes_further code.now self.old) }
         ensures ok { IfOk result (λ b. IsFurther code.now self.old b self.new) }
         ensures err { OnErr result (self.new ≡ self.old) }
@@ -80,7 +81,7 @@ impl Stretch {
     /// # Errors
     ///
     /// `NoMemory` where memory is refused; the stretch stands as far as it came.
-    pub fn go(&mut self, code: &Code) -> Result<(), NoMemory>
+    pub fn go(&mut self, code: &Verified) -> Result<(), NoMemory>
         ensures same { (self.new.thread ≡ self.old.thread) × (self.new.before ≡ self.old.before) }
         ensures stands { StretchStands code.now self.old → StretchStands code.now self.new }
     {

@@ -1,10 +1,9 @@
 -- What workers share, after one turn more.
 use Rattle.std.proofs.Common.{◌≡◌, ℕ, ◌+◌, ◌<◌, ◌≤◌, Bool, true, false, List, [], ◌∷◌, ◌++◌, length, Option, Some, None, refl, sym, ap, subst, ◌∙◌, arith, length-append}
 use Rattle.lam_asks.specs.declared.answer.Event.{Event}
-use Rattle.lam_bytecode.specs.Codes.{CodeTree, IsCode}
+use Rattle.lam_bytecode.specs.Codes.{CodeTree}
 use Rattle.lam_machine_terms.specs.Worlds.{World}
 use Rattle.lam_machine_terms.specs.Turns.{Moment, step, moments, replay}
-use Rattle.lam_machine_terms.specs.Valid.{IsValid}
 use Rattle.lam_machine_runs.proofs.RunLemmas.{joined_runs, stopped_runs}
 use Rattle.lam_machine_turns.specs.Turned.{IsTurn}
 use Rattle.lam_machine.specs.Privately.{private_event}

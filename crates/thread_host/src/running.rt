@@ -1,25 +1,24 @@
 //! A run on workers, to its end.
 
 ghost use Rattle.std.specs.Prelude.{◌≡◌, ◌<◌, ◌≤◌, [], length, IfOk};
-ghost use Rattle.lam_bytecode.specs.Codes.{IsCode};
+ghost use Rattle.described_runs.specs.Worlds.{IsSound};
 ghost use Rattle.lam_machine_terms.specs.Turns.{moments};
-ghost use Rattle.lam_machine_terms.specs.Valid.{IsValid};
 ghost use Rattle.lam_machine_runs.specs.Ends.{HasEnded, EndsOnlySo};
 ghost use Rattle.thread_host_run.specs.Courses.{IsCourse, ran_to};
 ghost use Rattle.thread_host.specs.Visits.{EndsAs};
 
 use crate::keepers::Nobody;
 use crate::workers::{Ending, by_workers};
-use lam_bytecode::Code;
+use guarded_code::Verified;
 use lam_io::Gate;
 use lam_machine_replay::Keeps;
 use lam_machine_runs::{How, runs_end_in_one_way};
-use lam_machine_world::{World, let_go_code, let_go_world};
+use lam_machine_world::{World, let_go_world};
 use std::alloc::Global;
 use std::marker::Brand;
 use std::sync::Wait;
 use std::thread::Threads;
-use thread_host_run::Run;
+use thread_host_run::{Run, let_go_verified};
 use want_of_memory::NoMemory;
 
 /// A run, and how it ended.
@@ -52,14 +51,13 @@ pub struct FinishedKept<Kept: Drop> {
 pub fn run_on<R: Threads + Wait + Sync, G: Gate + Sync>(
     rt: &R,
     alloc: Global,
-    code: Code,
+    code: Verified,
     start: World,
     workers: u64,
     turns: u64,
     gate: &G,
 ) -> Result<Finished, NoMemory>
-    requires code { IsCode code }
-    requires valid { IsValid start }
+    requires sound { IsSound code start }
     requires workers { (0 < workers) × (workers ≤ 16) }
     requires turns { (0 < turns) × (turns ≤ 1000000) }
     ensures start { IfOk result (λ f. (f.run.code ≡ code) × (f.run.start ≡ start)) }
@@ -83,7 +81,7 @@ pub fn run_on<R: Threads + Wait + Sync, G: Gate + Sync>(
 pub fn run_kept<Kept: Drop + Send, K: Keeps<Kept> + Sync, R: Threads + Wait + Sync, G: Gate + Sync>(
     rt: &R,
     alloc: Global,
-    code: Code,
+    code: Verified,
     start: World,
     workers: u64,
     turns: u64,
@@ -91,8 +89,7 @@ pub fn run_kept<Kept: Drop + Send, K: Keeps<Kept> + Sync, R: Threads + Wait + Sy
     who: &K,
     nothing: Kept,
 ) -> Result<FinishedKept<Kept>, NoMemory>
-    requires code { IsCode code }
-    requires valid { IsValid start }
+    requires sound { IsSound code start }
     requires workers { (0 < workers) × (workers ≤ 16) }
     requires turns { (0 < turns) × (turns ≤ 1000000) }
     requires nothing { K.AreKept who.now [] nothing }
@@ -108,7 +105,7 @@ pub fn run_kept<Kept: Drop + Send, K: Keeps<Kept> + Sync, R: Threads + Wait + Sy
         Ok(ending) => Ok(put_together(code, start, ending, turns)),
         Err(error) => {
             let_go_world(start);
-            let_go_code(code);
+            let_go_verified(code);
             Err(error)
         }
     }
@@ -116,7 +113,7 @@ pub fn run_kept<Kept: Drop + Send, K: Keeps<Kept> + Sync, R: Threads + Wait + Sy
 
 /// The run that a course of a code from a start is, with what was kept of it.
 fn put_together<Kept: Drop>(
-    code: Code,
+    code: Verified,
     start: World,
     ending: Ending<Kept>,
     turns: u64,

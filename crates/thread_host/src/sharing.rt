@@ -1,10 +1,9 @@
 //! What lies under the lock: a course that is known to be one of its origin, and what is kept of it.
 
 ghost use Rattle.std.specs.Prelude.{◌≡◌, ◌<◌, ◌≤◌, true, [], length, IsTrue, ◌↔◌, IfOk, OnOk, IfSome, MatchOption};
-ghost use Rattle.lam_bytecode.specs.Codes.{IsCode};
+ghost use Rattle.described_runs.specs.Worlds.{IsSound};
 ghost use Rattle.lam_machine_terms.specs.Turns as turns;
 ghost use Rattle.lam_machine_terms.specs.Turns.{moments};
-ghost use Rattle.lam_machine_terms.specs.Valid.{IsValid};
 ghost use Rattle.lam_machine_runs.specs.Ends.{SomeReady};
 ghost use Rattle.thread_host_run.specs.Courses.{IsCourse};
 ghost use Rattle.thread_host.specs.Sharing.{Agree};
@@ -16,7 +15,7 @@ ghost use Rattle.thread_host.specs.Visits.{GoesOn, EndsAs, TookReady, Visits};
 use crate::origins::Origin;
 use crate::stretching::{Opening, keeps_to, stretch_of, take_stretch};
 use crate::visits::{Visit, how_it_stands, picked, take_turn};
-use lam_bytecode::Code;
+use guarded_code::Verified;
 use lam_io::Gate;
 use lam_machine_replay::{Keeps, World};
 use lam_machine_runs::How;
@@ -63,13 +62,12 @@ impl<J: Origin<Kept>, Kept: Drop> Shared<J, Kept> {
     /// `NoMemory` where memory is refused.
     pub fn new(
         alloc: Global,
-        code: &Code,
+        code: &Verified,
         start: &World,
         nothing: Kept,
     ) -> Result<Shared<J, Kept>, NoMemory>
         requires of { (code.now ≡ J.code) × (start.now ≡ J.start) }
-        requires code { IsCode code.now }
-        requires valid { IsValid start.now }
+        requires sound { IsSound code.now start.now }
         requires nothing { J.AreKept [] nothing }
         ensures { IfOk result (λ s. s ≡ record { turns = []; world = start.now }) }
     {
@@ -95,7 +93,7 @@ impl<J: Origin<Kept>, Kept: Drop> Shared<J, Kept> {
     pub fn visit<K: Keeps<Kept>, G: Gate>(
         &mut self,
         alloc: Global,
-        code: &Code,
+        code: &Verified,
         who: &K,
         worker: u64,
         budget: u64,
@@ -126,7 +124,7 @@ impl<J: Origin<Kept>, Kept: Drop> Shared<J, Kept> {
     pub fn begin<K: Keeps<Kept>, G: Gate>(
         &mut self,
         alloc: Global,
-        code: &Code,
+        code: &Verified,
         who: &K,
         worker: u64,
         budget: u64,
@@ -166,7 +164,7 @@ impl<J: Origin<Kept>, Kept: Drop> Shared<J, Kept> {
     pub fn end<K: Keeps<Kept>, G: Gate>(
         &mut self,
         alloc: Global,
-        code: &Code,
+        code: &Verified,
         who: &K,
         stretch: Stretch,
         worker: u64,
@@ -195,7 +193,7 @@ impl<J: Origin<Kept>, Kept: Drop> Shared<J, Kept> {
     }
 
     /// A thread whose next turn is private goes away with a worker.
-    fn goes_away(&mut self, code: &Code, thread: u32) -> Result<Option<Stretch>, NoMemory>
+    fn goes_away(&mut self, code: &Verified, thread: u32) -> Result<Option<Stretch>, NoMemory>
         ensures same { self.new ≡ self.old }
         ensures of { IfOk result (λ o. IfSome o (λ s. (s.thread ≡ thread) × StretchOf code.now self.old s)) }
     {
@@ -250,7 +248,7 @@ impl<J: Origin<Kept>, Kept: Drop> Shared<J, Kept> {
     /// Checks a stretch in.
     fn check_in<K: Keeps<Kept>>(
         &mut self,
-        code: &Code,
+        code: &Verified,
         who: &K,
         stretch: Stretch,
         budget: u64,
@@ -278,14 +276,14 @@ impl<J: Origin<Kept>, Kept: Drop> Shared<J, Kept> {
         Ok(())
     }
 
-    fn how_it_stands(&self, code: &Code, budget: u64) -> Option<How>
+    fn how_it_stands(&self, code: &Verified, budget: u64) -> Option<How>
         requires { (code.now ≡ J.code) × (budget ≡ J.budget) }
         ensures { MatchOption result (GoesOn code.now budget self.now) (EndsAs code.now budget self.now) }
     {
         how_it_stands(code, &self.course, self.ready.as_slice(), budget)
     }
 
-    fn picked<G: Gate>(&self, code: &Code, worker: u64, gate: &G) -> u32
+    fn picked<G: Gate>(&self, code: &Verified, worker: u64, gate: &G) -> u32
         requires of { code.now ≡ J.code }
         requires some { SomeReady code.now self.now.world }
         ensures { turns.ready code.now self.now.world result ≡ true }
@@ -297,7 +295,7 @@ impl<J: Origin<Kept>, Kept: Drop> Shared<J, Kept> {
     fn turn<K: Keeps<Kept>>(
         &mut self,
         alloc: Global,
-        code: &Code,
+        code: &Verified,
         who: &K,
         thread: u32,
         budget: u64,

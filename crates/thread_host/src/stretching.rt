@@ -9,7 +9,7 @@ ghost use Rattle.thread_host.specs.Stretching.{StretchOf, StretchKeepsTo};
 
 use crate::lightness::is_light;
 use crate::origins::Origin;
-use lam_bytecode::Code;
+use guarded_code::Verified;
 use lam_machine_replay::Keeps;
 use lam_machine_runs::How;
 use thread_core::{Standing, standing};
@@ -33,7 +33,11 @@ pub enum Opening {
 }
 
 /// A stretch of a thread with no turn yet, where the next turn of the thread is private and the thread is light.
-pub fn stretch_of(course: &Course, code: &Code, thread: u32) -> Result<Option<Stretch>, NoMemory>
+pub fn stretch_of(
+    course: &Course,
+    code: &Verified,
+    thread: u32,
+) -> Result<Option<Stretch>, NoMemory>
     ensures { IfOk result (λ o. IfSome o (λ s. (s.thread ≡ thread) × StretchOf code.now course.now s)) }
 {
     match course.world().threads().get(thread as usize) {
@@ -43,7 +47,11 @@ pub fn stretch_of(course: &Course, code: &Code, thread: u32) -> Result<Option<St
 }
 
 /// A stretch of this thread, where its next turn is private and it is light.
-fn private_stretch(found: &LamThread, code: &Code, thread: u32) -> Result<Option<Stretch>, NoMemory>
+fn private_stretch(
+    found: &LamThread,
+    code: &Verified,
+    thread: u32,
+) -> Result<Option<Stretch>, NoMemory>
     ensures { IfOk result (λ o. IfSome o (λ s. s ≡ begun thread found.now)) }
 {
     match standing(found, code) {
@@ -78,7 +86,7 @@ fn is_within(turns: &[u32], count: u64, budget: u64) -> bool
 
 /// Checks a stretch in. `list` is that of the ready threads, and stays so; nothing is kept of private turns.
 pub fn take_stretch<J: Origin<Kept>, Kept: Drop, K: Keeps<Kept>>(
-    code: &Code,
+    code: &Verified,
     who: &K,
     course: &mut Course,
     list: &mut Vec<u32>,

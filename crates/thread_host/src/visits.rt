@@ -9,8 +9,8 @@ ghost use Rattle.thread_host.specs.Sharing.{IsShared, KeepsTaken, Unless};
 ghost use Rattle.thread_host.specs.Visits.{GoesOn, EndsAs};
 
 use crate::origins::Origin;
+use guarded_code::Verified;
 use lam_asks::Event;
-use lam_bytecode::Code;
 use lam_io::Gate;
 use lam_machine_replay::{Keeps, World};
 use lam_machine_runs::How;
@@ -28,7 +28,7 @@ pub enum Visit {
 }
 
 /// How the run has ended, if it has. `ready` are its ready threads.
-pub fn how_it_stands(code: &Code, course: &Course, ready: &[u32], budget: u64) -> Option<How>
+pub fn how_it_stands(code: &Verified, course: &Course, ready: &[u32], budget: u64) -> Option<How>
     requires list { ready.now ≡ ready_threads code.now course.now.world }
     requires within { length course.now.turns ≤ budget }
     ensures { MatchOption result (GoesOn code.now budget course.now) (EndsAs code.now budget course.now) }
@@ -46,7 +46,13 @@ pub fn how_it_stands(code: &Code, course: &Course, ready: &[u32], budget: u64) -
 }
 
 /// The thread among the ready ones that the hook picks.
-pub fn picked<G: Gate>(code: &Code, course: &Course, ready: &[u32], worker: u64, gate: &G) -> u32
+pub fn picked<G: Gate>(
+    code: &Verified,
+    course: &Course,
+    ready: &[u32],
+    worker: u64,
+    gate: &G,
+) -> u32
     requires list { ready.now ≡ ready_threads code.now course.now.world }
     requires some { 0 < length ready.now }
     ensures { turns.ready code.now course.now.world result ≡ true }
@@ -60,7 +66,7 @@ pub fn picked<G: Gate>(code: &Code, course: &Course, ready: &[u32], worker: u64,
 /// is refused for what is kept, that is lost.
 pub fn take_turn<J: Origin<Kept>, Kept: Drop, K: Keeps<Kept>>(
     alloc: Global,
-    code: &Code,
+    code: &Verified,
     who: &K,
     course: &mut Course,
     list: &mut Vec<u32>,

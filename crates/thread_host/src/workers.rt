@@ -1,9 +1,8 @@
 //! The workers that share a course under one lock.
 
 ghost use Rattle.std.specs.Prelude.{◌≡◌, ◌<◌, ◌≤◌, [], length, IfOk, vec_len};
-ghost use Rattle.lam_bytecode.specs.Codes.{IsCode};
+ghost use Rattle.described_runs.specs.Worlds.{IsSound};
 ghost use Rattle.lam_machine_terms.specs.Turns.{moments};
-ghost use Rattle.lam_machine_terms.specs.Valid.{IsValid};
 ghost use Rattle.thread_core_stretches.specs.Stretches.{StretchStands};
 ghost use Rattle.thread_host_run.specs.Courses.{IsCourse};
 ghost use Rattle.thread_host.specs.Sharing.{Agree};
@@ -14,7 +13,7 @@ use crate::origins::Origin;
 use crate::sharing::Shared;
 use crate::stretching::Opening;
 use crate::visits::Visit;
-use lam_bytecode::Code;
+use guarded_code::Verified;
 use lam_io::Gate;
 use lam_machine_replay::{Keeps, World};
 use lam_machine_runs::How;
@@ -53,7 +52,7 @@ fn work<J: Origin<Kept>, Kept: Drop, K: Keeps<Kept>, R: Wait, G: Gate>(
     rt: &R,
     alloc: Global,
     desk: &Desk<J, Kept>,
-    code: &Code,
+    code: &Verified,
     who: &K,
     worker: u64,
     budget: u64,
@@ -76,7 +75,7 @@ fn take_turns<J: Origin<Kept>, Kept: Drop, K: Keeps<Kept>, R: Wait, G: Gate>(
     rt: &R,
     alloc: Global,
     desk: &Desk<J, Kept>,
-    code: &Code,
+    code: &Verified,
     who: &K,
     worker: u64,
     budget: u64,
@@ -111,7 +110,7 @@ fn opened<J: Origin<Kept>, Kept: Drop, K: Keeps<Kept>, R: Wait, G: Gate>(
     rt: &R,
     alloc: Global,
     desk: &Desk<J, Kept>,
-    code: &Code,
+    code: &Verified,
     who: &K,
     worker: u64,
     budget: u64,
@@ -141,7 +140,7 @@ fn ended<J: Origin<Kept>, Kept: Drop, K: Keeps<Kept>, R: Wait, G: Gate>(
     rt: &R,
     alloc: Global,
     desk: &Desk<J, Kept>,
-    code: &Code,
+    code: &Verified,
     who: &K,
     stretch: Stretch,
     worker: u64,
@@ -164,7 +163,7 @@ fn ended<J: Origin<Kept>, Kept: Drop, K: Keeps<Kept>, R: Wait, G: Gate>(
 }
 
 /// As many private turns as a stretch can have, taken outside the lock.
-fn gone_out(from: Stretch, code: &Code) -> Result<Stretch, NoMemory>
+fn gone_out(from: Stretch, code: &Verified) -> Result<Stretch, NoMemory>
     requires { StretchStands code.now from }
     ensures { IfOk result (StretchStands code.now) }
 {
@@ -206,7 +205,7 @@ pub fn by_workers<
 >(
     rt: &R,
     alloc: Global,
-    code: &Code,
+    code: &Verified,
     start: &World,
     count: u64,
     budget: u64,
@@ -216,8 +215,7 @@ pub fn by_workers<
 ) -> Result<Ending<Kept>, NoMemory>
     requires of { (code.now ≡ J.code) × (start.now ≡ J.start) × (budget ≡ J.budget) }
     requires keeps { Agree (K.AreKept who.now) J.AreKept }
-    requires code { IsCode code.now }
-    requires valid { IsValid start.now }
+    requires sound { IsSound code.now start.now }
     requires nothing { K.AreKept who.now [] nothing }
     requires workers { (0 < count) × (count ≤ 16) }
     requires few { budget ≤ 1000000 }
@@ -250,7 +248,7 @@ fn finish<J: Origin<Kept>, Kept: Drop, K: Keeps<Kept>, G: Gate>(
     alloc: Global,
     mut shared: Shared<J, Kept>,
     refused: bool,
-    code: &Code,
+    code: &Verified,
     who: &K,
     budget: u64,
     gate: &G,
@@ -288,7 +286,7 @@ fn let_go<J: Origin<Kept>, Kept: Drop>(shared: Shared<J, Kept>) {
 fn go_on<J: Origin<Kept>, Kept: Drop, K: Keeps<Kept>, G: Gate>(
     alloc: Global,
     shared: &mut Shared<J, Kept>,
-    code: &Code,
+    code: &Verified,
     who: &K,
     budget: u64,
     gate: &G,

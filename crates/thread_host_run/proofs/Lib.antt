@@ -1,5 +1,4 @@
 mod SeekLemmas
-mod CopyLemmas
 mod RunLemmas
 pub mod CourseLemmas
 mod PrivateLemmas

@@ -4,18 +4,17 @@ use Rattle.std.specs.Prelude.{is_some}
 use Rattle.std.proofs.lemmas.Option.{slice_get_within}
 use Rattle.std.proofs.lemmas.List.Elements.{All-push, All-nil}
 use Rattle.lam_asks.specs.declared.answer.Event.{Event}
-use Rattle.lam_bytecode.specs.Codes.{CodeTree, IsCode}
+use Rattle.lam_bytecode.specs.Codes.{CodeTree}
 use Rattle.lam_machine_terms.specs.Worlds.{World}
 use Rattle.lam_machine_terms.specs.Turns.{Moment, step, ready}
 use Rattle.lam_machine_terms.specs.Valid.{IsValid}
 use Rattle.lam_machine_laws.proofs.TurnLemmas.{acts}
-use Rattle.lam_machine_valid.proofs.WholeLemmas.{runs_valid}
+use Rattle.described_runs.specs.Worlds.{IsSound}
+use Rattle.described_runs.proofs.Sound.{sound_replay}
 use Rattle.lam_machine_runs.proofs.RunLemmas.{joined_runs}
 use Rattle.turn_book.specs.Book.{AreTurns}
 use Rattle.lam_machine_turns.specs.Turned.{IsTurn}
-use Rattle.lam_machine.specs.Machine.{CopiesLive}
 use Rattle.thread_host_run.specs.Runs.{Ran, IsWhole, opened, with_turn}
-use Rattle.thread_host_run.proofs.CopyLemmas.{copies_live}
 
 pub none_taken : (code : CodeTree) (w : World) (t : ℕ) → ready code w t ≡ true → step code w t ≡ None → ⊥
 unfolding ready
@@ -23,15 +22,15 @@ none_taken code w t e f = let no = sym e ∙ ap is_some f in cc
 
 -- ---- a run as it is
 
+pub sound_now : (r : Ran) → IsWhole r → IsSound r.code r.world
+sound_now r h = subst (IsSound r.code) (sym h.world) (sound_replay r.code r.start r.turns h.start)
+
 pub valid_now : (r : Ran) → IsWhole r → IsValid r.world
-valid_now r h = subst IsValid (sym h.world) (runs_valid r.code h.code r.start r.turns h.start).1
+valid_now r h = (sound_now r h).valid
 
-pub copies_now : (r : Ran) (t : ℕ) → IsWhole r → CopiesLive r.code r.world t
-copies_now r t h = copies_live r.code h.code r.world t (valid_now r h)
-
-pub whole_opened : (code : CodeTree) (start : World) → IsCode code → IsValid start → IsWhole (opened code start)
-whole_opened code start is valid =
-    record { code = is; start = valid; run = tt; world = refl; book = record { few = omega arith; threads = All-nil _ } }
+pub whole_opened : (code : CodeTree) (start : World) → IsSound code start → IsWhole (opened code start)
+whole_opened code start sound =
+    record { start = sound; run = tt; world = refl; book = record { few = omega arith; threads = All-nil _ } }
 
 -- ---- one turn more
 
@@ -53,7 +52,6 @@ whole_grows r t e after h few turn =
     let m : Moment = record { event = e; made = turn.made; world = after } in
     let g = (joined_runs r.code).grows r.start r.turns t m h.run (subst (λ w. step r.code w t ≡ Some m) h.world turn.is) in
     record {
-      code = h.code;
       start = h.start;
       run = g.0;
       world = sym g.2;

@@ -20,6 +20,8 @@ use Rattle.lam_machine_turns.specs.Turned.{IsTurn, Acts, gone_on}
 use Rattle.lam_machine_turns.proofs.PartLemmas.{private_parts}
 use Rattle.lam_machine.specs.Privately.{private_event}
 use Rattle.lam_machine.proofs.AskLemmas.{acts_label}
+use Rattle.described_runs.specs.Worlds.{IsSound}
+use Rattle.described_runs.proofs.Sound.{sound_step}
 use Rattle.thread_host_run.specs.Courses.{Progress, IsCourse, one_more}
 use Rattle.thread_host_run.specs.Stretched.{StretchFits, checked_in}
 use Rattle.thread_host_run.proofs.CourseLemmas.{course_grows}
@@ -101,6 +103,9 @@ module _ (code : CodeTree) (t limit : ℕ) (P : Progress → Type 0) (keeps : (q
       let one = keeps q after (room_for p.turns n t limit room) (private_turn code q.world t (rows code n th) there k.1) (over_rows n (one_less (length p.turns) n limit room) k.0) in
       subst P (λ i. record { turns = turns i; world = world i }) one
 
+enough : (n : ℕ) → n ≤ n
+enough n = omega arith
+
 -- ---- a stretch
 
 module _ (code : CodeTree) (s : Stretch) (stands : StretchStands code s) (p : Progress) (there : thread_at p.world s.thread ≡ Some s.before) where
@@ -109,6 +114,13 @@ module _ (code : CodeTree) (s : Stretch) (stands : StretchStands code s) (p : Pr
   stretch_keeps limit P keeps room begins =
       subst (λ (th : Thread). P (record { turns = p.turns ++ replicate s.count s.thread; world = with_thread p.world s.thread th })) (sym stands.0)
       (over_rows code s.thread limit P keeps p s.before there begins s.count room stands.1)
+
+  -- runs of the code are sound from the world that it leaves
+  pub stretch_sound : IsSound code p.world → IsSound code (checked_in p s).world
+  stretch_sound sound =
+      stretch_keeps (length p.turns + s.count) (λ (q : Progress). IsSound code q.world)
+      (λ q after few turn old. sound_step code q.world s.thread (record { event = private_event q.world s.thread; made = turn.made; world = after }) old turn.is)
+      (enough (length p.turns + s.count)) sound
 
   -- no monitor has changed its holder, and no thread has ended
   pub stretch_moved : Moved p.world s.thread (checked_in p s).world

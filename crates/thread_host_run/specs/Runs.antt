@@ -2,10 +2,10 @@
 use Rattle.std.specs.Prelude.{◌≡◌, ℕ, Bool, List, [], ◌∷◌, ◌++◌, refl}
 use Rattle.std.specs.Coded.{Coded, code_by, coded×, coded_ℕ, coded_list}
 use Rattle.lam_asks.specs.declared.answer.Event.{Event}
-use Rattle.lam_bytecode.specs.Codes.{CodeTree, IsCode, coded_code}
+use Rattle.lam_bytecode.specs.Codes.{CodeTree, coded_code}
 use Rattle.lam_machine_terms.specs.Worlds.{World}
 use Rattle.lam_machine_terms.specs.Turns.{replay, IsRun}
-use Rattle.lam_machine_terms.specs.Valid.{IsValid}
+use Rattle.described_runs.specs.Worlds.{IsSound}
 use Rattle.turn_book.specs.Book.{AreTurns}
 use Rattle.lam_machine_world.specs.Coding.{coded_world}
 use Rattle.lam_machine_turns.specs.Turned.{IsTurn}
@@ -18,10 +18,9 @@ pub record Ran : Type 0 where
   pub turns : List ℕ
   pub world : World
 
--- the turns are a run of the code from a valid start, the world is their replay, and they are turns of a book
+-- the turns are a run of the code from a sound start, the world is their replay, and they are turns of a book
 pub record IsWhole (r : Ran) : Type 0 where
-  pub code : IsCode r.code
-  pub start : IsValid r.start
+  pub start : IsSound r.code r.start
   pub run : IsRun r.code r.turns r.start
   pub world : r.world ≡ replay r.code r.turns r.start
   pub book : AreTurns r.turns

@@ -1,12 +1,11 @@
 //! The run of a book of turns, or where they stop to be one.
 
 ghost use Rattle.std.specs.Prelude.{◌≡◌, ◌≤◌, [], length, IfOk, OnOk};
-ghost use Rattle.lam_bytecode.specs.Codes.{IsCode};
-ghost use Rattle.lam_machine_terms.specs.Valid.{IsValid};
+ghost use Rattle.described_runs.specs.Worlds.{IsSound};
 ghost use Rattle.thread_host_run.specs.Books.{IsRunOf, HasTaken};
 
 use crate::run::{Run, let_go_run};
-use lam_bytecode::Code;
+use guarded_code::Verified;
 use lam_machine_world::World;
 use std::alloc::Global;
 use want_of_memory::NoMemory;
@@ -20,7 +19,7 @@ pub enum RunOf {
     Stops { turn: u64, thread: u32 },
 }
 
-/// The run of a code from a valid start whose turns are these, exactly where they are a run; else the first turn whose
+/// The run of a code from a sound start whose turns are these, exactly where they are a run; else the first turn whose
 /// thread is not ready.
 ///
 /// It takes a step for each turn. A book has at most [`crate::TURN_LIMIT`] turns.
@@ -28,9 +27,8 @@ pub enum RunOf {
 /// # Errors
 ///
 /// `NoMemory` where memory is refused.
-pub fn run_of(alloc: Global, code: Code, start: World, turns: &[u32]) -> Result<RunOf, NoMemory>
-    requires code { IsCode code }
-    requires valid { IsValid start }
+pub fn run_of(alloc: Global, code: Verified, start: World, turns: &[u32]) -> Result<RunOf, NoMemory>
+    requires sound { IsSound code start }
     requires few { length turns.now ≤ 1000000 }
     ensures { IfOk result (IsRunOf code start turns.now) }
 {

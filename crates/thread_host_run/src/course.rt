@@ -1,10 +1,10 @@
 //! The part of a run that moves.
 
 ghost use Rattle.std.specs.Prelude.{◌≡◌, ◌↔◌, ◌<◌, true, [], length, IsTrue, IfOk, OnOk, OnErr};
-ghost use Rattle.lam_bytecode.specs.Codes.{CodeTree, IsCode};
+ghost use Rattle.lam_bytecode.specs.Codes.{CodeTree};
 ghost use Rattle.lam_machine_terms.specs.Worlds.{World as Plain};
 ghost use Rattle.lam_machine_terms.specs.Turns as turns;
-ghost use Rattle.lam_machine_terms.specs.Valid.{IsValid};
+ghost use Rattle.described_runs.specs.Worlds.{IsSound};
 ghost use Rattle.lam_machine_turns.specs.Turned.{IsTurn};
 ghost use Rattle.thread_core_stretches.specs.Stretches.{StretchStands};
 ghost use Rattle.thread_host_run.specs.Courses.{IsCourse, one_more, TookTurn};
@@ -12,8 +12,8 @@ ghost use Rattle.thread_host_run.specs.Stretched.{StretchFits, checked_in};
 
 use crate::stretches;
 use crate::taking::{go_turn, take_turn};
+use guarded_code::Verified;
 use lam_asks::Event;
-use lam_bytecode::Code;
 use lam_machine_world::{World, let_go_world};
 use std::alloc::Global;
 use std::marker::Model;
@@ -81,9 +81,8 @@ impl Course {
     /// # Errors
     ///
     /// `NoMemory` where memory is refused; the course is then as it was.
-    pub fn turn(&mut self, code: &Code, thread: u32) -> Result<Event, NoMemory>
-        requires code { IsCode code.now }
-        requires valid { IsValid self.old.world }
+    pub fn turn(&mut self, code: &Verified, thread: u32) -> Result<Event, NoMemory>
+        requires sound { IsSound code.now self.old.world }
         requires ready { turns.ready code.now self.old.world thread ≡ true }
         requires room { length self.old.turns < 1000000 }
         ensures ok { IfOk result (λ e. IsTurn code.now thread self.old.world e self.new.world × (self.new ≡ one_more self.old thread self.new.world)) }
@@ -99,9 +98,8 @@ impl Course {
     /// # Errors
     ///
     /// `NoMemory` where memory is refused; the course is then as it was.
-    pub fn go(&mut self, code: &Code, thread: u32) -> Result<Option<Event>, NoMemory>
-        requires code { IsCode code.now }
-        requires valid { IsValid self.old.world }
+    pub fn go(&mut self, code: &Verified, thread: u32) -> Result<Option<Event>, NoMemory>
+        requires sound { IsSound code.now self.old.world }
         requires ready { turns.ready code.now self.old.world thread ≡ true }
         requires room { length self.old.turns < 1000000 }
         ensures ok { IfOk result (λ o. TookTurn code.now thread self.old.world o self.new.world × (self.new ≡ one_more self.old thread self.new.world)) }

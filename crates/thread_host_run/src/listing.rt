@@ -8,6 +8,7 @@
 ghost use Rattle.std.specs.Prelude.{◌≡◌, ◌<◌, ◌≤◌, true, length, IfOk, OnOk, OnErr, vec_capacity};
 ghost use Rattle.lam_machine_terms.specs.Worlds.{World as Plain};
 ghost use Rattle.lam_machine_terms.specs.Turns as turns;
+ghost use Rattle.described_runs.specs.Worlds.{IsSound};
 ghost use Rattle.thread_core_stretches.specs.Stretches.{StretchStands};
 ghost use Rattle.thread_host_run.specs.Runs.{with_turn, HasTurn};
 ghost use Rattle.thread_host_run.specs.Stretched.{StretchFits, checked_in};
@@ -17,7 +18,7 @@ ghost use Rattle.std.specs.List.{filter};
 use crate::course::Course;
 use crate::readiness::ready;
 use crate::run::Run;
-use lam_bytecode::Code;
+use guarded_code::Verified;
 use lam_machine_world::World;
 use std::alloc::Global;
 use thread_core_stretches::Stretch;
@@ -34,8 +35,9 @@ pub fn roomy_list(alloc: Global) -> Result<Vec<u32>, NoMemory>
 }
 
 /// Makes the list that of the ready threads of a world, in increasing order, by a walk over all threads.
-pub fn list_ready(list: &mut Vec<u32>, world: &World, code: &Code)
-    requires { 4096 ≤ vec_capacity list.old }
+pub fn list_ready(list: &mut Vec<u32>, world: &World, code: &Verified)
+    requires sound { IsSound code.now world.now }
+    requires room { 4096 ≤ vec_capacity list.old }
     ensures list { list.new.items ≡ ready_threads code.now world.now }
     ensures room { 4096 ≤ vec_capacity list.new }
 {
@@ -56,8 +58,9 @@ fn few_threads(world: &World) -> u32
 }
 
 /// After a turn of a thread, which left this world: the list stays that of the ready threads.
-pub fn list_after(list: &mut Vec<u32>, world: &World, code: &Code, thread: u32, quiet: bool)
-    requires { 4096 ≤ vec_capacity list.old }
+pub fn list_after(list: &mut Vec<u32>, world: &World, code: &Verified, thread: u32, quiet: bool)
+    requires sound { IsSound code.now world.now }
+    requires room { 4096 ≤ vec_capacity list.old }
     ensures list { (before : Plain) → turns.ready code.now before thread ≡ true → HasTurn code.now thread before quiet world.now → list.old.items ≡ ready_threads code.now before → list.new.items ≡ ready_threads code.now world.now }
     ensures room { 4096 ≤ vec_capacity list.new }
 {
@@ -76,9 +79,10 @@ pub fn list_after(list: &mut Vec<u32>, world: &World, code: &Code, thread: u32, 
 pub fn check_in_listed(
     course: &mut Course,
     list: &mut Vec<u32>,
-    code: &Code,
+    code: &Verified,
     stretch: Stretch,
 ) -> Result<(), NoMemory>
+    requires sound { IsSound code.now course.old.world }
     requires stands { StretchStands code.now stretch }
     requires some { 0 < stretch.count }
     requires fits { StretchFits course.old stretch }
@@ -121,7 +125,8 @@ pub fn turn_listed(run: &mut Run, list: &mut Vec<u32>, thread: u32) -> Result<()
 }
 
 /// After a quiet turn of a thread: it leaves the list where it is no longer ready.
-fn after_quiet(list: &mut Vec<u32>, world: &World, code: &Code, thread: u32)
+fn after_quiet(list: &mut Vec<u32>, world: &World, code: &Verified, thread: u32)
+    requires sound { IsSound code.now world.now }
     ensures list { list.new.items ≡ kept_list (turns.ready code.now world.now thread) thread list.old.items }
     ensures room { vec_capacity list.new ≡ vec_capacity list.old }
 {

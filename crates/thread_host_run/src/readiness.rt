@@ -6,13 +6,15 @@
 
 ghost use Rattle.std.specs.Prelude.{◌≡◌, slice_get};
 ghost use Rattle.std.specs.Option.{option_copied};
+ghost use Rattle.described_runs.specs.Worlds.{IsSound};
 ghost use Rattle.thread_steps.specs.Next as next;
 ghost use Rattle.thread_core.specs.Turning.{awaited_of, awaited_by};
+ghost use Rattle.thread_core.specs.Untested.{ThreadFinds};
 ghost use Rattle.lam_machine_terms.specs.Turns as turns;
 ghost use Rattle.lam_machine_effects.specs.Parts.{world_of};
 ghost use Rattle.thread_host_run.specs.Readiness.{waits_on, ready_by};
 
-use lam_bytecode::Code;
+use guarded_code::Verified;
 use lam_machine_effects::Stores;
 use lam_machine_world::{World, lives};
 use thread_core::{Standing, Waits, standing, waits_for};
@@ -20,13 +22,17 @@ use thread_core_state::LamThread;
 
 /// Whether a thread is there, is neither stuck nor ended, and its next ask, if it makes one, does not wait. Takes no
 /// memory.
-pub fn ready(world: &World, code: &Code, thread: u32) -> bool
+///
+/// The world is one of the runs of the code, so that an access finds its rule, and nothing is tested.
+pub fn ready(world: &World, code: &Verified, thread: u32) -> bool
+    requires sound { IsSound code.now world.now }
     ensures { result ≡ turns.ready code.now world.now thread }
 {
     ready_at(&world.stores, world.threads.as_slice(), code, thread)
 }
 
-fn ready_at(stores: &Stores, threads: &[LamThread], code: &Code, thread: u32) -> bool
+fn ready_at(stores: &Stores, threads: &[LamThread], code: &Verified, thread: u32) -> bool
+    requires sound { IsSound code.now (world_of stores.now threads.now) }
     ensures { result ≡ turns.ready code.now (world_of stores.now threads.now) thread }
 {
     match thread_in(threads, thread) {
@@ -46,10 +52,11 @@ fn thread_in(threads: &[LamThread], thread: u32) -> Option<&LamThread>
 fn stands_ready(
     stores: &Stores,
     threads: &[LamThread],
-    code: &Code,
+    code: &Verified,
     thread: u32,
     found: &LamThread,
 ) -> bool
+    requires finds { ThreadFinds code.now found.now }
     ensures { result ≡ ready_by (next.standing code.now found.now) (waits_on (world_of stores.now threads.now) thread (awaited_of code.now found.now)) }
 {
     match standing(found, code) {

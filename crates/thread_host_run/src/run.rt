@@ -1,11 +1,11 @@
 //! The type of runs.
 
 ghost use Rattle.std.specs.Prelude.{◌≡◌, ◌↔◌, ◌<◌, true, length, IsTrue, IfOk, OnOk, OnErr, MatchOption};
-ghost use Rattle.lam_bytecode.specs.Codes.{IsCode};
 ghost use Rattle.lam_machine_terms.specs.Worlds.{thread_at};
 ghost use Rattle.lam_machine_terms.specs.Turns as turns;
 ghost use Rattle.lam_machine_terms.specs.Turns.{IsDone, AllWait, is_living};
 ghost use Rattle.lam_machine_terms.specs.Valid.{IsValid};
+ghost use Rattle.described_runs.specs.Worlds.{IsSound};
 ghost use Rattle.lam_machine_runs.specs.Ends.{NoneReady};
 ghost use Rattle.lam_machine_turns.specs.Turned.{IsTurn};
 ghost use Rattle.thread_core_stretches.specs.Stretches.{StretchStands};
@@ -16,10 +16,10 @@ ghost use Rattle.thread_host_run.specs.Stretched.{StretchFits, checked_in};
 use crate::course::Course;
 use crate::seeking::{count_of, living_in, ready_in};
 use crate::taking::was_quiet;
+use guarded_code::Verified;
 use lam_asks::{Event, let_go_event};
-use lam_bytecode::Code;
 use lam_machine_equal::{same_code, same_world};
-use lam_machine_world::{World, let_go_code, let_go_world};
+use lam_machine_world::{World, let_go_world};
 use std::alloc::Global;
 use std::marker::Model;
 use thread_core_stretches::Stretch;
@@ -31,7 +31,7 @@ pub const TURN_LIMIT: u64 = 1_000_000;
 /// A run. Contracts see its code, its start, the threads of its turns in order, and the world that they leave.
 #[derive(Drop)]
 pub struct Run {
-    code: Code,
+    code: Verified,
     start: World,
     course: Course,
 }
@@ -54,27 +54,31 @@ impl Model for Run {
 pub fn let_go_run(run: Run) {
     let RunParts { code, start, .. } = run.into_parts();
     let_go_world(start);
-    let_go_code(code);
+    let_go_verified(code);
+}
+
+/// Lets a guarded code go.
+pub fn let_go_verified(code: Verified) {
+    drop(code);
 }
 
 /// What a run is made of, but for the world that its turns leave.
 #[derive(Drop)]
 pub struct RunParts {
-    pub code: Code,
+    pub code: Verified,
     pub start: World,
     /// The threads of the turns, in order.
     pub turns: Vec<u32>,
 }
 
 impl Run {
-    /// The run with no turns of a code from a valid start, which is copied once.
+    /// The run with no turns of a code from a sound start, which is copied once.
     ///
     /// # Errors
     ///
     /// `NoMemory` where memory is refused.
-    pub fn new(alloc: Global, code: Code, start: World) -> Result<Run, NoMemory>
-        requires code { IsCode code }
-        requires valid { IsValid start }
+    pub fn new(alloc: Global, code: Verified, start: World) -> Result<Run, NoMemory>
+        requires sound { IsSound code start }
         ensures { IfOk result (λ r. r ≡ opened code start) }
     {
         match Course::new(alloc, &start) {
@@ -85,14 +89,14 @@ impl Run {
             }),
             Err(error) => {
                 let_go_world(start);
-                let_go_code(code);
+                let_go_verified(code);
                 Err(error)
             }
         }
     }
 
     /// The run of a code from a start that has come as far as this course of them. Nothing is copied or compared.
-    pub fn of(code: Code, start: World, course: Course) -> Run
+    pub fn of(code: Verified, start: World, course: Course) -> Run
         requires { IsCourse code start course }
         ensures { result ≡ ran_to code start course }
     {
@@ -104,7 +108,7 @@ impl Run {
     }
 
     /// The code.
-    pub fn code(&self) -> &Code
+    pub fn code(&self) -> &Verified
         ensures { result.now ≡ self.now.code }
     {
         &self.code
@@ -117,10 +121,11 @@ impl Run {
         &self.start
     }
 
-    /// The world that the turns leave, which is valid.
+    /// The world that the turns leave, which is valid, and from which runs of the code are sound.
     pub fn now(&self) -> &World
         ensures is { result.now ≡ self.now.world }
         ensures valid { IsValid self.now.world }
+        ensures sound { IsSound self.now.code self.now.world }
     {
         self.course.world()
     }
@@ -134,17 +139,17 @@ impl Run {
     }
 
     /// Whether this is a run of that code from that start.
-    pub fn same_start(&self, code: &Code, start: &World) -> bool
+    pub fn same_start(&self, code: &Verified, start: &World) -> bool
         ensures { IsTrue result ↔ ((self.now.code ≡ code.now) × (self.now.start ≡ start.now)) }
     {
-        same_code(&self.code, code) && same_world(&self.start, start)
+        same_code(self.code.code(), code.code()) && same_world(&self.start, start)
     }
 
     /// Whether this is a run of that code.
-    pub fn same_code(&self, code: &Code) -> bool
+    pub fn same_code(&self, code: &Verified) -> bool
         ensures { IsTrue result ↔ (self.now.code ≡ code.now) }
     {
-        same_code(&self.code, code)
+        same_code(self.code.code(), code.code())
     }
 
     /// How many threads there are now.

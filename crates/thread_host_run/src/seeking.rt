@@ -1,13 +1,14 @@
 //! The first thread of a world that lives, and the first that is ready.
 
 ghost use Rattle.std.specs.Prelude.{◌≡◌, true, length, MatchOption};
+ghost use Rattle.described_runs.specs.Worlds.{IsSound};
 ghost use Rattle.lam_machine_terms.specs.Worlds.{thread_at};
 ghost use Rattle.lam_machine_terms.specs.Turns as turns;
 ghost use Rattle.lam_machine_terms.specs.Turns.{IsDone, is_living};
 ghost use Rattle.lam_machine_runs.specs.Ends.{NoneReady};
 
 use crate::ready;
-use lam_bytecode::Code;
+use guarded_code::Verified;
 use lam_machine_world::{World, lives};
 use thread_core_state::LamThread;
 
@@ -34,7 +35,8 @@ pub fn living_in(world: &World) -> Option<u32>
 
 /// The first thread that is ready, `None` where none is.
 #[tactic(auto, using(crate::proofs::SeekLemmas::none_ready))]
-pub fn ready_in(world: &World, code: &Code) -> Option<u32>
+pub fn ready_in(world: &World, code: &Verified) -> Option<u32>
+    requires sound { IsSound code.now world.now }
     ensures { MatchOption result (NoneReady code.now world.now) (λ t. turns.ready code.now world.now t ≡ true) }
 {
     for thread in 0..count_of(world) {

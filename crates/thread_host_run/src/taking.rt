@@ -3,12 +3,12 @@
 ghost use Rattle.std.specs.Prelude.{◌≡◌, true, ◌++◌, ◌∷◌, [], IfOk, OnOk, OnErr};
 ghost use Rattle.lam_machine_terms.specs.Turns.{ready};
 ghost use Rattle.lam_machine_turns.specs.Turned.{IsTurn};
-ghost use Rattle.lam_machine.specs.Machine.{CopiesLive};
+ghost use Rattle.described_runs.specs.Worlds.{IsSound};
 ghost use Rattle.thread_host_run.specs.Quiet.{touches_others, is_quiet};
 ghost use Rattle.thread_host_run.specs.Courses.{TookTurn, was_quiet};
 
+use guarded_code::Verified;
 use lam_asks::{Ask, Event, What};
-use lam_bytecode::Code;
 use lam_machine::{step, step_privately};
 use lam_machine_world::World;
 use std::alloc::Global;
@@ -19,11 +19,11 @@ use want_of_memory::NoMemory;
 pub fn take_turn(
     turns: &mut Vec<u32>,
     world: &mut World,
-    code: &Code,
+    code: &Verified,
     thread: u32,
 ) -> Result<Event, NoMemory>
     requires ready { ready code.now world.old thread ≡ true }
-    requires living { CopiesLive code.now world.old thread }
+    requires sound { IsSound code.now world.old }
     ensures turn { IfOk result (λ e. IsTurn code.now thread world.old e world.new) }
     ensures turns { OnOk result (turns.new.items ≡ turns.old.items ++ thread ∷ []) }
     ensures same_world { OnErr result (world.new ≡ world.old) }
@@ -44,11 +44,11 @@ pub fn take_turn(
 pub fn go_turn(
     turns: &mut Vec<u32>,
     world: &mut World,
-    code: &Code,
+    code: &Verified,
     thread: u32,
 ) -> Result<Option<Event>, NoMemory>
     requires ready { ready code.now world.old thread ≡ true }
-    requires living { CopiesLive code.now world.old thread }
+    requires sound { IsSound code.now world.old }
     ensures turn { IfOk result (λ o. TookTurn code.now thread world.old o world.new) }
     ensures turns { OnOk result (turns.new.items ≡ turns.old.items ++ thread ∷ []) }
     ensures same_world { OnErr result (world.new ≡ world.old) }
@@ -65,11 +65,11 @@ pub fn go_turn(
 fn go_step(
     alloc: Global,
     world: &mut World,
-    code: &Code,
+    code: &Verified,
     thread: u32,
 ) -> Result<Option<Event>, NoMemory>
     requires ready { ready code.now world.old thread ≡ true }
-    requires living { CopiesLive code.now world.old thread }
+    requires sound { IsSound code.now world.old }
     ensures turn { IfOk result (λ o. TookTurn code.now thread world.old o world.new) }
     ensures same_world { OnErr result (world.new ≡ world.old) }
 {

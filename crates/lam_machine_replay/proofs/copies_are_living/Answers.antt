@@ -1,4 +1,4 @@
-use Rattle.lam_machine_replay.proofs.LivingLemmas.{copies_live}
+use Rattle.lam_machine.proofs.CopyLemmas.{copies_live}
 use Rattle.lam_machine_replay.proofs.copies_are_living.Goals as goal
 
 pub returns : goal.returns

@@ -1,15 +1,13 @@
-use Rattle.std.proofs.Common.{sym, subst, ◌∙◌}
+use Rattle.std.proofs.Common.{◌∙◌}
 use Rattle.std.proofs.lemmas.Result.{IfOk-weaker}
-use Rattle.lam_bytecode.specs.Codes.{IsCode}
-use Rattle.lam_machine_terms.specs.Valid.{IsValid}
-use Rattle.pair_check.proofs.PairedLemmas.{whole_read, agenda_read}
+use Rattle.pair_check.proofs.PairedLemmas.{sound_read, whole_read, agenda_read}
 use Rattle.pair_check.proofs.agenda_of_run.Goals as goal
 
 pub agenda_of_whole-requires : goal.agenda_of_whole-requires
 agenda_of_whole-requires c =
     let run = c.turns.ensures.whole in record {
-      code = subst IsCode (sym c.code.ensures) run.code;
-      valid = subst IsValid (sym (c.in_ok-start.ensures ∙ c.start.ensures)) run.start;
+      sound =
+          sound_read c.code.result.now c.args.run.now.code c.turns.result.now c.args.run.now.turns _ c.args.run.now.start c.code.ensures c.turns.ensures.is (c.in_ok-start.ensures ∙ c.start.ensures) run.start;
       whole =
           whole_read c.code.result.now c.args.run.now.code c.turns.result.now c.args.run.now.turns _ c.args.run.now.start c.code.ensures c.turns.ensures.is (c.in_ok-start.ensures ∙ c.start.ensures)
           ((c.runs_are_whole.ensures c.args.run.now.code c.args.run.now.turns c.args.run.now.start).0 run.run);

@@ -9,7 +9,7 @@ use Rattle.world_save.proofs.save.Goals as goal
 pub save_files-requires-clause-forest : goal.save_files-requires-clause-forest
 save_files-requires-clause-forest c =
     let whole = c.turns-turns.ensures.whole in
-    let forest = (c.runs_keep_forests.ensures c.args.run.now.code whole.code c.args.run.now.start c.args.run.now.turns whole.start c.requires.forest).1 in
+    let forest = (c.runs_keep_forests.ensures c.args.run.now.code whole.start.code c.args.run.now.start c.args.run.now.turns whole.start.valid c.requires.forest).1 in
     subst (λ (s : Stores). IsForest s.files) (sym (c.stores-now.ensures ∙ ap stores_of (c.now.ensures.is ∙ whole.world))) forest
 
 pub save_files-requires-clause-kept : goal.save_files-requires-clause-kept

@@ -6,7 +6,11 @@ use Rattle.lam_machine_effects.specs.Parts.{world_of}
 use Rattle.lam_machine.specs.Machine.{CopiesLive, IsStep}
 use Rattle.lam_machine.specs.Asking.{top_label, AsksNext}
 use Rattle.lam_machine.proofs.AdvanceLemmas.{took_private, handed_out, stuck_still, ended_still}
+use Rattle.lam_machine.proofs.SoundLemmas.{sound_lives, sound_thread}
 use Rattle.lam_machine.proofs.stepping.take_step.Goals as goal
+
+pub advance_at-requires : goal.advance_at-requires
+advance_at-requires c = record { finds = λ th e. sound_thread c.args.code.now (world_of c.args.stores.now c.args.threads.now.items) c.args.thread c.requires.sound th e }
 
 pub step_asking-requires-clause-asks : goal.step_asking-requires-clause-asks
 step_asking-requires-clause-asks c =
@@ -16,7 +20,7 @@ step_asking-requires-clause-asks c =
 pub step_asking-requires-clause-living : goal.step_asking-requires-clause-living
 step_asking-requires-clause-living c =
     let handed = handed_out c.args.code.now (world_of c.args.stores.now c.args.threads.now.items) c.args.thread c.in_ok-advance_at.field-0 (world_of c.args.stores.now c.advance_at.new.threads.items) c.in-Asks.ask (c.in_ok-advance_at.ensures.ok c.args.stores.now) c.in-Asks.is in
-    subst (λ (w : World). CopiesLive c.args.code.now w c.args.thread) (sym handed.1) c.requires.living
+    subst (λ (w : World). CopiesLive c.args.code.now w c.args.thread) (sym handed.1) (sound_lives c.args.code.now (world_of c.args.stores.now c.args.threads.now.items) c.args.thread c.requires.sound)
 
 pub step_asking-requires-clause-label : goal.step_asking-requires-clause-label
 step_asking-requires-clause-label c =

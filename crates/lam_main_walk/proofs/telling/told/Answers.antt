@@ -5,8 +5,8 @@ use Rattle.lam_main_plan.specs.Walks.{TellsSame}
 use Rattle.lam_main_walk.proofs.SourceLemmas.{at_entries, none_departs, same_says, no_run_says}
 use Rattle.lam_main_walk.proofs.telling.told.Goals as goal
 
-pub walk_turns-requires-clause-code : goal.walk_turns-requires-clause-code
-walk_turns-requires-clause-code c = c.requires.sound.code
+pub walk_turns-requires-clause-sound : goal.walk_turns-requires-clause-sound
+walk_turns-requires-clause-sound c = c.requires.start
 
 pub walk_turns-requires-clause-limits : goal.walk_turns-requires-clause-limits
 walk_turns-requires-clause-limits c = c.requires.sound.limits

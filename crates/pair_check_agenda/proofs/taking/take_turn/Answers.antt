@@ -1,6 +1,6 @@
 use Rattle.std.proofs.Common.{sym, subst}
 use Rattle.lam_machine_terms.specs.Worlds.{World}
-use Rattle.lam_machine.specs.Machine.{CopiesLive}
+use Rattle.described_runs.specs.Worlds.{IsSound}
 use Rattle.pair_check_agenda.specs.Agendas.{items_in}
 use Rattle.pair_check_agenda.proofs.TakenLemmas.{was_private, was_not, private_taken, private_seen}
 use Rattle.pair_check_agenda.proofs.taking.take_turn.Goals as goal
@@ -8,7 +8,7 @@ use Rattle.pair_check_agenda.proofs.taking.take_turn.Goals as goal
 pub take_step-requires : goal.take_step-requires
 take_step-requires c =
     let same = was_not c.args.code.now c.args.thread c.args.world.now c.in_ok-step_privately.field-0 c.step_privately.new.world c.in_ok-step_privately.ensures.ok c.if-branch.false in
-    record { living = subst (λ (w : World). CopiesLive c.args.code.now w c.args.thread) (sym same) c.requires.living }
+    record { sound = subst (λ (w : World). IsSound c.args.code.now w) (sym same) c.requires.sound }
 
 pub returns-then-branch : goal.returns-then-branch
 returns-then-branch c = λ n.

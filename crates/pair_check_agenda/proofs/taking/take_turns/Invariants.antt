@@ -1,6 +1,6 @@
 use Rattle.std.proofs.Common.{List}
 use Rattle.lam_machine_terms.specs.Views.{Item}
-use Rattle.pair_check_agenda.proofs.FrontLemmas.{IsFront}
+use Rattle.lam_machine_replay.proofs.FrontLemmas.{IsFront}
 use Rattle.pair_check_agenda.specs.Agendas.{items_in, IsAgenda}
 use Rattle.pair_check_agenda.proofs.taking.take_turns.Given as goal
 

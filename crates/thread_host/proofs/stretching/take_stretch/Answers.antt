@@ -1,8 +1,12 @@
 use Rattle.std.proofs.Common.{subst, sym, false}
 use Rattle.thread_host_run.specs.Courses.{Progress}
+use Rattle.thread_host_run.proofs.CourseLemmas.{course_sound}
 use Rattle.thread_host.specs.Sharing.{IsShared}
 use Rattle.thread_host.proofs.Keeping.{shared_stretch}
 use Rattle.thread_host.proofs.stretching.take_stretch.Goals as goal
+
+pub check_in_listed-requires-clause-sound : goal.check_in_listed-requires-clause-sound
+check_in_listed-requires-clause-sound g c = course_sound c.args.code.now g.J.Origin.start c.args.course.now c.requires.shared.course
 
 pub returns-clause-shared : goal.returns-clause-shared
 returns-clause-shared g c =

@@ -1,8 +1,9 @@
 use Rattle.std.proofs.Common.{length, ap, sym, subst, ◌∙◌}
 use Rattle.lam_machine_terms.specs.Worlds.{World}
+use Rattle.described_runs.specs.Worlds.{IsSound}
 use Rattle.thread_host_run.specs.Courses.{Progress, TookTurn}
 use Rattle.thread_host_run.specs.ReadyLists.{ready_threads}
-use Rattle.thread_host_run.proofs.CourseLemmas.{course_valid, has_turn}
+use Rattle.thread_host_run.proofs.CourseLemmas.{course_sound, has_turn}
 use Rattle.thread_host.specs.Sharing.{Unless, IsShared, KeepsTaken}
 use Rattle.thread_host.proofs.Keeping.{kept_so_far, shared_more}
 use Rattle.thread_host.proofs.visits.take_turn.Goals as goal
@@ -21,8 +22,14 @@ returns-clause-shared g c =
     let more = shared_more kept code start c.args.budget c.args.course.now c.args.kept.now c.requires.shared count c.args.thread c.in_ok-taken.taken after new same c.in_ok-taken.ensures.ok.0 c.requires.left c.requires.few lost keeps in
     subst (λ (p : Progress). IsShared kept code start c.args.budget p lost new) (sym c.in_ok-taken.ensures.ok.1) more
 
-pub go-requires-clause-valid : goal.go-requires-clause-valid
-go-requires-clause-valid g c = course_valid c.args.code.now g.J.Origin.start c.args.course.now c.requires.shared.course
+pub go-requires-clause-sound : goal.go-requires-clause-sound
+go-requires-clause-sound g c = course_sound c.args.code.now g.J.Origin.start c.args.course.now c.requires.shared.course
+
+pub list_after-requires-clause-sound : goal.list_after-requires-clause-sound
+list_after-requires-clause-sound g c =
+    let code = c.args.code.now in
+    let start = g.J.Origin.start in
+    subst (IsSound code) (sym c.world.ensures) (course_sound code start c.go.new.self (c.in_ok-taken.ensures.course start c.requires.shared.course))
 
 pub keep_taken-requires-clause-before : goal.keep_taken-requires-clause-before
 keep_taken-requires-clause-before g c =

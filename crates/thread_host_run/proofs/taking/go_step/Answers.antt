@@ -2,7 +2,8 @@ use Rattle.std.proofs.Common.{◌≡◌, true, subst, sym, ◌∙◌}
 use Rattle.lam_machine_terms.specs.Worlds.{World}
 use Rattle.lam_machine_terms.specs.Turns.{ready}
 use Rattle.lam_machine_turns.specs.Turned.{IsTurn}
-use Rattle.lam_machine.specs.Machine.{CopiesLive, IsStep}
+use Rattle.described_runs.specs.Worlds.{IsSound}
+use Rattle.lam_machine.specs.Machine.{IsStep}
 use Rattle.thread_host_run.proofs.PrivateLemmas.{on_err, was_private, was_not}
 use Rattle.thread_host_run.proofs.RunLemmas.{none_taken}
 use Rattle.thread_host_run.proofs.taking.go_step.Goals as goal
@@ -14,7 +15,7 @@ returns-then-branch-clause-turn c =
 pub step-requires : goal.step-requires
 step-requires c =
     let same = was_not c.args.code.now c.args.thread c.args.world.now c.in_ok-step_privately.field-0 c.step_privately.new.world c.in_ok-step_privately.ensures.ok c.if-branch.false in
-    record { living = subst (λ (w : World). CopiesLive c.args.code.now w c.args.thread) (sym same) c.requires.living }
+    record { sound = subst (IsSound c.args.code.now) (sym same) c.requires.sound }
 
 pub returns-in_err-step-clause-same_world : goal.returns-in_err-step-clause-same_world
 returns-in_err-step-clause-same_world c =

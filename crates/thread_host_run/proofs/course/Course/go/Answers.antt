@@ -1,13 +1,11 @@
 use Rattle.std.proofs.Common.{ℕ, List, ◌<◌, length, subst, sym}
 use Rattle.thread_host_run.specs.Courses.{Progress, IsCourse}
 use Rattle.thread_host_run.proofs.CourseLemmas.{took_turn, course_grows}
-use Rattle.lam_machine_terms.specs.Valid.{IsValid}
-use Rattle.thread_host_run.proofs.CopyLemmas.{copies_live}
+use Rattle.described_runs.specs.Worlds.{IsSound}
 use Rattle.thread_host_run.proofs.course.Course.go.Goals as goal
 
-pub go_turn-requires-clause-living : goal.go_turn-requires-clause-living
-go_turn-requires-clause-living c =
-    copies_live c.args.code.now c.requires.code c.self.inside.world c.args.thread (subst (λ (p : Progress). IsValid p.world) (sym c.self.view_is) c.requires.valid)
+pub go_turn-requires-clause-sound : goal.go_turn-requires-clause-sound
+go_turn-requires-clause-sound c = subst (λ (p : Progress). IsSound c.args.code.now p.world) (sym c.self.view_is) c.requires.sound
 
 pub returns-clause-course : goal.returns-clause-course
 returns-clause-course c = λ start whole.

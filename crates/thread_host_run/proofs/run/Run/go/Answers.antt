@@ -2,11 +2,11 @@ use Rattle.std.proofs.Common.{ap, ◌∙◌, subst}
 use Rattle.thread_host_run.specs.Courses.{Progress, ran_to}
 use Rattle.thread_host_run.specs.Runs.{Ran, HasTurn, with_turn}
 use Rattle.thread_host_run.proofs.CourseLemmas.{has_turn}
-use Rattle.thread_host_run.proofs.RunLemmas.{valid_now}
+use Rattle.thread_host_run.proofs.RunLemmas.{sound_now}
 use Rattle.thread_host_run.proofs.run.Run.go.Goals as goal
 
-pub go-requires-clause-valid : goal.go-requires-clause-valid
-go-requires-clause-valid c = let old = c.self.inside in valid_now (ran_to old.code old.start old.course) c.self.invariant
+pub go-requires-clause-sound : goal.go-requires-clause-sound
+go-requires-clause-sound c = let old = c.self.inside in sound_now (ran_to old.code old.start old.course) c.self.invariant
 
 pub invariant_of-self-2 : goal.invariant_of-self-2
 invariant_of-self-2 c = c.in_ok-taken.ensures.course c.self.inside.start c.self.invariant

@@ -1,6 +1,6 @@
 use Rattle.std.proofs.lemmas.Result.{IfOk-weaker}
 use Rattle.thread_core_answers.proofs.Keeping.{answer_keeps}
-use Rattle.thread_core_answers.proofs.answering.prepare.Goals as goal
+use Rattle.thread_core_answers.proofs.answering.prepare_by.Goals as goal
 
 pub returns-clause-kept : goal.returns-clause-kept
 returns-clause-kept c =
