@@ -1,14 +1,15 @@
 //! What a thread did, and where it departs from its source.
 
-use capabilities::Caps;
+use crate::written::{Held, Is, NONE, caps_of, values_of};
 use lam_asks::{Answer, Ask, Fault, Outcome, What};
 use lam_front::check_program;
 use lam_resolve::resolve;
-use lam_value::{Value, Values};
+use lam_value::Value;
 use source_walk_follow::follow;
 use source_walk_state::Beginning;
 use std::alloc::Global;
 use std::test::Fail;
+use want_of_memory::NoMemory;
 
 /// Gives one.
 const ONE: &str = "fn main(): int { return 1; }";
@@ -38,16 +39,46 @@ fn fails(fault: Fault) -> What {
     }
 }
 
-/// How the first function of a program begins, that takes nothing, in a thread without capabilities.
-fn at_main(alloc: Global) -> Beginning {
-    Beginning {
-        function: 0,
-        args: Values::new(alloc),
-        caps: Caps::none(alloc),
-    }
+/// How a thread begins: the number of its function, arguments and capabilities.
+#[derive(Clone, Copy)]
+pub struct Begins {
+    pub function: u32,
+    pub args: &'static [Is],
+    pub caps: Held,
 }
 
-/// Fails where a thread that did this with so many units departs from its source elsewhere.
+/// With the first function of a program, on nothing and without capabilities.
+pub const MAIN: Begins = Begins {
+    function: 0,
+    args: &[],
+    caps: NONE,
+};
+
+fn beginning_of(alloc: Global, begins: Begins) -> Result<Beginning, NoMemory> {
+    let args = values_of(alloc, begins.args)?;
+    let caps = caps_of(alloc, begins.caps)?;
+    Ok(Beginning {
+        function: begins.function,
+        args,
+        caps,
+    })
+}
+
+/// Where a thread that did this with so many units departs from its source.
+pub fn place_of(
+    alloc: Global,
+    text: &str,
+    begins: Begins,
+    units: u64,
+    did: &[What],
+) -> Result<Option<u64>, Fail> {
+    let checked = check_program(alloc, text.as_bytes())?;
+    let program = resolve(&checked)?;
+    let begin = beginning_of(alloc, begins)?;
+    Ok(follow(alloc, &program, &begin, units, did)?)
+}
+
+/// Fails where the first function of a program, that did this with so many units, departs from its source elsewhere.
 fn departs(
     rt: &HostRuntime,
     text: &str,
@@ -55,10 +86,7 @@ fn departs(
     did: &[What],
     want: Option<u64>,
 ) -> Result<(), Fail> {
-    let checked = check_program(rt.alloc(), text.as_bytes())?;
-    let program = resolve(&checked)?;
-    let begin = at_main(rt.alloc());
-    match follow(rt.alloc(), &program, &begin, units, did)? {
+    match place_of(rt.alloc(), text, MAIN, units, did)? {
         place if place == want => Ok(()),
         place => Err(Fail::new(format_args!("{place:?}"))),
     }
