@@ -11,7 +11,7 @@ use Rattle.lam_asks.specs.declared.answer.What.TheVariants.{Private, Asked}
 use Rattle.lam_asks.specs.declared.answer.Event.{Event}
 use Rattle.lam_asks.specs.declared.ask.Ask.{Ask}
 use Rattle.lam_asks.specs.declared.ask.Ask.TheVariants.{Barred}
-use Rattle.lam_machine_terms.specs.Deeds.{Made, a_region, a_thing}
+use Rattle.lam_machine_terms.specs.Serves.{Made, a_region, a_thing}
 use Rattle.lam_machine_terms.specs.Turns.{Moment}
 use Rattle.lam_machine_terms.specs.Views.{Entry, event, release, is_release, used_by, trace}
 use Rattle.audit_log_notes.specs.declared.Content.{Content}

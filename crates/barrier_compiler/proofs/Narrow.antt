@@ -22,8 +22,8 @@ use Rattle.lam_value.specs.declared.values.Value.TheVariants.{Nothing}
 use Rattle.lam_meaning.specs.Pieces.{Pieces, puts, joined, one, op, flat}
 use Rattle.lam_meaning.specs.Scheme.{between, prefix_op, sign_op, expression, expressions, signs, loads, gives_back, value_or_null, branches, statement, block, other_block_of, Draft, function_draft, region_draft, regions_of, regions_in, regions_in_other, all_regions, drafts}
 use Rattle.lam_resolve_laws.proofs.Finding.{get_below}
-use Rattle.barrier_compiler_parts.specs.Emits.{named_by, are_narrow}
-use Rattle.barrier_compiler_parts.proofs.Flat.{narrow-joined}
+use Rattle.barrier_compiler_ops.specs.Emits.{named_by, are_narrow}
+use Rattle.barrier_compiler_ops.proofs.Flat.{narrow-joined}
 use Rattle.barrier_compiler_units.specs.Adds.{kind_narrow, code_narrow, draft_narrow, drafts_narrow}
 use Rattle.barrier_compiler_units.proofs.Joins.{narrow-append}
 use Rattle.barrier_compiler_units.proofs.UnitSteps.{narrow-flat}

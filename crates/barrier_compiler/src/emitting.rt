@@ -15,7 +15,7 @@ ghost use Rattle.lam_meaning.specs.Long.{compiled};
 ghost use Rattle.barrier_compiler.specs.Faults.{IsFaultOf};
 ghost use Rattle.barrier_compiler.specs.declared.emitting.CompileFault.TheVariants.{NoMemory as no_memory};
 
-use barrier_compiler_exprs::kind_of;
+use barrier_compiler_ops::kind_of;
 use barrier_compiler_units::{Halt, Units, add_function_units, add_region_units};
 use lam_bytecode::{Code, Kinds};
 use lam_resolve_tree::{Class, Resolved, ValueType};

@@ -2,7 +2,7 @@
 use Rattle.std.proofs.Common.{eqb, ◌≡◌, ℕ, suc, ◌+◌, ◌<◌, ◌≤◌, drop, get_or, add-one, drop-cons, drop_of_length-le, append_assoc, Bool, true, false, not, cond, ◌||◌, List, [], ◌∷◌, ◌++◌, length, map, if◌then◌else◌, refl, sym, ap, ◌∙◌, subst, one-add, append-nil}
 use Rattle.std.specs.List.{list_any, position_or_len, AllByRecursion}
 use Rattle.lam_bytecode.specs.Codes.{IsConstant}
-use Rattle.barrier_compiler_parts.specs.contracts.instruction.ConstantPartialEq.TheImpl as derived
+use Rattle.barrier_compiler_ops.specs.contracts.instruction.ConstantPartialEq.TheImpl as derived
 use Rattle.std.proofs.lemmas.List.{map-append}
 use Rattle.std.proofs.lemmas.Cmp.{int_eq_equiv}
 use Rattle.std.specs.Str.{bytes_eq}
@@ -13,9 +13,9 @@ use Rattle.indexmap.specs.IndexSet.{insert_key}
 use Rattle.lam_value.specs.declared.values.Value.{Value}
 use Rattle.thread_steps.specs.Equal.{same_values}
 use Rattle.lam_meaning.specs.Pieces.{is_in, with_constant, place_of}
-use Rattle.barrier_compiler_parts.specs.declared.instruction.Constant.{Constant}
-use Rattle.barrier_compiler_parts.specs.declared.instruction.Constant.TheVariants.{Int, Bool as Truth, Bytes, Nothing}
-use Rattle.barrier_compiler_parts.specs.Views.{constant_value}
+use Rattle.barrier_compiler_ops.specs.declared.instruction.Constant.{Constant}
+use Rattle.barrier_compiler_ops.specs.declared.instruction.Constant.TheVariants.{Int, Bool as Truth, Bytes, Nothing}
+use Rattle.barrier_compiler_ops.specs.Views.{constant_value}
 
 itself : (k : Constant) → same_values (constant_value k) (constant_value k) ≡ true
 itself (Int n) = int_eq_equiv.refl n

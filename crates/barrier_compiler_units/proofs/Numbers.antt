@@ -2,8 +2,8 @@
 use Rattle.std.proofs.Common.{◌≡◌, ℕ, suc, ◌+◌, ◌<◌, ◌≤◌, map, take, get_or, take_all, add-one, Bool, true, false, List, [], ◌∷◌, ◌++◌, length, if◌then◌else◌, refl, sym, ap, ◌∙◌, subst, append_assoc, append-nil, true≢false, arith, length-append}
 use Rattle.std.proofs.Math.Seq.{take-suc}
 use Rattle.std.proofs.lemmas.List.{map-append}
-use Rattle.barrier_compiler_parts.specs.declared.instruction.Instruction.{Instruction}
-use Rattle.barrier_compiler_parts.specs.Views.{flat_view}
+use Rattle.barrier_compiler_ops.specs.declared.instruction.Instruction.{Instruction}
+use Rattle.barrier_compiler_ops.specs.Views.{flat_view}
 use Rattle.lam_value.specs.declared.values.Value.{Value}
 use Rattle.thread_steps.specs.Equal.{same_values}
 use Rattle.lam_bytecode.specs.declared.op.Op.{Op}

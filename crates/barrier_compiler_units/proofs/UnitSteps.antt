@@ -9,11 +9,11 @@ use Rattle.lam_bytecode.specs.declared.unit.UnitKind.{UnitKind}
 use Rattle.lam_bytecode.specs.declared.unit.UnitKind.TheVariants.{Region}
 use Rattle.lam_meaning.specs.Pieces.{Piece, does, puts, when, either, loops, Pieces, no_pieces, pieces, joined, one, op, size, size_of, Flat, an_op, flat, flat_of}
 use Rattle.lam_meaning.specs.Scheme.{Draft, block, function_draft, region_draft}
-use Rattle.barrier_compiler_parts.specs.declared.buffer.Stop.{Stop}
-use Rattle.barrier_compiler_parts.specs.declared.buffer.Stop.TheVariants.{TooLong, Wide, NoMemory}
-use Rattle.barrier_compiler_parts.specs.Emits.{State, named_by, is_narrow, are_narrow, EmitsBy, Emits, IsAt, IsOperandBy, IsOperand}
-use Rattle.barrier_compiler_parts.proofs.Flat.{length-flat, size-joined}
-use Rattle.barrier_compiler_parts.proofs.Joins.{joins, joined-assoc}
+use Rattle.barrier_compiler_ops.specs.declared.buffer.Stop.{Stop}
+use Rattle.barrier_compiler_ops.specs.declared.buffer.Stop.TheVariants.{TooLong, Wide, NoMemory}
+use Rattle.barrier_compiler_ops.specs.Emits.{State, named_by, is_narrow, are_narrow, EmitsBy, Emits, IsAt, IsOperandBy, IsOperand}
+use Rattle.barrier_compiler_ops.proofs.Flat.{length-flat, size-joined}
+use Rattle.barrier_compiler_ops.proofs.Joins.{joins, joined-assoc}
 use Rattle.barrier_compiler_units.specs.Adds.{flat_narrow, code_narrow, kind_narrow, draft_narrow, IsDraftBy, IsDraft}
 
 pub length-types : (ts : List ValueType) → length (types_tree ts) ≡ length ts

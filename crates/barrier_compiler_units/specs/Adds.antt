@@ -9,12 +9,16 @@ use Rattle.lam_bytecode.specs.declared.unit.UnitKind.TheVariants.{Function, Regi
 use Rattle.lam_bytecode.specs.contracts.unit.CodeUnit as code_unit
 use Rattle.lam_meaning.specs.Pieces.{Flat, an_op, a_constant, is_in}
 use Rattle.lam_meaning.specs.Scheme.{Draft, all_constants, unit_of}
-use Rattle.lam_meaning.specs.Long.{long_from}
-use Rattle.barrier_compiler_parts.specs.declared.buffer.Stop.TheVariants.{TooLong as too_long, Wide as too_wide, NoMemory as no_room}
-use Rattle.barrier_compiler_parts.specs.Emits.{State, named_by}
+use Rattle.lam_meaning.specs.Long.{long_from, most_operations}
+use Rattle.barrier_compiler_ops.specs.declared.buffer.Stop.TheVariants.{TooLong as too_long, Wide as too_wide, NoMemory as no_room}
+use Rattle.barrier_compiler_ops.specs.Emits.{State, named_by}
 use Rattle.barrier_compiler_units.specs.declared.units.Halt.{Halt}
 use Rattle.barrier_compiler_units.specs.declared.units.Halt.TheVariants.{TooLong, Wide, NoMemory}
 use Rattle.barrier_compiler_units.specs.contracts.units.Halt as halt
+
+-- the most units of a program
+abbrev pub most_units : ℕ
+most_units = 65536
 
 -- units, and their constants
 pub record Made : Type 0 where
@@ -59,7 +63,7 @@ drafts_narrow (d ∷ ds) = draft_narrow d && drafts_narrow ds
 -- these are what a unit is, so many locals and its code, or there is this reason why not
 abbrev pub IsDraftBy : State → UnitKind → ℕ → Draft → Type 0
 IsDraftBy (Ok code) kind locals d = (kind ≡ d.kind) × (locals ≡ d.locals) × (code ≡ d.code)
-IsDraftBy (Err too_long) kind locals d = 65535 < length d.code
+IsDraftBy (Err too_long) kind locals d = most_operations < length d.code
 IsDraftBy (Err too_wide) kind locals d = draft_narrow d ≡ false
 IsDraftBy (Err no_room) kind locals d = Unit {0}
 
@@ -89,7 +93,7 @@ abbrev pub AddsBy : Stage → Stage → List Draft → Type 0
 AddsBy (Err h) new ds = new ≡ Err h
 AddsBy (Ok old) (Ok new) ds = Adds_units old new ds
 AddsBy (Ok old) (Err (TooLong unit)) ds = long_from (length old.units) ds ≡ Some unit
-AddsBy (Ok old) (Err Wide) ds = (drafts_narrow ds ≡ false) ⊎ (65536 ≤ length old.units + length ds)
+AddsBy (Ok old) (Err Wide) ds = (drafts_narrow ds ≡ false) ⊎ (most_units ≤ length old.units + length ds)
 AddsBy (Ok old) (Err NoMemory) ds = Unit {0}
 
 pub record Adds (old new : Stage) (ds : List Draft) : Type 0 where

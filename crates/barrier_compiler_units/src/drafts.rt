@@ -7,8 +7,7 @@ ghost use Rattle.lam_meaning.specs.Scheme.{arg_kind, is_int, function_draft, reg
 ghost use Rattle.barrier_compiler_units.specs.Adds.{Adds};
 
 use crate::units::Units;
-use barrier_compiler_blocks::emit_block;
-use barrier_compiler_parts::{Buffer, Constant};
+use barrier_compiler_ops::{Buffer, Constant, emit_block};
 use lam_bytecode::{ArgKind, ArgKinds, FunctionName, Op, UnitKind};
 use lam_resolve_tree::{Function, Stmt, ValueType};
 use std::alloc::Global;

@@ -4,10 +4,10 @@ ghost use Rattle.std.specs.Prelude.{◌≡◌, ◌+◌, ◌<◌, ◌≤◌, ◌^
 ghost use Rattle.std.specs.List.{AllByRecursion};
 ghost use Rattle.lam_bytecode.specs.Codes.{IsConstant};
 ghost use Rattle.lam_meaning.specs.Pieces.{is_in, with_constant, place_of, constants_in, numbered};
-ghost use Rattle.barrier_compiler_parts.specs.Views.{constant_value, flat_view};
+ghost use Rattle.barrier_compiler_ops.specs.Views.{constant_value, flat_view};
 ghost use Rattle.barrier_compiler_units.specs.Adds.{AreIn};
 
-use barrier_compiler_parts::{Constant, Instruction};
+use barrier_compiler_ops::{Constant, Instruction};
 use indexmap::IndexSet;
 use lam_bytecode::Op;
 use lam_value::{ByteText, Value, Values};
@@ -31,7 +31,7 @@ impl Model for Pool {
 
     ghost coded = { coded_list item.the_row.coded };
 
-    ghost use Rattle.barrier_compiler_parts.specs.Views.{constant_value};
+    ghost use Rattle.barrier_compiler_ops.specs.Views.{constant_value};
 
     ghost view = { λ p. map constant_value p.constants.keys };
 }

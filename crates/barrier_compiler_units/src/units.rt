@@ -4,20 +4,21 @@ ghost use Rattle.std.specs.Prelude.{◌≡◌, ◌⊎◌, ◌<◌, ◌≤◌, �
 ghost use Rattle.std.specs.List.{AllByRecursion};
 ghost use Rattle.lam_bytecode.specs.Codes.{IsConstant};
 ghost use Rattle.lam_meaning.specs.Scheme.{Draft};
-ghost use Rattle.barrier_compiler_parts.specs.Views.{flat_view};
-ghost use Rattle.barrier_compiler_units.specs.Adds.{Adds, IsDraft, made_of};
+ghost use Rattle.barrier_compiler_ops.specs.Views.{flat_view};
+ghost use Rattle.barrier_compiler_units.specs.Adds.{Adds, IsDraft, made_of, most_units};
 ghost use Rattle.barrier_compiler_units.specs.Views.{HasRoom, AddsUnit};
 ghost use Rattle.barrier_compiler_units.specs.declared.units.Halt.TheVariants.{NoMemory as no_memory};
+ghost use Rattle.lam_meaning.specs.Long.{most_operations};
 
 use crate::pool::{Pool, number_code};
-use barrier_compiler_parts::{Buffer, Instruction, Stop};
+use barrier_compiler_ops::{Buffer, Instruction, Stop};
 use lam_bytecode::{CodeUnit, Ops, UnitKind};
 use lam_value::Values;
 use std::alloc::Global;
 use std::marker::Model;
 
 /// More units than any checked program has.
-const MOST: usize = 65536;
+const MOST_UNITS: usize = 65536;
 
 /// Why a program has no code.
 #[derive(Clone, Copy, Debug, PartialEq, Eq)]
@@ -97,8 +98,8 @@ impl Units {
     pub fn finish(self) -> Result<Parts, Halt>
         ensures parts { IfOk result (λ p. self ≡ Ok (made_of p.units.items p.constants)) }
         ensures constants { IfOk result (λ p. AllByRecursion IsConstant p.constants) }
-        ensures room { IfOk result (λ p. length p.constants ≤ 65535 * length p.units.items) }
-        ensures count { IfOk result (λ p. length p.units.items ≤ 65536) }
+        ensures room { IfOk result (λ p. length p.constants ≤ most_operations * length p.units.items) }
+        ensures count { IfOk result (λ p. length p.units.items ≤ most_units) }
         ensures err { IfErr result (λ h. (h ≡ no_memory) ⊎ (self ≡ Err h)) }
     {
         match self.fault {
@@ -130,7 +131,7 @@ fn add_unit(
     requires { HasRoom made.old.items pool.old None }
     ensures { AddsUnit made.old.items pool.old made.new.items pool.new result code kind locals }
 {
-    if made.len() >= MOST {
+    if made.len() >= MOST_UNITS {
         return Some(Halt::Wide);
     }
     let unit = made.len() as u32;
@@ -150,8 +151,8 @@ fn add_code(
     code: &[Instruction],
 ) -> Option<Halt>
     requires room { HasRoom made.old.items pool.old None }
-    requires units { length made.old.items < 65536 }
-    requires code { length code.now ≤ 65535 }
+    requires units { length made.old.items < most_units }
+    requires code { length code.now ≤ most_operations }
     ensures { AddsUnit made.old.items pool.old made.new.items pool.new result (Ok (map flat_view code.now)) kind locals }
 {
     let alloc = *made.allocator();

@@ -6,7 +6,7 @@ ghost use Rattle.guarded_code.specs.Breaks.{IsGuarded};
 ghost use Rattle.thinned_code.specs.Thinned.{staying_in};
 ghost use Rattle.code_verify.specs.Tables.{tables_of};
 
-use barrier_thin_parts::Staying;
+use crate::staying::Staying;
 use code_verify::Described;
 use lam_bytecode::{Code, CodeUnit};
 use std::alloc::Global;

@@ -3,33 +3,54 @@
 //! A barrier whose operand was tested by the same rule already always passes. Where a code is guarded, all such barriers
 //! are left out at once, and jumps and catch blocks go to the operation that stood there, or to the next one that stayed.
 //!
-//! `again` tells from the descriptions of the code (`code_verify`) which operations stay; `barrier_thin_parts` builds the
-//! new code. That thinned code acts as the code does is proved in `thinned_code_acts`.
+//! `again` tells from the descriptions of the code (`code_verify`) which operations stay; `units` builds the new code, where
+//! `staying` says which operations stay and `ops` where jumps go. That thinned code acts as the code does, and as the program
+//! that the code is of, are laws of `thinned_code_acts`; that a program's code has no break is one of `compiled_code_guarded`.
 #![tactic(auto)]
 
 mod again;
+mod ops;
+mod staying;
+mod units;
 
 ghost use Rattle.std.specs.Prelude.{◌≡◌, IfOk};
 ghost use Rattle.lam_bytecode.specs.Codes.{IsCode};
 ghost use Rattle.guarded_code.specs.Breaks.{IsGuarded};
 ghost use Rattle.thinned_code.specs.Thinned.{thinned};
 ghost use Rattle.code_verify.specs.Tables.{tables_of};
+ghost use Rattle.barrier_thin.specs.Programs.{StandsForPrograms};
 
 use again::staying_units;
-use barrier_thin_parts::thin_code;
 use code_verify::{Described, VerifyFault, describe, is_guarded};
+use compiled_code_guarded::compiled_code_is_guarded;
 use guarded_code::Verified;
 use lam_bytecode::Code;
+pub use staying::Staying;
 use std::alloc::Global;
+use thinned_code_acts::thinned_scheme_acts;
+pub use units::thin_code;
 use want_of_memory::NoMemory;
 
-/// The code without each barrier that tests again, all left out at once. A code that has a break stays as it is.
+/// The code without each barrier that tests again, all left out at once. A code that has a break stays as it is. What is
+/// made of the code of a program has no break, and acts as the program.
 ///
 /// # Errors
 ///
 /// `NoMemory` where memory is refused.
-#[tactic(auto, using(crate::proofs::Thinned::broken_stays))]
 pub fn thin(alloc: Global, code: Code) -> Result<Code, NoMemory>
+    requires { IsCode code }
+    ensures thinned { IfOk result (λ c. c ≡ thinned code) }
+    ensures sound { IfOk result (λ c. IsCode c) }
+    ensures guarded { IsGuarded code → IfOk result (λ c. IsGuarded c) }
+    ensures acts { IfOk result (StandsForPrograms code) }
+{
+    compiled_code_is_guarded();
+    thinned_scheme_acts();
+    thin_any(alloc, code)
+}
+
+#[tactic(auto, using(crate::proofs::Thinned::broken_stays))]
+fn thin_any(alloc: Global, code: Code) -> Result<Code, NoMemory>
     requires { IsCode code }
     ensures thinned { IfOk result (λ c. c ≡ thinned code) }
     ensures sound { IfOk result (λ c. IsCode c) }
@@ -48,6 +69,17 @@ pub fn thin(alloc: Global, code: Code) -> Result<Code, NoMemory>
 ///
 /// `NoMemory` where memory is refused.
 pub fn thin_verified(alloc: Global, code: &Verified) -> Result<Verified, NoMemory>
+    requires { IsCode code.now }
+    ensures thinned { IfOk result (λ v. v ≡ thinned code.now) }
+    ensures sound { IfOk result (λ v. IsCode v) }
+    ensures acts { IfOk result (StandsForPrograms code.now) }
+{
+    compiled_code_is_guarded();
+    thinned_scheme_acts();
+    thin_known(alloc, code)
+}
+
+fn thin_known(alloc: Global, code: &Verified) -> Result<Verified, NoMemory>
     requires { IsCode code.now }
     ensures thinned { IfOk result (λ v. v ≡ thinned code.now) }
     ensures sound { IfOk result (λ v. IsCode v) }

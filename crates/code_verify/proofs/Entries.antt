@@ -1,6 +1,6 @@
 -- One address of a table.
-use Rattle.std.proofs.Common.{◌≡◌, ℕ, ◌<◌, ◌≤◌, Option, Some, None, length, get_or, set, slice_get, sym, ap, ◌∙◌, arith, set-set}
-use Rattle.std.proofs.lemmas.Option.{slice_get_past, slice_get-get_or}
+use Rattle.std.proofs.Common.{◌≡◌, ℕ, ◌<◌, Option, Some, None, length, get_or, set, slice_get, sym, ap, ◌∙◌, arith, set-set}
+use Rattle.std.proofs.lemmas.Option.{slice_get-get_or}
 use Rattle.guarded_code.specs.Rounds.{Sent, Table, Holds, Broke, into, placed}
 use Rattle.guarded_code.specs.Descriptions.{Description, meet}
 use Rattle.guarded_code.proofs.Tables.{set_same}
@@ -28,6 +28,3 @@ into_breaks t b n x r d e lt en ex er eo em passes =
 pub into_same : (t : Table Description) (b n : ℕ) (x r dest : Option Description) (d m : Description) → b < n → n ≡ length t → x ≡ get_or t b x → r ≡ x → r ≡ Some d → m ≡ d → set (set t b dest) b (Some m) ≡ t
 into_same t b n x r dest d m lt en ex er eo em =
     set-set t b dest (Some m) ∙ ap (λ y. set t b (Some y)) em ∙ set_same t b (Some d) (there t b n x r (Some d) lt en ex er eo)
-
-pub into_past : (t : Table Description) (b n : ℕ) (e : Description) → n ≤ b → n ≡ length t → (passes : Passing) → into Description meet passes (slice_get t b) t b e ≡ Broke b
-into_past t b n e le en passes = ap (λ o. into Description meet passes o t b e) (slice_get_past t b (omega (arith, le, en)))

@@ -1,14 +1,13 @@
 -- Where the rounds go on, and where they stop.
-use Rattle.std.proofs.Common.{◌≡◌, ℕ, zero, suc, ◌+◌, ◌-◌, ◌<◌, ◌≤◌, List, [], ◌∷◌, Option, Some, None, length, slice_get, refl, sym, ap, ap₂, ◌∙◌, subst, arith}
-use Rattle.std.specs.Prelude.{option_map}
+use Rattle.std.proofs.Common.{◌≡◌, ℕ, suc, ◌+◌, ◌-◌, ◌<◌, List, [], ◌∷◌, length, slice_get, refl, sym, ap, ap₂, ◌∙◌, subst, arith}
 use Rattle.lam_bytecode.specs.Codes.{CodeTree}
 use Rattle.lam_bytecode.specs.declared.unit.CodeUnit.{CodeUnit}
 use Rattle.lam_bytecode.specs.declared.unit.UnitKind.{UnitKind}
 use Rattle.lam_bytecode.specs.declared.unit.UnitKind.TheVariants.{Region}
 use Rattle.lam_bytecode.specs.declared.op.Op.{Op}
-use Rattle.guarded_code.specs.Rounds.{Sent, Table, Found, Holds, Broke, and_then, into, give, handed, visit, sweep, round, rounds, blank, first, after}
+use Rattle.guarded_code.specs.Rounds.{Table, Found, Holds, Broke, and_then, into, give, visit, sweep, round, rounds, blank, first, after}
 use Rattle.guarded_code.specs.Descriptions.{Description, meet, starts, catch_starts, catching, entry}
-use Rattle.guarded_code.specs.Changes.{Change, change, changed, goes, sent, passed, passes, descriptions}
+use Rattle.guarded_code.specs.Changes.{sent, passes, descriptions}
 use Rattle.guarded_code.proofs.Ending.{rounds_add}
 use Rattle.guarded_code.proofs.RoundFacts.{ends_there, breaks_there}
 use Rattle.code_verify.specs.declared.rounds.RoundFault.{RoundFault}
@@ -42,21 +41,6 @@ give_second t t1 n a b d f e h i p =
 
 -- ---- one address
 
--- an address whose operation finds its operands sends on what it leaves
-pub visit_gives : (code : CodeTree) (ops : List Op) (a : ℕ) (t : Table Description) (op : Op) (d e : Description) (c : Change) (n : Next) → slice_get ops a ≡ Some op → slice_get t a ≡ Some (Some d) → c ≡ change code op → changed c d ≡ Some e → next_seen n ≡ goes a op → visit Description meet (passes code ops) a t (slice_get t a) ≡ give Description meet (passes code ops) t (sent (next_seen n) e)
-visit_gives code ops a t op d e c n eo et ec er en =
-    ap (λ o. visit Description meet (passes code ops) a t o) et
-    ∙ ap (λ o. handed Description meet (passes code ops) a t (passed code o a d)) eo
-    ∙ ap (λ x. handed Description meet (passes code ops) a t (option_map (sent (goes a op)) x)) (ap (λ x. changed x d) (sym ec) ∙ er)
-    ∙ ap (λ bs. give Description meet (passes code ops) t (sent bs e)) (sym en)
-
--- one whose operation does not stops the round
-pub visit_breaks : (code : CodeTree) (ops : List Op) (a : ℕ) (t : Table Description) (op : Op) (d : Description) (c : Change) → slice_get ops a ≡ Some op → slice_get t a ≡ Some (Some d) → c ≡ change code op → changed c d ≡ None → visit Description meet (passes code ops) a t (slice_get t a) ≡ Broke a
-visit_breaks code ops a t op d c eo et ec er =
-    ap (λ o. visit Description meet (passes code ops) a t o) et
-    ∙ ap (λ o. handed Description meet (passes code ops) a t (passed code o a d)) eo
-    ∙ ap (λ x. handed Description meet (passes code ops) a t (option_map (sent (goes a op)) x)) (ap (λ x. changed x d) (sym ec) ∙ er)
-
 -- ---- one round
 
 sweep_open : (code : CodeTree) (ops : List Op) (n i : ℕ) (t : Table Description) → i < n → sweep Description meet (passes code ops) (n - i) i t ≡ and_then (visit Description meet (passes code ops) i t (slice_get t i)) (λ t. sweep Description meet (passes code ops) (n - (i + 1)) (i + 1) t)
@@ -72,16 +56,7 @@ sweep_stops code ops t0 t n i f lt inv h =
     stops_same (round Description meet (passes code ops) t0) _ f (inv ∙ sweep_open code ops n i t lt)
     (stops_first (visit Description meet (passes code ops) i t (slice_get t i)) (λ t. sweep Description meet (passes code ops) (n - (i + 1)) (i + 1) t) f h)
 
-pub sweep_ends : (code : CodeTree) (ops : List Op) (t0 t : Table Description) (n i : ℕ) → n ≤ i → round Description meet (passes code ops) t0 ≡ sweep Description meet (passes code ops) (n - i) i t → round Description meet (passes code ops) t0 ≡ Holds t
-sweep_ends code ops t0 t n i le inv =
-    let e : n - i ≡ 0 = omega (arith, le) in inv ∙ ap (λ k. sweep Description meet (passes code ops) k i t) e
-
 -- ---- the first table
-
-pub first_holds : (u : CodeUnit) (n : ℕ) (t0 t1 t2 : Table Description) (d : Description) → n ≡ length u.ops → t0 ≡ blank Description n → d ≡ entry u → ((p : Passing) → into Description meet p (slice_get t0 0) t0 0 d ≡ Holds t1) → ((p : Passing) → give Description meet p t1 (catch_starts u.locals u.kind) ≡ Holds t2) → (p : Passing) → first Description meet p (length u.ops) (starts u) ≡ Holds t2
-first_holds u n t0 t1 t2 d en et ed h i p =
-    ap₂ (λ t x. give Description meet p t ((0, x) ∷ catch_starts u.locals u.kind)) (sym (et ∙ ap (blank Description) en)) (sym ed)
-    ∙ ap (λ o. and_then o (λ t. give Description meet p t (catch_starts u.locals u.kind))) (h p) ∙ i p
 
 pub first_stops : (u : CodeUnit) (n : ℕ) (t0 : Table Description) (d : Description) (f : RoundFault) → n ≡ length u.ops → t0 ≡ blank Description n → d ≡ entry u → ((p : Passing) → Stops (into Description meet p (slice_get t0 0) t0 0 d) f) → (p : Passing) → Stops (first Description meet p (length u.ops) (starts u)) f
 first_stops u n t0 d f en et ed h p =
@@ -92,12 +67,6 @@ pub catch_stops : (u : CodeUnit) (n : ℕ) (t0 t1 : Table Description) (d : Desc
 catch_stops u n t0 t1 d f en et ed h i p =
     stops_same (first Description meet p (length u.ops) (starts u)) _ f (ap₂ (λ t x. give Description meet p t ((0, x) ∷ catch_starts u.locals u.kind)) (sym (et ∙ ap (blank Description) en)) (sym ed))
     (stops_second (into Description meet p (slice_get t0 0) t0 0 d) t1 (λ t. give Description meet p t (catch_starts u.locals u.kind)) f (h p) (i p))
-
-pub caught_holds : (locals r c at : ℕ) (k : UnitKind) (t t1 : Table Description) (d : Description) → k ≡ Region r c at → d ≡ catching locals → ((p : Passing) → into Description meet p (slice_get t at) t at d ≡ Holds t1) → (p : Passing) → give Description meet p t (catch_starts locals k) ≡ Holds t1
-caught_holds locals r c at k t t1 d ek ed h p =
-    ap (λ x. give Description meet p t (catch_starts locals x)) ek
-    ∙ ap (λ x. give Description meet p t ((at, x) ∷ [])) (sym ed)
-    ∙ ap (λ o. and_then o (λ t. give Description meet p t [])) (h p)
 
 pub caught_stops : (locals r c at : ℕ) (k : UnitKind) (t : Table Description) (d : Description) (f : RoundFault) → k ≡ Region r c at → d ≡ catching locals → ((p : Passing) → Stops (into Description meet p (slice_get t at) t at d) f) → (p : Passing) → Stops (give Description meet p t (catch_starts locals k)) f
 caught_stops locals r c at k t d f ek ed h p =

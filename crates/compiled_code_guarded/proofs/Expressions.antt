@@ -25,7 +25,7 @@ use Rattle.guarded_code.specs.declared.known.ValueKind.TheVariants.{Number, Trut
 use Rattle.guarded_code.specs.declared.known.Access.TheVariants.{Reading}
 use Rattle.guarded_code.specs.Changes.{Place, Any, Only, Trades, kind_of_type, kind_of_place, kind_of_value, kind_of_answer, result_kind, places_of, anything}
 use Rattle.guarded_code.proofs.Tables.{some_inj}
-use Rattle.guarded_code_layouts.specs.Layouts.{marked, IsOfKind, TakesKinds, IsKnown, Follows}
+use Rattle.compiled_code_guarded.specs.Layouts.{marked, IsOfKind, TakesKinds, IsKnown, Follows}
 use Rattle.compiled_code_guarded.proofs.Runs.{lt_test, slots_same, Branches, Steps, Runs}
 use Rattle.compiled_code_guarded.proofs.Operands.{kind_of_given, slot_kind, slots_of, at, of_same, kind_known, fits_kind, compare_kinds, onto, drop_onto, EachTakes, same_onto, any_each, place_kinds, exact_long, args_taken, args_long, rest_of, same_places, answer_kind}
 

@@ -13,7 +13,7 @@ use Rattle.guarded_code.specs.Descriptions.{starts}
 use Rattle.thread_steps.specs.Next.{ops_in}
 use Rattle.guarded_code.specs.Changes.{Change, Trades, change, goes, kind_of_value, constant_kind}
 use Rattle.guarded_code.proofs.Tables.{some_inj}
-use Rattle.guarded_code_layouts.specs.Layouts.{Shape, Finds, Follows, Leads, AllLead, StartsFit, IsLegal, IsLayout}
+use Rattle.compiled_code_guarded.specs.Layouts.{Shape, Finds, Follows, Leads, AllLead, StartsFit, IsLegal, IsLayout}
 use Rattle.compiled_code_guarded.proofs.Runs.{lt_test, Weakens, weakens_same, weakens_trans, follows_less, Joins, joins_weakens, Branches, OnlyNext, Steps, Runs, shapes}
 
 -- ---- a list that stands in another

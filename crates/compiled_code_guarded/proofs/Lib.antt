@@ -5,3 +5,7 @@ pub mod Expressions
 pub mod Scopes
 pub mod Statements
 pub mod Units
+pub mod Surely
+pub mod OfKinds
+pub mod Fitting
+pub mod LaidOut

@@ -11,7 +11,7 @@ use Rattle.lam_resolve_tree.specs.Typing.{Heads, exact_places, Use, a_local, a_m
 use Rattle.guarded_code.specs.declared.known.ValueKind.{ValueKind}
 use Rattle.guarded_code.specs.declared.known.ValueKind.TheVariants.{Number, Truth, Other, Unknown}
 use Rattle.guarded_code.specs.Changes.{Place, Any, Only, kind_of_type, kind_of_place, kind_of_answer, places_of}
-use Rattle.guarded_code_layouts.specs.Layouts.{Shape, IsOfKind, TakesKind, TakesKinds, IsKnown}
+use Rattle.compiled_code_guarded.specs.Layouts.{Shape, IsOfKind, TakesKind, TakesKinds, IsKnown}
 
 -- ---- kinds
 

@@ -12,7 +12,7 @@ use Rattle.guarded_code.specs.Changes.{Only, Change, Loads, Stores, Tests, Trade
 use Rattle.guarded_code.specs.Says.{KindSays}
 use Rattle.guarded_code.proofs.Tables.{none_some}
 use Rattle.guarded_code.proofs.Order.{kind_same}
-use Rattle.guarded_code_layouts.specs.Layouts.{Mark, Shape, marked, TakesKinds, Finds, SlotsSay, MarkSays, IsPut, Follows}
+use Rattle.compiled_code_guarded.specs.Layouts.{Mark, Shape, marked, TakesKinds, Finds, SlotsSay, MarkSays, IsPut, Follows}
 
 pub lt_test : (a b : ℕ) → a < b → nat_lt a b ≡ true
 lt_test a b h = grind (arith, nat_tests)

@@ -7,7 +7,7 @@ use Rattle.lam_resolve_tree.specs.Typing.{Heads, Use, a_local, a_monitor, Scope,
 use Rattle.guarded_code.specs.Says.{KindSays}
 use Rattle.guarded_code.proofs.Tables.{none_some}
 use Rattle.guarded_code.proofs.Order.{kind_same}
-use Rattle.guarded_code_layouts.specs.Layouts.{SlotsSay, with_slot}
+use Rattle.compiled_code_guarded.specs.Layouts.{SlotsSay, with_slot}
 use Rattle.compiled_code_guarded.proofs.Runs.{slots_same, slots_trans}
 use Rattle.compiled_code_guarded.proofs.Operands.{slot_kind, slots_of}
 use Rattle.compiled_code_guarded.proofs.Expressions.{IsWithin}

@@ -15,7 +15,7 @@ use Rattle.guarded_code.specs.declared.known.ValueKind.{ValueKind}
 use Rattle.guarded_code.specs.declared.known.ValueKind.TheVariants.{Number, Truth, Other}
 use Rattle.guarded_code.specs.declared.known.Access.TheVariants.{Writing}
 use Rattle.guarded_code.specs.Changes.{Any, Only, kind_of_type, anything}
-use Rattle.guarded_code_layouts.specs.Layouts.{marked, TakesKinds, SlotsSay, with_slot}
+use Rattle.compiled_code_guarded.specs.Layouts.{marked, TakesKinds, SlotsSay, with_slot}
 use Rattle.compiled_code_guarded.proofs.Runs.{lt_test, slots_same, slots_trans, Joins, Steps, Runs}
 use Rattle.compiled_code_guarded.proofs.Operands.{kind_of_given, slots_of, at, object_kind, onto, drop_onto, same_onto, any_each}
 use Rattle.compiled_code_guarded.proofs.Expressions.{as_long, gives_none, branch, puts_runs, load_step, expression_runs, stands_run}

@@ -32,9 +32,9 @@ use Rattle.guarded_code.specs.Says.{Pairwise}
 use Rattle.guarded_code.specs.Facts.{IsUnitGuarded}
 use Rattle.guarded_code.proofs.Breaking.{guarded_means}
 use Rattle.guarded_code.proofs.Tables.{none_some, some_inj}
-use Rattle.guarded_code_layouts.specs.Layouts.{Mark, Shape, IsOfKind, OperandFits, HasMark, Fits, MarkSays}
-use Rattle.guarded_code_layouts.proofs.OfKinds.{any_kind, of_less}
-use Rattle.guarded_code_layouts.proofs.LaidOut.{laid_out}
+use Rattle.compiled_code_guarded.specs.Layouts.{Mark, Shape, IsOfKind, OperandFits, HasMark, Fits, MarkSays}
+use Rattle.compiled_code_guarded.proofs.OfKinds.{any_kind, of_less}
+use Rattle.compiled_code_guarded.proofs.LaidOut.{laid_out}
 use Rattle.compiled_code_guarded.specs.Compiled.{SchemeIsGuarded, CompiledIsGuarded}
 use Rattle.compiled_code_guarded.proofs.Runs.{Weakens, Runs, shapes}
 use Rattle.compiled_code_guarded.proofs.Lays.{all_back, at_same, entry_at, whole, front_at, exit_at, unit_laid_out, shapes_long}

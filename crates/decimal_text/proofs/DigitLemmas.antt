@@ -17,9 +17,6 @@ digit_at [] i less all = absurd (omega arith)
 digit_at (b ∷ bs) zero less all = (and_both (is_digit b) (list_all is_digit bs) all).0
 digit_at (b ∷ bs) (suc i) less all = digit_at bs i (omega arith) (and_both (is_digit b) (list_all is_digit bs) all).1
 
-pub digit_low : (b : ℕ) → is_digit b ≡ true → 48 ≤ b
-digit_low b e = grind (arith, nat_tests)
-
 pub digit_worth : (b : ℕ) → is_digit b ≡ true → digit_value b ≡ b - 48
 digit_worth b e =
     let low : 48 ≤ b = grind (arith, nat_tests) in

@@ -2,7 +2,7 @@
 
 ghost use Rattle.std.specs.Prelude.{IfOk};
 ghost use Rattle.lam_bytecode.specs.Codes.{IsCode};
-ghost use Rattle.described_runs.specs.Worlds.{IsSound};
+ghost use Rattle.guarded_code_runs.specs.Worlds.{IsSound};
 
 use audit_log::{audit_text, view_text};
 use audit_log_notes::{Noted, Seen};
@@ -20,7 +20,7 @@ use std::process::Abort;
 use std::test::Fail;
 use thread_host_run::{Run, TURN_LIMIT};
 use world_doc::start;
-use world_doc_entries::starts_are_entered;
+use world_doc_laws::starts_are_entered;
 use written_code::{Written, code_of};
 
 /// A code, the document of the world that it starts from, and whose turns come: so many of each thread, one after another.

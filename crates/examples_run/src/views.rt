@@ -2,6 +2,7 @@
 
 use crate::call::{Calls, Given, Output, Told, WIDE, Wanted, comes_to, store, tell, wrote};
 use crate::gates::Hook;
+use crate::given::ONE_WORKER;
 use lam_io::{MemShelf, TableGate};
 use lam_main::Status;
 use std::test::Fail;
@@ -78,9 +79,9 @@ fn by_each<R: Calls>(
     last_alone_runs(rt, shelf, last)
 }
 
-/// The last thread, which waits for the hour, takes all turns.
+/// The last thread, which waits for the hour, takes all turns: there is one worker, so nobody takes others while it is away.
 fn last_alone_runs<R: Calls>(rt: &R, shelf: &mut MemShelf, gate: Hook<'_>) -> Result<(), Fail> {
-    let Told { status, text } = tell(rt, shelf, &WORDS, WIDEST, gate)?;
+    let Told { status, text } = tell(rt, shelf, ONE_WORKER, WIDEST, gate)?;
     drop(text);
     if status != Status::Budget {
         return Err(Fail::new(format_args!("{status:?}, and not the budget")));

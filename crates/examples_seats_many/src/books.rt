@@ -1,7 +1,7 @@
 //! What the book of a run shows.
 
 use flow_labels::{TagNames, parse_label};
-use lam_main_replay::{Eye, Viewer, shown_turns};
+use lam_main_replay::{NamedViewer, Viewer, shown_turns};
 use std::alloc::Global;
 use std::mem::forget;
 use std::test::Fail;
@@ -29,13 +29,13 @@ fn booked(alloc: Global, run: &Run) -> Result<Turns, Fail> {
     Ok(read_book(alloc, book.as_slice())?)
 }
 
-fn viewer_at(run: &Run, observer: &str) -> Result<Viewer, Fail> {
+fn viewer_at(run: &Run, observer: &str) -> Result<NamedViewer, Fail> {
     let names = run.start().stores().names.copy()?;
-    let eye = Eye::Observer(parse_label(observer, &names)?);
-    Ok(Viewer { names, eye })
+    let who = Viewer::Observer(parse_label(observer, &names)?);
+    Ok(NamedViewer { names, who })
 }
 
-fn replayed(alloc: Global, run: &Run, turns: &[u32], viewer: &Viewer) -> Result<String, Fail> {
+fn replayed(alloc: Global, run: &Run, turns: &[u32], viewer: &NamedViewer) -> Result<String, Fail> {
     let _whole = run.turns();
     let start = run.start().copy()?;
     match shown_turns(alloc, run.code(), start, turns, viewer) {

@@ -7,6 +7,7 @@ ghost use Rattle.std.proofs.Props.{props};
 ghost use Rattle.indexmap.specs.IndexMap.{IsUnique, spare};
 ghost use Rattle.labelled_files.specs.Entries as entries;
 ghost use Rattle.labelled_files.specs.Entries.{text_eq, without, vec_eq, entries_of, entry_of};
+ghost use Rattle.labelled_files.specs.Trees.{most_entries};
 
 use flow_labels::NoMemory;
 use indexmap::IndexMap;
@@ -65,7 +66,7 @@ pub fn is_entry_name(entry: &[u8]) -> bool
 #[derive(Drop)]
 pub(crate) struct Directory {
     entries: IndexMap<Vec<u8>, Target>,
-    ghost few: { length entries.entries ≤ 4096 },
+    ghost few: { length entries.entries ≤ most_entries },
     ghost unique: { IsUnique vec_eq entries } by { Prim.hlevel props },
 }
 
@@ -112,7 +113,7 @@ impl Directory {
 
     /// Puts a new entry at the end, for which there is room.
     pub(crate) fn join(&mut self, entry: Vec<u8>, target: Target)
-        requires few { length (entries_of self.old.entries.entries) < 4096 }
+        requires few { length (entries_of self.old.entries.entries) < most_entries }
         requires new { lookup (text_eq entry.items) (entries_of self.old.entries.entries) ≡ None }
         requires room { 1 ≤ spare self.old.entries }
         ensures { entries_of self.new.entries.entries ≡ entries_of self.old.entries.entries ++ (entry.items, target) ∷ [] }

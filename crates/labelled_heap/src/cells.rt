@@ -2,7 +2,7 @@
 
 ghost use Rattle.std.specs.Prelude.{◌≡◌, ◌<◌, ◌≤◌, ◌++◌, ◌∷◌, [], length, Some, IfOk, OnErr, slice_get};
 ghost use Rattle.std.specs.Option.{option_copied, option_map};
-ghost use Rattle.labelled_heap.specs.CellAt.{with_value};
+ghost use Rattle.labelled_heap.specs.CellAt.{with_value, most_cells};
 
 use flow_labels::{Label, NoMemory};
 use std::alloc::Global;
@@ -34,10 +34,11 @@ impl Model for Cells {
     ghost coded = { Prim.hlevel (codes, coded_tags) };
 
     ghost use Rattle.std.specs.Prelude.{◌≤◌, length};
+    ghost use Rattle.labelled_heap.specs.CellAt.{most_cells};
 
     ghost view = { λ c. c.cells.items };
 
-    ghost invariant = { λ c. length c.cells.items ≤ 65536 };
+    ghost invariant = { λ c. length c.cells.items ≤ most_cells };
 }
 
 impl Cells {
@@ -56,7 +57,7 @@ impl Cells {
     ///
     /// `NoMemory`; the cells are then as before.
     pub fn add(&mut self, label: Label, value: i64) -> Result<u32, NoMemory>
-        requires { length self.old < 65536 }
+        requires { length self.old < most_cells }
         ensures ok { IfOk result (λ c. (c ≡ length self.old) × (self.new ≡ self.old ++ record { label = label; value = value } ∷ [])) }
         ensures err { OnErr result (self.new ≡ self.old) }
     {
@@ -68,7 +69,7 @@ impl Cells {
     /// How many cells there are: the number that the next one would get.
     pub fn count(&self) -> u32
         ensures count { result ≡ length self.now }
-        ensures few { length self.now ≤ 65536 }
+        ensures few { length self.now ≤ most_cells }
     {
         self.cells.len() as u32
     }

@@ -3,8 +3,8 @@
 ghost use Rattle.std.specs.Prelude.{◌≡◌, IfOk};
 
 use crate::ask::Ask;
-use crate::both::both;
 use crate::fault::Fault;
+use crate::together::both;
 use lam_value::{Denied, Label, Value};
 use want_of_memory::NoMemory;
 

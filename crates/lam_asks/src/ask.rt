@@ -5,8 +5,8 @@ ghost use Rattle.lam_asks.specs.declared.ask.Ask.TheVariants as Ask;
 ghost use Rattle.lam_asks.specs.Groups.{is_of_numbers, is_of_things, is_of_dirs, is_of_files, is_of_pipes};
 
 use crate::answer::Outcome;
-use crate::both::both;
 use crate::fault::Fault;
+use crate::together::both;
 use capabilities::Caps;
 use lam_value::{ByteText, Denied, Label, Name, Shape, Value, Values};
 use want_of_memory::NoMemory;

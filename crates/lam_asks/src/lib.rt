@@ -16,14 +16,15 @@
 
 mod answer;
 mod ask;
-mod both;
 mod events;
 mod families;
 mod family;
 mod fault;
+mod together;
 
 pub use answer::{Answer, Event, Outcome, What};
 pub use ask::Ask;
 pub use events::{let_go_event, let_go_what};
 pub use families::let_go;
 pub use fault::Fault;
+pub use together::both;

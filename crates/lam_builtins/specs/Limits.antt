@@ -22,7 +22,3 @@ most_slots = 1024
 -- of a program
 abbrev pub most_regions : ℕ
 most_regions = 4096
-
--- of a unit's code
-abbrev pub most_operations : ℕ
-most_operations = 65535

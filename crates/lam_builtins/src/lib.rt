@@ -17,8 +17,7 @@ ghost use Rattle.std.specs.Str.{bytes_eq};
 ghost use Rattle.lam_builtins.specs.Builtins.{row, builtin_named, named_in as first_named};
 
 pub use limits::{
-    MOST_CLASSES, MOST_FIELDS, MOST_FUNCTIONS, MOST_OPERATIONS, MOST_PARAMS, MOST_REGIONS,
-    MOST_SLOTS,
+    MOST_CLASSES, MOST_FIELDS, MOST_FUNCTIONS, MOST_PARAMS, MOST_REGIONS, MOST_SLOTS,
 };
 pub use operators::{operand_type, operator_type, prefix_type};
 pub use rows::{Answers, Arguments, PlainType, Row, Takes};

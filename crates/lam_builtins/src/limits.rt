@@ -17,6 +17,3 @@ pub const MOST_SLOTS: u32 = 1024;
 
 /// The most regions of a program.
 pub const MOST_REGIONS: u32 = 4096;
-
-/// The most operations of a unit's code.
-pub const MOST_OPERATIONS: usize = 65535;

@@ -1,2 +1,4 @@
 pub mod Written
 pub mod Again
+pub mod Apart
+pub mod TheLaw

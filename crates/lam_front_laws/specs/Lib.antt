@@ -1,1 +1,3 @@
 pub mod Law
+pub mod Follow
+pub mod DerivationLaw

@@ -25,7 +25,6 @@ pub data Postfixes : Type 0 where
 pub data Value : Type 0 where
   nothing : Value
   word : Token → Value
-  id_value : IdTree → Value
   ids_value : List IdTree → Value
   type_value : TypeTree → Value
   variable_value : VarTree → Value

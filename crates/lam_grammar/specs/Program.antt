@@ -1,11 +1,15 @@
 -- The grammar, and what it is for tokens to spell a program.
-use Rattle.std.specs.Prelude.{List, [], ◌∷◌}
+use Rattle.std.specs.Prelude.{ℕ, List, [], ◌∷◌}
 use Rattle.lam_grammar_laws.specs.Grammar.{Grammar, rule}
 use Rattle.lam_grammar_laws.specs.Texts.{limited, Spells}
 use Rattle.lam_syntax.specs.Tree.{ProgramTree}
 use Rattle.lam_lexer.specs.declared.token.Token.{Token}
 use Rattle.lam_grammar.specs.Table.{Class, Rule, Sym, items, end_of_text, bodies, begins, counts}
 use Rattle.lam_grammar.specs.Meaning.{Value, nothing, word, items_value, permits, act}
+
+-- how many rules, operators and postfix parts may be open at a token
+abbrev pub most_depth : ℕ
+most_depth = 128
 
 abbrev pub lam : Grammar
 lam = record {
@@ -19,7 +23,7 @@ lam = record {
   permits = permits;
   counts = counts;
   weight = λ c. c.adds;
-  limit = 128;
+  limit = most_depth;
   leaf = word;
   act = act;
 }

@@ -16,6 +16,6 @@
 //! and no token may follow a rule that may be empty with which the rule could begin. So the first tokens, the order of the
 //! bodies and the lookahead decide nothing about which texts there are.
 //!
-//! The crate has no code: a parser states its contracts in these relations, and cites these laws; `lam_grammar_derivations` states
+//! The crate has no code: a parser states its contracts in these relations, and cites these laws; `lam_front_laws` states
 //! those of derivations for the table of the language.
 #![tactic(auto)]

@@ -57,10 +57,6 @@ run_on p {cs} {after} c e h = ap (run p) e ∙ at_true (p c) (c ∷ run p after)
 pub past_on : (p : ℕ → Bool) {cs after : List ℕ} (c : ℕ) → cs ≡ c ∷ after → p c ≡ true → past p cs ≡ past p after
 past_on p {cs} {after} c e h = ap (past p) e ∙ at_true (p c) (past p after) (c ∷ after) h
 
-pub run_stops : (p : ℕ → Bool) (cs : List ℕ) → goes_on p cs ≡ false → run p cs ≡ []
-run_stops p [] h = refl
-run_stops p (c ∷ cs) h = at_false (p c) (c ∷ run p cs) [] h
-
 pub past_stops : (p : ℕ → Bool) (cs : List ℕ) → goes_on p cs ≡ false → past p cs ≡ cs
 past_stops p [] h = refl
 past_stops p (c ∷ cs) h = at_false (p c) (past p cs) (c ∷ cs) h
@@ -80,9 +76,6 @@ pub record Lined (cs : List ℕ) (at : ℕ) (rest : List ℕ) (to : ℕ) : Type 
   pub left : past stays_on_line cs ≡ past stays_on_line rest
   pub position : to + size (run stays_on_line rest) ≡ at + size (run stays_on_line cs)
 
-pub lined_first : (cs : List ℕ) (at : ℕ) → Lined cs at cs at
-lined_first cs at = record { left = refl; position = refl }
-
 pub lined_on : {cs rest after : List ℕ} {at to : ℕ} (c n : ℕ) → n ≡ len_utf8 c → rest ≡ c ∷ after → stays_on_line c ≡ true → Lined cs at rest to → Lined cs at after (to + n)
 lined_on {cs} {rest} {after} {at} {to} c n e d q g =
     record {
@@ -93,12 +86,6 @@ lined_on {cs} {rest} {after} {at} {to} c n e d q g =
 pub lined_place : {cs rest : List ℕ} {at to : ℕ} → Lined cs at rest to → to ≤ at + size cs
 lined_place {cs} {rest} {at} {to} g = omega (arith, g.position, run_size stays_on_line cs)
 
-pub lined_rest : {cs rest : List ℕ} {at to : ℕ} → goes_on stays_on_line rest ≡ false → Lined cs at rest to → rest ≡ past stays_on_line cs
-lined_rest {cs} {rest} h g = sym (g.left ∙ past_stops stays_on_line rest h)
-
-pub lined_position : {cs rest : List ℕ} {at to : ℕ} → goes_on stays_on_line rest ≡ false → Lined cs at rest to → to ≡ at + size (run stays_on_line cs)
-lined_position {cs} {rest} h g = omega (arith, g.position, ap size (run_stops stays_on_line rest h))
-
 -- ---- a number
 
 pub record Counted (first : ℕ) (cs : List ℕ) (kept : Option ℕ) (count : ℕ) (rest : List ℕ) : Type 0 where
@@ -107,15 +94,6 @@ pub record Counted (first : ℕ) (cs : List ℕ) (kept : Option ℕ) (count : �
   pub counts : count + length (run is_digit rest) ≡ length (run is_digit cs)
   pub spells : number_after so_far (run is_digit rest) ≡ number (first ∷ run is_digit cs)
   pub value : IsValue so_far kept
-
-pub counted_first : (first : ℕ) (cs : List ℕ) (v : ℕ) → v ≡ first - 48 → v < 2 ^ 63 → Counted first cs (Some v) 0 cs
-counted_first first cs v e h = record {
-  so_far = 0 * 10 + (first - 48);
-  left = refl;
-  counts = omega arith;
-  spells = refl;
-  value = (omega (arith, e), h);
-}
 
 pub counted_on : {first : ℕ} {cs rest after : List ℕ} {kept : Option ℕ} {count : ℕ} (c : ℕ) (next : Option ℕ) → rest ≡ c ∷ after → is_digit c ≡ true → ((n : ℕ) → IsValue n kept → IsValue (n * 10 + (c - 48)) next) → Counted first cs kept count rest → Counted first cs next (count + 1) after
 counted_on {first} {cs} {rest} {after} {kept} {count} c next e q f g =
@@ -132,16 +110,6 @@ pub counted_inside : {first : ℕ} {cs rest : List ℕ} {kept : Option ℕ} {cou
 counted_inside {cs = cs} g =
     let l : length (run is_digit cs) ≤ size (run is_digit cs) = length-le-encodes (run is_digit cs) in
     omega (arith, g.counts, run_size is_digit cs, l)
-
-pub counted_value : {first : ℕ} {cs rest : List ℕ} {kept : Option ℕ} {count : ℕ} → goes_on is_digit rest ≡ false → Counted first cs kept count rest → IsValue (number (first ∷ run is_digit cs)) kept
-counted_value {rest = rest} {kept = kept} h g =
-    subst (λ (n : ℕ). IsValue n kept) (sym (ap (number_after g.so_far) (run_stops is_digit rest h)) ∙ g.spells) g.value
-
-pub counted_rest : {first : ℕ} {cs rest : List ℕ} {kept : Option ℕ} {count : ℕ} → goes_on is_digit rest ≡ false → Counted first cs kept count rest → rest ≡ past is_digit cs
-counted_rest {rest = rest} h g = sym (g.left ∙ past_stops is_digit rest h)
-
-pub counted_count : {first : ℕ} {cs rest : List ℕ} {kept : Option ℕ} {count : ℕ} → goes_on is_digit rest ≡ false → Counted first cs kept count rest → count ≡ length (run is_digit cs)
-counted_count {rest = rest} h g = omega (arith, g.counts, ap length (run_stops is_digit rest h))
 
 pub small_value : (n : ℕ) (o : Option ℕ) → IsValue n o → IfSome o (λ v. v < 2 ^ 63)
 small_value n None h = tt

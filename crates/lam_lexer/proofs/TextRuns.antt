@@ -68,18 +68,6 @@ pub record TextSoFar (quote : ℕ) (cs bytes rest : List ℕ) (to : ℕ) : Type 
   pub full : length bytes ≤ room
   pub place : to + size rest ≤ quote + 1 + size cs
 
-pub text_first : (quote : ℕ) (cs bytes : List ℕ) (to : ℕ) → bytes ≡ [] → to ≡ quote + 1 → TextSoFar quote cs bytes cs to
-text_first quote cs bytes to e q =
-    let start : TextSoFar quote cs [] cs (quote + 1) = record {
-      count = 0;
-      position = omega arith;
-      reads = λ more n left h. subst (λ (n : ℕ). Means 0 cs more n left) (omega arith) h;
-      faults = λ f h. h;
-      full = omega arith;
-      place = omega arith;
-    } in
-    subst (λ (to : ℕ). TextSoFar quote cs bytes cs to) (sym q) (subst (λ (bytes : List ℕ). TextSoFar quote cs bytes cs (quote + 1)) (sym e) start)
-
 -- some bytes more
 pub text_on : {quote : ℕ} {cs bytes next rest after : List ℕ} {to : ℕ} (between : List ℕ) (n : ℕ) → part rest ≡ means between n after → length bytes + length between ≤ room → next ≡ bytes ++ between → TextSoFar quote cs bytes rest to → TextSoFar quote cs next after (to + n)
 text_on {quote} {cs} {bytes} {next} {rest} {after} {to} between n p small e g =

@@ -18,8 +18,8 @@ use Rattle.lam_machine_terms.specs.Worlds.{World, thread_at}
 use Rattle.lam_machine_terms.specs.Turns.{turn_on, turn_in, step}
 use Rattle.lam_machine_effects.specs.declared.stores.Stores.{Stores}
 use Rattle.lam_machine_effects.specs.Parts.{world_of}
-use Rattle.lam_machine_turns.specs.Turned.{IsTurn, Acts}
-use Rattle.lam_machine_turns.proofs.PartLemmas.{private_parts}
+use Rattle.lam_machine_laws.specs.Turned.{IsTurn, Acts}
+use Rattle.lam_machine_laws.proofs.PartLemmas.{private_parts}
 use Rattle.lam_machine.specs.Asking.{label_at, AsksNext, Advances}
 use Rattle.lam_machine.proofs.AskLemmas.{acts_label, step_by}
 

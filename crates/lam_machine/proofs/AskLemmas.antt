@@ -1,4 +1,4 @@
--- A thread that asks, its deed, and the world that the answer leaves.
+-- A thread that asks, its service, and the world that the answer leaves.
 use Rattle.std.proofs.Common.{◌≡◌, ℕ, zero, suc, ◌+◌, ◌<◌, ◌≤◌, Bool, true, false, List, [], ◌∷◌, ◌++◌, Some, None, Result, Ok, Err, IfOk, length, take, get_or, set, refl, sym, ap, ◌∙◌, subst, arith, length-append}
 use Rattle.std.specs.Prelude.{slice_get, slice_set, if◌then◌else◌}
 use Rattle.std.proofs.Math.Seq.{take-append_seam}
@@ -6,7 +6,6 @@ use Rattle.std.proofs.lemmas.Option.{slice_get_within, get_or_from_slice_get}
 use Rattle.std.proofs.lemmas.List.{set-append_left, length-set}
 use Rattle.want_of_memory.specs.declared.NoMemory.{NoMemory}
 use Rattle.flow_labels.specs.declared.Label.{Label}
-use Rattle.flow_labels.specs.Flow.{public_label}
 use Rattle.lam_asks.specs.declared.ask.Ask.{Ask}
 use Rattle.lam_asks.specs.declared.answer.Answer.{Answer}
 use Rattle.lam_asks.specs.declared.answer.What.TheVariants.{Asked}
@@ -15,27 +14,23 @@ use Rattle.thread_steps.specs.Threads.{Context, Thread}
 use Rattle.thread_steps.specs.Next.{Next, asks, next_of, takes}
 use Rattle.lam_machine_terms.specs.Limits.{most_threads}
 use Rattle.lam_machine_terms.specs.Worlds.{World, contexts_in, contexts_at}
-use Rattle.lam_machine_terms.specs.Deeds as told
+use Rattle.lam_machine_terms.specs.Serves as told
 use Rattle.lam_machine_terms.specs.Serving.{serve}
 use Rattle.lam_machine_terms.specs.Turns.{is_ready, served, turn_by, turn_on, turn_in, step}
 use Rattle.lam_machine_effects.specs.declared.stores.Stores.{Stores}
 use Rattle.lam_machine_effects.specs.Parts.{world_of}
 use Rattle.lam_machine_effects.specs.declared.effect.Effect.{Effect}
-use Rattle.lam_machine_effects.specs.declared.deed.Deed.{Deed}
+use Rattle.lam_machine_effects.specs.declared.served.Served.{Served}
 use Rattle.lam_machine_effects.specs.Meaning.{meaning, DoesAs}
 use Rattle.lam_machine_effects.specs.Room.{HasRoom}
-use Rattle.lam_machine_turns.proofs.RoomLemmas.{room_row}
-use Rattle.lam_machine_turns.specs.Turned.{IsTurn, Acts, born}
-use Rattle.lam_machine_turns.proofs.PartLemmas.{asked_parts}
+use Rattle.lam_machine_laws.proofs.RoomLemmas.{room_row}
+use Rattle.lam_machine_laws.specs.Turned.{IsTurn, Acts, born}
+use Rattle.lam_machine_laws.proofs.PartLemmas.{asked_parts}
 use Rattle.lam_machine.specs.Machine.{CopiesLive}
 use Rattle.lam_machine.specs.Asking.{top_label, label_at, AsksNext, IsReadiness, ReadyAsk, MayAsk, Serves, Fits, Applied, with_born, Took, TookAt}
 use Rattle.lam_machine.proofs.Seats.{HasSeat, seat_row, born_few}
 
 -- ---- the acting context
-
-pub top_label_none : (cs : List Context) → slice_get cs 0 ≡ None → top_label cs ≡ public_label
-top_label_none [] e = refl
-top_label_none (c ∷ cs) e = absurd cc
 
 pub top_label_some : (cs : List Context) (c : Context) → slice_get cs 0 ≡ Some c → top_label cs ≡ c.label
 top_label_some [] c e = absurd cc
@@ -86,7 +81,7 @@ pub ready_some : (w : World) (t : ℕ) (a : Ask) (b : Bool) (c : Context) → So
 unfolding IsReadiness
 ready_some w t a b c e h = λ k f. let both : Some c ≡ Some k = e ∙ f in let same : c ≡ k = cc in h ∙ ap (λ z. is_ready w t z a) same
 
-pub serves_some : (w : World) (t : ℕ) (a : Ask) (c : Context) (r : Result Deed NoMemory) → Some c ≡ slice_get (contexts_at w t) 0 → IfOk r (λ d. DoesAs d (serve w c a)) → IfOk r (λ d. Serves w t a d)
+pub serves_some : (w : World) (t : ℕ) (a : Ask) (c : Context) (r : Result Served NoMemory) → Some c ≡ slice_get (contexts_at w t) 0 → IfOk r (λ d. DoesAs d (serve w c a)) → IfOk r (λ d. Serves w t a d)
 unfolding Serves
 serves_some w t a c (Ok d) e h = λ k f. let both : Some c ≡ Some k = e ∙ f in let same : c ≡ k = cc in subst (λ z. DoesAs d (serve w z a)) same h
 serves_some w t a c (Err x) e h = tt
@@ -108,29 +103,29 @@ module _ (code : CodeTree) (s : Stores) (threads : List Thread) (t : ℕ) (a : A
   pub is_there : t < length threads
   is_there = slice_get_within threads t asking.asking.thread asking.asking.acts.at
 
-  does : (d : Deed) → Serves (world_of s threads) t a d → DoesAs d (serve (world_of s threads) asking.asking.top a)
+  does : (d : Served) → Serves (world_of s threads) t a d → DoesAs d (serve (world_of s threads) asking.asking.top a)
   unfolding Serves
   does d serves = serves asking.asking.top (acts_top (world_of s threads) t asking.asking.thread asking.asking.top asking.asking.rest asking.asking.acts)
 
-  pub fits : (d : Deed) → Serves (world_of s threads) t a d → Fits t d.effect s
+  pub fits : (d : Served) → Serves (world_of s threads) t a d → Fits t d.effect s
   unfolding Fits
   fits d serves = same_effect (λ e. HasRoom t e s) (meaning d.effect) _ (does d serves).effect (room_row (world_of s threads) t asking.asking.top a asking.ready asking.living)
 
-  few_born : (d : Deed) → Serves (world_of s threads) t a d → length threads ≤ most_threads → length (with_born code d.effect threads) ≤ most_threads
+  few_born : (d : Served) → Serves (world_of s threads) t a d → length threads ≤ most_threads → length (with_born code d.effect threads) ≤ most_threads
   unfolding with_born
   few_born d serves k = born_few code d.effect threads (same_effect (λ e. HasSeat (length threads) e) (meaning d.effect) _ (does d serves).effect (seat_row (world_of s threads) asking.asking.top a)) k
 
-  pub few_after : (d : Deed) (after : List Thread) → Serves (world_of s threads) t a d → TookAt code (with_born code d.effect threads) t a d.answer after → length threads ≤ most_threads → length after ≤ most_threads
+  pub few_after : (d : Served) (after : List Thread) → Serves (world_of s threads) t a d → TookAt code (with_born code d.effect threads) t a d.answer after → length threads ≤ most_threads → length after ≤ most_threads
   few_after d after serves took k =
       let n : length after ≡ length (with_born code d.effect threads) = ap length took.list ∙ length-set (with_born code d.effect threads) t took.to in
       let few : length (with_born code d.effect threads) ≤ most_threads = few_born d serves k in
       omega arith
 
-  abbrev after_of : Deed → Thread
+  abbrev after_of : Served → Thread
   after_of d = takes code asking.asking.thread asking.asking.top asking.asking.rest asking.asking.after a d.answer
 
   -- the thread stands where it stood
-  list_is : (d : Deed) (after : List Thread) → TookAt code (with_born code d.effect threads) t a d.answer after → after ≡ slice_set threads t (after_of d) ++ born code d.effect
+  list_is : (d : Served) (after : List Thread) → TookAt code (with_born code d.effect threads) t a d.answer after → after ≡ slice_set threads t (after_of d) ++ born code d.effect
   unfolding with_born Took
   list_is d after took =
       let k = asking.asking in
@@ -138,7 +133,7 @@ module _ (code : CodeTree) (s : Stores) (threads : List Thread) (t : ℕ) (a : A
       took.list ∙ (ap (λ x. slice_set (threads ++ born code d.effect) t x) to ∙ set-append_left threads (born code d.effect) t (after_of d) is_there)
 
   -- the turn
-  pub taken : (l : Label) (d : Deed) (x : Answer) (stores : Stores) (after : List Thread) → l ≡ label_at (world_of s threads) t → x ≡ d.answer → Serves (world_of s threads) t a d → Applied t d.effect s stores → TookAt code (with_born code d.effect threads) t a d.answer after
+  pub taken : (l : Label) (d : Served) (x : Answer) (stores : Stores) (after : List Thread) → l ≡ label_at (world_of s threads) t → x ≡ d.answer → Serves (world_of s threads) t a d → Applied t d.effect s stores → TookAt code (with_born code d.effect threads) t a d.answer after
       → IsTurn code t (world_of s threads) (record { label = l; thread = t; what = Asked a x }) (world_of stores after)
   unfolding Applied
   taken l d x stores after e f serves applied took =

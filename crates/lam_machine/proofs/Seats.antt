@@ -1,4 +1,4 @@
--- A deed that adds a thread has a seat for it.
+-- A service that adds a thread has a seat for it.
 use Rattle.std.proofs.Common.{◌≡◌, ℕ, ◌<◌, ◌≤◌, ◌+◌, List, [], ◌∷◌, ◌++◌, None, length, sym, subst, arith, append-nil, length-append}
 use Rattle.lam_asks.specs.declared.ask.Ask.{Ask}
 use Rattle.lam_asks.specs.declared.ask.Ask.TheVariants as ask
@@ -7,8 +7,8 @@ use Rattle.thread_steps.specs.Threads.{Context, Thread}
 use Rattle.thread_steps.specs.Next.{started}
 use Rattle.lam_machine_terms.specs.Limits.{most_threads}
 use Rattle.lam_machine_terms.specs.Worlds.{World}
-use Rattle.lam_machine_terms.specs.Deeds as told
-use Rattle.lam_machine_terms.specs.Deeds.{adds_thread, Deed}
+use Rattle.lam_machine_terms.specs.Serves as told
+use Rattle.lam_machine_terms.specs.Serves.{adds_thread, Served}
 use Rattle.lam_machine_terms.specs.Serving.{publicly, serve}
 use Rattle.lam_machine_laws.proofs.Full.{not_full}
 use Rattle.lam_machine_laws.proofs.JudgedLemmas.{judged_by}
@@ -16,14 +16,14 @@ use Rattle.lam_machine_laws.specs.Judged.{fault_by, deed_by}
 use Rattle.lam_machine_effects.specs.declared.effect.Effect.{Effect}
 use Rattle.lam_machine_effects.specs.declared.effect.Effect.TheVariants.{AddsThread}
 use Rattle.lam_machine_effects.specs.Meaning.{meaning}
-use Rattle.lam_machine_turns.specs.Turned.{born}
+use Rattle.lam_machine_laws.specs.Turned.{born}
 
 -- there is room for the thread that an effect adds, beside so many others
 abbrev pub HasSeat : ℕ → told.Effect → Type 0
 HasSeat n (adds_thread unit args caps) = n < most_threads
 HasSeat n e = Unit {0}
 
-abbrev Seated : ℕ → Deed → Type 0
+abbrev Seated : ℕ → Served → Type 0
 Seated n d = HasSeat n d.effect
 
 done_seat : (w : World) (c : Context) (a : Ask) → fault_by w c a ≡ None → Seated (length w.threads) (deed_by w c a)

@@ -3,8 +3,8 @@ use Rattle.std.proofs.Common.{◌≡◌, ℕ, Some, ap, ◌∙◌}
 use Rattle.lam_bytecode.specs.Codes.{CodeTree}
 use Rattle.thread_steps.specs.Threads.{Thread}
 use Rattle.lam_machine_terms.specs.Worlds.{World, thread_at, contexts_in}
-use Rattle.described_runs.specs.Worlds.{IsSound}
-use Rattle.described_runs.proofs.Sound.{sound_finds}
+use Rattle.guarded_code_runs.specs.Worlds.{IsSound}
+use Rattle.guarded_code_runs.proofs.Sound.{sound_finds}
 use Rattle.thread_core.specs.Untested.{ThreadFinds}
 use Rattle.lam_machine.specs.Machine.{CopiesLive}
 use Rattle.lam_machine.proofs.CopyLemmas.{copies_live}

@@ -17,10 +17,10 @@ use Rattle.lam_machine_terms.specs.Turns.{is_ready, step}
 use Rattle.lam_machine_laws.specs.Sound.{CopiesLiving}
 use Rattle.lam_machine_effects.specs.declared.stores.Stores.{Stores}
 use Rattle.lam_machine_effects.specs.declared.effect.Effect.{Effect}
-use Rattle.lam_machine_effects.specs.declared.deed.Deed.{Deed}
+use Rattle.lam_machine_effects.specs.declared.served.Served.{Served}
 use Rattle.lam_machine_effects.specs.Meaning.{meaning, DoesAs, IsAfter}
 use Rattle.lam_machine_effects.specs.Room.{HasRoom}
-use Rattle.lam_machine_turns.specs.Turned.{IsTurn, Acts, born}
+use Rattle.lam_machine_laws.specs.Turned.{IsTurn, Acts, born}
 
 -- ---- the acting context
 
@@ -69,9 +69,9 @@ abbrev pub asked_event : Label → ℕ → Ask → Option Answer → Option Even
 asked_event l t a None = None
 asked_event l t a (Some x) = Some (record { label = l; thread = t; what = Asked a x })
 
--- ---- the deed that serves it
+-- ---- the service that serves it
 
-unfoldable pub Serves : World → ℕ → Ask → Deed → Type 0
+unfoldable pub Serves : World → ℕ → Ask → Served → Type 0
 Serves w t a d = (c : Context) → slice_get (contexts_at w t) 0 ≡ Some c → DoesAs d (serve w c a)
 
 -- the stores have room for an effect of a thread

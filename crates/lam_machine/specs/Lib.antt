@@ -1,5 +1,5 @@
 pub mod Machine
 pub mod Asking
 pub mod Privately
-pub use Rattle.lam_machine_turns.specs.Turned
+pub use Rattle.lam_machine_laws.specs.Turned
 pub use Rattle.lam_machine_laws.specs.Sound

@@ -5,7 +5,7 @@ use Rattle.lam_bytecode.specs.Codes.{CodeTree}
 use Rattle.lam_machine_terms.specs.Worlds.{World}
 use Rattle.lam_machine_terms.specs.Turns.{Moment, step}
 use Rattle.lam_machine_laws.specs.Sound.{FindsLiving}
-use Rattle.lam_machine_turns.specs.Turned.{IsTurn}
+use Rattle.lam_machine_laws.specs.Turned.{IsTurn}
 
 -- what a turn of a thread copies lives
 abbrev pub CopiesLive : CodeTree → World → ℕ → Type 0

@@ -8,13 +8,13 @@ ghost use Rattle.thread_steps.specs.Threads.{Context as Plain};
 ghost use Rattle.lam_machine_terms.specs.Limits.{most_threads};
 ghost use Rattle.lam_machine_terms.specs.Worlds.{contexts_in};
 ghost use Rattle.lam_machine_effects.specs.Parts.{world_of};
-ghost use Rattle.lam_machine_turns.specs.Turned.{IsTurn};
+ghost use Rattle.lam_machine_laws.specs.Turned.{IsTurn};
 ghost use Rattle.lam_machine.specs.Asking.{label_at, IsReadiness, MayAsk, Serves, Fits, Applied, with_born, Took, TookAt};
 
 use guarded_code::Verified;
 use lam_asks::{Answer, Ask, Outcome};
-use lam_machine_effects::{Deed, Effect, Stores, apply};
-use lam_machine_world::{deed_of, is_ready};
+use lam_machine_effects::{Effect, Served, Stores, apply};
+use lam_machine_world::{is_ready, served_of};
 use lam_value::Value;
 use std::alloc::Global;
 use std::mem::replace;
@@ -62,7 +62,7 @@ pub fn take_ask(
     ensures same_stores { OnErr result (stores.new ≡ stores.old) }
     ensures same_threads { OnErr result (threads.new.items ≡ threads.old.items) }
 {
-    let Deed { answer, effect } = served(stores, threads.as_slice(), thread, ask)?;
+    let Served { answer, effect } = served(stores, threads.as_slice(), thread, ask)?;
     match answer.copy() {
         Err(error) => {
             drop(answer);
@@ -82,18 +82,23 @@ pub fn take_ask(
 }
 
 /// What the ask of a thread is served by.
-fn served(stores: &Stores, threads: &[LamThread], thread: u32, ask: &Ask) -> Result<Deed, NoMemory>
+fn served(
+    stores: &Stores,
+    threads: &[LamThread],
+    thread: u32,
+    ask: &Ask,
+) -> Result<Served, NoMemory>
     requires few { length threads.now ≤ most_threads }
     requires top { (c : Plain) × (slice_get (contexts_in (slice_get threads.now thread)) 0 ≡ Some c) }
     ensures { IfOk result (λ d. Serves (world_of stores.now threads.now) thread ask.now d) }
 {
     match top_of(threads, thread) {
         None => unreachable!(),
-        Some(c) => deed_of(stores, threads, c, ask),
+        Some(c) => served_of(stores, threads, c, ask),
     }
 }
 
-/// A deed is done: the thread that it adds stands last, its answer is taken, and its effect is applied to the stores.
+/// A service is done: the thread that it adds stands last, its answer is taken, and its effect is applied to the stores.
 fn enact(
     alloc: Global,
     stores: &mut Stores,
@@ -166,7 +171,7 @@ fn push_born(
     }
 }
 
-/// A thread of many takes the answer of a deed, and the effect is applied to the stores.
+/// A thread of many takes the answer of a service, and the effect is applied to the stores.
 #[tactic(auto, using(crate::proofs::AskLemmas::took_at))]
 fn settle_at(
     alloc: Global,
@@ -190,7 +195,7 @@ fn settle_at(
     Ok(())
 }
 
-/// A thread takes the answer of a deed, and the effect is applied to the stores.
+/// A thread takes the answer of a service, and the effect is applied to the stores.
 #[tactic(auto, using(crate::proofs::AskLemmas::took_is))]
 fn settle(
     alloc: Global,

@@ -7,7 +7,7 @@ ghost use Rattle.lam_machine_effects.specs.declared.stores.Stores.{Stores};
 ghost use Rattle.lam_machine_terms.specs.Limits.{most_threads};
 ghost use Rattle.lam_machine_terms.specs.Worlds.{contexts_in};
 ghost use Rattle.lam_machine_effects.specs.Parts.{world_of};
-ghost use Rattle.described_runs.specs.Worlds.{IsSound};
+ghost use Rattle.guarded_code_runs.specs.Worlds.{IsSound};
 ghost use Rattle.thread_core.specs.Untested.{ThreadFinds};
 ghost use Rattle.lam_machine.specs.Machine.{CopiesLive, IsStep};
 ghost use Rattle.lam_machine.specs.Asking.{top_label, label_at, asked_event, AsksNext, Advances};

@@ -1,17 +1,17 @@
--- What deeds in code mean.
+-- What services in code mean.
 use Rattle.std.specs.Prelude.{◌≡◌, ℕ, List}
 use Rattle.lam_value.specs.Homes.{home_of}
 use Rattle.lam_value.specs.Shapes.{slots_of}
 use Rattle.labelled_heap.specs.Things.{sort_of}
 use Rattle.lam_bytecode.specs.Codes.{CodeTree}
 use Rattle.thread_steps.specs.Threads.{Thread}
-use Rattle.lam_machine_terms.specs.Deeds as told
-use Rattle.lam_machine_terms.specs.Deeds.{effect_of}
+use Rattle.lam_machine_terms.specs.Serves as told
+use Rattle.lam_machine_terms.specs.Serves.{effect_of}
 use Rattle.lam_machine_effects.specs.declared.stores.Stores.{Stores}
 use Rattle.lam_machine_effects.specs.Parts.{stores_of, world_of}
 use Rattle.lam_machine_effects.specs.declared.effect.Effect.{Effect}
 use Rattle.lam_machine_effects.specs.declared.effect.Effect.TheVariants.{Nothing, TakesTag, SetsSlot, AddsThing, AddsCopy, TakesMonitor, GivesBack, Drops, AddsFile, AddsDir, Removes, Appends, Cuts, AddsPipe, Sends, Receives, AddsThread}
-use Rattle.lam_machine_effects.specs.declared.deed.Deed.{Deed}
+use Rattle.lam_machine_effects.specs.declared.served.Served.{Served}
 
 abbrev pub meaning : Effect → told.Effect
 meaning Nothing = told.nothing
@@ -34,7 +34,7 @@ meaning (AddsThread unit args caps) = told.adds_thread unit args caps
 
 -- it answers what the other answers, and does what the other does. What it makes can be told from these two and the
 -- ask: a value that it answers names the thing, the file, the directory, the pipe or the thread
-pub record DoesAs (d : Deed) (other : told.Deed) : Type 0 where
+pub record DoesAs (d : Served) (other : told.Served) : Type 0 where
   pub answer : d.answer ≡ other.answer
   pub effect : meaning d.effect ≡ other.effect
 

@@ -7,10 +7,10 @@ use Rattle.monitor_core.specs.Held.{most_takings, is_free, takings}
 use Rattle.labelled_files.specs.Trees.{first_fault}
 use Rattle.labelled_pipes.specs.Queues.{most_pipes}
 use Rattle.lam_machine_terms.specs.Limits.{most_tags}
-use Rattle.lam_machine_terms.specs.Deeds.{Effect, takes_tag, adds_thing, adds_copy, takes_monitor, adds_file, adds_dir, adds_pipe}
+use Rattle.lam_machine_terms.specs.Serves.{Effect, takes_tag, adds_thing, adds_copy, takes_monitor, adds_file, adds_dir, adds_pipe}
 use Rattle.lam_machine_effects.specs.declared.stores.Stores.{Stores}
 
--- What is made has room, what is copied lives, and a monitor that a thread takes is held by no other. Each deed of the
+-- What is made has room, what is copied lives, and a monitor that a thread takes is held by no other. Each service of the
 -- monitor has this where the thing that it copies lives and the thread does not wait
 abbrev pub HasRoom : ℕ → Effect → Stores → Type 0
 HasRoom thread takes_tag s = s.tags < most_tags

@@ -5,7 +5,7 @@ ghost use Rattle.lam_value.specs.Homes.{home_of};
 ghost use Rattle.lam_value.specs.Shapes.{slots_of};
 ghost use Rattle.labelled_heap.specs.Things.{sort_of};
 ghost use Rattle.labelled_pipes.specs.declared.message.Message.TheVariants as Message;
-ghost use Rattle.lam_machine_terms.specs.Deeds as told;
+ghost use Rattle.lam_machine_terms.specs.Serves as told;
 ghost use Rattle.lam_machine_effects.specs.Meaning.{meaning};
 
 use capabilities::Caps;

@@ -11,18 +11,21 @@ ghost use Rattle.std.specs.Prelude.{◌≡◌, IfOk};
 ghost use Rattle.labelled_files.specs.Trees.{root_alone};
 ghost use Rattle.lam_machine_effects.specs.Parts.{first_stores};
 
-use crate::both::both;
 use capabilities::Caps;
 use flow_labels::TagNames;
 use labelled_files::Files;
 use labelled_heap::Heap;
 use labelled_pipes::Pipes;
+use lam_asks::both;
 use monitor_core::Monitors;
 use std::alloc::Global;
 use want_of_memory::NoMemory;
 
 /// The number of tags that there may be.
 pub const TAG_LIMIT: u64 = 65_536;
+
+/// The number of threads that there may be.
+pub const THREAD_LIMIT: u64 = 4_096;
 
 /// One of each store.
 #[derive(Drop)]

@@ -19,7 +19,7 @@ use Rattle.lam_bytecode.specs.Codes.{CodeTree}
 use Rattle.thread_steps.specs.Threads.{Context, Thread}
 use Rattle.thread_steps.specs.Next.{Next, goes, asks, stuck, next_of}
 use Rattle.lam_machine_terms.specs.Worlds.{World, contexts_in}
-use Rattle.lam_machine_terms.specs.Deeds.{Made, a_region, a_thing, made_label, Deed}
+use Rattle.lam_machine_terms.specs.Serves.{Made, a_region, a_thing, made_label, Served}
 use Rattle.lam_machine_terms.specs.Serving.{renamed, served_by, publicly, serve}
 use Rattle.lam_machine_terms.specs.Turns.{is_ready, Moment, served, turn_by}
 use Rattle.lam_machine_terms.specs.Views.{goes_down, is_release, used_by}
@@ -66,7 +66,7 @@ used_held k x y m = record { plus = m.add_i; minus = m.drop_s }
 -- ---- the two asks
 
 -- what is made is what the context may change its label to
-abbrev Fair : Context → Deed → Type 0
+abbrev Fair : Context → Served → Type 0
 Fair c d = (m : Made) → d.made ≡ Some m → first_failing (change_test c.caps c.label (made_label m)) ≡ None
 
 none_made : {X : Type 0} (m : Made) → None ≡ Some m → X

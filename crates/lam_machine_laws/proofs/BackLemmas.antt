@@ -6,7 +6,7 @@ use Rattle.lam_bytecode.specs.Codes.{CodeTree}
 use Rattle.thread_steps.specs.Threads.{Inside, Phase, Bottom, Body, Catch, Context, Thread}
 use Rattle.thread_steps.specs.Next.{asks, raised, next_in, next_of, started}
 use Rattle.lam_machine_terms.specs.Worlds.{World, thread_at, contexts_in, with_thread}
-use Rattle.lam_machine_terms.specs.Deeds.{Effect, nothing, takes_tag, sets_slot, adds_thing, adds_copy, takes_monitor, gives_back, drops, adds_file, adds_dir, removes, appends, cuts, adds_pipe, sends, receives, adds_thread, effect_of}
+use Rattle.lam_machine_terms.specs.Serves.{Effect, nothing, takes_tag, sets_slot, adds_thing, adds_copy, takes_monitor, gives_back, drops, adds_file, adds_dir, removes, appends, cuts, adds_pipe, sends, receives, adds_thread, effect_of}
 use Rattle.lam_machine_terms.specs.Turns.{Moment, step, and_then, moments}
 use Rattle.lam_machine_laws.proofs.TurnLemmas.{acts, turned}
 use Rattle.lam_machine_laws.specs.Laws.{StandsAbove, ComesBack, ContextsComeBack, handling}

@@ -18,7 +18,7 @@ use Rattle.lam_bytecode.specs.Codes.{CodeTree}
 use Rattle.thread_steps.specs.Threads.{Inside, Context, Thread}
 use Rattle.thread_steps.specs.Next.{Next, goes, asks, stuck, next_of, with_inside, given, gains, done, entered, started, takes}
 use Rattle.lam_machine_terms.specs.Worlds.{World, thread_at, contexts_in, contexts_at, with_thread}
-use Rattle.lam_machine_terms.specs.Deeds.{Effect, nothing, adds_thread, effect_of, Deed, answers}
+use Rattle.lam_machine_terms.specs.Serves.{Effect, nothing, adds_thread, effect_of, Served, answers}
 use Rattle.lam_machine_terms.specs.Serving.{served_by, publicly, serve}
 use Rattle.lam_machine_terms.specs.Turns.{is_ready, Moment, goes_on, served, turn_by}
 use Rattle.lam_machine_laws.proofs.FlowLemmas.{each_passes}
@@ -76,7 +76,7 @@ front_caps public code c i a (Failed f) h = refl
 
 -- ---- rows
 
-abbrev EntersRight : Caps → Ask → Deed → Type 0
+abbrev EntersRight : Caps → Ask → Served → Type 0
 EntersRight k a d = EntersBelow k a d.answer
 
 done_enters : (w : World) (c : Context) (a : Ask) → first_failing (tests_of c a) ≡ None → EntersRight c.caps a (deed_by w c a)
@@ -99,7 +99,7 @@ abbrev Spawns : Caps → Effect → Type 0
 Spawns k (adds_thread unit args caps) = Covers k caps
 Spawns k e = Unit {0}
 
-abbrev SpawnsRight : Caps → Deed → Type 0
+abbrev SpawnsRight : Caps → Served → Type 0
 SpawnsRight k d = Spawns k d.effect
 
 done_spawns : (w : World) (c : Context) (a : Ask) → first_failing (tests_of c a) ≡ None → SpawnsRight c.caps (deed_by w c a)

@@ -12,7 +12,7 @@ use Rattle.lam_bytecode.specs.Codes.{CodeTree}
 use Rattle.thread_steps.specs.Threads.{Context, Thread}
 use Rattle.thread_steps.specs.Next.{Next, goes, asks, stuck, next_of}
 use Rattle.lam_machine_terms.specs.Worlds.{World}
-use Rattle.lam_machine_terms.specs.Deeds.{Made, made_label}
+use Rattle.lam_machine_terms.specs.Serves.{Made, made_label}
 use Rattle.lam_machine_terms.specs.Serving.{serve}
 use Rattle.lam_machine_terms.specs.Turns.{is_ready, Moment, served, turn_by}
 use Rattle.lam_machine_terms.specs.Views.{goes_down, is_release, shows}

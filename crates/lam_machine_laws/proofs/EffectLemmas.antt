@@ -29,7 +29,7 @@ use Rattle.lam_bytecode.specs.Codes.{CodeTree}
 use Rattle.thread_steps.specs.Threads.{Context, Thread}
 use Rattle.thread_steps.specs.Next.{started, first_context}
 use Rattle.lam_machine_terms.specs.Worlds.{World}
-use Rattle.lam_machine_terms.specs.Deeds.{Effect, nothing, takes_tag, sets_slot, adds_thing, adds_copy, takes_monitor, gives_back, drops, adds_file, adds_dir, removes, appends, cuts, adds_pipe, sends, receives, adds_thread, effect_of, Made, a_region, a_thing, a_file, a_dir, a_pipe, a_thread}
+use Rattle.lam_machine_terms.specs.Serves.{Effect, nothing, takes_tag, sets_slot, adds_thing, adds_copy, takes_monitor, gives_back, drops, adds_file, adds_dir, removes, appends, cuts, adds_pipe, sends, receives, adds_thread, effect_of, Made, a_region, a_thing, a_file, a_dir, a_pipe, a_thread}
 use Rattle.lam_machine_terms.specs.Views.{is_seen, shows}
 use Rattle.lam_machine_laws.proofs.FlowLemmas.{not_both}
 use Rattle.lam_machine_laws.proofs.PointLemmas.{IsPoint, insert_point, remove_point, same_point, point_kept, point_same, same_trans}

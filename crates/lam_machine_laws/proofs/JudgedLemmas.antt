@@ -18,7 +18,7 @@ use Rattle.lam_asks.specs.declared.ask.Ask.{Ask}
 use Rattle.lam_asks.specs.declared.ask.Ask.TheVariants.{Read, Write, CopyTo, MonEnter, MonLeave, OpenFile, OpenDir, Join}
 use Rattle.thread_steps.specs.Threads.{Context}
 use Rattle.lam_machine_terms.specs.Worlds.{World, result_at}
-use Rattle.lam_machine_terms.specs.Deeds.{Deed, answers, unless_denied, under, unless, on_thing}
+use Rattle.lam_machine_terms.specs.Serves.{Served, answers, unless_denied, under, unless, on_thing}
 use Rattle.lam_machine_terms.specs.Serving.{opened, ended_with, served_by}
 use Rattle.lam_machine_laws.specs.Tests.{of_thing, tests_of}
 use Rattle.lam_machine_laws.specs.Judged.{at_thing, where_none, child_fault, fault_by, judged, name_in, found, value_of_end, deed_by, AsksAreJudged}
@@ -26,13 +26,13 @@ use Rattle.lam_machine_laws.proofs.RowLemmas.{RefersTo}
 
 -- ---- each ask
 
-thing_judged : (r : Value) (test : Name → Test) (fault : Name → Option Fault) (go : Name → Deed) → on_thing r (λ n. judged (test n) (fault n) (go n)) ≡ judged (of_thing r test) (at_thing r fault) (go (name_in r))
+thing_judged : (r : Value) (test : Name → Test) (fault : Name → Option Fault) (go : Name → Served) → on_thing r (λ n. judged (test n) (fault n) (go n)) ≡ judged (of_thing r test) (at_thing r fault) (go (name_in r))
 unfolding under unless on_thing
 thing_judged (Obj n) test fault go = refl
 thing_judged (Arr n len) test fault go = refl
 thing_judged r test fault go = refl
 
-free_judged : (r : Value) (go : Name → Deed) → on_thing r go ≡ unless (at_thing r (λ n. None)) (go (name_in r))
+free_judged : (r : Value) (go : Name → Served) → on_thing r go ≡ unless (at_thing r (λ n. None)) (go (name_in r))
 unfolding unless on_thing
 free_judged (Obj n) go = refl
 free_judged (Arr n len) go = refl
@@ -63,7 +63,7 @@ are_judged w c a = refl
 
 -- ---- what holds of every ask
 
-judged_as : (P : Deed → Type 0) (t : Test) (f : Option Fault) (d : Deed) → ((x : Denied) → first_failing t ≡ Some x → P (answers (Refused x))) → ((x : Fault) → first_failing t ≡ None → f ≡ Some x → P (answers (Failed x))) → (first_failing t ≡ None → f ≡ None → P d) → P (judged t f d)
+judged_as : (P : Served → Type 0) (t : Test) (f : Option Fault) (d : Served) → ((x : Denied) → first_failing t ≡ Some x → P (answers (Refused x))) → ((x : Fault) → first_failing t ≡ None → f ≡ Some x → P (answers (Failed x))) → (first_failing t ≡ None → f ≡ None → P d) → P (judged t f d)
 unfolding under unless
 judged_as P t f d r k h = go (first_failing t) f refl refl
   where
@@ -73,7 +73,7 @@ judged_as P t f d r k h = go (first_failing t) f refl refl
     go None None e g = h e g
 
 -- of its refusal, of its failure, and of what is done where it has neither
-pub judged_by : (P : Deed → Type 0) (w : World) (c : Context) (a : Ask) → ((x : Denied) → first_failing (tests_of c a) ≡ Some x → P (answers (Refused x))) → ((f : Fault) → first_failing (tests_of c a) ≡ None → fault_by w c a ≡ Some f → P (answers (Failed f))) → (first_failing (tests_of c a) ≡ None → fault_by w c a ≡ None → P (deed_by w c a)) → P (served_by w c a)
+pub judged_by : (P : Served → Type 0) (w : World) (c : Context) (a : Ask) → ((x : Denied) → first_failing (tests_of c a) ≡ Some x → P (answers (Refused x))) → ((f : Fault) → first_failing (tests_of c a) ≡ None → fault_by w c a ≡ Some f → P (answers (Failed f))) → (first_failing (tests_of c a) ≡ None → fault_by w c a ≡ None → P (deed_by w c a)) → P (served_by w c a)
 judged_by P w c a r k h = subst P (sym (are_judged w c a)) (judged_as P (tests_of c a) (fault_by w c a) (deed_by w c a) r k h)
 
 -- ---- where a reference leads to a thing

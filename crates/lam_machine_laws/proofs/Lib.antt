@@ -17,3 +17,5 @@ pub mod CapsLemmas
 pub mod RefusalLemmas
 pub mod OwnLemmas
 pub mod FaultLemmas
+pub mod PartLemmas
+pub mod RoomLemmas

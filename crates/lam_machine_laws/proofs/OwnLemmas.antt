@@ -13,7 +13,7 @@ use Rattle.lam_bytecode.specs.Codes.{CodeTree}
 use Rattle.thread_steps.specs.Threads.{Inside, Context, Thread}
 use Rattle.thread_steps.specs.Next.{Next, goes, asks, stuck, next_of, with_inside, takes, started}
 use Rattle.lam_machine_terms.specs.Worlds.{World, thread_at, with_thread}
-use Rattle.lam_machine_terms.specs.Deeds.{Effect, adds_thread, effect_of, Deed}
+use Rattle.lam_machine_terms.specs.Serves.{Effect, adds_thread, effect_of, Served}
 use Rattle.lam_machine_terms.specs.Serving.{served_by, publicly, serve}
 use Rattle.lam_machine_terms.specs.Turns.{is_ready, Moment, goes_on, served, turn_by, step, and_then, moments, left_by, replay}
 use Rattle.lam_machine_laws.proofs.ThreadLemmas.{some_inj, length-set}
@@ -63,15 +63,15 @@ abbrev SpawnsBy : World → Ask → Effect → Answer → Type 0
 SpawnsBy w a (adds_thread unit args caps) x = (a ≡ ask.Spawn unit args caps) × (x ≡ Val (value.Thread (length w.threads)))
 SpawnsBy w a e x = Unit {0}
 
-abbrev SpawnDeed : World → Ask → Deed → Type 0
-SpawnDeed w a d = SpawnsBy w a d.effect d.answer
+abbrev SpawnServed : World → Ask → Served → Type 0
+SpawnServed w a d = SpawnsBy w a d.effect d.answer
 
-done_spawn : (w : World) (c : Context) (a : Ask) → SpawnDeed w a (deed_by w c a)
+done_spawn : (w : World) (c : Context) (a : Ask) → SpawnServed w a (deed_by w c a)
 done_spawn w c (ask.Spawn unit args caps) = (refl, refl)
 done_spawn w c a = tt
 
-spawn_row : (w : World) (c : Context) (a : Ask) → SpawnDeed w a (served_by w c a)
-spawn_row w c a = judged_by (SpawnDeed w a) w c a (λ x e. tt) (λ f e g. tt) (λ e g. done_spawn w c a)
+spawn_row : (w : World) (c : Context) (a : Ask) → SpawnServed w a (served_by w c a)
+spawn_row w c a = judged_by (SpawnServed w a) w c a (λ x e. tt) (λ f e g. tt) (λ e g. done_spawn w c a)
 
 -- ---- one turn
 

@@ -14,7 +14,7 @@ use Rattle.lam_bytecode.specs.Codes.{CodeTree}
 use Rattle.thread_steps.specs.Threads.{Inside, Context, Thread}
 use Rattle.thread_steps.specs.Next.{Next, goes, asks, stuck, next_of, with_inside, faulted, takes, result_after}
 use Rattle.lam_machine_terms.specs.Worlds.{World, thread_at, with_thread}
-use Rattle.lam_machine_terms.specs.Deeds.{nothing, effect_of, Deed}
+use Rattle.lam_machine_terms.specs.Serves.{nothing, effect_of, Served}
 use Rattle.lam_machine_terms.specs.Serving.{served_by, publicly, serve}
 use Rattle.lam_machine_terms.specs.Turns.{is_ready, Moment, goes_on, served, turn_by}
 use Rattle.lam_machine_laws.proofs.ThreadLemmas.{some_inj}
@@ -24,7 +24,7 @@ use Rattle.lam_machine_laws.specs.Judged.{deed_by}
 use Rattle.lam_machine_laws.specs.Tests.{tests_of, RefusalsNameTheFirst, OnlyFaults, RefusalsChangeNothing}
 
 -- a refusal and a failure have no effect and make nothing, and an outcome is not written by them
-abbrev Quiet : Answer → Deed → Type 0
+abbrev Quiet : Answer → Served → Type 0
 Quiet Done d = Unit {0}
 Quiet Entered d = Unit {0}
 Quiet (Val v) d = Unit {0}
@@ -43,7 +43,7 @@ done_done : (w : World) (c : Context) (a : Ask) → IsDone (deed_by w c a).answe
 done_done w c Leave = tt
 done_done w c a = tt
 
-done_quiet : (x : Answer) (d : Deed) → IsDone x → Quiet x d
+done_quiet : (x : Answer) (d : Served) → IsDone x → Quiet x d
 done_quiet (Refused x) d h = absurd h
 done_quiet (Failed f) d h = absurd h
 done_quiet x d h = tt
@@ -60,18 +60,18 @@ none_some y x e q = let both : None ≡ Some x = sym e ∙ q in absurd cc
 quiet_row : (w : World) (c : Context) (a : Ask) → Quiet (served_by w c a).answer (served_by w c a)
 quiet_row w c a =
     let d = deed_by w c a in
-    judged_by (λ (d : Deed). Quiet d.answer d) w c a (λ x e. (refl, refl)) (λ f e g. (refl, refl)) (λ e g. done_quiet d.answer d (done_done w c a))
+    judged_by (λ (d : Served). Quiet d.answer d) w c a (λ x e. (refl, refl)) (λ f e g. (refl, refl)) (λ e g. done_quiet d.answer d (done_done w c a))
 
 -- where an ask is refused, and where one of its tests fails
 to_rule : (w : World) (c : Context) (a : Ask) (x : Denied) → (served_by w c a).answer ≡ Refused x → first_failing (tests_of c a) ≡ Some x
 to_rule w c a x =
-    judged_by (λ (d : Deed). d.answer ≡ Refused x → first_failing (tests_of c a) ≡ Some x) w c a
+    judged_by (λ (d : Served). d.answer ≡ Refused x → first_failing (tests_of c a) ≡ Some x) w c a
     (λ y e q. e ∙ ap Some (refused_inj y x q)) (λ f e g q. absurd cc) (λ e g q. absurd (done_never (deed_by w c a).answer x (done_done w c a) q))
 
 by_rule : (w : World) (c : Context) (a : Ask) (x : Denied) → first_failing (tests_of c a) ≡ Some x → (served_by w c a).answer ≡ Refused x
 by_rule w c a x =
     let t = first_failing (tests_of c a) in
-    judged_by (λ (d : Deed). t ≡ Some x → d.answer ≡ Refused x) w c a
+    judged_by (λ (d : Served). t ≡ Some x → d.answer ≡ Refused x) w c a
     (λ y e q. ap Refused (some_inj y x (sym e ∙ q))) (λ f e g q. none_some t x e q) (λ e g q. none_some t x e q)
 
 pub name_the_first : RefusalsNameTheFirst
@@ -97,14 +97,14 @@ failed_result : (r : Option Outcome) (a : Ask) (f : Fault) → EndsWell a (Faile
 failed_result r (End out) f h = absurd h
 failed_result r a f h = refl
 
-quiet_refused : (y : Answer) (d : Deed) (x : Denied) → Quiet y d → y ≡ Refused x → (d.effect ≡ nothing) × (d.made ≡ None)
+quiet_refused : (y : Answer) (d : Served) (x : Denied) → Quiet y d → y ≡ Refused x → (d.effect ≡ nothing) × (d.made ≡ None)
 quiet_refused Done d x h e = absurd cc
 quiet_refused Entered d x h e = absurd cc
 quiet_refused (Val v) d x h e = absurd cc
 quiet_refused (Refused z) d x h e = h
 quiet_refused (Failed f) d x h e = h
 
-quiet_failed : (y : Answer) (d : Deed) (f : Fault) → Quiet y d → y ≡ Failed f → (d.effect ≡ nothing) × (d.made ≡ None)
+quiet_failed : (y : Answer) (d : Served) (f : Fault) → Quiet y d → y ≡ Failed f → (d.effect ≡ nothing) × (d.made ≡ None)
 quiet_failed Done d f h e = absurd cc
 quiet_failed Entered d f h e = absurd cc
 quiet_failed (Val v) d f h e = absurd cc

@@ -1,4 +1,4 @@
--- Each ask once: what its deed makes and changes, where the acting context is unseen and where it is seen.
+-- Each ask once: what its service makes and changes, where the acting context is unseen and where it is seen.
 use Rattle.std.proofs.Common.{◌≡◌, Bool, true, false, List, [], ◌∷◌, ◌++◌, Option, Some, None, refl, sym, ap, ◌∙◌, subst}
 use Rattle.std.specs.Prelude.{not}
 use Rattle.std.specs.List.{AllByRecursion}
@@ -27,7 +27,7 @@ use Rattle.lam_asks.specs.declared.ask.Ask.{Ask}
 use Rattle.lam_asks.specs.declared.ask.Ask.TheVariants.{Read, Write, New, CopyTo, Mint, Enter, Leave, Barred, Caught, Suppressed, MonEnter, MonLeave, MakeFile, MakeDir, OpenFile, OpenDir, Remove, FileRead, FileLength, Append, Cut, MakePipe, Send, SendCaps, Receive, ReceiveCaps, Spawn, Join, Say, End}
 use Rattle.thread_steps.specs.Threads.{Context}
 use Rattle.lam_machine_terms.specs.Worlds.{World}
-use Rattle.lam_machine_terms.specs.Deeds.{Effect, takes_tag, sets_slot, adds_thing, adds_copy, takes_monitor, gives_back, drops, adds_file, adds_dir, removes, appends, cuts, sends, receives, Made, a_thing, a_file, a_dir, made_label, Deed, answers, does, gives, makes, unless_denied, under, unless, on_thing}
+use Rattle.lam_machine_terms.specs.Serves.{Effect, takes_tag, sets_slot, adds_thing, adds_copy, takes_monitor, gives_back, drops, adds_file, adds_dir, removes, appends, cuts, sends, receives, Made, a_thing, a_file, a_dir, made_label, Served, answers, does, gives, makes, unless_denied, under, unless, on_thing}
 use Rattle.lam_machine_terms.specs.Serving.{reference, renamed, opened, ended_with, creates, serve}
 use Rattle.lam_machine_terms.specs.Turns.{may_ask, lists}
 use Rattle.lam_machine_terms.specs.Views.{goes_down}
@@ -36,9 +36,9 @@ use Rattle.lam_machine_laws.proofs.EffectLemmas.{IsHidden, IsOpen}
 use Rattle.lam_machine_laws.specs.Isolation.{IsWellLabelled}
 use Rattle.lam_machine_laws.proofs.ThreadLemmas.{IsOwn, KeepsOwn, NoRegion, Fits, listed_own}
 
--- ---- what a deed stands under
+-- ---- what a service stands under
 
-pub under_by : (P : Deed → Type 0) (t : Test) (d : Deed) → (first_failing t ≡ None → P d) → ((x : Denied) → P (answers (Refused x))) → P (under t d)
+pub under_by : (P : Served → Type 0) (t : Test) (d : Served) → (first_failing t ≡ None → P d) → ((x : Denied) → P (answers (Refused x))) → P (under t d)
 unfolding under
 under_by P t d h r = go (first_failing t) refl
   where
@@ -46,7 +46,7 @@ under_by P t d h r = go (first_failing t) refl
     go None e = h e
     go (Some x) e = r x
 
-pub unless_by : (P : Deed → Type 0) (x : Option Fault) (d : Deed) → P d → ((f : Fault) → P (answers (Failed f))) → P (unless x d)
+pub unless_by : (P : Served → Type 0) (x : Option Fault) (d : Served) → P d → ((f : Fault) → P (answers (Failed f))) → P (unless x d)
 unfolding unless
 unless_by P None d h r = h
 unless_by P (Some f) d h r = r f
@@ -57,7 +57,7 @@ RefersTo (Obj m) n = m ≡ n
 RefersTo (Arr m len) n = m ≡ n
 RefersTo v n = ⊥
 
-pub on_thing_by : (P : Deed → Type 0) (r : Value) (go : Name → Deed) → ((n : Name) → RefersTo r n → P (go n)) → ((f : Fault) → P (answers (Failed f))) → P (on_thing r go)
+pub on_thing_by : (P : Served → Type 0) (r : Value) (go : Name → Served) → ((n : Name) → RefersTo r n → P (go n)) → ((f : Fault) → P (answers (Failed f))) → P (on_thing r go)
 unfolding on_thing
 on_thing_by P (Obj n) go h k = h n refl
 on_thing_by P (Arr n len) go h k = h n refl
@@ -73,14 +73,14 @@ listed_thing l ns (Obj m) n h e may = sym (ap (λ (k : Name). k.own) e) ∙ list
 listed_thing l ns (Arr m len) n h e may = sym (ap (λ (k : Name). k.own) e) ∙ listed_own l m ns h may
 listed_thing l ns v n h e may = absurd e
 
--- ---- what holds of each deed
+-- ---- what holds of each service
 
 abbrev pub may_release : Ask → Bool
 may_release (CopyTo r l) = true
 may_release (Enter l k region args) = true
 may_release a = false
 
-pub record IsProper (w : World) (c : Context) (a : Ask) (d : Deed) : Type 0 where
+pub record IsProper (w : World) (c : Context) (a : Ask) (d : Served) : Type 0 where
   -- a region is made where it is entered, and a monitor that is taken has the acting label
   pub fits : Fits c a d.answer d.made
   pub own : KeepsOwn c.label a d.answer
@@ -100,13 +100,13 @@ failed w c a f = record { fits = tt; own = tt; above = λ e. refl; openly = λ o
 given : (w : World) (c : Context) (a : Ask) (v : Value) → IsProper w c a (answers (Val v))
 given w c a v = record { fits = tt; own = tt; above = λ e. refl; openly = λ o s. tt; hidden = λ s may o h. tt }
 
-ruled : (w : World) (c : Context) (a : Ask) (t : Test) (d : Deed) → (first_failing t ≡ None → IsProper w c a d) → IsProper w c a (under t d)
+ruled : (w : World) (c : Context) (a : Ask) (t : Test) (d : Served) → (first_failing t ≡ None → IsProper w c a d) → IsProper w c a (under t d)
 ruled w c a t d h = under_by (IsProper w c a) t d h (refused w c a)
 
-faulted : (w : World) (c : Context) (a : Ask) (x : Option Fault) (d : Deed) → IsProper w c a d → IsProper w c a (unless x d)
+faulted : (w : World) (c : Context) (a : Ask) (x : Option Fault) (d : Served) → IsProper w c a d → IsProper w c a (unless x d)
 faulted w c a x d h = unless_by (IsProper w c a) x d h (failed w c a)
 
-referred : (w : World) (c : Context) (a : Ask) (r : Value) (go : Name → Deed) → ((n : Name) → RefersTo r n → IsProper w c a (go n)) → IsProper w c a (on_thing r go)
+referred : (w : World) (c : Context) (a : Ask) (r : Value) (go : Name → Served) → ((n : Name) → RefersTo r n → IsProper w c a (go n)) → IsProper w c a (on_thing r go)
 referred w c a r go h = on_thing_by (IsProper w c a) r go h (failed w c a)
 
 -- what is public, where the acting label is

@@ -31,13 +31,13 @@ use Rattle.lam_asks.specs.declared.ask.Ask.TheVariants.{Read, Write, New, CopyTo
 use Rattle.thread_steps.specs.Threads.{Context}
 use Rattle.lam_machine_terms.specs.Limits.{most_tags, most_threads}
 use Rattle.lam_machine_terms.specs.Worlds.{World}
-use Rattle.lam_machine_terms.specs.Deeds.{Effect, takes_tag, takes_monitor, adds_thing, adds_copy, adds_file, adds_dir, adds_pipe, adds_thread, removes, receives, a_thing, a_file, a_dir, a_pipe, a_thread, Deed, answers, does, gives, makes, unless_denied, under, unless, full, on_thing}
+use Rattle.lam_machine_terms.specs.Serves.{Effect, takes_tag, takes_monitor, adds_thing, adds_copy, adds_file, adds_dir, adds_pipe, adds_thread, removes, receives, a_thing, a_file, a_dir, a_pipe, a_thread, Served, answers, does, gives, makes, unless_denied, under, unless, full, on_thing}
 use Rattle.lam_machine_terms.specs.Serving.{reference, renamed, file_faults, opened, absent, received, ended_with, served_by, publicly, serve}
 use Rattle.lam_machine_laws.proofs.FlowLemmas.{flows_trans, each_passes, read_passes, same_passes, mint_passes}
 use Rattle.lam_machine_laws.proofs.AlikeLemmas.{Alike}
 use Rattle.lam_machine_laws.proofs.EffectLemmas.{count_same}
 
-under_same : (t : Test) (d d' : Deed) → (first_failing t ≡ None → d ≡ d') → under t d ≡ under t d'
+under_same : (t : Test) (d d' : Served) → (first_failing t ≡ None → d ≡ d') → under t d ≡ under t d'
 unfolding under
 under_same t d d' h = go (first_failing t) refl
   where
@@ -45,7 +45,7 @@ under_same t d d' h = go (first_failing t) refl
     go None e = h e
     go (Some x) e = refl
 
-on_thing_same : (r : Value) (go go' : Name → Deed) → ((n : Name) → go n ≡ go' n) → on_thing r go ≡ on_thing r go'
+on_thing_same : (r : Value) (go go' : Name → Served) → ((n : Name) → go n ≡ go' n) → on_thing r go ≡ on_thing r go'
 unfolding on_thing
 on_thing_same (Obj n) go go' h = h n
 on_thing_same (Arr n len) go go' h = h n
@@ -58,8 +58,8 @@ read_seen o p x s e = flows_trans x p o (read_passes p x e) s
 same_seen : (o p x : Label) → flows p o ≡ true → first_failing (same_test p x) ≡ None → flows x o ≡ true
 same_seen o p x s e = ap (λ l. flows l o) (same_passes p x e) ∙ s
 
--- deeds by the numbers that they hang on
-abbrev created : Home → (Name → Value) → Effect → ℕ → List Value → Deed
+-- services by the numbers that they hang on
+abbrev created : Home → (Name → Value) → Effect → ℕ → List Value → Served
 created home refer e k slots = unless (full k most_things HomeFull) (makes (refer (name_of home k)) e (a_thing (name_of home k) (refer (name_of home k)) slots))
 
 -- why nothing is made in a directory, by its entries and the number that it would get

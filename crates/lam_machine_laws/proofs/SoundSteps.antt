@@ -20,7 +20,6 @@ use Rattle.labelled_files.proofs.SoundLemmas.{sound_file, sound_dir, sound_bytes
 use Rattle.labelled_pipes.specs.Queues as pipes
 use Rattle.labelled_pipes.specs.Queues.{Queues, most_pipes}
 use Rattle.labelled_pipes.proofs.QueueLemmas.{sound_pipe, sound_changed}
-use Rattle.lam_asks.specs.declared.fault.Fault.{Fault}
 use Rattle.lam_asks.specs.declared.fault.Fault.TheVariants.{Deep, HomeFull}
 use Rattle.lam_asks.specs.declared.ask.Ask.{Ask}
 use Rattle.lam_asks.specs.declared.ask.Ask.TheVariants as ask
@@ -29,8 +28,7 @@ use Rattle.thread_steps.specs.Threads.{Context, Thread}
 use Rattle.thread_steps.specs.Next.{Next, goes, asks, stuck, next_of, started, takes}
 use Rattle.lam_machine_terms.specs.Limits.{most_tags, most_threads}
 use Rattle.lam_machine_terms.specs.Worlds.{World, with_thread}
-use Rattle.lam_machine_terms.specs.Deeds.{Effect, nothing, takes_tag, sets_slot, adds_thing, adds_copy, takes_monitor, gives_back, drops, adds_file, adds_dir, removes, appends, cuts, adds_pipe, sends, receives, adds_thread, effect_of, Deed, answers, unless, full}
-use Rattle.lam_asks.specs.declared.answer.Answer.TheVariants.{Failed}
+use Rattle.lam_machine_terms.specs.Serves.{Effect, nothing, takes_tag, sets_slot, adds_thing, adds_copy, takes_monitor, gives_back, drops, adds_file, adds_dir, removes, appends, cuts, adds_pipe, sends, receives, adds_thread, effect_of, Served, full}
 use Rattle.lam_machine_terms.specs.Serving.{served_by, publicly, serve}
 use Rattle.lam_machine_terms.specs.Turns.{is_ready, Moment, goes_on, served, turn_by}
 use Rattle.lam_machine_laws.proofs.ThreadLemmas.{some_inj, length-set}
@@ -54,13 +52,8 @@ HasRoom w (adds_pipe home) = count_in w.pipes.counts home < most_pipes
 HasRoom w (adds_thread unit args caps) = length w.threads < most_threads
 HasRoom w e = Unit {0}
 
-abbrev Room : World → Deed → Type 0
+abbrev Room : World → Served → Type 0
 Room w d = HasRoom w d.effect
-
-pub unless_room : (P : Deed → Type 0) (x : Option Fault) (d : Deed) → (x ≡ None → P d) → ((f : Fault) → P (answers (Failed f))) → P (unless x d)
-unfolding unless
-unless_room P None d h r = h refl
-unless_room P (Some f) d h r = r f
 
 pub living : (w : World) (r : Value) (n : Name) → RefersTo r n → ThingLives w r → IsTrue (contains_key w.heap.slots n)
 living w (Obj m) n e h = subst (λ k. IsTrue (contains_key w.heap.slots k)) e h

@@ -24,7 +24,7 @@ use Rattle.thread_steps.specs.Equal.{same_names}
 use Rattle.thread_steps.specs.Threads.{Inside, Phase, Bottom, Body, Catch, Context, Thread}
 use Rattle.thread_steps.specs.Ops.{is_held, region_in}
 use Rattle.thread_steps.specs.Next.{entry, faulted, with_inside, with_held, given, without, held_by, catch_place, unit_number, catching, gains, done, entered, answered, result_after}
-use Rattle.lam_machine_terms.specs.Deeds.{Made, a_region, a_thing, a_file, a_dir, a_pipe, a_thread}
+use Rattle.lam_machine_terms.specs.Serves.{Made, a_region, a_thing, a_file, a_dir, a_pipe, a_thread}
 use Rattle.lam_machine_terms.specs.Turns.{is_bottom, may_ask}
 use Rattle.lam_machine_terms.specs.Views.{is_seen}
 use Rattle.lam_machine_laws.specs.Isolation.{IsWellLabelled}

@@ -10,7 +10,7 @@ use Rattle.lam_bytecode.specs.Codes.{CodeTree}
 use Rattle.thread_steps.specs.Threads.{Inside, Bottom, Context, Thread}
 use Rattle.thread_steps.specs.Next.{Next, goes, asks, stuck, next_of, with_inside, started, result_after, takes}
 use Rattle.lam_machine_terms.specs.Worlds.{World, thread_at, contexts_in, contexts_at, result_in, with_thread}
-use Rattle.lam_machine_terms.specs.Deeds.{Effect, nothing, takes_tag, sets_slot, adds_thing, adds_copy, takes_monitor, gives_back, drops, adds_file, adds_dir, removes, appends, cuts, adds_pipe, sends, receives, adds_thread, effect_of, Made, a_region, a_thing, a_file, a_dir, a_pipe, a_thread}
+use Rattle.lam_machine_terms.specs.Serves.{Effect, nothing, takes_tag, sets_slot, adds_thing, adds_copy, takes_monitor, gives_back, drops, adds_file, adds_dir, removes, appends, cuts, adds_pipe, sends, receives, adds_thread, effect_of, Made, a_region, a_thing, a_file, a_dir, a_pipe, a_thread}
 use Rattle.lam_machine_terms.specs.Serving.{serve}
 use Rattle.lam_machine_terms.specs.Turns.{is_bottom, may_ask, waits, is_ready, Moment, goes_on, served, turn_by, turn_on, turn_in, step}
 use Rattle.lam_machine_terms.specs.Views.{is_seen, shows, is_noted}

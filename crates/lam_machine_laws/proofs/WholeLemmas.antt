@@ -1,6 +1,6 @@
 -- The whole of two runs.
 use Rattle.std.proofs.Common.{◌≡◌, ℕ, zero, suc, ◌≤◌, Bool, true, false, List, [], ◌∷◌, Option, Some, None, length, take, refl, sym, ap, ◌∙◌, subst, arith}
-use Rattle.std.specs.Prelude.{cond, not, ◌&&◌, ◌||◌, map, slice_get}
+use Rattle.std.specs.Prelude.{cond, map, slice_get}
 use Rattle.flow_labels.specs.declared.Label.{Label}
 use Rattle.flow_labels.specs.Flow.{flows}
 use Rattle.lam_bytecode.specs.Codes.{CodeTree}
@@ -82,10 +82,6 @@ skim code o (t ∷ ts) w v = look (λ u k. skim code o ts u k) (step code w t) r
 record Together (o : Label) (m m' : Moment) : Type 0 where
   entries : entry_of o m ≡ entry_of o m'
   alike : Alike o m.world m'.world
-
-noted_hidden : (a b : Bool) → (a || (not a && b)) ≡ true → a ≡ false → b ≡ true
-noted_hidden true b e f = cc
-noted_hidden false b e f = e
 
 item_turn : (o : Label) (m : Moment) → flows m.event.label o ≡ true → item_of o m ≡ turn m.event.thread
 item_turn o m h = ap (λ b. cond b (turn m.event.thread) (past (release_of m))) h

@@ -17,7 +17,7 @@ use Rattle.lam_asks.specs.declared.ask.Ask.{Ask}
 use Rattle.lam_asks.specs.declared.fault.Fault.TheVariants.{Child, Deep, HomeFull, NoEntry, Null}
 use Rattle.lam_asks.specs.declared.fault.Fault.{Fault}
 use Rattle.lam_machine_laws.specs.Tests.{tests_of}
-use Rattle.lam_machine_terms.specs.Deeds.{Deed, Effect, a_dir, a_file, a_pipe, a_region, a_thing, a_thread, adds_copy, adds_dir, adds_file, adds_pipe, adds_thing, adds_thread, answers, appends, cuts, does, drops, full, gives, gives_back, makes, nothing, receives, removes, sends, sets_slot, takes_monitor, takes_tag, under, unless}
+use Rattle.lam_machine_terms.specs.Serves.{Served, Effect, a_dir, a_file, a_pipe, a_region, a_thing, a_thread, adds_copy, adds_dir, adds_file, adds_pipe, adds_thing, adds_thread, answers, appends, cuts, does, drops, full, gives, gives_back, makes, nothing, receives, removes, sends, sets_slot, takes_monitor, takes_tag, under, unless}
 use Rattle.lam_machine_terms.specs.Limits.{most_tags, most_threads}
 use Rattle.lam_machine_terms.specs.Serving.{absent, file_faults, received, reference, renamed, served_by, slot_at}
 use Rattle.lam_machine_terms.specs.Worlds.{World, result_at}
@@ -71,7 +71,7 @@ fault_by w c a = None
 -- ---- what is done
 
 -- first the tests, then the fault, and where there is neither, what is done
-abbrev pub judged : Test → Option Fault → Deed → Deed
+abbrev pub judged : Test → Option Fault → Served → Served
 judged t f d = under t (unless f d)
 
 -- the thing that a reference leads to. (Any name, for what leads nowhere: that has a fault)
@@ -89,13 +89,13 @@ value_of_end (Some (outcome.Value v)) = v
 value_of_end x = Nothing
 
 -- the next thing of a home
-abbrev pub adds : World → Home → List Value → (Name → Value) → Effect → Deed
+abbrev pub adds : World → Home → List Value → (Name → Value) → Effect → Served
 adds w home slots refer e =
     makes (refer (name_of home (count_in w.heap.counts home))) e
     (a_thing (name_of home (count_in w.heap.counts home)) (refer (name_of home (count_in w.heap.counts home))) slots)
 
 -- what is done for an ask where no test fails and there is no fault
-abbrev pub deed_by : World → Context → Ask → Deed
+abbrev pub deed_by : World → Context → Ask → Served
 deed_by w c (Read r at) = answers (Val (slot_at w.heap (name_in r) at))
 deed_by w c (Write r at v) = does (sets_slot (name_in r) at v)
 deed_by w c (New shape) = adds w (home_of c.label c.label) (slots_of shape) (reference shape) (adds_thing (home_of c.label c.label) (sort_of shape) (slots_of shape))

@@ -19,7 +19,7 @@ use Rattle.lam_bytecode.specs.Codes.{CodeTree}
 use Rattle.thread_steps.specs.Threads.{Phase, Bottom, Body, Catch, Context}
 use Rattle.thread_steps.specs.Next.{asks, next_of}
 use Rattle.lam_machine_terms.specs.Worlds.{World, thread_at, contexts_at}
-use Rattle.lam_machine_terms.specs.Deeds.{Made, made_label}
+use Rattle.lam_machine_terms.specs.Serves.{Made, made_label}
 use Rattle.lam_machine_terms.specs.Turns.{Moment, step, moments}
 use Rattle.lam_machine_terms.specs.Views.{is_release, release_of}
 use Rattle.lam_machine_laws.specs.Own.{done_by}

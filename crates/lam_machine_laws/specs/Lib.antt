@@ -4,3 +4,5 @@ pub mod Laws
 pub mod Tests
 pub mod Judged
 pub mod Own
+pub mod Turned
+pub mod Ready

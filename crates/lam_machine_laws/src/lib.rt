@@ -9,8 +9,12 @@
 //!   allowed by capabilities that the acting context holds or that are public, no context gets capabilities but by minting,
 //!   receiving and entering, and no turn changes what is public; what is refused, and by which rule.
 //! - `specs/Judged`: each ask once, by its tests, its fault and what is done. Tables over all asks are read off from it.
+//! - `turn_parts`: a turn that asks is made of the service of its ask, what the answer does to the thread, and what the
+//!   effect does to the stores (`specs/Turned`), and a service that is ready has room (`specs/Ready`).
 //! - `specs/Own`: a thread of a run is that thread with its own turns and the answers that it got.
 #![tactic(auto)]
+
+mod turn_parts;
 
 ghost use Rattle.flow_labels.specs.declared.Label.{Label};
 ghost use Rattle.lam_bytecode.specs.Codes.{CodeTree};
@@ -20,6 +24,8 @@ ghost use Rattle.lam_machine_laws.specs.Tests.{RefusalsNameTheFirst, RefusalsCha
 ghost use Rattle.lam_machine_laws.specs.Judged.{AsksAreJudged};
 ghost use Rattle.lam_machine_laws.specs.Laws.{ContextsComeBack, FaultsAreHandled, ReleasesAreAllowed, CapsDoNotGrow, PublicStay};
 ghost use Rattle.lam_machine_laws.specs.Own.{TurnsTouchTheirThread, ThreadsFollowTheirTurns};
+
+pub use turn_parts::{served_has_room, turns_have_parts};
 
 /// In every valid world each first context is public, and the monitors that a context lists have its label. Every turn of
 /// every code keeps that.

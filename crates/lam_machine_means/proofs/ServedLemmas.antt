@@ -29,7 +29,7 @@ use Rattle.lam_bytecode.specs.Codes.{CodeTree}
 use Rattle.thread_steps.specs.Threads.{Inside, Context, Thread}
 use Rattle.thread_steps.specs.Next.{Next, goes, asks, stuck, next_of, with_inside, started, result_after, takes}
 use Rattle.lam_machine_terms.specs.Worlds.{World, thread_at, result_in, result_at, with_thread}
-use Rattle.lam_machine_terms.specs.Deeds.{Effect, sets_slot, adds_thing, adds_copy, adds_thread, effect_of, Deed, answers, under, unless, on_thing}
+use Rattle.lam_machine_terms.specs.Serves.{Effect, sets_slot, adds_thing, adds_copy, adds_thread, effect_of, Served, answers, under, unless, on_thing}
 use Rattle.lam_machine_terms.specs.Serving.{slot_at, renamed, opened, received, ended_with, serve}
 use Rattle.lam_machine_terms.specs.Turns.{is_ready, Moment, goes_on, served, turn_by}
 use Rattle.lam_machine_terms.specs.Valid.{AreSoundStores}
@@ -42,15 +42,15 @@ use Rattle.lam_machine_means.specs.Typing.{Thing, an_object, an_array, Typing, E
 use Rattle.lam_machine_means.specs.Served.{IsNumber, IsAsk, given_type, IsAnswer, AsksTyped, AnsweredTyped, IsTypedWorld, TurnsAreTyped}
 use Rattle.lam_machine_means.proofs.HeapLemmas.{are_on, are_get, set_typed, first_fields, first_elements, with_name, name_there, name_extends, made_typed}
 
--- what a deed leaves on the heap and answers is typed, by a typing that only grew
-record TypedBy (classes : Classes) (G : Typing) (code : CodeTree) (t : ℕ) (w : World) (wanted : ResolvedType) (a : Ask) (d : Deed) : Type 0 where
+-- what a service leaves on the heap and answers is typed, by a typing that only grew
+record TypedBy (classes : Classes) (G : Typing) (code : CodeTree) (t : ℕ) (w : World) (wanted : ResolvedType) (a : Ask) (d : Served) : Type 0 where
   typing : Typing
   more : Extends G typing
   slots : AreSlots classes typing (effect_of code t d.effect w).heap.slots
   answer : IsAnswer typing (given_type wanted a) d.answer
 
 module _ (classes : Classes) (G : Typing) (code : CodeTree) (t : ℕ) (w : World) (sound : AreSoundStores w) (typed : AreSlots classes G w.heap.slots) (results : (t : ℕ) (r : Outcome) → result_at w t ≡ Some r → IsNumber r) (c : Context) (wanted : ResolvedType) where
-  abbrev Typed : Ask → Deed → Type 0
+  abbrev Typed : Ask → Served → Type 0
   Typed a d = TypedBy classes G code t w wanted a d
 
   refused : (a : Ask) (x : Denied) → Typed a (answers (Refused x))
@@ -59,20 +59,20 @@ module _ (classes : Classes) (G : Typing) (code : CodeTree) (t : ℕ) (w : World
   failed : (a : Ask) (f : Fault) → Typed a (answers (Failed f))
   failed a f = record { typing = G; more = λ n x e. e; slots = typed; answer = tt }
 
-  ruled : (a : Ask) (test : Test) (d : Deed) → Typed a d → Typed a (under test d)
+  ruled : (a : Ask) (test : Test) (d : Served) → Typed a d → Typed a (under test d)
   ruled a test d h = under_by (Typed a) test d (λ x. h) (refused a)
 
-  unfailing : (a : Ask) (f : Option Fault) (d : Deed) → Typed a d → Typed a (unless f d)
+  unfailing : (a : Ask) (f : Option Fault) (d : Served) → Typed a d → Typed a (unless f d)
   unfailing a f d h = unless_by (Typed a) f d h (failed a)
 
   -- a test, and then a fault
-  both : (a : Ask) (test : Test) (f : Option Fault) (d : Deed) → Typed a d → Typed a (under test (unless f d))
+  both : (a : Ask) (test : Test) (f : Option Fault) (d : Served) → Typed a d → Typed a (under test (unless f d))
   both a test f d h = ruled a test (unless f d) (unfailing a f d h)
 
-  leading : (a : Ask) (r : Value) (go : Name → Deed) → ((n : Name) → Typed a (go n)) → Typed a (on_thing r go)
+  leading : (a : Ask) (r : Value) (go : Name → Served) → ((n : Name) → Typed a (go n)) → Typed a (on_thing r go)
   leading a r go h = on_thing_by (Typed a) r go (λ n e. h n) (failed a)
 
-  through : (a : Ask) (r : Value) (n : Name) (go : Name → Deed) → LeadsTo r n → Typed a (go n) → Typed a (on_thing r go)
+  through : (a : Ask) (r : Value) (n : Name) (go : Name → Served) → LeadsTo r n → Typed a (go n) → Typed a (on_thing r go)
   through a r n go e h = subst (Typed a) (sym (followed r n go e)) h
 
   slot_typed : (n : Name) (x : Thing) (at : ℕ) (u : ResolvedType) → G n ≡ Some x → slice_get (slot_types classes x) at ≡ Some u → Is G u (slot_at w.heap n at)

@@ -18,7 +18,7 @@ use Rattle.lam_bytecode.specs.Codes.{CodeTree}
 use Rattle.thread_steps.specs.Threads.{Inside, Context, Thread}
 use Rattle.thread_steps.specs.Next.{Next, goes, asks, stuck, next_of, takes}
 use Rattle.lam_machine_terms.specs.Worlds.{World, thread_at, contexts_in, with_thread}
-use Rattle.lam_machine_terms.specs.Deeds.{Deed}
+use Rattle.lam_machine_terms.specs.Serves.{Served}
 use Rattle.lam_machine_terms.specs.Serving.{renamed, serve}
 use Rattle.lam_machine_terms.specs.Turns.{is_ready, Moment, served, turn_by}
 use Rattle.lam_machine_laws.proofs.ThreadLemmas.{some_inj}
@@ -51,7 +51,7 @@ other_label (Val v) (CopyTo r l) e = absurd (true≢false e)
 other_label x a e = refl
 
 module _ (code : CodeTree) (w : World) (t : ℕ) (th : Thread) (c : Context) (rest : List Context) (i : Inside) (at : thread_at w t ≡ Some th) where
-  abbrev Tells : Ask → Deed → Type 0
+  abbrev Tells : Ask → Served → Type 0
   Tells a d = IsToldBy (served code w t th c rest a i d) (product_label (Asked a d.answer))
 
   entry_told : (l : Label) (k : Caps) (region : ℕ) (args : List Value) → Tells (Enter l k region args) (serve w c (Enter l k region args))

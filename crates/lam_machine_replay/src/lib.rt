@@ -7,7 +7,7 @@
 //!
 //! - an observer, which is its label, for what it sees ([`seen_by`], `specs/Viewed`);
 //! - an [`Auditor`] for each release and each refusal ([`noted_in`], `specs/Audited`);
-//! - and a [`Counter`] for how often something is said, released and refused ([`sums_of`], `specs/Counted`).
+//! - and a [`Counter`] for how often something is said, released and refused (`specs/Counted`).
 //!
 //! `telling` has what a turn made: a region that was entered, or a copy, with all that is in it. It is read from the
 //! turn's event and the world after it, by [`product_label`] and [`product`], so that no turn copies more than what is
@@ -28,7 +28,7 @@ ghost use Rattle.lam_machine_replay.specs.Laws.{CopiesAreLiving, PublicStayInRun
 ghost use Rattle.lam_machine_replay.specs.Told.{ProductsAreTold};
 
 pub use auditing::{Auditor, noted_in, taken};
-pub use counting::{Counter, sums_of};
+pub use counting::Counter;
 pub use fault::RunFault;
 pub use keeping::{Keeps, keep_turns};
 pub use lam_machine::World;

@@ -11,24 +11,24 @@ use Rattle.lam_asks.specs.declared.ask.Ask.{Ask}
 use Rattle.lam_asks.specs.declared.ask.Ask.TheVariants.{Join}
 use Rattle.thread_steps.specs.Threads.{Context}
 use Rattle.lam_machine_terms.specs.Worlds.{World, result_at}
-use Rattle.lam_machine_terms.specs.Deeds.{drops, does}
+use Rattle.lam_machine_terms.specs.Serves.{drops, does}
 use Rattle.lam_machine_terms.specs.Serving.{publicly, served_by, serve}
 use Rattle.lam_machine_effects.specs.declared.stores.Stores.{Stores}
-use Rattle.lam_machine_effects.specs.declared.deed.Deed.{Deed}
+use Rattle.lam_machine_effects.specs.declared.served.Served.{Served}
 use Rattle.lam_machine_effects.specs.Meaning.{DoesAs}
 use Rattle.lam_machine_rows.specs.Acting.{Acting}
 use Rattle.lam_machine_rows.specs.Rows.{Serves, with_tags, with_heap, with_monitors, with_files, with_pipes, at_label, acting_by, at_depth}
 use Rattle.lam_machine_rows.specs.Serves.{ReadsWorld}
 
 -- what is promised of all rows
-abbrev pub ServesAll : Ask → Stores → ℕ → Option Outcome → Acting → Deed → Type 0
+abbrev pub ServesAll : Ask → Stores → ℕ → Option Outcome → Acting → Served → Type 0
 ServesAll a s n o who d = (w : World) (c : Context) → ReadsWorld w c a s n o who → DoesAs d (serve w c a)
 
 -- an ask that is another one is served alike
-pub moved : (a b : Ask) (s : Stores) (n : ℕ) (o : Option Outcome) (who : Acting) (d : Deed) → b ≡ a → ServesAll a s n o who d → ServesAll b s n o who d
+pub moved : (a b : Ask) (s : Stores) (n : ℕ) (o : Option Outcome) (who : Acting) (d : Served) → b ≡ a → ServesAll a s n o who d → ServesAll b s n o who d
 moved a b s n o who d e serves = subst (λ x. ServesAll x s n o who d) (sym e) serves
 
-pub moved_ok : (a b : Ask) (s : Stores) (n : ℕ) (o : Option Outcome) (who : Acting) (r : Result Deed NoMemory) → b ≡ a → IfOk r (ServesAll a s n o who) → IfOk r (ServesAll b s n o who)
+pub moved_ok : (a b : Ask) (s : Stores) (n : ℕ) (o : Option Outcome) (who : Acting) (r : Result Served NoMemory) → b ≡ a → IfOk r (ServesAll a s n o who) → IfOk r (ServesAll b s n o who)
 moved_ok a b s n o who r e serves = subst (λ x. IfOk r (ServesAll x s n o who)) (sym e) serves
 
 module _ (a : Ask) (s : Stores) (n : ℕ) (o : Option Outcome) (who : Acting) where
@@ -37,13 +37,13 @@ module _ (a : Ask) (s : Stores) (n : ℕ) (o : Option Outcome) (who : Acting) wh
   Has world context =
       (w : World) (c : Context) → ReadsWorld w c a s n o who → (world w ≡ w) × (context (publicly w.public c) ≡ publicly w.public c)
 
-  pub one : (world : World → World) (context : Context → Context) (d : Deed) → Has world context → Serves world context a d → ServesAll a s n o who d
+  pub one : (world : World → World) (context : Context → Context) (d : Served) → Has world context → Serves world context a d → ServesAll a s n o who d
   one world context d has serves w c h =
       let p = has w c h in
       let k = publicly w.public c in
       subst (λ x. DoesAs d (served_by w x a)) p.1 (subst (λ v. DoesAs d (served_by v (context k) a)) p.0 (serves w k))
 
-  pub each : (world : World → World) (context : Context → Context) (r : Result Deed NoMemory) → Has world context → IfOk r (Serves world context a) → IfOk r (ServesAll a s n o who)
+  pub each : (world : World → World) (context : Context → Context) (r : Result Served NoMemory) → Has world context → IfOk r (Serves world context a) → IfOk r (ServesAll a s n o who)
   each world context (Ok d) has serves = one world context d has serves
   each world context (Err e) has serves = tt
 
@@ -81,16 +81,16 @@ module _ (a : Ask) (s : Stores) (n : ℕ) (o : Option Outcome) (who : Acting) wh
         ∙ ap (λ (t : Stores). at_depth c.label (joined c.caps t.public) c.depth (publicly w.public c)) (sym h.stores))
 
   -- a row that gives back the monitors of the context
-  pub released : (ns : List Name) (r : Result Deed NoMemory) → ns ≡ who.held → IfOk r (λ d. DoesAs d (does (drops ns))) → IfOk r (λ d. (w : World) (c : Context) → ReadsWorld w c a s n o who → DoesAs d (does (drops c.held)))
+  pub released : (ns : List Name) (r : Result Served NoMemory) → ns ≡ who.held → IfOk r (λ d. DoesAs d (does (drops ns))) → IfOk r (λ d. (w : World) (c : Context) → ReadsWorld w c a s n o who → DoesAs d (does (drops c.held)))
   released ns (Ok d) e h = λ w c k. subst (λ ms. DoesAs d (does (drops ms))) (e ∙ ap (λ (x : Acting). x.held) (sym k.acting)) h
   released ns (Err e) f h = tt
 
   -- a row that reads how many threads there are
-  pub among : (p : Label) (k : Caps) (r : Result Deed NoMemory) → p ≡ who.label → k ≡ who.caps → IfOk r (λ d. (w : World) (c : Context) → length w.threads ≡ n → DoesAs d (served_by w (acting_by p (joined k s.public) c) a)) → IfOk r (ServesAll a s n o who)
+  pub among : (p : Label) (k : Caps) (r : Result Served NoMemory) → p ≡ who.label → k ≡ who.caps → IfOk r (λ d. (w : World) (c : Context) → length w.threads ≡ n → DoesAs d (served_by w (acting_by p (joined k s.public) c) a)) → IfOk r (ServesAll a s n o who)
   among p k (Ok d) e f serves = λ w c h. subst (λ x. DoesAs d (served_by w x a)) (caps_is w c h p k e f) (serves w (publicly w.public c) h.threads)
   among p k (Err x) e f serves = tt
 
 -- a row that reads how a thread ended
-pub joining : (t : ℕ) (s : Stores) (n : ℕ) (o : Option Outcome) (who : Acting) (p : Label) (r : Result Deed NoMemory) → p ≡ who.label → IfOk r (λ d. (w : World) (c : Context) (u : ℕ) → result_at w u ≡ o → DoesAs d (served_by w (at_label p c) (Join u))) → IfOk r (ServesAll (Join t) s n o who)
+pub joining : (t : ℕ) (s : Stores) (n : ℕ) (o : Option Outcome) (who : Acting) (p : Label) (r : Result Served NoMemory) → p ≡ who.label → IfOk r (λ d. (w : World) (c : Context) (u : ℕ) → result_at w u ≡ o → DoesAs d (served_by w (at_label p c) (Join u))) → IfOk r (ServesAll (Join t) s n o who)
 joining t s n o who p (Ok d) e serves = λ w c h. subst (λ x. DoesAs d (served_by w x (Join t))) (label_is (Join t) s n o who w c h p e) (serves w (publicly w.public c) t h.ended)
 joining t s n o who p (Err x) e serves = tt

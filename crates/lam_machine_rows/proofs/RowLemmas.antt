@@ -1,4 +1,4 @@
--- What a row owes at each of its returns: what its deed stands under, and the deed itself.
+-- What a row owes at each of its returns: what its service stands under, and the service itself.
 use Rattle.std.proofs.Common.{◌≡◌, Option, Some, None, Result, Ok, Err, IfOk, refl, sym, ap, subst}
 use Rattle.want_of_memory.specs.declared.NoMemory.{NoMemory}
 use Rattle.flow_labels.specs.declared.Denied.{Denied}
@@ -12,9 +12,9 @@ use Rattle.lam_asks.specs.declared.answer.Answer.{Answer}
 use Rattle.lam_asks.specs.declared.answer.Answer.TheVariants.{Done, Val, Refused, Failed}
 use Rattle.thread_steps.specs.Threads.{Context}
 use Rattle.lam_machine_terms.specs.Worlds.{World}
-use Rattle.lam_machine_terms.specs.Deeds as told
-use Rattle.lam_machine_terms.specs.Deeds.{answers, does, gives, makes, unless_denied, under, unless, on_thing, Made}
-use Rattle.lam_machine_effects.specs.declared.deed.Deed.{Deed}
+use Rattle.lam_machine_terms.specs.Serves as told
+use Rattle.lam_machine_terms.specs.Serves.{answers, does, gives, makes, unless_denied, under, unless, on_thing, Made}
+use Rattle.lam_machine_effects.specs.declared.served.Served.{Served}
 use Rattle.lam_machine_effects.specs.declared.effect.Effect.{Effect}
 use Rattle.lam_machine_effects.specs.declared.effect.Effect.TheVariants.{Nothing}
 use Rattle.lam_machine_effects.specs.Meaning.{meaning, DoesAs}
@@ -23,76 +23,73 @@ use Rattle.lam_machine_rows.specs.Rows.{thing_of}
 some_inj : {A : Type 0} (x y : A) → Some x ≡ Some y → x ≡ y
 some_inj x y e = cc
 
--- ---- deeds
+-- ---- services
 
-pub answers_as : (d : Deed) (x y : Answer) → d ≡ record { answer = x; effect = Nothing } → x ≡ y → DoesAs d (answers y)
-answers_as d x y is e = subst (λ (k : Deed). DoesAs k (answers y)) (sym is) (record { answer = e; effect = refl })
+pub answers_as : (d : Served) (x y : Answer) → d ≡ record { answer = x; effect = Nothing } → x ≡ y → DoesAs d (answers y)
+answers_as d x y is e = subst (λ (k : Served). DoesAs k (answers y)) (sym is) (record { answer = e; effect = refl })
 
-pub does_as : (d : Deed) (e : Effect) (f : told.Effect) → d ≡ record { answer = Done; effect = e } → meaning e ≡ f → DoesAs d (does f)
-does_as d e f is same = subst (λ (k : Deed). DoesAs k (does f)) (sym is) (record { answer = refl; effect = same })
+pub does_as : (d : Served) (e : Effect) (f : told.Effect) → d ≡ record { answer = Done; effect = e } → meaning e ≡ f → DoesAs d (does f)
+does_as d e f is same = subst (λ (k : Served). DoesAs k (does f)) (sym is) (record { answer = refl; effect = same })
 
-pub gives_as : (d : Deed) (v u : Value) (e : Effect) (f : told.Effect) → d ≡ record { answer = Val v; effect = e } → v ≡ u → meaning e ≡ f → DoesAs d (gives u f)
-gives_as d v u e f is value same = subst (λ (k : Deed). DoesAs k (gives u f)) (sym is) (record { answer = ap Val value; effect = same })
-
-pub makes_as : (d : Deed) (v u : Value) (e : Effect) (f : told.Effect) (m : Made) → d ≡ record { answer = Val v; effect = e } → v ≡ u → meaning e ≡ f → DoesAs d (makes u f m)
-makes_as d v u e f m is value same = subst (λ (k : Deed). DoesAs k (makes u f m)) (sym is) (record { answer = ap Val value; effect = same })
+pub gives_as : (d : Served) (v u : Value) (e : Effect) (f : told.Effect) → d ≡ record { answer = Val v; effect = e } → v ≡ u → meaning e ≡ f → DoesAs d (gives u f)
+gives_as d v u e f is value same = subst (λ (k : Served). DoesAs k (gives u f)) (sym is) (record { answer = ap Val value; effect = same })
 
 -- ---- what they stand under
 
-pub refused_as : (d : Deed) (t : Test) (e : told.Deed) (x : Denied) → d ≡ record { answer = Refused x; effect = Nothing } → Some x ≡ first_failing t → DoesAs d (under t e)
+pub refused_as : (d : Served) (t : Test) (e : told.Served) (x : Denied) → d ≡ record { answer = Refused x; effect = Nothing } → Some x ≡ first_failing t → DoesAs d (under t e)
 unfolding under
 refused_as d t e x is first = subst (λ (y : Option Denied). DoesAs d (unless_denied y e)) first (answers_as d (Refused x) (Refused x) is refl)
 
-pub passes_as : (d : Deed) (t : Test) (e : told.Deed) → None ≡ first_failing t → DoesAs d e → DoesAs d (under t e)
+pub passes_as : (d : Served) (t : Test) (e : told.Served) → None ≡ first_failing t → DoesAs d e → DoesAs d (under t e)
 unfolding under
 passes_as d t e first h = subst (λ (y : Option Denied). DoesAs d (unless_denied y e)) first h
 
-pub fails_as : (d : Deed) (o : Option Fault) (e : told.Deed) (f : Fault) → d ≡ record { answer = Failed f; effect = Nothing } → Some f ≡ o → DoesAs d (unless o e)
+pub fails_as : (d : Served) (o : Option Fault) (e : told.Served) (f : Fault) → d ≡ record { answer = Failed f; effect = Nothing } → Some f ≡ o → DoesAs d (unless o e)
 unfolding unless
 fails_as d o e f is there = subst (λ (y : Option Fault). DoesAs d (unless y e)) there (answers_as d (Failed f) (Failed f) is refl)
 
-pub holds_as : (d : Deed) (o : Option Fault) (e : told.Deed) → None ≡ o → DoesAs d e → DoesAs d (unless o e)
+pub holds_as : (d : Served) (o : Option Fault) (e : told.Served) → None ≡ o → DoesAs d e → DoesAs d (unless o e)
 unfolding unless
 holds_as d o e there h = subst (λ (y : Option Fault). DoesAs d (unless y e)) there h
 
-pub null_as : (d : Deed) (r : Value) (go : Name → told.Deed) → d ≡ record { answer = Failed Null; effect = Nothing } → None ≡ thing_of r → DoesAs d (on_thing r go)
+pub null_as : (d : Served) (r : Value) (go : Name → told.Served) → d ≡ record { answer = Failed Null; effect = Nothing } → None ≡ thing_of r → DoesAs d (on_thing r go)
 unfolding on_thing
 null_as d (Obj n) go is e = absurd cc
 null_as d (Arr n len) go is e = absurd cc
 null_as d r go is e = answers_as d (Failed Null) (Failed Null) is refl
 
-pub thing_as : (d : Deed) (r : Value) (n : Name) (go : Name → told.Deed) → Some n ≡ thing_of r → DoesAs d (go n) → DoesAs d (on_thing r go)
+pub thing_as : (d : Served) (r : Value) (n : Name) (go : Name → told.Served) → Some n ≡ thing_of r → DoesAs d (go n) → DoesAs d (on_thing r go)
 unfolding on_thing
 thing_as d (Obj m) n go e h = subst (λ k. DoesAs d (go k)) (some_inj n m e) h
 thing_as d (Arr m len) n go e h = subst (λ k. DoesAs d (go k)) (some_inj n m e) h
 thing_as d r n go e h = absurd cc
 
--- ---- the same of a deed that memory may have been refused to
+-- ---- the same of a service that memory may have been refused to
 
-pub passes_ok : (r : Result Deed NoMemory) (t : Test) (e : told.Deed) → None ≡ first_failing t → IfOk r (λ d. DoesAs d e) → IfOk r (λ d. DoesAs d (under t e))
+pub passes_ok : (r : Result Served NoMemory) (t : Test) (e : told.Served) → None ≡ first_failing t → IfOk r (λ d. DoesAs d e) → IfOk r (λ d. DoesAs d (under t e))
 passes_ok (Ok d) t e first h = passes_as d t e first h
 passes_ok (Err x) t e first h = tt
 
-pub holds_ok : (r : Result Deed NoMemory) (o : Option Fault) (e : told.Deed) → None ≡ o → IfOk r (λ d. DoesAs d e) → IfOk r (λ d. DoesAs d (unless o e))
+pub holds_ok : (r : Result Served NoMemory) (o : Option Fault) (e : told.Served) → None ≡ o → IfOk r (λ d. DoesAs d e) → IfOk r (λ d. DoesAs d (unless o e))
 holds_ok (Ok d) o e there h = holds_as d o e there h
 holds_ok (Err x) o e there h = tt
 
-pub thing_ok : (r : Result Deed NoMemory) (v : Value) (n : Name) (go : Name → told.Deed) → Some n ≡ thing_of v → IfOk r (λ d. DoesAs d (go n)) → IfOk r (λ d. DoesAs d (on_thing v go))
+pub thing_ok : (r : Result Served NoMemory) (v : Value) (n : Name) (go : Name → told.Served) → Some n ≡ thing_of v → IfOk r (λ d. DoesAs d (go n)) → IfOk r (λ d. DoesAs d (on_thing v go))
 thing_ok (Ok d) v n go e h = thing_as d v n go e h
 thing_ok (Err x) v n go e h = tt
 
-pub gives_ok : (r : Result Deed NoMemory) (v u : Value) (f : told.Effect) → v ≡ u → IfOk r (λ d. DoesAs d (gives v f)) → IfOk r (λ d. DoesAs d (gives u f))
+pub gives_ok : (r : Result Served NoMemory) (v u : Value) (f : told.Effect) → v ≡ u → IfOk r (λ d. DoesAs d (gives v f)) → IfOk r (λ d. DoesAs d (gives u f))
 gives_ok r v u f value h = subst (λ x. IfOk r (λ d. DoesAs d (gives x f))) value h
 
-pub makes_ok : (r : Result Deed NoMemory) (v u : Value) (f : told.Effect) (m : Made) → v ≡ u → IfOk r (λ d. DoesAs d (gives v f)) → IfOk r (λ d. DoesAs d (makes u f m))
+pub makes_ok : (r : Result Served NoMemory) (v u : Value) (f : told.Effect) (m : Made) → v ≡ u → IfOk r (λ d. DoesAs d (gives v f)) → IfOk r (λ d. DoesAs d (makes u f m))
 makes_ok (Ok d) v u f m value h = let k : DoesAs d (gives u f) = subst (λ x. DoesAs d (gives x f)) value h in record { answer = k.answer; effect = k.effect }
 makes_ok (Err x) v u f m value h = tt
 
 -- what it is in each world and each context
-pub whole : (r : Result Deed NoMemory) (g : World → Context → told.Deed) → ((w : World) (c : Context) → IfOk r (λ d. DoesAs d (g w c))) → IfOk r (λ d. (w : World) (c : Context) → DoesAs d (g w c))
+pub whole : (r : Result Served NoMemory) (g : World → Context → told.Served) → ((w : World) (c : Context) → IfOk r (λ d. DoesAs d (g w c))) → IfOk r (λ d. (w : World) (c : Context) → DoesAs d (g w c))
 whole (Ok d) g h = h
 whole (Err x) g h = tt
 
-pub whole_where : (r : Result Deed NoMemory) (H : World → Context → Type 0) (g : World → Context → told.Deed) → ((w : World) (c : Context) → H w c → IfOk r (λ d. DoesAs d (g w c))) → IfOk r (λ d. (w : World) (c : Context) → H w c → DoesAs d (g w c))
+pub whole_where : (r : Result Served NoMemory) (H : World → Context → Type 0) (g : World → Context → told.Served) → ((w : World) (c : Context) → H w c → IfOk r (λ d. DoesAs d (g w c))) → IfOk r (λ d. (w : World) (c : Context) → H w c → DoesAs d (g w c))
 whole_where (Ok d) H g h = h
 whole_where (Err x) H g h = tt

@@ -13,7 +13,7 @@ use Rattle.lam_asks.specs.declared.ask.Ask.{Ask}
 use Rattle.thread_steps.specs.Threads.{Context}
 use Rattle.lam_machine_terms.specs.Worlds.{World}
 use Rattle.lam_machine_terms.specs.Serving.{served_by}
-use Rattle.lam_machine_effects.specs.declared.deed.Deed.{Deed}
+use Rattle.lam_machine_effects.specs.declared.served.Served.{Served}
 use Rattle.lam_machine_effects.specs.Meaning.{DoesAs}
 
 -- ---- parts of a world and of a context
@@ -51,9 +51,9 @@ at_depth p k depth c = record c { label = p; caps = k; depth = depth }
 abbrev pub holding : List Name → Context → Context
 holding ns c = record c { held = ns }
 
--- the deed is that of the ask, in each world and each context with these parts, where all that counts as held is among the
+-- the service is that of the ask, in each world and each context with these parts, where all that counts as held is among the
 -- context's own capabilities
-abbrev pub Serves : (World → World) → (Context → Context) → Ask → Deed → Type 0
+abbrev pub Serves : (World → World) → (Context → Context) → Ask → Served → Type 0
 Serves world context a d = (w : World) (c : Context) → DoesAs d (served_by (world w) (context c) a)
 
 -- ---- references

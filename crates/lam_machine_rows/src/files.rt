@@ -9,13 +9,13 @@ ghost use Rattle.lam_asks.specs.declared.ask.Ask.TheVariants as Ask;
 ghost use Rattle.lam_machine_terms.specs.Serving.{fault_of, file_faults, absent};
 ghost use Rattle.lam_machine_rows.specs.Rows.{Serves, any_world, at_label, acting_by, with_files};
 
-use crate::deeds::{did, given};
 use crate::rules::{entry_rule, remove_rule};
+use crate::services::{did, given};
 use capabilities::Caps;
 use flow_labels::{Label, read_rule, write_rule};
 use labelled_files::{EntryKind, FileFault, Files};
 use lam_asks::Fault;
-use lam_machine_effects::{Deed, Effect};
+use lam_machine_effects::{Effect, Served};
 use lam_value::{ByteText, Name, Value};
 use want_of_memory::NoMemory;
 
@@ -28,14 +28,14 @@ pub fn make_file(
     dir: &Name,
     entry: &ByteText,
     own: &Label,
-) -> Result<Deed, NoMemory>
+) -> Result<Served, NoMemory>
     ensures { IfOk result (Serves (with_files files.now) (acting_by p.now (joined caps.now public.now)) (Ask.MakeFile dir.now entry.now own.now)) }
 {
     if let Some(denied) = entry_rule(p, caps, public, dir.own(), own) {
-        return Ok(Deed::refused(denied));
+        return Ok(Served::refused(denied));
     }
     if let Some(fault) = first_fault(files, dir, entry, p, own) {
-        return Ok(Deed::failed(fault));
+        return Ok(Served::failed(fault));
     }
     let name = next_name(files, p, own)?;
     given(Value::File(name), Effect::adds_file(dir, entry, p, own))
@@ -50,14 +50,14 @@ pub fn make_dir(
     dir: &Name,
     entry: &ByteText,
     own: &Label,
-) -> Result<Deed, NoMemory>
+) -> Result<Served, NoMemory>
     ensures { IfOk result (Serves (with_files files.now) (acting_by p.now (joined caps.now public.now)) (Ask.MakeDir dir.now entry.now own.now)) }
 {
     if let Some(denied) = entry_rule(p, caps, public, dir.own(), own) {
-        return Ok(Deed::refused(denied));
+        return Ok(Served::refused(denied));
     }
     if let Some(fault) = first_fault(files, dir, entry, p, own) {
-        return Ok(Deed::failed(fault));
+        return Ok(Served::failed(fault));
     }
     let name = next_name(files, p, own)?;
     given(Value::Dir(name), Effect::adds_dir(dir, entry, p, own))
@@ -94,42 +94,42 @@ fn next_name(files: &Files, p: &Label, own: &Label) -> Result<Name, NoMemory>
 }
 
 /// The file of an entry.
-pub fn open_file(files: &Files, p: &Label, dir: &Name, entry: &ByteText) -> Result<Deed, NoMemory>
+pub fn open_file(files: &Files, p: &Label, dir: &Name, entry: &ByteText) -> Result<Served, NoMemory>
     ensures { IfOk result (Serves (with_files files.now) (at_label p.now) (Ask.OpenFile dir.now entry.now)) }
 {
     if let Some(denied) = read_rule(p, dir.own()) {
-        return Ok(Deed::refused(denied));
+        return Ok(Served::refused(denied));
     }
     let Some(name) = files.look_up(dir, entry.bytes(), EntryKind::File) else {
-        return Ok(Deed::failed(Fault::NoEntry));
+        return Ok(Served::failed(Fault::NoEntry));
     };
     let name = name.copy()?;
-    Ok(Deed::gives(Value::File(name), Effect::Nothing))
+    Ok(Served::gives(Value::File(name), Effect::Nothing))
 }
 
 /// The directory of an entry.
-pub fn open_dir(files: &Files, p: &Label, dir: &Name, entry: &ByteText) -> Result<Deed, NoMemory>
+pub fn open_dir(files: &Files, p: &Label, dir: &Name, entry: &ByteText) -> Result<Served, NoMemory>
     ensures { IfOk result (Serves (with_files files.now) (at_label p.now) (Ask.OpenDir dir.now entry.now)) }
 {
     if let Some(denied) = read_rule(p, dir.own()) {
-        return Ok(Deed::refused(denied));
+        return Ok(Served::refused(denied));
     }
     let Some(name) = files.look_up(dir, entry.bytes(), EntryKind::Dir) else {
-        return Ok(Deed::failed(Fault::NoEntry));
+        return Ok(Served::failed(Fault::NoEntry));
     };
     let name = name.copy()?;
-    Ok(Deed::gives(Value::Dir(name), Effect::Nothing))
+    Ok(Served::gives(Value::Dir(name), Effect::Nothing))
 }
 
 /// An entry is taken away.
-pub fn remove(files: &Files, p: &Label, dir: &Name, entry: &ByteText) -> Result<Deed, NoMemory>
+pub fn remove(files: &Files, p: &Label, dir: &Name, entry: &ByteText) -> Result<Served, NoMemory>
     ensures { IfOk result (Serves (with_files files.now) (at_label p.now) (Ask.Remove dir.now entry.now)) }
 {
     if let Some(denied) = remove_rule(p, dir.own()) {
-        return Ok(Deed::refused(denied));
+        return Ok(Served::refused(denied));
     }
     if let Some(fault) = absent(files, dir, entry) {
-        return Ok(Deed::failed(fault));
+        return Ok(Served::failed(fault));
     }
     did(Effect::removes(dir, entry))
 }
@@ -148,23 +148,23 @@ fn absent(files: &Files, dir: &Name, entry: &ByteText) -> Option<Fault>
 }
 
 /// Bytes of a file from a place on.
-pub fn read_file(files: &Files, p: &Label, file: &Name, at: u64, n: u64) -> Result<Deed, NoMemory>
+pub fn read_file(files: &Files, p: &Label, file: &Name, at: u64, n: u64) -> Result<Served, NoMemory>
     ensures { IfOk result (Serves (with_files files.now) (at_label p.now) (Ask.FileRead file.now at n)) }
 {
     if let Some(denied) = read_rule(p, file.own()) {
-        return Ok(Deed::refused(denied));
+        return Ok(Served::refused(denied));
     }
     let bytes = ByteText::from_slice(file.allocator(), files.read(file, at, n))?;
-    Ok(Deed::gives(Value::Bytes(bytes), Effect::Nothing))
+    Ok(Served::gives(Value::Bytes(bytes), Effect::Nothing))
 }
 
 /// The number of bytes of a file.
-pub fn file_length(files: &Files, p: &Label, file: &Name) -> Deed
+pub fn file_length(files: &Files, p: &Label, file: &Name) -> Served
     ensures { Serves (with_files files.now) (at_label p.now) (Ask.FileLength file.now) result }
 {
     match read_rule(p, file.own()) {
-        Some(denied) => Deed::refused(denied),
-        None => Deed::gives(length_of(files, file), Effect::Nothing),
+        Some(denied) => Served::refused(denied),
+        None => Served::gives(length_of(files, file), Effect::Nothing),
     }
 }
 
@@ -176,21 +176,21 @@ fn length_of(files: &Files, file: &Name) -> Value
 }
 
 /// Bytes are put to a file's end.
-pub fn append(p: &Label, file: &Name, bytes: &ByteText) -> Result<Deed, NoMemory>
+pub fn append(p: &Label, file: &Name, bytes: &ByteText) -> Result<Served, NoMemory>
     ensures { IfOk result (Serves any_world (at_label p.now) (Ask.Append file.now bytes.now)) }
 {
     if let Some(denied) = write_rule(p, file.own()) {
-        return Ok(Deed::refused(denied));
+        return Ok(Served::refused(denied));
     }
     did(Effect::appends(file, bytes))
 }
 
 /// The first bytes of a file stay.
-pub fn cut(p: &Label, file: &Name, len: u64) -> Result<Deed, NoMemory>
+pub fn cut(p: &Label, file: &Name, len: u64) -> Result<Served, NoMemory>
     ensures { IfOk result (Serves any_world (at_label p.now) (Ask.Cut file.now len)) }
 {
     if let Some(denied) = write_rule(p, file.own()) {
-        return Ok(Deed::refused(denied));
+        return Ok(Served::refused(denied));
     }
     did(Effect::cuts(file, len))
 }

@@ -7,7 +7,7 @@
 //!
 //! - `rules` has the tests of more than one rule.
 //! - `things`, `files`, `pipes` and `contexts` have the rows of the asks about each.
-//! - `deeds` makes their deeds where memory may be refused to an effect.
+//! - `services` makes their services where memory may be refused to an effect.
 //! - `rows` leads each ask to its row.
 //! - `waiting` says which ask waits, and which may be made.
 //!
@@ -16,11 +16,11 @@
 
 mod acting;
 mod contexts;
-mod deeds;
 mod files;
 mod pipes;
 mod rows;
 mod rules;
+mod services;
 mod things;
 mod waiting;
 

@@ -7,13 +7,13 @@ ghost use Rattle.lam_asks.specs.declared.ask.Ask.TheVariants as Ask;
 ghost use Rattle.lam_machine_terms.specs.Serving.{received};
 ghost use Rattle.lam_machine_rows.specs.Rows.{Serves, any_world, at_label, acting_by, with_pipes};
 
-use crate::deeds::{did, given};
 use crate::rules::{full, make_rule, send_rule};
+use crate::services::{did, given};
 use capabilities::Caps;
 use flow_labels::{Label, same_rule, write_rule};
 use labelled_pipes::{HOME_LIMIT, Message, MessageKind, Pipes};
 use lam_asks::Fault;
-use lam_machine_effects::{Deed, Effect};
+use lam_machine_effects::{Effect, Served};
 use lam_value::{ByteText, Name, Value};
 use want_of_memory::NoMemory;
 
@@ -24,26 +24,26 @@ pub fn make_pipe(
     caps: &Caps,
     public: &Caps,
     own: &Label,
-) -> Result<Deed, NoMemory>
+) -> Result<Served, NoMemory>
     ensures { IfOk result (Serves (with_pipes pipes.now) (acting_by p.now (joined caps.now public.now)) (Ask.MakePipe own.now)) }
 {
     if let Some(denied) = make_rule(p, caps, public, own) {
-        return Ok(Deed::refused(denied));
+        return Ok(Served::refused(denied));
     }
     let number = pipes.next(p, own);
     if let Some(fault) = full(number, HOME_LIMIT, Fault::HomeFull) {
-        return Ok(Deed::failed(fault));
+        return Ok(Served::failed(fault));
     }
     let name = Name::of(p, own, number)?;
     given(Value::Pipe(name), Effect::adds_pipe(p, own))
 }
 
 /// Bytes are sent.
-pub fn send(p: &Label, pipe: &Name, bytes: &ByteText) -> Result<Deed, NoMemory>
+pub fn send(p: &Label, pipe: &Name, bytes: &ByteText) -> Result<Served, NoMemory>
     ensures { IfOk result (Serves any_world (at_label p.now) (Ask.Send pipe.now bytes.now)) }
 {
     if let Some(denied) = write_rule(p, pipe.own()) {
-        return Ok(Deed::refused(denied));
+        return Ok(Served::refused(denied));
     }
     did(Effect::sends_bytes(pipe, bytes))
 }
@@ -55,32 +55,32 @@ pub fn send_caps(
     public: &Caps,
     pipe: &Name,
     sent: &Caps,
-) -> Result<Deed, NoMemory>
+) -> Result<Served, NoMemory>
     ensures { IfOk result (Serves any_world (acting_by p.now (joined caps.now public.now)) (Ask.SendCaps pipe.now sent.now)) }
 {
     if let Some(denied) = send_rule(p, caps, public, pipe.own(), sent) {
-        return Ok(Deed::refused(denied));
+        return Ok(Served::refused(denied));
     }
     did(Effect::sends_caps(pipe, sent))
 }
 
 /// The front message, where it is bytes.
-pub fn receive(pipes: &Pipes, p: &Label, from: &Name) -> Result<Deed, NoMemory>
+pub fn receive(pipes: &Pipes, p: &Label, from: &Name) -> Result<Served, NoMemory>
     ensures { IfOk result (Serves (with_pipes pipes.now) (at_label p.now) (Ask.Receive from.now)) }
 {
     if let Some(denied) = same_rule(p, from.own()) {
-        return Ok(Deed::refused(denied));
+        return Ok(Served::refused(denied));
     }
     let v = received(pipes.front(from, MessageKind::Bytes))?;
     given(v, Effect::receives(from, MessageKind::Bytes))
 }
 
 /// The front message, where it is capabilities.
-pub fn receive_caps(pipes: &Pipes, p: &Label, pipe: &Name) -> Result<Deed, NoMemory>
+pub fn receive_caps(pipes: &Pipes, p: &Label, pipe: &Name) -> Result<Served, NoMemory>
     ensures { IfOk result (Serves (with_pipes pipes.now) (at_label p.now) (Ask.ReceiveCaps pipe.now)) }
 {
     if let Some(denied) = same_rule(p, pipe.own()) {
-        return Ok(Deed::refused(denied));
+        return Ok(Served::refused(denied));
     }
     let v = received(pipes.front(pipe, MessageKind::Caps))?;
     given(v, Effect::receives(pipe, MessageKind::Caps))

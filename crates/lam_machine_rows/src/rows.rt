@@ -16,7 +16,7 @@ use crate::files::{
 use crate::pipes::{make_pipe, receive, receive_caps, send, send_caps};
 use crate::things::{copy_to, enter_monitor, leave_monitor, make_thing, read, write};
 use lam_asks::{Ask, Outcome};
-use lam_machine_effects::{Deed, Stores};
+use lam_machine_effects::{Served, Stores};
 use want_of_memory::NoMemory;
 
 /// What an ask of a context is served by: its answer, and its effect on the stores. `threads` is how many threads there
@@ -31,7 +31,7 @@ pub fn serve(
     ended: Option<&Outcome>,
     who: &Acting,
     ask: &Ask,
-) -> Result<Deed, NoMemory>
+) -> Result<Served, NoMemory>
     ensures { IfOk result (λ d. (w : World) (c : Context) → ReadsWorld w c ask.now stores.now threads (option_copied ended.entry) who.now → DoesAs d (serve w c ask.now)) }
 {
     let p = who.label();

@@ -6,29 +6,29 @@ ghost use Rattle.lam_asks.specs.declared.ask.Ask.TheVariants as Ask;
 ghost use Rattle.lam_machine_terms.specs.Serving.{slot_at, reference, renamed};
 ghost use Rattle.lam_machine_rows.specs.Rows.{Serves, any_world, any_context, at_label, acting_by, with_heap, with_monitors};
 
-use crate::deeds::{did, given};
 use crate::rules::{copy_rule, full, thing_of};
+use crate::services::{did, given};
 use capabilities::Caps;
 use flow_labels::{Label, read_rule, same_rule, write_rule};
 use labelled_heap::{HOME_LIMIT, Heap};
 use lam_asks::Fault;
-use lam_machine_effects::{Deed, Effect};
+use lam_machine_effects::{Effect, Served};
 use lam_value::{Name, Shape, Value};
 use monitor_core::{Monitors, TAKINGS_LIMIT};
 use want_of_memory::NoMemory;
 
 /// The value of a slot.
-pub fn read(heap: &Heap, p: &Label, r: &Value, at: u64) -> Result<Deed, NoMemory>
+pub fn read(heap: &Heap, p: &Label, r: &Value, at: u64) -> Result<Served, NoMemory>
     ensures { IfOk result (Serves (with_heap heap.now) (at_label p.now) (Ask.Read r.now at)) }
 {
     let Some(name) = thing_of(r) else {
-        return Ok(Deed::failed(Fault::Null));
+        return Ok(Served::failed(Fault::Null));
     };
     if let Some(denied) = read_rule(p, name.own()) {
-        return Ok(Deed::refused(denied));
+        return Ok(Served::refused(denied));
     }
     let v = slot_of(heap, name, at)?;
-    Ok(Deed::gives(v, Effect::Nothing))
+    Ok(Served::gives(v, Effect::Nothing))
 }
 
 /// What a slot holds; one that the thing does not have reads as null.
@@ -42,25 +42,25 @@ fn slot_of(heap: &Heap, name: &Name, at: u64) -> Result<Value, NoMemory>
 }
 
 /// A slot gets a value.
-pub fn write(p: &Label, r: &Value, at: u64, v: &Value) -> Result<Deed, NoMemory>
+pub fn write(p: &Label, r: &Value, at: u64, v: &Value) -> Result<Served, NoMemory>
     ensures { IfOk result (Serves any_world (at_label p.now) (Ask.Write r.now at v.now)) }
 {
     let Some(name) = thing_of(r) else {
-        return Ok(Deed::failed(Fault::Null));
+        return Ok(Served::failed(Fault::Null));
     };
     if let Some(denied) = write_rule(p, name.own()) {
-        return Ok(Deed::refused(denied));
+        return Ok(Served::refused(denied));
     }
     did(Effect::sets_slot(name, at, v))
 }
 
 /// A new object or array at the acting label.
-pub fn make_thing(heap: &Heap, p: &Label, shape: &Shape) -> Result<Deed, NoMemory>
+pub fn make_thing(heap: &Heap, p: &Label, shape: &Shape) -> Result<Served, NoMemory>
     ensures { IfOk result (Serves (with_heap heap.now) (at_label p.now) (Ask.New shape.now)) }
 {
     let number = heap.next(p, p);
     if let Some(fault) = full(number, HOME_LIMIT, Fault::HomeFull) {
-        return Ok(Deed::failed(fault));
+        return Ok(Served::failed(fault));
     }
     let name = Name::of(p, p, number)?;
     given(reference(shape, name), Effect::adds_thing(p, p, shape))
@@ -84,18 +84,18 @@ pub fn copy_to(
     public: &Caps,
     r: &Value,
     own: &Label,
-) -> Result<Deed, NoMemory>
+) -> Result<Served, NoMemory>
     ensures { IfOk result (Serves (with_heap heap.now) (acting_by p.now (joined caps.now public.now)) (Ask.CopyTo r.now own.now)) }
 {
     let Some(name) = thing_of(r) else {
-        return Ok(Deed::failed(Fault::Null));
+        return Ok(Served::failed(Fault::Null));
     };
     if let Some(denied) = copy_rule(p, caps, public, name.own(), own) {
-        return Ok(Deed::refused(denied));
+        return Ok(Served::refused(denied));
     }
     let number = heap.next(p, own);
     if let Some(fault) = full(number, HOME_LIMIT, Fault::HomeFull) {
-        return Ok(Deed::failed(fault));
+        return Ok(Served::failed(fault));
     }
     let copy = Name::of(p, own, number)?;
     given(renamed(r, copy), Effect::adds_copy(name, p, own))
@@ -112,27 +112,27 @@ fn renamed(r: &Value, name: Name) -> Value
 }
 
 /// The monitor of a thing is taken.
-pub fn enter_monitor(monitors: &Monitors, p: &Label, r: &Value) -> Result<Deed, NoMemory>
+pub fn enter_monitor(monitors: &Monitors, p: &Label, r: &Value) -> Result<Served, NoMemory>
     ensures { IfOk result (Serves (with_monitors monitors.now) (at_label p.now) (Ask.MonEnter r.now)) }
 {
     let Some(name) = thing_of(r) else {
-        return Ok(Deed::failed(Fault::Null));
+        return Ok(Served::failed(Fault::Null));
     };
     if let Some(denied) = same_rule(p, name.own()) {
-        return Ok(Deed::refused(denied));
+        return Ok(Served::refused(denied));
     }
     if let Some(fault) = full(monitors.takings(name), TAKINGS_LIMIT, Fault::Deep) {
-        return Ok(Deed::failed(fault));
+        return Ok(Served::failed(fault));
     }
     did(Effect::takes_monitor(name))
 }
 
 /// The monitor of a thing is given back once.
-pub fn leave_monitor(r: &Value) -> Result<Deed, NoMemory>
+pub fn leave_monitor(r: &Value) -> Result<Served, NoMemory>
     ensures { IfOk result (Serves any_world any_context (Ask.MonLeave r.now)) }
 {
     let Some(name) = thing_of(r) else {
-        return Ok(Deed::failed(Fault::Null));
+        return Ok(Served::failed(Fault::Null));
     };
     did(Effect::gives_back(name))
 }

@@ -1,6 +1,6 @@
 pub mod Limits
 pub mod Worlds
-pub mod Deeds
+pub mod Serves
 pub mod Serving
 pub mod Turns
 pub mod Views

@@ -36,7 +36,7 @@ use Rattle.thread_steps.specs.Limits.{depth_limit}
 use Rattle.thread_steps.specs.Threads.{Context}
 use Rattle.lam_machine_terms.specs.Limits.{most_tags, most_threads}
 use Rattle.lam_machine_terms.specs.Worlds.{World, result_at}
-use Rattle.lam_machine_terms.specs.Deeds.{Effect, nothing, takes_tag, sets_slot, adds_thing, adds_copy, takes_monitor, gives_back, drops, adds_file, adds_dir, removes, appends, cuts, adds_pipe, sends, receives, adds_thread, a_region, a_thing, a_file, a_dir, a_pipe, a_thread, Deed, answers, does, gives, makes, under, unless, full, on_thing}
+use Rattle.lam_machine_terms.specs.Serves.{Effect, nothing, takes_tag, sets_slot, adds_thing, adds_copy, takes_monitor, gives_back, drops, adds_file, adds_dir, removes, appends, cuts, adds_pipe, sends, receives, adds_thread, a_region, a_thing, a_file, a_dir, a_pipe, a_thread, Served, answers, does, gives, makes, under, unless, full, on_thing}
 
 -- the value in a slot; one that the thing does not have reads as null
 abbrev pub slot_at : Things → Name → ℕ → Value
@@ -53,7 +53,7 @@ renamed (Arr n len) m = Arr m len
 renamed v m = Obj m
 
 -- the next thing of a home
-abbrev pub creates : World → Home → List Value → (Name → Value) → Effect → Deed
+abbrev pub creates : World → Home → List Value → (Name → Value) → Effect → Served
 creates w home slots refer e =
     unless (full (count_in w.heap.counts home) most_things HomeFull)
     (makes (refer (name_of home (count_in w.heap.counts home))) e
@@ -91,7 +91,7 @@ ended_with (Some (outcome.Value v)) = Val v
 ended_with (Some (outcome.Failed f)) = Failed Child
 
 -- what a context is served by that holds all that counts as held
-abbrev pub served_by : World → Context → Ask → Deed
+abbrev pub served_by : World → Context → Ask → Served
 served_by w c (Read r at) = on_thing r (λ n. under (read_test c.label n.own) (answers (Val (slot_at w.heap n at))))
 served_by w c (Write r at v) = on_thing r (λ n. under (write_test c.label n.own) (does (sets_slot n at v)))
 served_by w c (New shape) =
@@ -151,5 +151,5 @@ abbrev pub publicly : Caps → Context → Context
 publicly k c = record c { caps = joined c.caps k }
 
 -- what an ask is served by: in every test the public capabilities count as held
-abbrev pub serve : World → Context → Ask → Deed
+abbrev pub serve : World → Context → Ask → Served
 serve w c a = served_by w (publicly w.public c) a

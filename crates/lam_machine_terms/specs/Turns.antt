@@ -17,7 +17,7 @@ use Rattle.thread_steps.specs.Threads.{Inside, Phase, Bottom, Body, Catch, Conte
 use Rattle.thread_steps.specs.Ops.{is_held}
 use Rattle.thread_steps.specs.Next.{Next, goes, asks, stuck, next_of, with_inside, takes}
 use Rattle.lam_machine_terms.specs.Worlds.{World, thread_at, with_thread}
-use Rattle.lam_machine_terms.specs.Deeds.{Made, Deed, effect_of}
+use Rattle.lam_machine_terms.specs.Serves.{Made, Served, effect_of}
 use Rattle.lam_machine_terms.specs.Serving.{serve}
 
 -- ---- who is ready
@@ -74,8 +74,8 @@ moment c t what made w = record { event = record { label = c.label; thread = t; 
 abbrev pub goes_on : World → ℕ → Thread → Context → List Context → Inside → Moment
 goes_on w t th c rest i = moment c t Private None (with_thread w t (record { contexts = with_inside c i ∷ rest; result = th.result }))
 
--- an ask that is served: the acting thread takes the answer, and the deed has its effect
-abbrev pub served : CodeTree → World → ℕ → Thread → Context → List Context → Ask → Inside → Deed → Moment
+-- an ask that is served: the acting thread takes the answer, and the service has its effect
+abbrev pub served : CodeTree → World → ℕ → Thread → Context → List Context → Ask → Inside → Served → Moment
 served code w t th c rest a i d = moment c t (Asked a d.answer) d.made (effect_of code t d.effect (with_thread w t (takes code th c rest i a d.answer)))
 
 abbrev pub turn_by : CodeTree → World → ℕ → Thread → Context → List Context → Next → Option Moment

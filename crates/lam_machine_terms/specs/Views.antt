@@ -16,7 +16,7 @@ use Rattle.lam_asks.specs.declared.answer.Outcome.{Outcome}
 use Rattle.lam_asks.specs.declared.answer.Event.{Event}
 use Rattle.thread_steps.specs.Threads.{Context}
 use Rattle.lam_machine_terms.specs.Worlds.{World, contexts_at, result_at}
-use Rattle.lam_machine_terms.specs.Deeds.{Made, made_label}
+use Rattle.lam_machine_terms.specs.Serves.{Made, made_label}
 use Rattle.lam_machine_terms.specs.Turns.{Moment}
 
 -- ---- the view

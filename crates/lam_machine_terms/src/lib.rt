@@ -1,7 +1,7 @@
 //! The machine as plain data: worlds, what each ask does to one, turns, runs, and what an observer sees.
 //!
-//! A world is a record of what the stores are seen as (`specs/Worlds`). An ask is served by a *deed*: the answer, what
-//! happens to the one store that it is about, and what is made (`specs/Deeds`). `specs/Serving` has a clause for each
+//! A world is a record of what the stores are seen as (`specs/Worlds`). An ask is served by a *service*: the answer, what
+//! happens to the one store that it is about, and what is made (`specs/Serves`). `specs/Serving` has a clause for each
 //! ask, and `specs/Turns` the step of one thread, runs and their replay. `specs/Views` says what an observer sees of a
 //! world and of a run: the view, releases, the agenda, the trace. `specs/Valid` says which worlds are valid.
 //!

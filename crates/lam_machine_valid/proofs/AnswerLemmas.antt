@@ -8,7 +8,7 @@ use Rattle.lam_asks.specs.declared.ask.Ask.{Ask}
 use Rattle.lam_asks.specs.declared.ask.Ask.TheVariants as ask
 use Rattle.thread_steps.specs.Threads.{Context}
 use Rattle.lam_machine_terms.specs.Worlds.{World}
-use Rattle.lam_machine_terms.specs.Deeds.{Deed, unless_denied, under, unless}
+use Rattle.lam_machine_terms.specs.Serves.{Served, unless_denied, under, unless}
 use Rattle.lam_machine_terms.specs.Serving.{publicly, serve}
 use Rattle.lam_machine_laws.specs.Tests.{tests_of}
 use Rattle.lam_machine_laws.specs.Judged.{fault_by, judged, deed_by}
@@ -24,7 +24,7 @@ same_fault : (w : World) (c : Context) (public : Caps) (a : Ask) → fault_by w 
 same_fault w c public ask.Leave = refl
 same_fault w c public a = refl
 
-says_judged : (t : Test) (f : Option Fault) (d : Deed) → IsDone d.answer → Says (first_failing t) f (judged t f d).answer
+says_judged : (t : Test) (f : Option Fault) (d : Served) → IsDone d.answer → Says (first_failing t) f (judged t f d).answer
 unfolding under unless
 says_judged t f d h = by (first_failing t) f
   where
@@ -36,5 +36,5 @@ says_judged t f d h = by (first_failing t) f
 pub follow_the_rows : AnswersFollowTheRows
 follow_the_rows w c a =
     let p = publicly w.public c in
-    let says = subst (λ (d : Deed). Says (first_failing (tests_of p a)) (fault_by w p a) d.answer) (sym (are_judged w p a)) (says_judged (tests_of p a) (fault_by w p a) (deed_by w p a) (is_done w p a)) in
+    let says = subst (λ (d : Served). Says (first_failing (tests_of p a)) (fault_by w p a) d.answer) (sym (are_judged w p a)) (says_judged (tests_of p a) (fault_by w p a) (deed_by w p a) (is_done w p a)) in
     subst (λ f. Says (first_failing (tests_of p a)) f (serve w c a).answer) (same_fault w c w.public a) says

@@ -18,7 +18,7 @@ use Rattle.thread_steps.specs.Threads.{Frame, Inside, Phase, Bottom, Body, Catch
 use Rattle.thread_steps.specs.Ops as ops
 use Rattle.thread_steps.specs.Ops.{Did, gives, sets, jumps, calls, returns, fails, wants, leaves, breaks, barrier, may_read, may_write, effect}
 use Rattle.thread_steps.specs.Next.{Next, goes, asks, past, returned, leaving, next_by, raised, around, next_op, next_in, next_of}
-use Rattle.lam_machine_terms.specs.Deeds.{Deed, sets_slot, answers, does, unless_denied, under, on_thing}
+use Rattle.lam_machine_terms.specs.Serves.{Served, sets_slot, answers, does, unless_denied, under, on_thing}
 use Rattle.lam_machine_terms.specs.Serving.{slot_at}
 use Rattle.lam_machine_terms.specs.Turns.{is_bottom, lists, may_ask}
 use Rattle.lam_machine_valid.specs.Laws.{IsTop, IsBarred, IsPassed, op_at, StandsAt, LeadsTo, IsRead, IsWritten, GivesSlot, SetsSlot, AsksWhatItMay, BarriersTest, AccessesPass}
@@ -158,7 +158,7 @@ test_barriers code =
 
 -- ---- accesses
 
-allowed : (x : Option Denied) (y : Deed) → x ≡ None → unless_denied x y ≡ y
+allowed : (x : Option Denied) (y : Served) → x ≡ None → unless_denied x y ≡ y
 allowed x y e = ap (λ k. unless_denied k y) e
 
 may_read_it : (p : Label) (r : Value) (n : Name) → IsRead p r → LeadsTo r n → first_failing (read_test p n.own) ≡ None
@@ -172,7 +172,7 @@ may_write_it p (Arr m len) n h e = subst (λ (k : Name). first_failing (write_te
 may_write_it p r n h e = absurd e
 
 -- a reference is followed
-pub followed : (r : Value) (n : Name) (go : Name → Deed) → LeadsTo r n → on_thing r go ≡ go n
+pub followed : (r : Value) (n : Name) (go : Name → Served) → LeadsTo r n → on_thing r go ≡ go n
 unfolding on_thing
 followed (Obj m) n go e = ap go e
 followed (Arr m len) n go e = ap go e

@@ -1,4 +1,4 @@
--- Each ask once: what its deed gives and puts into the world lives, what becomes of the monitors, and that what is taken was free.
+-- Each ask once: what its service gives and puts into the world lives, what becomes of the monitors, and that what is taken was free.
 use Rattle.std.proofs.Common.{◌≡◌, ℕ, zero, suc, ◌+◌, ◌<◌, ◌≤◌, Bool, true, false, cond, List, [], ◌∷◌, ◌++◌, Option, Some, None, length, refl, sym, ap, subst, ◌∙◌, arith, length-append}
 use Rattle.std.specs.Prelude.{IsTrue, is_some, is_none, not, ◌&&◌, replicate, slice_get, unwrap_or}
 use Rattle.std.specs.List.{AllByRecursion}
@@ -43,7 +43,7 @@ use Rattle.thread_steps.specs.Threads.{Inside, Context}
 use Rattle.thread_steps.specs.Threads as threads
 use Rattle.thread_steps.specs.Next.{gains, given, started}
 use Rattle.lam_machine_terms.specs.Worlds.{World, thread_at, result_in, result_at}
-use Rattle.lam_machine_terms.specs.Deeds.{adds_thing, adds_copy, takes_monitor, gives_back, drops, receives, effect_of, Deed, answers, does, under, unless, on_thing}
+use Rattle.lam_machine_terms.specs.Serves.{adds_thing, adds_copy, takes_monitor, gives_back, drops, receives, effect_of, Served, answers, does, under, unless, on_thing}
 use Rattle.lam_machine_terms.specs.Serving.{slot_at, reference, renamed, opened, received, ended_with, serve}
 use Rattle.lam_machine_terms.specs.Turns.{lists, may_ask, is_taken, waits}
 use Rattle.lam_machine_terms.specs.Valid.{IsKnown, IsKnownName, Lives, EntryLives, MessageLives, OutcomeLives, IsValid, all_listings}
@@ -62,8 +62,8 @@ AnswerLives w x = Unit {0}
 
 module _ (code : CodeTree) (t : ℕ) (w : World) (valid : IsValid w) (c : Context) (label : IsKnown w c.label) where
   -- what is answered lives after the effect, and what the effect puts there before it
-  abbrev pub LiveDeed : Deed → Type 0
-  LiveDeed d = AnswerLives (effect_of code t d.effect w) d.answer × EffectLives w d.effect
+  abbrev pub LiveServed : Served → Type 0
+  LiveServed d = AnswerLives (effect_of code t d.effect w) d.answer × EffectLives w d.effect
 
   slot_live : (n : Name) (at : ℕ) → Lives w (slot_at w.heap n at)
   slot_live n at = by (slice_get (slots_at w.heap n) at) refl
@@ -129,11 +129,11 @@ module _ (code : CodeTree) (t : ℕ) (w : World) (valid : IsValid w) (c : Contex
   found_name k None h = tt
   found_name k (Some g) h = of_kind k g.kind g.name h.0 h.1
 
-  file_found : (x : Option Name) → NameLives kind.File x → LiveDeed (answers (opened (λ n. File n) x))
+  file_found : (x : Option Name) → NameLives kind.File x → LiveServed (answers (opened (λ n. File n) x))
   file_found None h = (tt, tt)
   file_found (Some n) h = (h, tt)
 
-  dir_found : (x : Option Name) → NameLives kind.Dir x → LiveDeed (answers (opened (λ n. Dir n) x))
+  dir_found : (x : Option Name) → NameLives kind.Dir x → LiveServed (answers (opened (λ n. Dir n) x))
   dir_found None h = (tt, tt)
   dir_found (Some n) h = (h, tt)
 
@@ -178,7 +178,7 @@ module _ (code : CodeTree) (t : ℕ) (w : World) (valid : IsValid w) (c : Contex
       by None e = tt
       by (Some th) e = (valid.threads u th e).result
 
-  joined_live : (x : Option Outcome) → OutcomeLives w x → LiveDeed (answers (ended_with x))
+  joined_live : (x : Option Outcome) → OutcomeLives w x → LiveServed (answers (ended_with x))
   joined_live None h = (tt, tt)
   joined_live (Some (outcome.Value v)) h = (h, tt)
   joined_live (Some (outcome.Failed f)) h = (tt, tt)
@@ -188,48 +188,48 @@ module _ (code : CodeTree) (t : ℕ) (w : World) (valid : IsValid w) (c : Contex
 
   -- ---- the rows
 
-  pub live_row : (a : Ask) → AskLives w a → LiveDeed (serve w c a)
-  live_row (ask.Read r at) h = on_thing_by LiveDeed r _ (λ n e. under_by LiveDeed _ _ (λ x. (slot_live n at, tt)) (λ x. (tt, tt))) (λ f. (tt, tt))
-  live_row (ask.Write r at v) h = on_thing_by LiveDeed r _ (λ n e. under_by LiveDeed _ _ (λ x. (tt, h.1)) (λ x. (tt, tt))) (λ f. (tt, tt))
-  live_row (ask.New shape) h = unless_by LiveDeed _ _ (new_live shape, ((label, label), h)) (λ f. (tt, tt))
+  pub live_row : (a : Ask) → AskLives w a → LiveServed (serve w c a)
+  live_row (ask.Read r at) h = on_thing_by LiveServed r _ (λ n e. under_by LiveServed _ _ (λ x. (slot_live n at, tt)) (λ x. (tt, tt))) (λ f. (tt, tt))
+  live_row (ask.Write r at v) h = on_thing_by LiveServed r _ (λ n e. under_by LiveServed _ _ (λ x. (tt, h.1)) (λ x. (tt, tt))) (λ f. (tt, tt))
+  live_row (ask.New shape) h = unless_by LiveServed _ _ (new_live shape, ((label, label), h)) (λ f. (tt, tt))
   live_row (ask.CopyTo r l) h =
-      on_thing_by LiveDeed r _ (λ n e. under_by LiveDeed _ _ (λ x. unless_by LiveDeed _ _ (copy_live r n l e h.0 h.1, (label, h.1)) (λ f. (tt, tt))) (λ x. (tt, tt))) (λ f. (tt, tt))
-  live_row ask.Mint h = under_by LiveDeed _ _ (λ x. unless_by LiveDeed _ _ (omega arith, tt) (λ f. (tt, tt))) (λ x. (tt, tt))
-  live_row (ask.Enter l k region args) h = under_by LiveDeed _ _ (λ x. unless_by LiveDeed _ _ (tt, tt) (λ f. (tt, tt))) (λ x. (tt, tt))
+      on_thing_by LiveServed r _ (λ n e. under_by LiveServed _ _ (λ x. unless_by LiveServed _ _ (copy_live r n l e h.0 h.1, (label, h.1)) (λ f. (tt, tt))) (λ x. (tt, tt))) (λ f. (tt, tt))
+  live_row ask.Mint h = under_by LiveServed _ _ (λ x. unless_by LiveServed _ _ (omega arith, tt) (λ f. (tt, tt))) (λ x. (tt, tt))
+  live_row (ask.Enter l k region args) h = under_by LiveServed _ _ (λ x. unless_by LiveServed _ _ (tt, tt) (λ f. (tt, tt))) (λ x. (tt, tt))
   live_row ask.Leave h = (tt, tt)
   live_row (ask.Barred denied) h = (tt, tt)
   live_row (ask.Caught f) h = (tt, tt)
   live_row (ask.Suppressed f) h = (tt, tt)
   live_row (ask.End out) h = (tt, tt)
-  live_row (ask.MonEnter r) h = on_thing_by LiveDeed r _ (λ n e. under_by LiveDeed _ _ (λ x. unless_by LiveDeed _ _ (tt, thing_known r n e h) (λ f. (tt, tt))) (λ x. (tt, tt))) (λ f. (tt, tt))
-  live_row (ask.MonLeave r) h = on_thing_by LiveDeed r _ (λ n e. (tt, tt)) (λ f. (tt, tt))
+  live_row (ask.MonEnter r) h = on_thing_by LiveServed r _ (λ n e. under_by LiveServed _ _ (λ x. unless_by LiveServed _ _ (tt, thing_known r n e h) (λ f. (tt, tt))) (λ x. (tt, tt))) (λ f. (tt, tt))
+  live_row (ask.MonLeave r) h = on_thing_by LiveServed r _ (λ n e. (tt, tt)) (λ f. (tt, tt))
   live_row (ask.MakeFile d text l) h =
-      under_by LiveDeed _ _ (λ x. unless_by LiveDeed _ _ (((label, h.1), ap is_some (there_now w.files.files (next_name w.files (home_of c.label l)) [])), (label, h.1)) (λ f. (tt, tt))) (λ x. (tt, tt))
+      under_by LiveServed _ _ (λ x. unless_by LiveServed _ _ (((label, h.1), ap is_some (there_now w.files.files (next_name w.files (home_of c.label l)) [])), (label, h.1)) (λ f. (tt, tt))) (λ x. (tt, tt))
   live_row (ask.MakeDir d text l) h =
-      under_by LiveDeed _ _ (λ x. unless_by LiveDeed _ _ (((label, h.1), ap is_some (there_now _ (next_name w.files (home_of c.label l)) [])), (label, h.1)) (λ f. (tt, tt))) (λ x. (tt, tt))
-  live_row (ask.OpenFile d text) h = under_by LiveDeed _ _ (λ x. file_found _ (found_name kind.File _ (target_live d text))) (λ x. (tt, tt))
-  live_row (ask.OpenDir d text) h = under_by LiveDeed _ _ (λ x. dir_found _ (found_name kind.Dir _ (target_live d text))) (λ x. (tt, tt))
-  live_row (ask.Remove d text) h = under_by LiveDeed _ _ (λ x. unless_by LiveDeed _ _ (tt, tt) (λ f. (tt, tt))) (λ x. (tt, tt))
-  live_row (ask.FileRead f at n) h = under_by LiveDeed _ _ (λ x. (tt, tt)) (λ x. (tt, tt))
-  live_row (ask.FileLength f) h = under_by LiveDeed _ _ (λ x. (tt, tt)) (λ x. (tt, tt))
-  live_row (ask.Append f bytes) h = under_by LiveDeed _ _ (λ x. (tt, tt)) (λ x. (tt, tt))
-  live_row (ask.Cut f len) h = under_by LiveDeed _ _ (λ x. (tt, tt)) (λ x. (tt, tt))
+      under_by LiveServed _ _ (λ x. unless_by LiveServed _ _ (((label, h.1), ap is_some (there_now _ (next_name w.files (home_of c.label l)) [])), (label, h.1)) (λ f. (tt, tt))) (λ x. (tt, tt))
+  live_row (ask.OpenFile d text) h = under_by LiveServed _ _ (λ x. file_found _ (found_name kind.File _ (target_live d text))) (λ x. (tt, tt))
+  live_row (ask.OpenDir d text) h = under_by LiveServed _ _ (λ x. dir_found _ (found_name kind.Dir _ (target_live d text))) (λ x. (tt, tt))
+  live_row (ask.Remove d text) h = under_by LiveServed _ _ (λ x. unless_by LiveServed _ _ (tt, tt) (λ f. (tt, tt))) (λ x. (tt, tt))
+  live_row (ask.FileRead f at n) h = under_by LiveServed _ _ (λ x. (tt, tt)) (λ x. (tt, tt))
+  live_row (ask.FileLength f) h = under_by LiveServed _ _ (λ x. (tt, tt)) (λ x. (tt, tt))
+  live_row (ask.Append f bytes) h = under_by LiveServed _ _ (λ x. (tt, tt)) (λ x. (tt, tt))
+  live_row (ask.Cut f len) h = under_by LiveServed _ _ (λ x. (tt, tt)) (λ x. (tt, tt))
   live_row (ask.MakePipe l) h =
-      under_by LiveDeed _ _ (λ x. unless_by LiveDeed _ _ (((label, h), ap is_some (there_now w.pipes.waiting (name_of (home_of c.label l) (count_in w.pipes.counts (home_of c.label l))) [])), (label, h)) (λ f. (tt, tt))) (λ x. (tt, tt))
-  live_row (ask.Send p bytes) h = under_by LiveDeed _ _ (λ x. (tt, tt)) (λ x. (tt, tt))
-  live_row (ask.SendCaps p caps) h = under_by LiveDeed _ _ (λ x. (tt, h.1)) (λ x. (tt, tt))
-  live_row (ask.Receive p) h = under_by LiveDeed _ _ (λ x. (received_after (effect_of code t (receives p sort_of_message.Bytes) w) refl (front_of sort_of_message.Bytes (waiting_at w.pipes p)) (waiting_live sort_of_message.Bytes p), tt)) (λ x. (tt, tt))
-  live_row (ask.ReceiveCaps p) h = under_by LiveDeed _ _ (λ x. (received_after (effect_of code t (receives p sort_of_message.Caps) w) refl (front_of sort_of_message.Caps (waiting_at w.pipes p)) (waiting_live sort_of_message.Caps p), tt)) (λ x. (tt, tt))
-  live_row (ask.Spawn unit args caps) h = under_by LiveDeed _ _ (λ x. unless_by LiveDeed _ _ (one_more unit args caps, h) (λ f. (tt, tt))) (λ x. (tt, tt))
-  live_row (ask.Join u) h = under_by LiveDeed _ _ (λ x. joined_live _ (result_live u)) (λ x. (tt, tt))
+      under_by LiveServed _ _ (λ x. unless_by LiveServed _ _ (((label, h), ap is_some (there_now w.pipes.waiting (name_of (home_of c.label l) (count_in w.pipes.counts (home_of c.label l))) [])), (label, h)) (λ f. (tt, tt))) (λ x. (tt, tt))
+  live_row (ask.Send p bytes) h = under_by LiveServed _ _ (λ x. (tt, tt)) (λ x. (tt, tt))
+  live_row (ask.SendCaps p caps) h = under_by LiveServed _ _ (λ x. (tt, h.1)) (λ x. (tt, tt))
+  live_row (ask.Receive p) h = under_by LiveServed _ _ (λ x. (received_after (effect_of code t (receives p sort_of_message.Bytes) w) refl (front_of sort_of_message.Bytes (waiting_at w.pipes p)) (waiting_live sort_of_message.Bytes p), tt)) (λ x. (tt, tt))
+  live_row (ask.ReceiveCaps p) h = under_by LiveServed _ _ (λ x. (received_after (effect_of code t (receives p sort_of_message.Caps) w) refl (front_of sort_of_message.Caps (waiting_at w.pipes p)) (waiting_live sort_of_message.Caps p), tt)) (λ x. (tt, tt))
+  live_row (ask.Spawn unit args caps) h = under_by LiveServed _ _ (λ x. unless_by LiveServed _ _ (one_more unit args caps, h) (λ f. (tt, tt))) (λ x. (tt, tt))
+  live_row (ask.Join u) h = under_by LiveServed _ _ (λ x. joined_live _ (result_live u)) (λ x. (tt, tt))
   live_row (ask.Say bytes) h = (tt, tt)
 
 -- ---- monitors
 
 -- what the contexts in front list more is taken, and what they list less may be given back
 module _ (code : CodeTree) (t : ℕ) (w : World) (c : Context) (i : Inside) where
-  abbrev pub HoldsDeed : Ask → Deed → Type 0
-  HoldsDeed a d = (n : Name) → all_listings n (front code c i a d.answer) + hold w.monitors t n ≤ listings n c.held + hold (touched w.monitors t d.effect) t n
+  abbrev pub HoldsServed : Ask → Served → Type 0
+  HoldsServed a d = (n : Name) → all_listings n (front code c i a d.answer) + hold w.monitors t n ≤ listings n c.held + hold (touched w.monitors t d.effect) t n
 
   as_before : (n : Name) → listings n c.held + 0 + hold w.monitors t n ≤ listings n c.held + hold w.monitors t n
   as_before n = omega arith
@@ -239,13 +239,13 @@ module _ (code : CodeTree) (t : ℕ) (w : World) (c : Context) (i : Inside) wher
   gains_listings (ask.ReceiveCaps p) (CapV plus minus) d n = refl
   gains_listings a v d n = refl
 
-  refused_as_before : (a : Ask) (x : Denied) → HoldsDeed a (answers (Refused x))
+  refused_as_before : (a : Ask) (x : Denied) → HoldsServed a (answers (Refused x))
   refused_as_before a x n = as_before n
 
-  failed_as_before : (a : Ask) (f : Fault) → HoldsDeed a (answers (Failed f))
+  failed_as_before : (a : Ask) (f : Fault) → HoldsServed a (answers (Failed f))
   failed_as_before a f n = as_before n
 
-  taken_holds : (r : Value) (n : Name) → RefersTo r n → HoldsDeed (ask.MonEnter r) (does (takes_monitor n))
+  taken_holds : (r : Value) (n : Name) → RefersTo r n → HoldsServed (ask.MonEnter r) (does (takes_monitor n))
   taken_holds (Obj k) n e q =
       let same : as_one (eq_by_cmp name_cmp q k) ≡ as_one (eq_by_cmp name_cmp q n) = ap (λ (j : Name). as_one (eq_by_cmp name_cmp q j)) e in
       let more = hold_entered w.monitors n t q in
@@ -256,7 +256,7 @@ module _ (code : CodeTree) (t : ℕ) (w : World) (c : Context) (i : Inside) wher
       omega arith
   taken_holds r n e q = absurd e
 
-  back_holds : (r : Value) (n : Name) → RefersTo r n → lists c.held r ≡ true → HoldsDeed (ask.MonLeave r) (does (gives_back n))
+  back_holds : (r : Value) (n : Name) → RefersTo r n → lists c.held r ≡ true → HoldsServed (ask.MonLeave r) (does (gives_back n))
   back_holds (Obj k) n e may q =
       let same : as_one (eq_by_cmp name_cmp q k) ≡ as_one (eq_by_cmp name_cmp q n) = ap (λ (j : Name). as_one (eq_by_cmp name_cmp q j)) e in
       let fewer = listed_less k q c.held may in
@@ -281,25 +281,25 @@ module _ (code : CodeTree) (t : ℕ) (w : World) (c : Context) (i : Inside) wher
   all_gone : (n : Name) → 0 + hold w.monitors t n ≤ listings n c.held + hold (touched w.monitors t (drops c.held)) t n
   all_gone n = let less = hold_dropped w.monitors c.held t n in omega arith
 
-  plain_by : (a : Ask) (test : Test) (d : Deed) → HoldsDeed a d → HoldsDeed a (under test d)
-  plain_by a test d h = under_by (HoldsDeed a) test d (λ x. h) (refused_as_before a)
+  plain_by : (a : Ask) (test : Test) (d : Served) → HoldsServed a d → HoldsServed a (under test d)
+  plain_by a test d h = under_by (HoldsServed a) test d (λ x. h) (refused_as_before a)
 
-  unless_holds : (a : Ask) (x : Option Fault) (d : Deed) → HoldsDeed a d → HoldsDeed a (unless x d)
-  unless_holds a x d h = unless_by (HoldsDeed a) x d h (failed_as_before a)
+  unless_holds : (a : Ask) (x : Option Fault) (d : Served) → HoldsServed a d → HoldsServed a (unless x d)
+  unless_holds a x d h = unless_by (HoldsServed a) x d h (failed_as_before a)
 
-  thing_holds : (a : Ask) (r : Value) (go : Name → Deed) → ((n : Name) → RefersTo r n → HoldsDeed a (go n)) → HoldsDeed a (on_thing r go)
-  thing_holds a r go h = on_thing_by (HoldsDeed a) r go h (failed_as_before a)
+  thing_holds : (a : Ask) (r : Value) (go : Name → Served) → ((n : Name) → RefersTo r n → HoldsServed a (go n)) → HoldsServed a (on_thing r go)
+  thing_holds a r go h = on_thing_by (HoldsServed a) r go h (failed_as_before a)
 
-  opened_holds : (a : Ask) (refer : Name → Value) (x : Option Name) → ((v : Value) → HoldsDeed a (answers (Val v))) → HoldsDeed a (answers (opened refer x))
+  opened_holds : (a : Ask) (refer : Name → Value) (x : Option Name) → ((v : Value) → HoldsServed a (answers (Val v))) → HoldsServed a (answers (opened refer x))
   opened_holds a refer None h = failed_as_before a NoEntry
   opened_holds a refer (Some n) h = h (refer n)
 
-  joined_holds : (a : Ask) (x : Option Outcome) → ((v : Value) → HoldsDeed a (answers (Val v))) → HoldsDeed a (answers (ended_with x))
+  joined_holds : (a : Ask) (x : Option Outcome) → ((v : Value) → HoldsServed a (answers (Val v))) → HoldsServed a (answers (ended_with x))
   joined_holds a None h = failed_as_before a Child
   joined_holds a (Some (outcome.Value v)) h = h v
   joined_holds a (Some (outcome.Failed f)) h = failed_as_before a Child
 
-  pub holds_row : (a : Ask) → may_ask c a ≡ true → HoldsDeed a (serve w c a)
+  pub holds_row : (a : Ask) → may_ask c a ≡ true → HoldsServed a (serve w c a)
   holds_row (ask.Read r at) may = thing_holds (ask.Read r at) r _ (λ n e. plain_by (ask.Read r at) _ _ as_before)
   holds_row (ask.Write r at v) may = thing_holds (ask.Write r at v) r _ (λ n e. plain_by (ask.Write r at v) _ _ as_before)
   holds_row (ask.New shape) may = unless_holds (ask.New shape) _ _ as_before
@@ -335,8 +335,8 @@ module _ (code : CodeTree) (t : ℕ) (w : World) (c : Context) (i : Inside) wher
 -- ---- what is taken was free
 
 module _ (w : World) (t : ℕ) (c : Context) where
-  abbrev pub FreeDeed : Deed → Type 0
-  FreeDeed d = IsFree w.monitors t d.effect
+  abbrev pub FreeServed : Served → Type 0
+  FreeServed d = IsFree w.monitors t d.effect
 
   was_free : (x : Option Denied) (b : Bool) → (is_none x && not b) ≡ false → x ≡ None → b ≡ true
   was_free None true h e = refl
@@ -352,34 +352,34 @@ module _ (w : World) (t : ℕ) (c : Context) where
       (was_free (first_failing (same_test c.label k.own)) (is_free w.monitors k t) h (subst (λ (j : Name). first_failing (same_test c.label j.own) ≡ None) (sym e) f))
   free_by r n e h f = absurd e
 
-  pub free_row : (a : Ask) → waits w t c a ≡ false → FreeDeed (serve w c a)
-  free_row (ask.Read r at) h = on_thing_by FreeDeed r _ (λ n e. under_by FreeDeed _ _ (λ x. tt) (λ x. tt)) (λ f. tt)
-  free_row (ask.Write r at v) h = on_thing_by FreeDeed r _ (λ n e. under_by FreeDeed _ _ (λ x. tt) (λ x. tt)) (λ f. tt)
-  free_row (ask.New shape) h = unless_by FreeDeed _ _ tt (λ f. tt)
-  free_row (ask.CopyTo r l) h = on_thing_by FreeDeed r _ (λ n e. under_by FreeDeed _ _ (λ x. unless_by FreeDeed _ _ tt (λ f. tt)) (λ x. tt)) (λ f. tt)
-  free_row ask.Mint h = under_by FreeDeed _ _ (λ x. unless_by FreeDeed _ _ tt (λ f. tt)) (λ x. tt)
-  free_row (ask.Enter l k region args) h = under_by FreeDeed _ _ (λ x. unless_by FreeDeed _ _ tt (λ f. tt)) (λ x. tt)
+  pub free_row : (a : Ask) → waits w t c a ≡ false → FreeServed (serve w c a)
+  free_row (ask.Read r at) h = on_thing_by FreeServed r _ (λ n e. under_by FreeServed _ _ (λ x. tt) (λ x. tt)) (λ f. tt)
+  free_row (ask.Write r at v) h = on_thing_by FreeServed r _ (λ n e. under_by FreeServed _ _ (λ x. tt) (λ x. tt)) (λ f. tt)
+  free_row (ask.New shape) h = unless_by FreeServed _ _ tt (λ f. tt)
+  free_row (ask.CopyTo r l) h = on_thing_by FreeServed r _ (λ n e. under_by FreeServed _ _ (λ x. unless_by FreeServed _ _ tt (λ f. tt)) (λ x. tt)) (λ f. tt)
+  free_row ask.Mint h = under_by FreeServed _ _ (λ x. unless_by FreeServed _ _ tt (λ f. tt)) (λ x. tt)
+  free_row (ask.Enter l k region args) h = under_by FreeServed _ _ (λ x. unless_by FreeServed _ _ tt (λ f. tt)) (λ x. tt)
   free_row ask.Leave h = tt
   free_row (ask.Barred denied) h = tt
   free_row (ask.Caught f) h = tt
   free_row (ask.Suppressed f) h = tt
   free_row (ask.End out) h = tt
-  free_row (ask.MonEnter r) h = on_thing_by FreeDeed r _ (λ n e. under_by FreeDeed _ _ (λ x. unless_by FreeDeed _ _ (free_by r n e h x) (λ f. tt)) (λ x. tt)) (λ f. tt)
-  free_row (ask.MonLeave r) h = on_thing_by FreeDeed r _ (λ n e. tt) (λ f. tt)
-  free_row (ask.MakeFile d text l) h = under_by FreeDeed _ _ (λ x. unless_by FreeDeed _ _ tt (λ f. tt)) (λ x. tt)
-  free_row (ask.MakeDir d text l) h = under_by FreeDeed _ _ (λ x. unless_by FreeDeed _ _ tt (λ f. tt)) (λ x. tt)
-  free_row (ask.OpenFile d text) h = under_by FreeDeed _ _ (λ x. tt) (λ x. tt)
-  free_row (ask.OpenDir d text) h = under_by FreeDeed _ _ (λ x. tt) (λ x. tt)
-  free_row (ask.Remove d text) h = under_by FreeDeed _ _ (λ x. unless_by FreeDeed _ _ tt (λ f. tt)) (λ x. tt)
-  free_row (ask.FileRead f at n) h = under_by FreeDeed _ _ (λ x. tt) (λ x. tt)
-  free_row (ask.FileLength f) h = under_by FreeDeed _ _ (λ x. tt) (λ x. tt)
-  free_row (ask.Append f bytes) h = under_by FreeDeed _ _ (λ x. tt) (λ x. tt)
-  free_row (ask.Cut f len) h = under_by FreeDeed _ _ (λ x. tt) (λ x. tt)
-  free_row (ask.MakePipe l) h = under_by FreeDeed _ _ (λ x. unless_by FreeDeed _ _ tt (λ f. tt)) (λ x. tt)
-  free_row (ask.Send p bytes) h = under_by FreeDeed _ _ (λ x. tt) (λ x. tt)
-  free_row (ask.SendCaps p caps) h = under_by FreeDeed _ _ (λ x. tt) (λ x. tt)
-  free_row (ask.Receive p) h = under_by FreeDeed _ _ (λ x. tt) (λ x. tt)
-  free_row (ask.ReceiveCaps p) h = under_by FreeDeed _ _ (λ x. tt) (λ x. tt)
-  free_row (ask.Spawn unit args caps) h = under_by FreeDeed _ _ (λ x. unless_by FreeDeed _ _ tt (λ f. tt)) (λ x. tt)
-  free_row (ask.Join u) h = under_by FreeDeed _ _ (λ x. tt) (λ x. tt)
+  free_row (ask.MonEnter r) h = on_thing_by FreeServed r _ (λ n e. under_by FreeServed _ _ (λ x. unless_by FreeServed _ _ (free_by r n e h x) (λ f. tt)) (λ x. tt)) (λ f. tt)
+  free_row (ask.MonLeave r) h = on_thing_by FreeServed r _ (λ n e. tt) (λ f. tt)
+  free_row (ask.MakeFile d text l) h = under_by FreeServed _ _ (λ x. unless_by FreeServed _ _ tt (λ f. tt)) (λ x. tt)
+  free_row (ask.MakeDir d text l) h = under_by FreeServed _ _ (λ x. unless_by FreeServed _ _ tt (λ f. tt)) (λ x. tt)
+  free_row (ask.OpenFile d text) h = under_by FreeServed _ _ (λ x. tt) (λ x. tt)
+  free_row (ask.OpenDir d text) h = under_by FreeServed _ _ (λ x. tt) (λ x. tt)
+  free_row (ask.Remove d text) h = under_by FreeServed _ _ (λ x. unless_by FreeServed _ _ tt (λ f. tt)) (λ x. tt)
+  free_row (ask.FileRead f at n) h = under_by FreeServed _ _ (λ x. tt) (λ x. tt)
+  free_row (ask.FileLength f) h = under_by FreeServed _ _ (λ x. tt) (λ x. tt)
+  free_row (ask.Append f bytes) h = under_by FreeServed _ _ (λ x. tt) (λ x. tt)
+  free_row (ask.Cut f len) h = under_by FreeServed _ _ (λ x. tt) (λ x. tt)
+  free_row (ask.MakePipe l) h = under_by FreeServed _ _ (λ x. unless_by FreeServed _ _ tt (λ f. tt)) (λ x. tt)
+  free_row (ask.Send p bytes) h = under_by FreeServed _ _ (λ x. tt) (λ x. tt)
+  free_row (ask.SendCaps p caps) h = under_by FreeServed _ _ (λ x. tt) (λ x. tt)
+  free_row (ask.Receive p) h = under_by FreeServed _ _ (λ x. tt) (λ x. tt)
+  free_row (ask.ReceiveCaps p) h = under_by FreeServed _ _ (λ x. tt) (λ x. tt)
+  free_row (ask.Spawn unit args caps) h = under_by FreeServed _ _ (λ x. unless_by FreeServed _ _ tt (λ f. tt)) (λ x. tt)
+  free_row (ask.Join u) h = under_by FreeServed _ _ (λ x. tt) (λ x. tt)
   free_row (ask.Say bytes) h = tt

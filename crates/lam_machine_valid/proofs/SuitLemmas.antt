@@ -31,7 +31,7 @@ use Rattle.thread_steps.specs.Limits.{depth_limit}
 use Rattle.thread_steps.specs.Threads.{Context}
 use Rattle.lam_machine_terms.specs.Limits.{most_tags, most_threads}
 use Rattle.lam_machine_terms.specs.Worlds.{World, result_at}
-use Rattle.lam_machine_terms.specs.Deeds.{Deed, answers, does, gives_back, unless_denied, under, unless, full, on_thing}
+use Rattle.lam_machine_terms.specs.Serves.{Served, answers, does, gives_back, unless_denied, under, unless, full, on_thing}
 use Rattle.lam_machine_terms.specs.Serving.{reference, renamed, file_faults, opened, absent, received, ended_with, serve}
 use Rattle.lam_machine_terms.specs.Turns.{lists}
 use Rattle.lam_machine_valid.specs.Laws.{LeadsTo}
@@ -39,12 +39,12 @@ use Rattle.lam_machine_valid.proofs.EffectLemmas.{IsThing}
 use Rattle.lam_machine_valid.proofs.NextLemmas.{AskIs, ask_is, followed, gives_slot, sets_it}
 use Rattle.lam_machine_valid.specs.Suiting.{Joined, with_value, forbidden, without_value, Suits, AnswersSuit}
 
--- a deed's answer is one that is wanted
-record Fits (k : Want) (d : Deed) : Type 0 where
+-- a service's answer is one that is wanted
+record Fits (k : Want) (d : Served) : Type 0 where
   it : fits k d.answer ≡ true
 
 -- under a test that may refuse
-under_fits : (k : Want) (t : Test) (d : Deed) → k.refusable ≡ true → Fits k d → Fits k (under t d)
+under_fits : (k : Want) (t : Test) (d : Served) → k.refusable ≡ true → Fits k d → Fits k (under t d)
 unfolding under
 under_fits k t d may h = record { it = by (first_failing t) }
   where
@@ -57,7 +57,7 @@ abbrev MayFail : Want → Option Fault → Type 0
 MayFail k None = Unit {0}
 MayFail k (Some f) = is_among f k.faults ≡ true
 
-unless_fits : (k : Want) (f : Option Fault) (d : Deed) → MayFail k f → Fits k d → Fits k (unless f d)
+unless_fits : (k : Want) (f : Option Fault) (d : Served) → MayFail k f → Fits k d → Fits k (unless f d)
 unfolding unless
 unless_fits k None d may h = h
 unless_fits k (Some f) d may h = record { it = may }
@@ -70,7 +70,7 @@ full_may k n limit f h = by (nat_lt n limit)
     by false = h
 
 -- both a test and a limit
-limited : (k : Want) (t : Test) (n limit : ℕ) (f : Fault) (d : Deed) → k.refusable ≡ true → is_among f k.faults ≡ true → fits k d.answer ≡ true → Fits k (under t (unless (full n limit f) d))
+limited : (k : Want) (t : Test) (n limit : ℕ) (f : Fault) (d : Served) → k.refusable ≡ true → is_among f k.faults ≡ true → fits k d.answer ≡ true → Fits k (under t (unless (full n limit f) d))
 limited k t n limit f d may among h = under_fits k t _ may (unless_fits k (full n limit f) d (full_may k n limit f among) (record { it = h }))
 
 abbrev made_in : Sort → Want
@@ -84,7 +84,7 @@ file_may s (Some file_fault.DirFull) = refl
 file_may s (Some file_fault.HomeFull) = refl
 file_may s (Some file_fault.NoMemory) = refl
 
-made_fits : (s : Sort) (t : Test) (x : Option FileFault) (d : Deed) → fits (made_in s) d.answer ≡ true → Fits (made_in s) (under t (unless (file_faults x) d))
+made_fits : (s : Sort) (t : Test) (x : Option FileFault) (d : Served) → fits (made_in s) d.answer ≡ true → Fits (made_in s) (under t (unless (file_faults x) d))
 made_fits s t x d h = under_fits (made_in s) t _ refl (unless_fits (made_in s) (file_faults x) d (file_may s x) (record { it = h }))
 
 abbrev opens_in : Sort → Want
@@ -127,7 +127,7 @@ back_fits ns (Arr n len) h = record { it = refl }
 back_fits ns r h = absurd cc
 
 -- a reference is followed
-through : (k : Want) (r : Value) (go : Name → Deed) (h : IsThing r) → Fits k (go h.0) → Fits k (on_thing r go)
+through : (k : Want) (r : Value) (go : Name → Served) (h : IsThing r) → Fits k (go h.0) → Fits k (on_thing r go)
 through k r go h f = subst (Fits k) (sym (followed r h.0 go h.1)) f
 
 joined_suits : (x : Option Outcome) → Joined (ended_with x)
@@ -135,7 +135,7 @@ joined_suits None = without_value
 joined_suits (Some (outcome.Value v)) = with_value v
 joined_suits (Some (outcome.Failed f)) = without_value
 
-under_joined : (t : Test) (d : Deed) → Joined d.answer → Joined (under t d).answer
+under_joined : (t : Test) (d : Served) → Joined d.answer → Joined (under t d).answer
 unfolding under
 under_joined t d h = by (first_failing t)
   where
@@ -145,8 +145,8 @@ under_joined t d h = by (first_failing t)
 
 module _ (code : CodeTree) (c : Context) (w : World) where
   suits_row : (a : Ask) → AskIs code c a → Suits a (serve w c a).answer
-  suits_row (ask.Read r at) h = (_, ap (λ (d : Deed). d.answer) (gives_slot c r at h w h.0 h.1))
-  suits_row (ask.Write r at v) h = λ s. ap (λ (d : Deed). fits (suit.always suit.is_done) d.answer) (sets_it c r v at h w h.0 h.1)
+  suits_row (ask.Read r at) h = (_, ap (λ (d : Served). d.answer) (gives_slot c r at h w h.0 h.1))
+  suits_row (ask.Write r at v) h = λ s. ap (λ (d : Served). fits (suit.always suit.is_done) d.answer) (sets_it c r v at h w h.0 h.1)
   suits_row (ask.New shape) h = λ s.
       (unless_fits (want_of s (ask.New shape)) (full _ most_things HomeFull) _ (full_may (want_of s (ask.New shape)) _ most_things HomeFull refl) (record { it = shape_fits shape _ })).it
   suits_row (ask.CopyTo r l) h = λ s. (through (want_of s (ask.CopyTo r l)) r _ h (limited (want_of s (ask.CopyTo r l)) _ _ most_things HomeFull _ refl refl (copy_fits r h.0 _ h.1))).it

@@ -19,7 +19,7 @@ use Rattle.thread_steps.specs.Threads.{Frame, Inside, Context}
 use Rattle.thread_steps.specs.Threads as threads
 use Rattle.thread_steps.specs.Next.{Next, goes, asks, stuck, next_of, with_inside, takes, started}
 use Rattle.lam_machine_terms.specs.Worlds.{World, thread_at, with_thread}
-use Rattle.lam_machine_terms.specs.Deeds.{Effect, nothing, takes_tag, sets_slot, adds_thing, adds_copy, takes_monitor, gives_back, drops, adds_file, adds_dir, removes, appends, cuts, adds_pipe, sends, receives, adds_thread, effect_of, Deed}
+use Rattle.lam_machine_terms.specs.Serves.{Effect, nothing, takes_tag, sets_slot, adds_thing, adds_copy, takes_monitor, gives_back, drops, adds_file, adds_dir, removes, appends, cuts, adds_pipe, sends, receives, adds_thread, effect_of, Served}
 use Rattle.lam_machine_terms.specs.Serving.{serve}
 use Rattle.lam_machine_terms.specs.Turns.{may_ask, waits, is_ready, Moment, goes_on, served, turn_by, step, and_then, moments, left_by}
 use Rattle.lam_machine_terms.specs.Valid.{AreKnown, Lives, AllLive, OutcomeLives, FrameLives, ContextLives, AreStacked, has_contexts, all_listings, StoresLive, IsValidThread, IsValid}
@@ -294,8 +294,8 @@ module _ (code : CodeTree) (w : World) (valid : IsValid w) (t : ℕ) (th : threa
   -- ---- an ask
 
   module _ (a : Ask) (i : Inside) (la : AskLives w a) (li : InsideLives w i) (fits : FitsPhase c a) (may : may_ask c a ≡ true) (waits_not : waits w t c a ≡ false) where
-    deed : Deed
-    deed = serve w c a
+    service : Served
+    service = serve w c a
 
     abbrev to : threads.Thread
     to = takes code th c rest i a (serve w c a).answer

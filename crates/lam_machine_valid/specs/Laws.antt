@@ -15,7 +15,7 @@ use Rattle.lam_bytecode.specs.declared.op.Op.TheVariants.{ReadBarrier, WriteBarr
 use Rattle.thread_steps.specs.Threads.{Inside, Context}
 use Rattle.thread_steps.specs.Next.{goes, asks, past, next_of, ops_of}
 use Rattle.lam_machine_terms.specs.Worlds.{World}
-use Rattle.lam_machine_terms.specs.Deeds.{sets_slot, answers, does}
+use Rattle.lam_machine_terms.specs.Serves.{sets_slot, answers, does}
 use Rattle.lam_machine_terms.specs.Serving.{slot_at, serve}
 use Rattle.lam_machine_terms.specs.Turns.{may_ask}
 

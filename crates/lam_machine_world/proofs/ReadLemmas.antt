@@ -7,11 +7,11 @@ use Rattle.thread_steps.specs.Threads.{Context}
 use Rattle.lam_machine_terms.specs.Worlds.{World}
 use Rattle.lam_machine_terms.specs.Serving.{serve}
 use Rattle.lam_machine_effects.specs.declared.stores.Stores.{Stores}
-use Rattle.lam_machine_effects.specs.declared.deed.Deed.{Deed}
+use Rattle.lam_machine_effects.specs.declared.served.Served.{Served}
 use Rattle.lam_machine_effects.specs.Meaning.{DoesAs}
 use Rattle.lam_machine_rows.specs.Acting.{Acting}
 use Rattle.lam_machine_rows.specs.Serves.{ReadsWorld}
 
-pub at_one : (w : World) (c : Context) (a : Ask) (s : Stores) (n : ℕ) (o : Option Outcome) (who : Acting) (r : Result Deed NoMemory) → ReadsWorld w c a s n o who → IfOk r (λ d. (v : World) (k : Context) → ReadsWorld v k a s n o who → DoesAs d (serve v k a)) → IfOk r (λ d. DoesAs d (serve w c a))
+pub at_one : (w : World) (c : Context) (a : Ask) (s : Stores) (n : ℕ) (o : Option Outcome) (who : Acting) (r : Result Served NoMemory) → ReadsWorld w c a s n o who → IfOk r (λ d. (v : World) (k : Context) → ReadsWorld v k a s n o who → DoesAs d (serve v k a)) → IfOk r (λ d. DoesAs d (serve w c a))
 at_one w c a s n o who (Ok d) h serves = serves w c h
 at_one w c a s n o who (Err e) h serves = tt

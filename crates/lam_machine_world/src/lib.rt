@@ -1,6 +1,6 @@
 //! Worlds of the machine: the stores, and the threads.
 //!
-//! A [`World`] is seen as the plain record of `lam_machine_terms`. [`deed_of`] is the serving of an ask in a world by the
+//! A [`World`] is seen as the plain record of `lam_machine_terms`. [`served_of`] is the serving of an ask in a world by the
 //! context that makes it: it reads how many threads there are and how another one ended, and leaves the rest to
 //! `lam_machine_rows`. It takes the parts of a world, so that a turn can go on to change them.
 //!
@@ -12,5 +12,5 @@ mod reading;
 mod world;
 
 pub use letting_go::{let_go_code, let_go_stores, let_go_world};
-pub use reading::{acting, deed_of, is_ready, lives, result_of};
-pub use world::{THREAD_LIMIT, World};
+pub use reading::{acting, is_ready, lives, result_of, served_of};
+pub use world::World;

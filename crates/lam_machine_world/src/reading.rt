@@ -15,7 +15,7 @@ ghost use Rattle.lam_machine_rows.specs.Serves.{Joins};
 ghost use Rattle.lam_machine_rows.specs.Waits.{JoinsLiving};
 
 use lam_asks::{Ask, Outcome};
-use lam_machine_effects::{Deed, Stores};
+use lam_machine_effects::{Served, Stores};
 use lam_machine_rows::{Acting, serve};
 use thread_core_state::{Context, LamThread, Phase};
 use want_of_memory::NoMemory;
@@ -64,12 +64,12 @@ fn is_first(phase: Phase) -> bool
 /// # Errors
 ///
 /// `NoMemory` where memory is refused.
-pub fn deed_of(
+pub fn served_of(
     stores: &Stores,
     threads: &[LamThread],
     c: &Context,
     ask: &Ask,
-) -> Result<Deed, NoMemory>
+) -> Result<Served, NoMemory>
     requires { length threads.now ≤ most_threads }
     ensures { IfOk result (λ d. DoesAs d (serve (world_of stores.now threads.now) c.now ask.now)) }
 {

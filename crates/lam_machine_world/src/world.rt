@@ -10,9 +10,6 @@ use std::marker::Model;
 use thread_core_state::LamThread;
 use want_of_memory::NoMemory;
 
-/// The number of threads that there may be.
-pub const THREAD_LIMIT: usize = 4096;
-
 /// The stores, and the threads: that of number n stands at place n. There are at most 4,096.
 #[derive(Drop)]
 pub struct World {

@@ -68,11 +68,6 @@ pub printed_of : (printed : Result Status Failure) (plan : Plan) (old new : Opti
 printed_of (Ok status) plan old new h = whole h.0 h.1
 printed_of (Err failure) plan old new h = front refl h
 
--- a fault of the sink was no status of the plan
-pub sink_failed : {P : Type 0} (printed : Result Status Failure) (plan : Plan) (old new : Option Text) → IsPlain plan.status → Prints printed plan old new → (IsErr printed → P) → ended printed ≡ SinkFault → P
-sink_failed (Ok status) plan old new plain h rose e = absurd (plain.sink (sym h.0 ∙ e))
-sink_failed (Err failure) plan old new plain h rose e = rose refl
-
 no_memory_printed : (status planned : Status) (text : Text) (old new : Option Text) → IsPlain planned → IsPrinted status planned text old new → status ≡ NoMemory → ⊥
 no_memory_printed status planned text old new plain (whole e t) is = plain.memory (sym e ∙ is)
 no_memory_printed status planned text old new plain (front e t) is = let clash : SinkFault ≡ NoMemory = sym e ∙ is in cc

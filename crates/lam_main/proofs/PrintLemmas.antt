@@ -23,10 +23,6 @@ front_before old new a b h =
 
 -- ---- parts one after another
 
-joined_append : (xs ys : List Text) → joined (xs ++ ys) ≡ joined xs ++ joined ys
-joined_append [] ys = refl
-joined_append (x ∷ xs) ys = ap (λ (r : Text). x ++ r) (joined_append xs ys) ∙ sym (append_assoc x (joined xs) (joined ys))
-
 joined_take : (parts : List (Bor Text)) (i : ℕ) (d : Bor Text) → i < length parts → joined (texts (take (suc i) parts)) ≡ joined (texts (take i parts)) ++ (get_or parts i d).now
 joined_take [] i d less = absurd (omega arith)
 joined_take (p ∷ ps) zero d less = append-nil p.now

@@ -21,7 +21,7 @@ ghost use Rattle.lam_io.specs.Outside.{Rose, AllStay, Took};
 ghost use Rattle.lam_main_words.specs.Words.{request_of, asked, InRange, help_lines, commands};
 ghost use Rattle.lam_main_plan.specs.Refusals.{Plan, prints, no_word};
 ghost use Rattle.lam_main_plan.specs.Replays.{an_observer};
-ghost use Rattle.lam_main_plan.specs.Plan.{IsPlanOf, IsPlan, leaves_open, written_by, PlaysIsolated, FormatIsSteady};
+ghost use Rattle.lam_main_plan.specs.Plan.{IsPlanOf, IsPlan, TellAll, written_by, PlaysIsolated, FormatIsSteady};
 ghost use Rattle.lam_main_plan.specs.Answer.{outside, AsPlanned, IsAnswer, IsPlanned, OthersKept};
 ghost use Rattle.lam_main_laws.specs.Calls.{ReplaysAreIsolated, AuditsArePrinted};
 ghost use Rattle.lam_main_laws.specs.Fronts.{FrontsArePrinted};
@@ -30,7 +30,7 @@ ghost use Rattle.lam_main_laws.specs.Complete.{MakesAreComplete};
 ghost use Rattle.lam_main_laws.specs.Orderly.{OrderlyCallsAreDone, OrderlyRunsEnd, MakesEnd, RefusalsAreExact};
 ghost use Rattle.lam_main_laws.specs.Meant.{CallsRunAsMeant};
 ghost use Rattle.lam_main_laws.specs.Pairs.{PairsAreTold};
-ghost use Rattle.lam_main_laws.specs.Saves.{SavesAreTold};
+ghost use Rattle.lam_main_laws.specs.Saves.{SavesAreTold, NextWorldsAreRead};
 ghost use Rattle.lam_main_laws.specs.Walks.{WalksAreTold};
 ghost use Rattle.lam_main_files.specs.Halts.{Says, Gives, Reports};
 ghost use Rattle.lam_main_threads.specs.Asked.{reader_of};
@@ -43,9 +43,9 @@ use lam_main_files::{Halt, Refusal, Report, check, code, done, format, play};
 use lam_main_laws::{
     audits_are_printed, broken_makes_are_recorded, broken_runs_are_recorded, calls_run_as_meant,
     fronts_are_printed, generated_runs_are_recorded, makes_are_complete, makes_end,
-    orderly_calls_are_done, orderly_runs_end, pairs_are_told, refusals_are_exact,
-    replays_are_isolated, runs_are_complete, runs_are_recorded, runs_end_in_order, saves_are_told,
-    walks_are_told,
+    next_worlds_are_read, orderly_calls_are_done, orderly_runs_end, pairs_are_told,
+    refusals_are_exact, replays_are_isolated, runs_are_complete, runs_are_recorded,
+    runs_end_in_order, saves_are_told, walks_are_told,
 };
 use lam_main_next::next;
 use lam_main_pair::pair;
@@ -78,7 +78,7 @@ pub fn lam<R: Threads + Wait + Sync, H: Shelf, O: Sink, G: Gate + Sync>(
     gate: &G,
 ) -> Status
     // Of the words and the files that the shelf tells: how it ended, what was printed and what became of the files.
-    ensures answer { IsTrue (H.tells shelf.old) → leaves_open (request_of (map string_bytes words.now)) ≡ false → (plan : Plan) → IsPlan (map string_bytes words.now) (H.files shelf.old) plan → IsAnswer result plan (outside (H.files shelf.old) (O.taken out.old)) (outside (H.files shelf.new) (O.taken out.new)) }
+    ensures answer { IsTrue (H.tells shelf.old) → TellAll (request_of (map string_bytes words.now)) (H.files shelf.old) → (plan : Plan) → IsPlan (map string_bytes words.now) (H.files shelf.old) plan → IsAnswer (written_by (request_of (map string_bytes words.now))) result plan (outside (H.files shelf.old) (O.taken out.old)) (outside (H.files shelf.new) (O.taken out.new)) }
     ensures planned { IsTrue (H.tells shelf.old) → IsPlanned result (IsPlan (map string_bytes words.now) (H.files shelf.old)) (outside (H.files shelf.old) (O.taken out.old)) (outside (H.files shelf.new) (O.taken out.new)) }
     ensures others_kept { IsTrue (H.tells shelf.old) → OthersKept (written_by (request_of (map string_bytes words.now))) (H.files shelf.old) (H.files shelf.new) }
 
@@ -86,7 +86,7 @@ pub fn lam<R: Threads + Wait + Sync, H: Shelf, O: Sink, G: Gate + Sync>(
     ensures spared { IsTrue (H.tells shelf.old) → result ≡ Status.NoMemory → ¬ Rose (H.refusals shelf.old) (H.refusals shelf.new) → AllStay (H.files shelf.old) (H.files shelf.new) }
 
     // Where no count rose it ended as planned, or memory ran out.
-    ensures no_fault { IsTrue (H.tells shelf.old) → leaves_open (request_of (map string_bytes words.now)) ≡ false → ¬ Rose (H.faults shelf.old) (H.faults shelf.new) → ¬ Rose (O.faults out.old) (O.faults out.new) → result ≢ Status.NoMemory → (plan : Plan) → IsPlan (map string_bytes words.now) (H.files shelf.old) plan → result ≡ plan.status }
+    ensures no_fault { IsTrue (H.tells shelf.old) → TellAll (request_of (map string_bytes words.now)) (H.files shelf.old) → ¬ Rose (H.faults shelf.old) (H.faults shelf.new) → ¬ Rose (O.faults out.old) (O.faults out.new) → result ≢ Status.NoMemory → (plan : Plan) → IsPlan (map string_bytes words.now) (H.files shelf.old) plan → result ≡ plan.status }
 
     // A refusal comes exactly where it is planned, whatever the command; and what is in order ends in order. Memory may run
     // out, and the file store or the output may fail.
@@ -143,6 +143,9 @@ pub fn lam<R: Threads + Wait + Sync, H: Shelf, O: Sink, G: Gate + Sync>(
     // there is no such document.
     ensures saved { SavesAreTold (map string_bytes words.now) (H.files shelf.old) }
 
+    // The world that `next` writes is read as a start that goes on from the end of its run.
+    ensures read_back { NextWorldsAreRead (map string_bytes words.now) (H.files shelf.old) }
+
     // What `walk` prints is how many asks stand in its run, and the source of the program makes each of them.
     ensures walked { WalksAreTold (map string_bytes words.now) (H.files shelf.old) }
 
@@ -167,6 +170,7 @@ pub fn lam<R: Threads + Wait + Sync, H: Shelf, O: Sink, G: Gate + Sync>(
     calls_run_as_meant();
     pairs_are_told();
     saves_are_told();
+    next_worlds_are_read();
     walks_are_told();
     canonical_text_is_lexed();
     canonical_text_is_read_as_the_tree();

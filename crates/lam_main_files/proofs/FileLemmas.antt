@@ -18,7 +18,7 @@ use Rattle.lam_main_plan.specs.Plan.{Formats, misspelt}
 use Rattle.lam_main_plan.proofs.ReadLemmas.{program_then, no_program_then}
 use Rattle.lam_main_files.specs.declared.halt.Halt.{Halt}
 use Rattle.lam_main_files.specs.declared.halt.Halt.TheVariants.{Refused, NoMemory, ShelfFailed}
-use Rattle.lam_main_files.specs.Halts.{refuses, halt_of, halt_of_code, Finds, Says, Gives, done, Reports, IsRead}
+use Rattle.lam_main_files.specs.Halts.{refuses, halt_of, halt_of_code, Finds, Says, Gives, IsRead}
 
 -- ---- answers
 
@@ -46,13 +46,6 @@ gives_of P old new (Ok text) stay h = (None, h, stay)
 gives_of P old new (Err (Refused refusal)) stay h = (h, stay)
 gives_of P old new (Err NoMemory) stay h = tt
 gives_of P old new (Err ShelfFailed) stay h = tt
-
--- a command that starts no thread reports its text
-pub reports_done : (P : Plan → Type 0) (old new : Files) (answer : Result (String Global) Halt) → Gives answer P old new → Reports (done answer) P old new
-reports_done P old new (Ok text) h = h
-reports_done P old new (Err (Refused refusal)) h = h
-reports_done P old new (Err NoMemory) h = tt
-reports_done P old new (Err ShelfFailed) h = tt
 
 -- ---- files
 

@@ -1,6 +1,6 @@
 -- What is reported after files were read, where a command writes a file, and what became of the files.
 use Rattle.std.proofs.Common.{◌≡◌, ◌≤◌, ℕ, ◌+◌, ◌-◌, ◌^◌, min, Some, Result, Ok, Err, IfErr, refl, subst, arith}
-use Rattle.lam_io.specs.Outside.{Files, AllStay, Rose, one_more}
+use Rattle.lam_io.specs.Outside.{Files, AllStay, Rose}
 use Rattle.lam_main_words.specs.Words.{Text}
 use Rattle.lam_main_plan.specs.Refusals.{Plan}
 use Rattle.lam_main_plan.specs.Answer.{OthersKept}
@@ -50,12 +50,6 @@ Spares answer old new before now = IfErr answer (λ halt. halt ≡ NoMemory → 
 pub spared_later : (answer : Result Report Halt) (old between new : Files) (a b c : ℕ) → AllStay old between → b ≡ a → Spares answer between new b c → Spares answer old new a c
 spared_later (Ok report) old between new a b c stay same h = tt
 spared_later (Err halt) old between new a b c stay same h = λ e calm. subst (λ (fs : Files). AllStay fs new) (same_files old between stay) (h e (λ rose. calm (subst (λ (n : ℕ). Rose n c) same rose)))
-
-rose_by_one : (a b most : ℕ) → b ≡ min (a + 1) most → min (a + 1) most ≤ b
-rose_by_one a b most one = omega arith
-
-pub write_refused : {P : Type 0} (a b : ℕ) → b ≡ one_more a → ¬ Rose a b → P
-write_refused a b one calm = absurd (calm (rose_by_one a b (2 ^ 64 - 1) one))
 
 -- ---- faults of the shelf
 

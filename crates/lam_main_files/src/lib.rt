@@ -13,6 +13,6 @@ mod script;
 
 pub use files::read_file;
 pub use halt::{BookBreak, Halt, Refusal};
-pub use program::{check, code, compiled, format, read_code, run_code_of};
+pub use program::{PROGRAM_LIMIT, check, code, compiled, format, read_code, run_code_of};
 pub use report::{Report, done};
 pub use script::play;

@@ -31,7 +31,7 @@ use std::mem::forget;
 use want_of_memory::NoMemory;
 
 /// The most bytes of a program.
-const PROGRAM_LIMIT: u64 = 1_048_576;
+pub const PROGRAM_LIMIT: u64 = 1_048_576;
 
 /// The canonical text of the program in a file.
 ///

@@ -9,13 +9,13 @@ use Rattle.lam_machine_terms.specs.Turns.{Moment, moments}
 use Rattle.lam_machine_runs.specs.Runs.{RunsStop}
 use Rattle.audit_log.specs.Log.{view_lines, audit_lines}
 use Rattle.audit_log_notes.specs.Sums.{summary_lines}
-use Rattle.lam_main_words.specs.Words.{Text, Request, check, code, help, request_of, commands, help_lines}
+use Rattle.lam_main_words.specs.Words.{Text, Request, play, check, format, code, replay, audit, help, request_of, commands, help_lines}
 use Rattle.lam_main_plan.specs.declared.Status.{Status}
 use Rattle.lam_main_plan.specs.declared.Status.TheVariants.{Done, NoMemory, Words, Program, World as WorldStatus, Book, Missing, ShelfFault, SinkFault, Budget, AllWait}
 use Rattle.lam_main_plan.specs.Refusals.{Plan, prints}
 use Rattle.lam_main_plan.specs.Reading.{HasFile, IsCompiled, program_limit}
 use Rattle.lam_main_plan.specs.Threads.{IsOfThreads, made_budget}
-use Rattle.lam_main_plan.specs.Plan.{IsPlan, IsPlanOf, leaves_open, PlansAreOne, IsRefused, IsTold, RefusalsAreOne}
+use Rattle.lam_main_plan.specs.Plan.{IsPlan, IsPlanOf, TellAll, PlansAreOne, IsRefused, IsTold, RefusalsAreOne}
 use Rattle.lam_main_plan.specs.Answer.{Outside, IsPrinted, whole, front, IsPlanned}
 use Rattle.lam_main_plan.proofs.PlayLemmas.{printed_of}
 use Rattle.lam_main_plan.proofs.FormatLemmas.{planned}
@@ -44,13 +44,17 @@ ended_as status end text old new quiet (front e t) = absurd (subst IsUnfailed e 
 record Prints (ws : List Text) (files : Files) : Type 0 where
   text : Text
   is : IsPlan ws files (prints text)
-  alone : leaves_open (request_of ws) ≡ false
+  alone : TellAll (request_of ws) files
 
-asks : (ws : List Text) (files : Files) (request : Request) (text : Text) → request_of ws ≡ Ok request → leaves_open (Ok request) ≡ false → IsPlanOf (Ok request) files (prints text) → Prints ws files
+-- words and files of a request tell all, where they do of what is asked
+tells_all : (ws : List Text) (files : Files) (request : Request) → request_of ws ≡ Ok request → TellAll (Ok request) files → TellAll (request_of ws) files
+tells_all ws files request is all = subst (λ (r : Result Request ℕ). TellAll r files) (sym is) all
+
+asks : (ws : List Text) (files : Files) (request : Request) (text : Text) → request_of ws ≡ Ok request → TellAll (Ok request) files → IsPlanOf (Ok request) files (prints text) → Prints ws files
 asks ws files request text is none of = record {
   text = text;
   is = subst (λ (r : Result Request ℕ). IsPlanOf r files (prints text)) (sym is) of;
-  alone = ap leaves_open is ∙ none;
+  alone = tells_all ws files request is none;
 }
 
 module _ (files : Files) (program : Text) (tree : CodeTree) (h : HasFile (files program) program_limit (λ bytes. IsCompiled bytes (Ok tree))) where
@@ -66,13 +70,13 @@ module _ (stops : (tree : CodeTree) → RunsStop tree) where
   orderly_text one ws files plan p is = ap (λ (it : Plan). it.status) (one ws files plan (prints p.text) p.alone is p.is)
 
   orderly_plan : PlansAreOne → (ws : List Text) (files : Files) (plan : Plan) → IsOrderly ws files → IsPlan ws files plan → plan.status ≡ Done
-  orderly_plan one ws files plan (plays script o r) is = orderly_text one ws files plan (record { text = play_lines script o; is = printed_of ws files script o r; alone = ap leaves_open r.asks }) is
-  orderly_plan one ws files plan (checks program tree ask h) is = orderly_text one ws files plan (asks ws files (check program) (codes "ok\n") ask refl (checked files program tree h)) is
-  orderly_plan one ws files plan (formats p r) is = orderly_text one ws files plan (record { text = canon p; is = planned ws files p r; alone = ap leaves_open r.asks }) is
-  orderly_plan one ws files plan (lists program tree ask h) is = orderly_text one ws files plan (asks ws files (code program) (listing_text tree) ask refl (listed files program tree h)) is
-  orderly_plan one ws files plan (replays tree start o turns r) is = orderly_text one ws files plan (record { text = view_lines start.names o (moments tree turns start); is = view_printed ws files tree start o turns (stops tree) r; alone = ap leaves_open r.asks }) is
-  orderly_plan one ws files plan (audits tree start turns r) is = orderly_text one ws files plan (record { text = audit_lines start.names (moments tree turns start); is = audit_printed ws files tree start turns (stops tree) r; alone = ap leaves_open r.asks }) is
-  orderly_plan one ws files plan (helps ask) is = orderly_text one ws files plan (asks ws files help (help_lines commands) ask refl refl) is
+  orderly_plan one ws files plan (plays script o r) is = orderly_text one ws files plan (record { text = play_lines script o; is = printed_of ws files script o r; alone = tells_all ws files (play r.file r.label) r.asks (record { turns = refl; digits = tt }) }) is
+  orderly_plan one ws files plan (checks program tree ask h) is = orderly_text one ws files plan (asks ws files (check program) (codes "ok\n") ask (record { turns = refl; digits = tt }) (checked files program tree h)) is
+  orderly_plan one ws files plan (formats p r) is = orderly_text one ws files plan (record { text = canon p; is = planned ws files p r; alone = tells_all ws files (format r.file) r.asks (record { turns = refl; digits = tt }) }) is
+  orderly_plan one ws files plan (lists program tree ask h) is = orderly_text one ws files plan (asks ws files (code program) (listing_text tree) ask (record { turns = refl; digits = tt }) (listed files program tree h)) is
+  orderly_plan one ws files plan (replays tree start o turns r) is = orderly_text one ws files plan (record { text = view_lines start.names o (moments tree turns start); is = view_printed ws files tree start o turns (stops tree) r; alone = tells_all ws files (replay r.program r.world r.book r.label) r.asks (record { turns = refl; digits = tt }) }) is
+  orderly_plan one ws files plan (audits tree start turns r) is = orderly_text one ws files plan (record { text = audit_lines start.names (moments tree turns start); is = audit_printed ws files tree start turns (stops tree) r; alone = tells_all ws files (audit r.program r.world r.book) r.asks (record { turns = refl; digits = tt }) }) is
+  orderly_plan one ws files plan (helps ask) is = orderly_text one ws files plan (asks ws files help (help_lines commands) ask (record { turns = refl; digits = tt }) refl) is
   orderly_plan one ws files plan (pairs tree o s turns s' turns' a) is = ap (λ (it : Plan). it.status) (pair_planned ws files tree o s turns s' turns' plan (stops tree) a is).is
   orderly_plan one ws files plan (walks tree start turns a) is = ap (λ (it : Plan). it.status) (walk_planned ws files tree start turns plan (stops tree) a is).tells.is
   orderly_plan one ws files plan (saves tree start turns a can) is = save_done a.out a.holds.starts.bytes tree start turns plan can (save_planned ws files tree start turns plan (stops tree) a is)
@@ -135,7 +139,7 @@ module _ (one : RefusalsAreOne) (ws : List Text) (status : Status) (old new : Ou
       let d = unfailed_did status (IsPlan ws old.files) old new quiet given in
       (d.plan, record { is = d.is; ends = ended_as status d.plan.status d.plan.text old.taken new.taken quiet d.does.printed; does = d.does })
 
-  comes_so : (plan : Plan) → IsPlan ws old.files plan → IsRefused plan.status → IsTold (request_of ws) plan → IsUnfailed status → IsRefusedAs ws status old new plan
+  comes_so : (plan : Plan) → IsPlan ws old.files plan → IsRefused plan.status → IsTold (request_of ws) old.files plan → IsUnfailed status → IsRefusedAs ws status old new plan
   comes_so plan is refused told quiet =
       let d = did_planned quiet in
       subst (IsRefusedAs ws status old new) (sym (one ws old.files plan d.0 refused told is d.1.is)) d.1

@@ -15,10 +15,10 @@ use Rattle.lam_main_plan.specs.Replays.{RunFiles, ByWorld}
 use Rattle.lam_main_plan.specs.Books.{WithRun}
 use Rattle.lam_main_plan.specs.Saves.{saved, unnamed, untold, too_long, IsOfEnd, SavesRun, Saves}
 use Rattle.lam_main_plan.specs.Plan.{IsPlan, IsPlanOf}
-use Rattle.world_save_files.specs.Saved.{IsTextOf}
-use Rattle.world_save_reads.specs.Runs.{IsSavedRun}
-use Rattle.world_save_reads.proofs.ReadLemmas.{next_read}
-use Rattle.world_save_reads.proofs.RunLemmas.{starts_agree}
+use Rattle.world_save_files.specs.Saved.{IsSavedText}
+use Rattle.world_save_laws.specs.Runs.{IsSavedRun}
+use Rattle.world_save_laws.proofs.ReadLemmas.{next_read}
+use Rattle.world_save_laws.proofs.RunLemmas.{starts_agree}
 use Rattle.lam_main_laws.specs.Calls.{HoldRun}
 use Rattle.lam_main_laws.specs.Saves.{AsksNext, CanBeSaved, SavesAreTold, NextWorldsAreRead, WritesNext, NextStartsAgree}
 use Rattle.lam_main_laws.proofs.PlanLemmas.{of_bytes, of_code, of_world}
@@ -67,10 +67,13 @@ some_text out a b e = ap text_in e
 no_text : (x : Text × Text) → ◌≡◌ {A = Option (Text × Text)} None (Some x) → ⊥
 no_text x e = cc
 
--- a text that is written is one of the files at the end
-written_text : (out old : Text) (code : CodeTree) (start : World) (turns : List ℕ) (plan : Plan) (text : Text) → IsOfEnd out code old start turns plan → plan.writes ≡ Some (out, text) → IsTextOf start.names start.public (replay code turns start).files old text
+-- a text that is written is one that is saved of the files at the end
+abbrev IsOfItems : Text → World → World → Text → Type 0
+IsOfItems old start end text = (items : ℕ) × IsSavedText start.names start.public end.files old text items
+
+written_text : (out old : Text) (code : CodeTree) (start : World) (turns : List ℕ) (plan : Plan) (text : Text) → IsOfEnd out code old start turns plan → plan.writes ≡ Some (out, text) → IsOfItems old start (replay code turns start) text
 written_text out old code start turns plan text (saved found items h e) w =
-    subst (IsTextOf start.names start.public (replay code turns start).files old) (some_text out found text (sym (ap (λ (it : Plan). it.writes) e) ∙ w)) h.text_is
+    (items, subst (λ (x : Text). IsSavedText start.names start.public (replay code turns start).files old x items) (some_text out found text (sym (ap (λ (it : Plan). it.writes) e) ∙ w)) h)
 written_text out old code start turns plan text (unnamed tag h e) w = absurd (no_text (out, text) (sym (ap (λ (it : Plan). it.writes) e) ∙ w))
 written_text out old code start turns plan text (untold item h e) w = absurd (no_text (out, text) (sym (ap (λ (it : Plan). it.writes) e) ∙ w))
 written_text out old code start turns plan text (too_long bytes h e) w = absurd (no_text (out, text) (sym (ap (λ (it : Plan). it.writes) e) ∙ w))
@@ -80,17 +83,19 @@ module _ (stops : (code : CodeTree) → RunsStop code) (stays : StaysCode) where
   its_code files program world book code start turns h = run_code stays h.compiled.bytes code h.compiled.follows
 
   its_text : (ws : List Text) (files : Files) (code : CodeTree) (start : World) (turns : List ℕ) (plan : Plan) (text : Text) (a : AsksNext ws files code start turns) → IsPlan ws files plan → plan.writes ≡ Some (a.out, text)
-      → IsTextOf start.names start.public (replay code turns start).files a.holds.starts.bytes text
+      → IsOfItems a.holds.starts.bytes start (replay code turns start) text
   its_text ws files code start turns plan text a is w = written_text a.out a.holds.starts.bytes code start turns plan text (save_planned ws files code start turns plan (stops code) a is) w
 
   pub worlds_read : (ws : List Text) (files : Files) → NextWorldsAreRead ws files
-  worlds_read ws files code start turns plan text a is w bytes =
-      next_read code (its_code files a.program a.world a.book code start turns a.holds) a.holds.starts.bytes text start turns a.holds.starts.follows bytes (its_text ws files code start turns plan text a is w)
+  worlds_read ws files code start turns plan text a is w =
+      let t = its_text ws files code start turns plan text a is w in
+      next_read code (its_code files a.program a.world a.book code start turns a.holds) a.holds.starts.bytes text t.0 start turns a.holds.starts.follows t.1
 
   saved_run : (ws : List Text) (files : Files) (code : CodeTree) (start : World) (turns : List ℕ) (text : Text) → WritesNext ws files code start turns text → IsSavedRun code start turns text
   saved_run ws files code start turns text w =
       let a = w.asks in
-      record { old = a.holds.starts.bytes; starts = a.holds.starts.follows; run = a.holds.ready; bytes = w.bytes; saved = its_text ws files code start turns w.plan text a w.planned w.writes }
+      let t = its_text ws files code start turns w.plan text a w.planned w.writes in
+      record { old = a.holds.starts.bytes; starts = a.holds.starts.follows; run = a.holds.ready; items = t.0; saved = t.1 }
 
   pub worlds_agree : (ws ws' : List Text) (files files' : Files) → NextStartsAgree ws ws' files files'
   worlds_agree ws ws' files files' code o s s' turns turns' text text' w w' agree agendas named named' v v' e e' =

@@ -17,7 +17,7 @@ use Rattle.lam_bytecode.specs.Codes.{CodeTree}
 use Rattle.thread_steps.specs.Threads.{Context, Thread}
 use Rattle.thread_steps.specs.Next.{Next, goes, asks, stuck, next_of}
 use Rattle.lam_machine_terms.specs.Worlds.{World}
-use Rattle.lam_machine_terms.specs.Deeds.{Made, a_region, a_thing, made_label, Deed}
+use Rattle.lam_machine_terms.specs.Serves.{Made, a_region, a_thing, made_label, Served}
 use Rattle.lam_machine_terms.specs.Serving.{renamed, serve}
 use Rattle.lam_machine_terms.specs.Turns.{is_ready, Moment, served, turn_by}
 use Rattle.lam_machine_terms.specs.Views.{goes_down, is_release, used_by}
@@ -31,8 +31,8 @@ use Rattle.lam_main_laws.specs.Whole.{IsEntryOrCopyOf, entry, copy, IsKept, IsTo
 
 -- ---- the two asks
 
--- what a deed makes was asked for so, and answered so
-abbrev Fits : Ask → Deed → Type 0
+-- what a service makes was asked for so, and answered so
+abbrev Fits : Ask → Served → Type 0
 Fits a d = (m : Made) → d.made ≡ Some m → IsEntryOrCopyOf (Asked a d.answer) (Some m)
 
 none_made : {X : Type 0} (m : Made) → None ≡ Some m → X

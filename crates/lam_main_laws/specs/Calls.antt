@@ -7,7 +7,7 @@ use Rattle.capabilities.specs.Changes.{used}
 use Rattle.lam_io.specs.Outside.{Files}
 use Rattle.lam_bytecode.specs.Codes.{CodeTree}
 use Rattle.lam_machine_terms.specs.Worlds.{World}
-use Rattle.lam_machine_terms.specs.Deeds.{Made, made_label}
+use Rattle.lam_machine_terms.specs.Serves.{Made, made_label}
 use Rattle.lam_machine_terms.specs.Turns.{Moment, moments, IsRun}
 use Rattle.lam_machine_terms.specs.Views.{Agree, is_past, agenda, trace}
 use Rattle.lam_machine_laws.specs.Isolation.{LookSame}

@@ -69,5 +69,5 @@ pub record IsRefusedAs (ws : List Text) (status : Status) (old new : Outside) (p
 -- is of which words and files tell, nothing else is planned
 pub record RefusalsAreExact (ws : List Text) (status : Status) (old new : Outside) : Type 0 where
   pub planned : IsRefused status → (plan : Plan) × IsRefusedAs ws status old new plan
-  pub comes : (plan : Plan) → IsPlan ws old.files plan → IsRefused plan.status → IsTold (request_of ws) plan → IsUnfailed status → IsRefusedAs ws status old new plan
-  pub alone : (plan other : Plan) → IsRefused plan.status → IsTold (request_of ws) plan → IsPlan ws old.files plan → IsPlan ws old.files other → plan ≡ other
+  pub comes : (plan : Plan) → IsPlan ws old.files plan → IsRefused plan.status → IsTold (request_of ws) old.files plan → IsUnfailed status → IsRefusedAs ws status old new plan
+  pub alone : (plan other : Plan) → IsRefused plan.status → IsTold (request_of ws) old.files plan → IsPlan ws old.files plan → IsPlan ws old.files other → plan ≡ other

@@ -9,9 +9,8 @@ use Rattle.lam_machine_terms.specs.Views.{Agree, agenda}
 use Rattle.world_doc_terms.specs.Start.{start_of}
 use Rattle.world_save_terms.specs.Document.{most_document}
 use Rattle.world_save_files.specs.Saved.{HaveText, IsTextOf}
-use Rattle.world_save_trees.specs.Next.{GoesOn}
-use Rattle.world_save_runs.specs.Agreeing.{AreNamedInSeen}
-use Rattle.world_save_reads.specs.Saved.{HaveBytes}
+use Rattle.world_save_laws.specs.Next.{GoesOn}
+use Rattle.world_save_laws.specs.Agreeing.{AreNamedInSeen}
 use Rattle.lam_main_words.specs.Words.{Text, next, request_of}
 use Rattle.lam_main_plan.specs.Refusals.{Plan}
 use Rattle.lam_main_plan.specs.Saves.{IsOfEnd}
@@ -40,10 +39,10 @@ SavesAreTold ws files =
     IsOfEnd a.out code a.holds.starts.bytes start turns plan
 
 -- The world that it writes is read as a start that goes on from the end of the run: its tags, public capabilities, pipes and
--- threads are those of the run's start, its files and directories those that the root reached. What files hold are bytes.
+-- threads are those of the run's start, its files and directories those that the root reached.
 abbrev pub NextWorldsAreRead : List Text → Files → Type 0
 NextWorldsAreRead ws files =
-    (code : CodeTree) (start : World) (turns : List ℕ) (plan : Plan) (text : Text) (a : AsksNext ws files code start turns) → IsPlan ws files plan → plan.writes ≡ Some (a.out, text) → HaveBytes (replay code turns start).files →
+    (code : CodeTree) (start : World) (turns : List ℕ) (plan : Plan) (text : Text) (a : AsksNext ws files code start turns) → IsPlan ws files plan → plan.writes ≡ Some (a.out, text) →
     (v : World) × ((start_of text code ≡ Ok v) × GoesOn start (replay code turns start).files v)
 
 -- the words ask for the world after this run, and this text is written
@@ -52,7 +51,6 @@ pub record WritesNext (ws : List Text) (files : Files) (code : CodeTree) (start 
   pub plan : Plan
   pub planned : IsPlan ws files plan
   pub writes : plan.writes ≡ Some (asks.out, text)
-  pub bytes : HaveBytes (replay code turns start).files
 
 -- Two runs that look the same to an observer leave worlds whose starts look the same to it, where at the end of either each
 -- file and directory that it sees is named in a directory that it sees.

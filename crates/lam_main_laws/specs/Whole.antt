@@ -13,7 +13,7 @@ use Rattle.lam_asks.specs.declared.answer.What.TheVariants.{Asked}
 use Rattle.lam_asks.specs.declared.ask.Ask.TheVariants.{CopyTo, Enter}
 use Rattle.lam_bytecode.specs.Codes.{CodeTree}
 use Rattle.lam_machine_terms.specs.Worlds.{World}
-use Rattle.lam_machine_terms.specs.Deeds.{Made, a_region, a_thing, made_label}
+use Rattle.lam_machine_terms.specs.Serves.{Made, a_region, a_thing, made_label}
 use Rattle.lam_machine_terms.specs.Turns.{Moment, step}
 use Rattle.lam_machine_terms.specs.Views.{release, release_of, is_release, is_past, used_by}
 use Rattle.audit_log_notes.specs.Notes.{content_in, shown, refusal_of, noted_in}

@@ -1,13 +1,14 @@
 //! What is made of the end of a run: the document of the next run's world, and the line of how many items it has.
 
 ghost use Rattle.std.specs.Prelude.{◌≡◌, ◌≢◌, ◌≤◌, Ok, length, IfOk, IfErr, string_bytes};
-ghost use Rattle.described_runs.specs.Worlds.{IsSound};
+ghost use Rattle.guarded_code_runs.specs.Worlds.{IsSound};
 ghost use Rattle.lam_machine_runs.specs.Stops.{stopped_at};
 ghost use Rattle.world_doc_terms.specs.Start.{start_of};
 ghost use Rattle.world_forest.specs.Forest.{IsForest};
 ghost use Rattle.lam_main_plan.specs.Books.{WhereReady};
 ghost use Rattle.lam_main_plan.specs.Saves.{saved_line, IsOfFiles, IsOfEnd};
 ghost use Rattle.lam_main_next.specs.Endings.{Offers, IsToldOf, halt_of_save};
+ghost use Rattle.turn_book.specs.Limits.{most_turns};
 
 use decimal_text::push_number;
 use guarded_code::Verified;
@@ -16,7 +17,7 @@ use lam_main_files::{Halt, Refusal};
 use std::alloc::Global;
 use thread_host_run::{Run, RunOf, let_go_run, run_of};
 use want_of_memory::NoMemory;
-use world_forest_starts::texts_begin_as_forests;
+use world_forest_laws::texts_begin_as_forests;
 use world_save::{SaveFault, Saved, save};
 
 /// The line that is printed, and the document that is written.
@@ -36,7 +37,7 @@ pub(crate) fn end_of_turns(
 ) -> Result<Ending, Halt>
     requires sound { IsSound code start }
     requires document { start_of old.now code ≡ Ok start }
-    requires few { length turns.now ≤ 1000000 }
+    requires few { length turns.now ≤ most_turns }
     ensures offers { Offers result (λ out. WhereReady (IsOfEnd out code old.now start turns.now) (stopped_at code turns.now start)) }
     ensures no_fault { IfErr result (λ halt. halt ≢ Halt.ShelfFailed) }
 {

@@ -13,7 +13,7 @@ mod writing;
 ghost use Rattle.std.specs.Prelude.{◌≡◌, ◌≤◌, Ok, Some, length, IsTrue, IfErr, string_bytes};
 ghost use Rattle.lam_io.specs.Outside.{Rose, AllStay};
 ghost use Rattle.lam_bytecode.specs.Codes.{IsCode};
-ghost use Rattle.described_runs.specs.Worlds.{IsSound};
+ghost use Rattle.guarded_code_runs.specs.Worlds.{IsSound};
 ghost use Rattle.world_doc_terms.specs.Start.{start_of};
 ghost use Rattle.lam_main_plan.specs.Answer.{OthersKept};
 ghost use Rattle.lam_main_plan.specs.Reading.{WithFile, program_limit};
@@ -23,6 +23,7 @@ ghost use Rattle.lam_main_plan.specs.Books.{WhereReady, WithRun};
 ghost use Rattle.lam_main_plan.specs.Saves.{IsOfEnd, SavesRun, Saves};
 ghost use Rattle.lam_main_files.specs.Halts.{Reports};
 ghost use Rattle.lam_main_replay.specs.Asked.{files_of};
+ghost use Rattle.turn_book.specs.Limits.{most_turns};
 
 use crate::ending::end_of_turns;
 use crate::writing::written;
@@ -30,11 +31,8 @@ use guarded_code::Verified;
 use lam_io::Shelf;
 use lam_machine_world::{World, let_go_world};
 use lam_main_files::{Halt, Report, read_code, read_file};
-use lam_main_replay::{RunFiles, read_turns, start_in};
+use lam_main_replay::{RunFiles, WORLD_LIMIT, read_turns, start_in};
 use std::alloc::Global;
-
-/// The most bytes of the document of a world.
-const WORLD_LIMIT: u64 = 16_777_216;
 
 /// The document of the next run's world is written to a file, and how many items it has is reported: of the files and
 /// directories at the end of the run of a program, from the world of a document, in the order of a book.
@@ -143,7 +141,7 @@ fn next_turns<H: Shelf>(
 ) -> Result<Report, Halt>
     requires sound { IsSound code start }
     requires document { start_of old.now code ≡ Ok start }
-    requires few { length turns.now ≤ 1000000 }
+    requires few { length turns.now ≤ most_turns }
     ensures gives { IsTrue (H.tells shelf.old) → Reports result (WhereReady (IsOfEnd (string_bytes next_world) code old.now start turns.now) (stopped_at code turns.now start)) (H.files shelf.old) (H.files shelf.new) }
     ensures kept { IsTrue (H.tells shelf.old) → OthersKept (Some (string_bytes next_world)) (H.files shelf.old) (H.files shelf.new) }
     ensures spared { IsTrue (H.tells shelf.old) → IfErr result (λ halt. halt ≡ Halt.NoMemory → ¬ Rose (H.refusals shelf.old) (H.refusals shelf.new) → AllStay (H.files shelf.old) (H.files shelf.new)) }

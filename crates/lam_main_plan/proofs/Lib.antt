@@ -1,3 +1,4 @@
+pub mod SaveOnce
 pub mod PlanLemmas
 pub mod ReadLemmas
 pub mod BookLemmas

@@ -1,5 +1,5 @@
 -- Words and files have at most one plan.
-use Rattle.std.proofs.Common.{◌≡◌, ◌<◌, ◌≤◌, ℕ, Bool, true, false, ◌||◌, List, length, Option, Some, None, Result, Ok, Err, codes, refl, sym, ap, subst, ◌∙◌, arith}
+use Rattle.std.proofs.Common.{◌≡◌, ◌<◌, ◌≤◌, ℕ, Bool, true, false, inl, inr, List, length, Option, Some, None, Result, Ok, Err, codes, refl, sym, ap, subst, ◌∙◌, arith}
 use Rattle.lam_io.specs.Outside.{Files}
 use Rattle.lam_print.specs.Canon.{canon}
 use Rattle.lam_front.proofs.Once.{one_spelt, spelt_or_misspelt, one_misspelt, fine_or_broken, one_broken}
@@ -40,7 +40,8 @@ use Rattle.world_save_terms.specs.Refusals.{bad_path}
 use Rattle.lam_main_plan.specs.Saves.{IsOfFiles, saved, unnamed, untold, too_long, IsOfEnd, SavesRun, Saves}
 use Rattle.source_walk_terms.specs.declared.Walked.TheVariants.{Same}
 use Rattle.lam_main_plan.specs.Walks.{same_line, IsOfWalk, WalksRun, Walks}
-use Rattle.lam_main_plan.specs.Plan.{Plays, Formats, canonical, misspelt, Checks, Lists, IsPlanOf, starts_threads, saves, leaves_open, PlansAreOne, IsRefused, IsTold, RefusalsAreOne}
+use Rattle.lam_main_plan.specs.Plan.{Plays, Formats, canonical, misspelt, Checks, Lists, IsPlanOf, starts_threads, LeavesNoDigits, TellAll, PlansAreOne, IsRefused, IsTold, RefusalsAreOne}
+use Rattle.lam_main_plan.proofs.SaveOnce.{least_is_one, one_item, some_item, one_saved}
 
 pub one_bytes : {bs cs : Text} → Some bs ≡ Some cs → bs ≡ cs
 one_bytes e = cc
@@ -71,14 +72,18 @@ module _ (p q : Plan) where
   one_unread None name limit h k = h ∙ sym k
   one_unread (Some bytes) name limit h k = h.1 ∙ sym k.1
 
-  one_of_file : (found : Option Text) (limit : ℕ) (IsOf : Text → Plan → Type 0) → ((bytes : Text) → IsOf bytes p → IsOf bytes q → p ≡ q) → HasFile found limit (λ bytes. IsOf bytes p) → HasFile found limit (λ bytes. IsOf bytes q) → p ≡ q
-  one_of_file found limit IsOf one h k = one k.bytes (subst (λ (bs : Text). IsOf bs p) (one_bytes (sym h.there ∙ k.there)) h.follows) k.follows
+  one_of_file : (found : Option Text) (limit : ℕ) (IsOf : Text → Plan → Type 0) → ((bytes : Text) → found ≡ Some bytes → IsOf bytes p → IsOf bytes q → p ≡ q) → HasFile found limit (λ bytes. IsOf bytes p) → HasFile found limit (λ bytes. IsOf bytes q) → p ≡ q
+  one_of_file found limit IsOf one h k = one k.bytes k.there (subst (λ (bs : Text). IsOf bs p) (one_bytes (sym h.there ∙ k.there)) h.follows) k.follows
+
+  -- what follows may ask which file it is
+  one_with_this_file : (found : Option Text) (name : Text) (limit : ℕ) (IsOf : Text → Plan → Type 0) → ((bytes : Text) → found ≡ Some bytes → IsOf bytes p → IsOf bytes q → p ≡ q) → WithFile found name limit IsOf p → WithFile found name limit IsOf q → p ≡ q
+  one_with_this_file found name limit IsOf one (unread h) (unread k) = one_unread found name limit h k
+  one_with_this_file found name limit IsOf one (unread h) (of_file k) = absurd (unread_or_of_file found name limit IsOf p q h k)
+  one_with_this_file found name limit IsOf one (of_file h) (unread k) = absurd (unread_or_of_file found name limit IsOf q p k h)
+  one_with_this_file found name limit IsOf one (of_file h) (of_file k) = one_of_file found limit IsOf one h k
 
   one_with_file : (found : Option Text) (name : Text) (limit : ℕ) (IsOf : Text → Plan → Type 0) → ((bytes : Text) → IsOf bytes p → IsOf bytes q → p ≡ q) → WithFile found name limit IsOf p → WithFile found name limit IsOf q → p ≡ q
-  one_with_file found name limit IsOf one (unread h) (unread k) = one_unread found name limit h k
-  one_with_file found name limit IsOf one (unread h) (of_file k) = absurd (unread_or_of_file found name limit IsOf p q h k)
-  one_with_file found name limit IsOf one (of_file h) (unread k) = absurd (unread_or_of_file found name limit IsOf q p k h)
-  one_with_file found name limit IsOf one (of_file h) (of_file k) = one_of_file found limit IsOf one h k
+  one_with_file found name limit IsOf one h k = one_with_this_file found name limit IsOf (λ bytes there. one bytes) h k
 
   one_plays : (observer bytes : Text) → Plays observer bytes p → Plays observer bytes q → p ≡ q
   one_plays observer bytes h k = h ∙ sym k
@@ -208,25 +213,30 @@ module _ (p q : Plan) where
 
   -- ---- the files at the end of a run
 
-  -- plans of files are one
-  abbrev SavesAreOne : Type 0
-  SavesAreOne = (out old : Text) (names : List Text) (public : Caps) (t : Tree) → IsOfFiles out old names public t p → IsOfFiles out old names public t q → p ≡ q
+  -- plans of files are one, where the older document is this file
+  abbrev SavesAreOne : Option Text → Type 0
+  SavesAreOne found = (old : Text) → found ≡ Some old → (out : Text) (names : List Text) (public : Caps) (t : Tree) → IsOfFiles out old names public t p → IsOfFiles out old names public t q → p ≡ q
 
-  module _ (files : Files) (one : SavesAreOne) where
-    one_save : (asked : RunFiles) (out : Text) (tree : CodeTree) → SavesRun files asked out tree p → SavesRun files asked out tree q → p ≡ q
-    one_save asked out tree h k =
+  module _ (files : Files) where
+    one_save : (asked : RunFiles) → SavesAreOne (files asked.world) → (out : Text) (tree : CodeTree) → SavesRun files asked out tree p → SavesRun files asked out tree q → p ≡ q
+    one_save asked one out tree h k =
         let OfStart : Text → World → Plan → Type 0 = λ old start. WithRun files asked.book tree start (IsOfEnd out tree old start) in
-        one_with_file (files asked.world) asked.world world_limit (λ old. ByWorld (OfStart old) (start_of old tree))
-        (λ old. one_by_world (OfStart old)
+        one_with_this_file (files asked.world) asked.world world_limit (λ old. ByWorld (OfStart old) (start_of old tree))
+        (λ old there. one_by_world (OfStart old)
         (λ start. one_with_run files asked.book tree start (IsOfEnd out tree old start)
-        (λ turns. one out old start.names start.public (replayed tree turns start).files)) (start_of old tree)) h k
+        (λ turns. one old there out start.names start.public (replayed tree turns start).files)) (start_of old tree)) h k
 
-    one_saves : (asked : RunFiles) (out bytes : Text) → Saves files asked out bytes p → Saves files asked out bytes q → p ≡ q
-    one_saves asked out bytes h k = one_thins (SavesRun files asked out) (one_save asked out) bytes h k
+    one_saves : (asked : RunFiles) → SavesAreOne (files asked.world) → (out bytes : Text) → Saves files asked out bytes p → Saves files asked out bytes q → p ≡ q
+    one_saves asked one out bytes h k = one_thins (SavesRun files asked out) (one_save asked one out) bytes h k
 
   -- ---- every command
 
-  one_plan_of : (r : Result Request ℕ) (files : Files) → (starts_threads r ≡ true → RunsAreOne) → (saves r ≡ true → SavesAreOne) → IsPlanOf r files p → IsPlanOf r files q → p ≡ q
+  -- of what writes a world, the document of the start is asked for
+  abbrev WhereSaved : Result Request ℕ → Files → Type 0
+  WhereSaved (Ok (next program world book out)) files = SavesAreOne (files world)
+  WhereSaved r files = Unit {0}
+
+  one_plan_of : (r : Result Request ℕ) (files : Files) → (starts_threads r ≡ true → RunsAreOne) → WhereSaved r files → IsPlanOf r files p → IsPlanOf r files q → p ≡ q
   one_plan_of (Err index) files one save h k = h ∙ sym k
   one_plan_of (Ok (play file observer)) files one save h k = one_with_file (files file) file script_limit (Plays observer) (one_plays observer) h k
   one_plan_of (Ok (check file)) files one save h k = one_with_file (files file) file program_limit Checks (one_compiles (λ tree p. p ≡ prints (codes "ok\n")) (λ tree. one_equal (prints (codes "ok\n")))) h k
@@ -237,28 +247,33 @@ module _ (p q : Plan) where
   one_plan_of (Ok (audit program world book)) files one save h k = one_with_file (files program) program program_limit (Runs files (record { world = world; book = book }) an_auditor) (one_runs files (record { world = world; book = book }) an_auditor) h k
   one_plan_of (Ok (make seed threads out)) files one save h k = one_makes files (one refl) seed threads out h k
   one_plan_of (Ok help) files one save h k = h ∙ sym k
-  one_plan_of (Ok (next program world book out)) files one save h k = one_with_file (files program) program program_limit (Saves files (record { world = world; book = book }) out) (one_saves files (save refl) (record { world = world; book = book }) out) h k
+  one_plan_of (Ok (next program world book out)) files one save h k = one_with_file (files program) program program_limit (Saves files (record { world = world; book = book }) out) (one_saves files (record { world = world; book = book }) save out) h k
   one_plan_of (Ok (pair program first_world first_book second_world second_book label)) files one save h k = one_with_file (files program) program program_limit (Pairs files (record { world = first_world; book = first_book }) (record { world = second_world; book = second_book }) 6 label) (one_pairs files (record { world = first_world; book = first_book }) (record { world = second_world; book = second_book }) 6 label) h k
   one_plan_of (Ok (walk program world book)) files one save h k = one_with_file (files program) program program_limit (Walks files (record { world = world; book = book })) (one_walks files (record { world = world; book = book })) h k
 
--- what starts threads or writes a world leaves something open
-starts_open : (r : Result Request ℕ) → leaves_open r ≡ false → starts_threads r ≡ true → ⊥
-starts_open r none some = by (starts_threads r) (saves r) none some
-  where
-    by : (a b : Bool) → (a || b) ≡ false → a ≡ true → ⊥
-    by true b none some = cc
-    by false b none some = cc
+not_both : (b : Bool) → b ≡ false → b ≡ true → ⊥
+not_both true none some = cc
+not_both false none some = cc
 
-saves_open : (r : Result Request ℕ) → leaves_open r ≡ false → saves r ≡ true → ⊥
-saves_open r none some = by (starts_threads r) (saves r) none some
-  where
-    by : (a b : Bool) → (a || b) ≡ false → b ≡ true → ⊥
-    by true b none some = cc
-    by false b none some = let clash : false ≡ true = sym none ∙ some in cc
+-- where no digits are left to the writer
+told_saved : (p q : Plan) (r : Result Request ℕ) (files : Files) → LeavesNoDigits r files → WhereSaved p q r files
+told_saved p q (Ok (next program world book out)) files whole = λ old there out names public t. one_saved p q out old names public t (whole old there)
+told_saved p q (Err index) files whole = tt
+told_saved p q (Ok (play file observer)) files whole = tt
+told_saved p q (Ok (check file)) files whole = tt
+told_saved p q (Ok (format file)) files whole = tt
+told_saved p q (Ok (code file)) files whole = tt
+told_saved p q (Ok (replay program world book label)) files whole = tt
+told_saved p q (Ok (run program world label out workers budget)) files whole = tt
+told_saved p q (Ok (audit program world book)) files whole = tt
+told_saved p q (Ok (make seed threads out)) files whole = tt
+told_saved p q (Ok help) files whole = tt
+told_saved p q (Ok (pair program first_world first_book second_world second_book label)) files whole = tt
+told_saved p q (Ok (walk program world book)) files whole = tt
 
 pub plans_are_one : PlansAreOne
-plans_are_one ws files p q none h k =
-    one_plan_of p q (request_of ws) files (λ some. absurd (starts_open (request_of ws) none some)) (λ some. absurd (saves_open (request_of ws) none some)) h k
+plans_are_one ws files p q tells h k =
+    one_plan_of p q (request_of ws) files (λ some. absurd (not_both (starts_threads (request_of ws)) tells.turns some)) (told_saved p q (request_of ws) files tells.digits) h k
 
 -- ---- a refusal
 
@@ -269,15 +284,6 @@ no_end how.Budget refused = refused
 
 no_run : (tree : CodeTree) (start : World) (out : Text) (budget : ℕ) (shown : List Moment → Text) (p : Plan) → IsRefused p.status → IsOfThreads tree start out budget shown p → ⊥
 no_run tree start out budget shown p refused h = no_end h.ended (subst (λ (it : Plan). IsRefused it.status) h.is refused)
-
-least_is_one : (a b : ℕ) → a ≤ b → b ≤ a → a ≡ b
-least_is_one a b h k = omega (arith, h, k)
-
-one_item : {a b : ℕ} → ◌≡◌ {A = Option ℕ} (Some a) (Some b) → a ≡ b
-one_item e = cc
-
-some_item : {a : ℕ} → ◌≡◌ {A = Option ℕ} (Some a) None → ⊥
-some_item e = cc
 
 -- files of which a refusal is planned, but for one of too many bytes, have no other plan
 no_other_save : (p q : Plan) → IsRefused p.status → ((bytes : ℕ) → p ≡ too_big bytes → ⊥) → (out old : Text) (names : List Text) (public : Caps) (t : Tree) → IsOfFiles out old names public t p → IsOfFiles out old names public t q → p ≡ q
@@ -292,7 +298,27 @@ no_other_save p q refused told out old names public t (untold item h e) (untold 
 no_other_save p q refused told out old names public t (untold item h e) (too_long bytes k d) = absurd (some_item (sym h.1 ∙ k.text_is.have.1))
 no_other_save p q refused told out old names public t (too_long bytes h e) k = absurd (told bytes e)
 
+-- a refusal that is not told by the number of bytes
+refused_saved : (p q : Plan) → IsRefused p.status → ((bytes : ℕ) → p ≡ too_big bytes → ⊥) → (r : Result Request ℕ) (files : Files) → WhereSaved p q r files
+refused_saved p q refused told (Ok (next program world book out)) files = λ old there out names public t. no_other_save p q refused told out old names public t
+refused_saved p q refused told (Err index) files = tt
+refused_saved p q refused told (Ok (play file observer)) files = tt
+refused_saved p q refused told (Ok (check file)) files = tt
+refused_saved p q refused told (Ok (format file)) files = tt
+refused_saved p q refused told (Ok (code file)) files = tt
+refused_saved p q refused told (Ok (replay program world book label)) files = tt
+refused_saved p q refused told (Ok (run program world label out workers budget)) files = tt
+refused_saved p q refused told (Ok (audit program world book)) files = tt
+refused_saved p q refused told (Ok (make seed threads out)) files = tt
+refused_saved p q refused told (Ok help) files = tt
+refused_saved p q refused told (Ok (pair program first_world first_book second_world second_book label)) files = tt
+refused_saved p q refused told (Ok (walk program world book)) files = tt
+
+where_saved : (p q : Plan) → IsRefused p.status → (r : Result Request ℕ) (files : Files) → IsTold r files p → WhereSaved p q r files
+where_saved p q refused r files (inl digits) = told_saved p q r files digits
+where_saved p q refused r files (inr told) = refused_saved p q refused told r files
+
 pub refusals_are_one : RefusalsAreOne
 refusals_are_one ws files p q refused told h k =
     one_plan_of p q (request_of ws) files (λ some tree start out budget shown l m. absurd (no_run tree start out budget shown p refused l))
-    (λ some. no_other_save p q refused (told some)) h k
+    (where_saved p q refused (request_of ws) files told) h k

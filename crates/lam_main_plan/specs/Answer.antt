@@ -1,6 +1,5 @@
 -- How a call answers to its plan: its status, what the sink took, and the files.
 use Rattle.std.specs.Prelude.{◌≡◌, [], Option, Some, None}
-use Rattle.std.specs.Option.{option_map}
 use Rattle.lam_io.specs.Outside.{Files, AllStay, OthersStay, Took, TookFront}
 use Rattle.lam_main_words.specs.Words.{Text}
 use Rattle.lam_main_plan.specs.declared.Status.{Status}
@@ -30,21 +29,17 @@ abbrev pub OthersKept : Option Text → Files → Files → Type 0
 OthersKept None old new = AllStay old new
 OthersKept (Some name) old new = OthersStay old new name
 
--- the name of the file that a plan writes
-abbrev pub written : Plan → Option Text
-written plan = option_map (λ file. file.0) plan.writes
-
 -- the call did what is planned, unless the sink failed
 pub record AsPlanned (status : Status) (plan : Plan) (old new : Outside) : Type 0 where
   pub printed : IsPrinted status plan.status plan.text old.taken new.taken
   pub files : IsWritten plan.writes old.files new.files
 
--- The answers of a call of this plan. Where memory ran out or the shelf failed nothing was printed, and no file changed
--- but the one that was to be written.
-pub data IsAnswer (status : Status) (plan : Plan) (old new : Outside) : Type 0 where
-  as_planned : AsPlanned status plan old new → IsAnswer status plan old new
-  out_of_memory : status ≡ NoMemory → Took old.taken new.taken [] → OthersKept (written plan) old.files new.files → IsAnswer status plan old new
-  shelf_failed : status ≡ ShelfFault → Took old.taken new.taken [] → OthersKept (written plan) old.files new.files → IsAnswer status plan old new
+-- The answers of a call of this plan that is asked to write this file, if any. Where memory ran out or the shelf failed nothing
+-- was printed, and no file changed but the one that was to be written.
+pub data IsAnswer (asked : Option Text) (status : Status) (plan : Plan) (old new : Outside) : Type 0 where
+  as_planned : AsPlanned status plan old new → IsAnswer asked status plan old new
+  out_of_memory : status ≡ NoMemory → Took old.taken new.taken [] → OthersKept asked old.files new.files → IsAnswer asked status plan old new
+  shelf_failed : status ≡ ShelfFault → Took old.taken new.taken [] → OthersKept asked old.files new.files → IsAnswer asked status plan old new
 
 -- the call did what some plan says, unless memory ran out or the shelf failed
 pub data IsPlanned (status : Status) (IsPlan : Plan → Type 0) (old new : Outside) : Type 0 where

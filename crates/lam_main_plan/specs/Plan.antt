@@ -1,5 +1,5 @@
 -- What a call of given words does with given files, and how it ends, where nothing fails.
-use Rattle.std.specs.Prelude.{◌≡◌, ◌≤◌, ℕ, Bool, true, false, ◌||◌, List, [], ◌∷◌, length, Option, Some, None, Result, Ok, Err, chars, codes, refl}
+use Rattle.std.specs.Prelude.{◌≡◌, ◌≤◌, ◌⊎◌, ℕ, Bool, true, false, List, [], ◌∷◌, length, Option, Some, None, Result, Ok, Err, chars, codes, refl}
 use Rattle.flow_labels.specs.LabelText.{label_of}
 use Rattle.flow_labels.specs.declared.Label.{Label}
 use Rattle.flow_labels.specs.declared.texts.LabelFault.{LabelFault}
@@ -25,7 +25,7 @@ use Rattle.lam_main_plan.specs.Reading.{WithFile, unread, script_limit, program_
 use Rattle.lam_main_plan.specs.Replays.{an_observer, an_auditor, Runs}
 use Rattle.lam_main_plan.specs.Threads.{RunsThreads, Makes}
 use Rattle.lam_main_plan.specs.Pairs.{Pairs}
-use Rattle.lam_main_plan.specs.Saves.{Saves}
+use Rattle.lam_main_plan.specs.Saves.{TakesWholeNumbers, Saves}
 use Rattle.lam_main_plan.specs.Walks.{Walks}
 
 -- ---- `play`
@@ -86,14 +86,16 @@ starts_threads (Ok (run program world label out workers budget)) = true
 starts_threads (Ok (make seed threads out)) = true
 starts_threads request = false
 
--- whether what is asked writes a world, in which the digits of a number that is no whole one are the writer's
-abbrev pub saves : Result Request ℕ → Bool
-saves (Ok (next program world book out)) = true
-saves request = false
+-- Words and files leave no digits to the writer of a world: what is asked writes none, or what it takes from an older document
+-- has no number but whole ones of 64 bits. Of another number the library gives the digits.
+abbrev pub LeavesNoDigits : Result Request ℕ → Files → Type 0
+LeavesNoDigits (Ok (next program world book out)) files = (old : Text) → files world ≡ Some old → TakesWholeNumbers old
+LeavesNoDigits request files = Unit {0}
 
--- whether words and files leave something of the plan open
-abbrev pub leaves_open : Result Request ℕ → Bool
-leaves_open request = starts_threads request || saves request
+-- words and files tell all of a plan: no turns are left to threads, and no digits to the writer of a world
+pub record TellAll (request : Result Request ℕ) (files : Files) : Type 0 where
+  pub turns : starts_threads request ≡ false
+  pub digits : LeavesNoDigits request files
 
 -- the name of the file that is asked to be written
 abbrev pub written_by : Result Request ℕ → Option Text
@@ -102,9 +104,9 @@ written_by (Ok (make seed threads out)) = Some out
 written_by (Ok (next program world book out)) = Some out
 written_by request = None
 
--- there is at most one plan where nothing of it is left open
+-- there is at most one plan where words and files tell all of it
 abbrev pub PlansAreOne : Type 0
-PlansAreOne = (ws : List Text) (files : Files) (p q : Plan) → leaves_open (request_of ws) ≡ false → IsPlan ws files p → IsPlan ws files q → p ≡ q
+PlansAreOne = (ws : List Text) (files : Files) (p q : Plan) → TellAll (request_of ws) files → IsPlan ws files p → IsPlan ws files q → p ≡ q
 
 -- the statuses of refusals
 abbrev pub IsRefused : Status → Type 0
@@ -115,13 +117,14 @@ IsRefused Book = Unit {0}
 IsRefused Missing = Unit {0}
 IsRefused status = ⊥
 
--- words and files tell of it: it is not how many bytes too many a world would have, which depends on such digits
-abbrev pub IsTold : Result Request ℕ → Plan → Type 0
-IsTold request plan = saves request ≡ true → (bytes : ℕ) → plan ≡ too_big bytes → ⊥
+-- words and files tell of it: no digits are left to the writer of a world; or it is not how many bytes too many a world would
+-- have, which depends on such digits
+abbrev pub IsTold : Result Request ℕ → Files → Plan → Type 0
+IsTold request files plan = LeavesNoDigits request files ⊎ ((bytes : ℕ) → plan ≡ too_big bytes → ⊥)
 
 -- where a refusal is planned nothing else is, also where threads would be started
 abbrev pub RefusalsAreOne : Type 0
-RefusalsAreOne = (ws : List Text) (files : Files) (p q : Plan) → IsRefused p.status → IsTold (request_of ws) p → IsPlan ws files p → IsPlan ws files q → p ≡ q
+RefusalsAreOne = (ws : List Text) (files : Files) (p q : Plan) → IsRefused p.status → IsTold (request_of ws) files p → IsPlan ws files p → IsPlan ws files q → p ≡ q
 
 -- the words and the files name this script and this observer
 pub record PlaysScript (ws : List Text) (files : Files) (script : Play) (observer : Label) : Type 0 where

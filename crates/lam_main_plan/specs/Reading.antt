@@ -8,6 +8,7 @@ use Rattle.barrier_compiler.specs.Compiled.{IsCompiledTo}
 use Rattle.thinned_code.specs.Thinned.{thinned}
 use Rattle.lam_main_words.specs.Words.{Text}
 use Rattle.lam_main_plan.specs.Refusals.{Plan, no_program, no_code, absent, too_long}
+use Rattle.world_save_terms.specs.Document.{most_document}
 
 -- the most bytes of a script, of a program, of the document of a world, and of a book
 abbrev pub script_limit : ℕ
@@ -17,7 +18,7 @@ abbrev pub program_limit : ℕ
 program_limit = 1048576
 
 abbrev pub world_limit : ℕ
-world_limit = 16777216
+world_limit = most_document
 
 abbrev pub book_limit : ℕ
 book_limit = 16777216

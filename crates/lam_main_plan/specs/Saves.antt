@@ -1,5 +1,7 @@
 -- What becomes of the files and directories at the end of a run: the document of the next run's world, which is written.
-use Rattle.std.specs.Prelude.{◌≡◌, ℕ, List, [], ◌∷◌, ◌++◌, Some, codes, decimal, refl}
+use Rattle.std.specs.Prelude.{◌≡◌, ℕ, false, List, [], ◌∷◌, ◌++◌, Some, codes, decimal, refl}
+use Rattle.serde_json.specs.Data.{Data}
+use Rattle.serde_json.specs.Written.{has_float}
 use Rattle.lam_io.specs.Outside.{Files}
 use Rattle.capabilities.specs.declared.Caps.{Caps}
 use Rattle.labelled_files.specs.Trees.{Tree}
@@ -7,7 +9,7 @@ use Rattle.lam_bytecode.specs.Codes.{CodeTree}
 use Rattle.lam_machine_terms.specs.Worlds.{World}
 use Rattle.lam_machine_terms.specs.Turns.{replay}
 use Rattle.world_doc_terms.specs.Start.{start_of}
-use Rattle.world_save_files.specs.Saved.{IsSavedText, IsSaveFault}
+use Rattle.world_save_files.specs.Saved.{HasKept, IsSavedText, IsSaveFault}
 use Rattle.world_save_files.specs.declared.saving.SaveFault.TheVariants as fault
 use Rattle.lam_main_words.specs.Words.{Text}
 use Rattle.lam_main_plan.specs.declared.Status.TheVariants.{Done}
@@ -31,6 +33,10 @@ pub data IsOfFiles (out : Text) (old : Text) (names : List Text) (public : Caps)
   unnamed : (tag : ℕ) → IsSaveFault names public t old (fault.Unnamed tag) → plan ≡ unnamed_tag tag → IsOfFiles out old names public t plan
   untold : (item : ℕ) → IsSaveFault names public t old (fault.BadText item) → plan ≡ bad_text item → IsOfFiles out old names public t plan
   too_long : (bytes : ℕ) → IsSaveFault names public t old (fault.TooBig bytes) → plan ≡ too_big bytes → IsOfFiles out old names public t plan
+
+-- what the next document takes from a document has no number but whole ones of 64 bits
+abbrev pub TakesWholeNumbers : Text → Type 0
+TakesWholeNumbers old = (pipes threads : Data) → HasKept old pipes threads → (has_float pipes ≡ false) × (has_float threads ≡ false)
 
 -- the plan of the turns of a start, which this document describes
 abbrev pub IsOfEnd : Text → CodeTree → Text → World → List ℕ → Plan → Type 0

@@ -18,6 +18,7 @@ use Rattle.lam_main_plan.specs.declared.Status.TheVariants.{Done, Budget, AllWai
 use Rattle.lam_main_plan.specs.Refusals.{Plan}
 use Rattle.lam_main_plan.specs.Reading.{WithFile, Thins, world_limit}
 use Rattle.lam_main_plan.specs.Replays.{Reader, read_by, ByReader, ByWorld}
+use Rattle.turn_book.specs.Limits.{most_turns}
 
 -- the status of a call whose run ended so
 abbrev pub status_of : How → Status
@@ -57,7 +58,7 @@ RunsThreads files run budget reader bytes plan = Thins (StartsThreads files run 
 
 -- the most turns of a made run
 abbrev pub made_budget : ℕ
-made_budget = 1000000
+made_budget = most_turns
 
 -- the plan of the made program and world, and of the summary of their run
 abbrev pub Makes : ℕ → ℕ → Text → Plan → Type 0

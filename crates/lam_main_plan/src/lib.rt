@@ -61,13 +61,13 @@ impl Status {
     }
 }
 
-/// Words that leave nothing open, and files, have at most one plan.
+/// Words and files that tell all of a plan have at most one: no turns are left to threads, and no digits to the writer of a world.
 pub fn plans_are_one()
     ensures { PlansAreOne }
 {}
 
-/// Where a refusal is planned of words and files, it is their one plan, also where threads would be started; but for that
-/// of a world of too many bytes.
+/// Where a refusal is planned of words and files, it is their one plan, also where threads would be started; but for that of a
+/// world of too many bytes where digits are left to its writer.
 pub fn refusals_are_one()
     ensures { RefusalsAreOne }
 {}

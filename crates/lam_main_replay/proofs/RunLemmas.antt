@@ -1,11 +1,10 @@
 -- What is found, and what is shown, of the parts of a run.
-use Rattle.std.proofs.Common.{◌≡◌, ◌≤◌, ℕ, List, Option, None, Result, Ok, Err, String, string_bytes, IfOk, IfErr, MatchResult, refl, sym, ap, subst, ◌∙◌}
+use Rattle.std.proofs.Common.{◌≡◌, ℕ, List, Option, None, Result, Ok, Err, String, string_bytes, IfOk, IfErr, refl, sym, ap, subst, ◌∙◌}
 use Rattle.std.specs.declared.alloc.Global.{Global}
-use Rattle.std.specs.Result.{IsErrAnd}
 use Rattle.flow_labels.specs.LabelText.{label_of}
 use Rattle.flow_labels.specs.declared.Label.{Label}
 use Rattle.flow_labels.specs.declared.texts.LabelFault.{LabelFault}
-use Rattle.lam_io.specs.Outside.{Files, AllStay, Rose}
+use Rattle.lam_io.specs.Outside.{Files, AllStay}
 use Rattle.lam_bytecode.specs.Codes.{CodeTree}
 use Rattle.guarded_code.specs.Breaks.{IsGuarded}
 use Rattle.lam_machine_terms.specs.Worlds.{World}
@@ -24,7 +23,7 @@ use Rattle.lam_machine_replay.specs.Stops.{IsStop}
 use Rattle.lam_machine_replay.specs.declared.fault.RunFault.{RunFault}
 use Rattle.lam_machine_replay.specs.declared.fault.RunFault.TheVariants.{NotReady as not_ready, NoMemory as no_memory_of_run}
 use Rattle.lam_main_words.specs.Words.{Text}
-use Rattle.lam_main_plan.specs.Refusals.{Plan, prints, no_word, no_world, no_book}
+use Rattle.lam_main_plan.specs.Refusals.{Plan, prints, no_world, no_book}
 use Rattle.lam_main_plan.specs.Reading.{HasFile, WithFile, Never, Compiles, IsRunCode, program_limit, world_limit, book_limit, of_file}
 use Rattle.lam_main_plan.specs.Replays.{Reader, an_observer, RunFiles, view_by, read_by, by_turns, by_book, IsOfTurns, IsOfBook, ByReader, ByWorld, NoStart, Replays, Starts, Runs}
 use Rattle.lam_main_plan.specs.Books.{ByLabel, ByTurns, NoTurns}
@@ -34,7 +33,7 @@ use Rattle.lam_main_files.specs.declared.halt.Halt.{Halt}
 use Rattle.lam_main_files.specs.declared.halt.Halt.TheVariants.{Refused, NoMemory, ShelfFailed}
 use Rattle.lam_main_files.specs.Halts.{refuses, Finds, Says, Gives}
 use Rattle.lam_main_files.proofs.FileLemmas.{says_map, not_found, gives_of}
-use Rattle.lam_main_replay.specs.declared.eye.Eye.{Eye}
+use Rattle.lam_main_replay.specs.declared.viewer.Viewer.{Viewer}
 use Rattle.lam_main_replay.specs.Asked.{lines_for, halt_of_world, halt_of_book, halt_of_run, HaltsAt}
 
 -- ---- the start
@@ -73,13 +72,10 @@ by_label index names p (Ok o) h = absurd h
 by_label index names p (Err fault) h = h
 
 -- what is no label names no reader
-pub no_label_reads : (index : ℕ) (names : List Text) (text : Text) (halt : Halt) → Finds {X = Label} (Err halt) (λ o. label_of names text ≡ Ok o) (ByLabel index Never (label_of names text)) → Finds {X = Eye} (Err halt) (λ eye. read_by (an_observer index text) names ≡ Ok (lines_for eye names)) (ByReader Never (read_by (an_observer index text) names))
+pub no_label_reads : (index : ℕ) (names : List Text) (text : Text) (halt : Halt) → Finds {X = Label} (Err halt) (λ o. label_of names text ≡ Ok o) (ByLabel index Never (label_of names text)) → Finds {X = Viewer} (Err halt) (λ who. read_by (an_observer index text) names ≡ Ok (lines_for who names)) (ByReader Never (read_by (an_observer index text) names))
 no_label_reads index names text (Refused refusal) h = by_label index names (refuses refusal) (label_of names text) h
 no_label_reads index names text NoMemory h = tt
 no_label_reads index names text ShelfFailed h = tt
-
-pub bad_label : (index : ℕ) (names : List Text) (text : Text) (f : LabelFault) → label_of names text ≡ Err f → ByLabel index Never (label_of names text) (no_word index)
-bad_label index names text f is = subst (λ (r : Result Label LabelFault). ByLabel index Never r (no_word index)) (sym is) refl
 
 -- ---- the turns
 

@@ -21,8 +21,8 @@ use Rattle.lam_main_files.specs.declared.halt.Halt.TheVariants.{Refused, NoMemor
 use Rattle.lam_main_replay.specs.declared.Reader.{Reader}
 use Rattle.lam_main_replay.specs.declared.Reader.TheVariants as reader
 use Rattle.lam_main_replay.specs.declared.RunFiles.{RunFiles}
-use Rattle.lam_main_replay.specs.declared.eye.Eye.{Eye}
-use Rattle.lam_main_replay.specs.declared.eye.Eye.TheVariants.{Observer, Auditor}
+use Rattle.lam_main_replay.specs.declared.viewer.Viewer.{Viewer}
+use Rattle.lam_main_replay.specs.declared.viewer.Viewer.TheVariants.{Observer, Auditor}
 
 abbrev pub files_of : RunFiles → PlainFiles
 files_of files = record { world = string_bytes files.world; book = string_bytes files.book }
@@ -38,7 +38,7 @@ IsStartOf code start = (bytes : Text) × (start_of bytes code ≡ Ok start)
 -- ---- who reads
 
 -- the text that the reader is shown of a run
-abbrev pub lines_for : Eye → List Text → List Moment → Text
+abbrev pub lines_for : Viewer → List Text → List Moment → Text
 lines_for (Observer label) names = view_lines names label
 lines_for Auditor names = audit_lines names
 

@@ -1,10 +1,10 @@
-//! The start of a run: the world of a document. Its threads stand at the entries of functions (`world_doc_entries`), so that
+//! The start of a run: the world of a document. Its threads stand at the entries of functions (`world_doc_laws`), so that
 //! runs of a guarded code from there are sound.
 
 ghost use Rattle.std.specs.Prelude.{◌≡◌, ◌≢◌, ◌≤◌, Ok, IsTrue, IfOk, IfErr, string_bytes};
 ghost use Rattle.lam_io.specs.Outside.{Rose, AllStay};
 ghost use Rattle.lam_bytecode.specs.Codes.{IsCode};
-ghost use Rattle.described_runs.specs.Worlds.{IsSound};
+ghost use Rattle.guarded_code_runs.specs.Worlds.{IsSound};
 ghost use Rattle.world_doc_terms.specs.Start.{start_of};
 ghost use Rattle.lam_main_plan.specs.Reading.{HasFile, WithFile, world_limit};
 ghost use Rattle.lam_main_plan.specs.Replays.{NoStart};
@@ -17,11 +17,11 @@ use lam_machine_replay::World;
 use lam_main_files::{Halt, Refusal, read_file};
 use std::alloc::Global;
 use world_doc::start;
-use world_doc_entries::starts_are_entered;
+use world_doc_laws::starts_are_entered;
 use world_doc_stores::WorldFault;
 
 /// The most bytes of the document of a world.
-const WORLD_LIMIT: u64 = 16_777_216;
+pub const WORLD_LIMIT: u64 = 16_777_216;
 
 /// The world of the document in a file, from which a code starts. Runs of the code from there are sound.
 ///

@@ -3,7 +3,7 @@
 ghost use Rattle.std.specs.Prelude.{◌≡◌, string_bytes};
 ghost use Rattle.lam_main_replay.specs.Asked.{lines_for};
 
-use crate::eye::{Eye, Viewer};
+use crate::viewer::{NamedViewer, Viewer};
 use audit_log_lines::{audits_leave_private, push_audit, push_view, views_leave_private};
 use lam_asks::Event;
 use lam_machine_replay::{Keeps, World};
@@ -11,8 +11,8 @@ use std::alloc::Global;
 use want_of_memory::NoMemory;
 
 /// A viewer keeps the text that it is shown.
-impl Keeps<String> for Viewer {
-    ghost AreKept = { λ viewer ms text. string_bytes text ≡ lines_for viewer.eye viewer.names ms };
+impl Keeps<String> for NamedViewer {
+    ghost AreKept = { λ viewer ms text. string_bytes text ≡ lines_for viewer.who viewer.names ms };
 
     fn keep(
         &self,
@@ -22,9 +22,9 @@ impl Keeps<String> for Viewer {
         event: Event,
         world: &World,
     ) -> Result<(), NoMemory> {
-        match &self.eye {
-            Eye::Observer(label) => push_view(alloc, kept, event, world, label, &self.names),
-            Eye::Auditor => push_audit(kept, turn, event, world, &self.names),
+        match &self.who {
+            Viewer::Observer(label) => push_view(alloc, kept, event, world, label, &self.names),
+            Viewer::Auditor => push_audit(kept, turn, event, world, &self.names),
         }
     }
 

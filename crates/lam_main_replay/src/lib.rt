@@ -8,24 +8,24 @@
 #![tactic(auto)]
 
 mod document;
-mod eye;
 mod keeping;
 mod run_text;
 mod turns;
+mod viewer;
 
 ghost use Rattle.std.specs.Prelude.{◌≡◌, IsTrue, IfErr, string_bytes};
 ghost use Rattle.lam_io.specs.Outside.{Rose, AllStay};
 ghost use Rattle.lam_bytecode.specs.Codes.{IsCode};
-ghost use Rattle.described_runs.specs.Worlds.{IsSound};
+ghost use Rattle.guarded_code_runs.specs.Worlds.{IsSound};
 ghost use Rattle.lam_main_plan.specs.Reading.{WithFile, program_limit, book_limit};
 ghost use Rattle.lam_main_plan.specs.Replays.{IsOfBook, Replays, Starts, Runs};
 ghost use Rattle.lam_main_files.specs.Halts.{Says, Gives};
 ghost use Rattle.lam_main_replay.specs.Asked.{files_of, reader_of, lines_for};
 
-pub use crate::document::{read_start, start_in};
-pub use crate::eye::{Eye, Viewer, viewer_of};
+pub use crate::document::{WORLD_LIMIT, read_start, start_in};
 pub use crate::run_text::shown_turns;
 pub use crate::turns::{read_label, read_turns, run_halt};
+pub use crate::viewer::{NamedViewer, Viewer, viewer_of};
 use guarded_code::Verified;
 use lam_io::Shelf;
 use lam_machine_replay::World;
@@ -124,10 +124,10 @@ fn replay_book<H: Shelf>(
     code: &Verified,
     start: World,
     book: String,
-    viewer: &Viewer,
+    viewer: &NamedViewer,
 ) -> Result<String, Halt>
     requires sound { IsSound code.now start }
-    ensures says { IsTrue (H.tells shelf.old) → Says result (WithFile (H.files shelf.old (string_bytes book)) (string_bytes book) book_limit (IsOfBook code.now start (lines_for viewer.now.eye viewer.now.names))) }
+    ensures says { IsTrue (H.tells shelf.old) → Says result (WithFile (H.files shelf.old (string_bytes book)) (string_bytes book) book_limit (IsOfBook code.now start (lines_for viewer.now.who viewer.now.names))) }
     ensures stay { IsTrue (H.tells shelf.old) → AllStay (H.files shelf.old) (H.files shelf.new) }
     ensures failed { IfErr result (λ halt. halt ≡ Halt.ShelfFailed → Rose (H.faults shelf.old) (H.faults shelf.new)) }
 {

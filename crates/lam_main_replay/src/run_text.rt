@@ -1,13 +1,13 @@
 //! The text of the run of turns.
 
 ghost use Rattle.std.specs.Prelude.{◌≡◌, ◌≢◌, IfErr};
-ghost use Rattle.described_runs.specs.Worlds.{IsSound};
+ghost use Rattle.guarded_code_runs.specs.Worlds.{IsSound};
 ghost use Rattle.lam_main_plan.specs.Replays.{IsOfTurns};
 ghost use Rattle.lam_main_files.specs.Halts.{Says};
 ghost use Rattle.lam_main_replay.specs.Asked.{lines_for};
 
-use crate::eye::Viewer;
 use crate::turns::run_halt;
+use crate::viewer::NamedViewer;
 use guarded_code::Verified;
 use lam_machine_replay::{World, keep_turns};
 use lam_main_files::Halt;
@@ -23,10 +23,10 @@ pub fn shown_turns(
     code: &Verified,
     start: World,
     turns: &[u32],
-    viewer: &Viewer,
+    viewer: &NamedViewer,
 ) -> Result<String, Halt>
     requires sound { IsSound code.now start }
-    ensures says { Says result (IsOfTurns code.now start (lines_for viewer.now.eye viewer.now.names) turns.now) }
+    ensures says { Says result (IsOfTurns code.now start (lines_for viewer.now.who viewer.now.names) turns.now) }
     ensures no_fault { IfErr result (λ halt. halt ≢ Halt.ShelfFailed) }
 {
     let mut text = String::new(alloc);

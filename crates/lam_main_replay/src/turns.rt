@@ -9,6 +9,7 @@ ghost use Rattle.lam_main_plan.specs.Reading.{HasFile, WithFile, Never, book_lim
 ghost use Rattle.lam_main_plan.specs.Books.{NoTurns, ByLabel};
 ghost use Rattle.lam_main_files.specs.Halts.{Finds};
 ghost use Rattle.lam_main_replay.specs.Asked.{halt_of_book, halt_of_run};
+ghost use Rattle.turn_book.specs.Limits.{most_turns};
 
 use flow_labels::{Label, LabelFault, TagNames, parse_label};
 use lam_io::Shelf;
@@ -28,7 +29,7 @@ const BOOK_LIMIT: u64 = 16_777_216;
 /// counted a fault.
 pub fn read_turns<H: Shelf>(alloc: Global, shelf: &mut H, book: String) -> Result<Turns, Halt>
     ensures finds { IsTrue (H.tells shelf.old) → Finds result (λ turns. HasFile (H.files shelf.old (string_bytes book)) book_limit (λ bytes. turns_of bytes ≡ Ok turns)) (WithFile (H.files shelf.old (string_bytes book)) (string_bytes book) book_limit NoTurns) }
-    ensures few { IfOk result (λ turns. length turns ≤ 1000000) }
+    ensures few { IfOk result (λ turns. length turns ≤ most_turns) }
     ensures stay { IsTrue (H.tells shelf.old) → AllStay (H.files shelf.old) (H.files shelf.new) }
     ensures tells_on { IsTrue (H.tells shelf.old) → IsTrue (H.tells shelf.new) }
     ensures later { H.faults shelf.old ≤ H.faults shelf.new }
@@ -42,7 +43,7 @@ pub fn read_turns<H: Shelf>(alloc: Global, shelf: &mut H, book: String) -> Resul
 /// The turns of the book of these bytes.
 fn turns_in(alloc: Global, bytes: &[u8]) -> Result<Turns, Halt>
     ensures finds { Finds result (λ turns. turns_of bytes.now ≡ Ok turns) (NoTurns bytes.now) }
-    ensures few { IfOk result (λ turns. length turns ≤ 1000000) }
+    ensures few { IfOk result (λ turns. length turns ≤ most_turns) }
     ensures no_fault { IfErr result (λ halt. halt ≢ Halt.ShelfFailed) }
 {
     match read_book(alloc, bytes) {

@@ -7,7 +7,6 @@ use Rattle.lam_machine_terms.specs.Worlds.{World}
 use Rattle.world_doc_terms.specs.Start.{start_of}
 use Rattle.lam_main_words.specs.Words.{Text}
 use Rattle.lam_main_plan.specs.Refusals.{Plan}
-use Rattle.lam_main_plan.specs.Answer.{OthersKept}
 use Rattle.lam_main_plan.specs.Reading.{HasFile, WithFile, of_file, Never, Compiles, IsRunCode, program_limit, world_limit}
 use Rattle.lam_main_plan.specs.Replays.{Reader, ByWorld, NoStart}
 use Rattle.lam_main_plan.specs.Threads.{ThreadFiles, TakesTurns, StartsThreads, RunsThreads}
@@ -15,7 +14,7 @@ use Rattle.lam_main_plan.proofs.ReadLemmas.{same_files, file_map, thin_program_t
 use Rattle.lam_main_files.specs.declared.report.Report.{Report}
 use Rattle.lam_main_files.specs.declared.halt.Halt.{Halt}
 use Rattle.lam_main_files.specs.declared.halt.Halt.TheVariants.{Refused, NoMemory, ShelfFailed}
-use Rattle.lam_main_files.specs.Halts.{refuses, Finds, Reports}
+use Rattle.lam_main_files.specs.Halts.{Finds, Reports}
 use Rattle.lam_main_files.proofs.ReportLemmas.{reports_map, reports_later, not_reported}
 use Rattle.lam_main_threads.specs.declared.showing.Taken.{Taken}
 use Rattle.lam_main_threads.specs.Taken.{planned, Offers}
@@ -30,9 +29,6 @@ book_reported taken report name wanted bytes old new how text same wrote set oth
   same_plan wanted report.how taken.how (string_bytes report.text) (string_bytes taken.text) taken.book.items taken.book.items how (ap (λ (t : String Global). string_bytes t) text) refl,
   (subst (λ (n : Text). new n ≡ Some taken.book.items) same (set ∙ ap (λ (b : Text). Some b) wrote), subst (λ (n : Text). OthersStay old new n) same others),
 )
-
-pub book_kept : (name wanted : Text) (old new : Files) → name ≡ wanted → OthersStay old new name → OthersKept (Some wanted) old new
-book_kept name wanted old new same others = subst (λ (n : Text). OthersStay old new n) same others
 
 module _ (IsPlan : Text → Plan → Type 0) (out : Text) (old new : Files) where
   pub offer_reported : (taken : Taken) (answer : Result Report Halt) → Offers (Ok taken) IsPlan → Reports answer (λ p. p ≡ planned out taken) old new → Reports answer (IsPlan out) old new

@@ -27,8 +27,8 @@ use Rattle.lam_main_files.specs.declared.halt.Refusal.TheVariants.{Word, Script,
 use Rattle.lam_main_files.specs.declared.halt.Halt.{Halt}
 use Rattle.lam_main_files.specs.declared.halt.Halt.TheVariants.{Refused, NoMemory, ShelfFailed}
 use Rattle.lam_main_files.specs.Halts.{refuses, Finds, Says}
-use Rattle.lam_main_replay.specs.declared.eye.Eye.{Eye}
-use Rattle.lam_main_replay.specs.declared.eye.Eye.TheVariants.{Observer, Auditor}
+use Rattle.lam_main_replay.specs.declared.viewer.Viewer.{Viewer}
+use Rattle.lam_main_replay.specs.declared.viewer.Viewer.TheVariants.{Observer, Auditor}
 use Rattle.lam_main_replay.specs.Asked.{lines_for}
 use Rattle.lam_main_threads.specs.declared.taking.Ended.{Ended}
 use Rattle.lam_main_threads.specs.declared.showing.Taken.{Taken}
@@ -89,7 +89,7 @@ module _ (code : CodeTree) (start : World) (budget : ℕ) (shown : List Moment �
       }
 
 -- of no turns nothing is shown
-pub none_shown : (eye : Eye) (names : List Text) → [] ≡ lines_for eye names []
+pub none_shown : (who : Viewer) (names : List Text) → [] ≡ lines_for who names []
 none_shown (Observer label) names = refl
 none_shown Auditor names = refl
 

@@ -15,13 +15,14 @@ mod writing;
 ghost use Rattle.std.specs.Prelude.{◌≡◌, ◌<◌, ◌≤◌, Some, IsTrue, IfErr, string_bytes};
 ghost use Rattle.lam_io.specs.Outside.{Rose, AllStay};
 ghost use Rattle.lam_bytecode.specs.Codes.{IsCode};
-ghost use Rattle.described_runs.specs.Worlds.{IsSound};
+ghost use Rattle.guarded_code_runs.specs.Worlds.{IsSound};
 ghost use Rattle.lam_main_plan.specs.Answer.{OthersKept};
 ghost use Rattle.lam_main_plan.specs.Reading.{WithFile, program_limit};
 ghost use Rattle.lam_main_plan.specs.Threads.{TakesTurns, StartsThreads, RunsThreads};
 ghost use Rattle.lam_main_files.specs.Halts.{Reports};
 ghost use Rattle.lam_main_replay.specs.Asked.{reader_of};
 ghost use Rattle.lam_main_threads.specs.Asked.{files_of};
+ghost use Rattle.turn_book.specs.Limits.{most_turns, most_workers};
 
 pub use crate::making::make;
 use crate::showing::shown;
@@ -73,8 +74,8 @@ pub fn run<R: Threads + Wait + Sync, H: Shelf, G: Gate + Sync>(
     bounds: Bounds,
     gate: &G,
 ) -> Result<Report, Halt>
-    requires workers { (0 < bounds.workers) × (bounds.workers ≤ 16) }
-    requires turns { (0 < bounds.turns) × (bounds.turns ≤ 1000000) }
+    requires workers { (0 < bounds.workers) × (bounds.workers ≤ most_workers) }
+    requires turns { (0 < bounds.turns) × (bounds.turns ≤ most_turns) }
     ensures gives { IsTrue (H.tells shelf.old) → Reports result (WithFile (H.files shelf.old (string_bytes program)) (string_bytes program) program_limit (RunsThreads (H.files shelf.old) (files_of files) bounds.turns (reader_of reader.now))) (H.files shelf.old) (H.files shelf.new) }
     ensures kept { IsTrue (H.tells shelf.old) → OthersKept (Some (string_bytes files.book_out)) (H.files shelf.old) (H.files shelf.new) }
     ensures spared { IsTrue (H.tells shelf.old) → IfErr result (λ halt. halt ≡ Halt.NoMemory → ¬ Rose (H.refusals shelf.old) (H.refusals shelf.new) → AllStay (H.files shelf.old) (H.files shelf.new)) }
@@ -98,8 +99,8 @@ fn run_code<R: Threads + Wait + Sync, H: Shelf, G: Gate + Sync>(
     gate: &G,
 ) -> Result<Report, Halt>
     requires code { IsCode code }
-    requires workers { (0 < bounds.workers) × (bounds.workers ≤ 16) }
-    requires turns { (0 < bounds.turns) × (bounds.turns ≤ 1000000) }
+    requires workers { (0 < bounds.workers) × (bounds.workers ≤ most_workers) }
+    requires turns { (0 < bounds.turns) × (bounds.turns ≤ most_turns) }
     ensures gives { IsTrue (H.tells shelf.old) → Reports result (StartsThreads (H.files shelf.old) (files_of files) bounds.turns (reader_of reader.now) code) (H.files shelf.old) (H.files shelf.new) }
     ensures kept { IsTrue (H.tells shelf.old) → OthersKept (Some (string_bytes files.book_out)) (H.files shelf.old) (H.files shelf.new) }
     ensures spared { IsTrue (H.tells shelf.old) → IfErr result (λ halt. halt ≡ Halt.NoMemory → ¬ Rose (H.refusals shelf.old) (H.refusals shelf.new) → AllStay (H.files shelf.old) (H.files shelf.new)) }
@@ -134,8 +135,8 @@ fn run_from<R: Threads + Wait + Sync, H: Shelf, G: Gate + Sync>(
     gate: &G,
 ) -> Result<Report, Halt>
     requires sound { IsSound code start }
-    requires workers { (0 < bounds.workers) × (bounds.workers ≤ 16) }
-    requires turns { (0 < bounds.turns) × (bounds.turns ≤ 1000000) }
+    requires workers { (0 < bounds.workers) × (bounds.workers ≤ most_workers) }
+    requires turns { (0 < bounds.turns) × (bounds.turns ≤ most_turns) }
     ensures gives { IsTrue (H.tells shelf.old) → Reports result (TakesTurns (string_bytes book_out) bounds.turns (reader_of reader.now) code start) (H.files shelf.old) (H.files shelf.new) }
     ensures kept { IsTrue (H.tells shelf.old) → OthersKept (Some (string_bytes book_out)) (H.files shelf.old) (H.files shelf.new) }
     ensures spared { IsTrue (H.tells shelf.old) → IfErr result (λ halt. halt ≡ Halt.NoMemory → ¬ Rose (H.refusals shelf.old) (H.refusals shelf.new) → AllStay (H.files shelf.old) (H.files shelf.new)) }

@@ -3,9 +3,9 @@
 ghost use Rattle.std.specs.Prelude.{◌≡◌, ◌≢◌, ◌≤◌, Some, None, IsTrue, IfOk, IfErr, string_bytes};
 ghost use Rattle.lam_io.specs.Outside.{Rose, AllStay};
 ghost use Rattle.lam_bytecode.specs.Codes.{IsCode};
-ghost use Rattle.described_runs.specs.Worlds.{IsSound};
+ghost use Rattle.guarded_code_runs.specs.Worlds.{IsSound};
 ghost use Rattle.world_doc_terms.specs.Start.{start_of};
-ghost use Rattle.lam_make.specs.Made.{program_text, world_text};
+ghost use Rattle.lam_make.specs.Made.{program_text, world_text, most_made_threads};
 ghost use Rattle.audit_log_notes.specs.Sums.{summary_of, summary_lines};
 ghost use Rattle.lam_main_words.specs.Words.{Text};
 ghost use Rattle.lam_main_plan.specs.Answer.{OthersKept};
@@ -27,13 +27,11 @@ use lam_main_replay::start_in;
 use std::alloc::Global;
 use std::sync::Wait;
 use std::thread::Threads;
+use turn_book::TURN_LIMIT;
 use want_of_memory::NoMemory;
 
 /// How many workers take the turns of a made run.
 const MADE_WORKERS: u64 = 4;
-
-/// The most turns of a made run.
-const MADE_TURNS: u64 = 1_000_000;
 
 /// What is counted in no turns.
 const NO_SUMS: Sums = Sums {
@@ -58,7 +56,7 @@ pub fn make<R: Threads + Wait + Sync, H: Shelf, G: Gate + Sync>(
     book_out: String,
     gate: &G,
 ) -> Result<Report, Halt>
-    requires { (1 ≤ threads) × (threads ≤ 64) }
+    requires { (1 ≤ threads) × (threads ≤ most_made_threads) }
     ensures gives { IsTrue (H.tells shelf.old) → Reports result (Makes seed threads (string_bytes book_out)) (H.files shelf.old) (H.files shelf.new) }
     ensures kept { IsTrue (H.tells shelf.old) → OthersKept (Some (string_bytes book_out)) (H.files shelf.old) (H.files shelf.new) }
     ensures spared { IsTrue (H.tells shelf.old) → IfErr result (λ halt. halt ≡ Halt.NoMemory → ¬ Rose (H.refusals shelf.old) (H.refusals shelf.new) → AllStay (H.files shelf.old) (H.files shelf.new)) }
@@ -78,7 +76,7 @@ fn made<R: Threads + Wait + Sync, G: Gate + Sync>(
     threads: u64,
     gate: &G,
 ) -> Result<Taken, Halt>
-    requires { (1 ≤ threads) × (threads ≤ 64) }
+    requires { (1 ≤ threads) × (threads ≤ most_made_threads) }
     ensures offers { Offers result (Makes seed threads) }
     ensures no_fault { IfErr result (λ halt. halt ≢ Halt.ShelfFailed) }
 {
@@ -152,7 +150,7 @@ fn made_run<R: Threads + Wait + Sync, G: Gate + Sync>(
 {
     let bounds = Bounds {
         workers: MADE_WORKERS,
-        turns: MADE_TURNS,
+        turns: TURN_LIMIT,
     };
     let counter = Counter;
     match taken_turns(rt, alloc, code, start, bounds, gate, &counter, NO_SUMS) {

@@ -1,11 +1,12 @@
 //! What a reader is shown of the turns that threads took, and their book.
 
 ghost use Rattle.std.specs.Prelude.{◌≢◌, ◌<◌, ◌≤◌, IfOk, IfErr, string_bytes};
-ghost use Rattle.described_runs.specs.Worlds.{IsSound};
+ghost use Rattle.guarded_code_runs.specs.Worlds.{IsSound};
 ghost use Rattle.lam_main_words.specs.Words.{Text};
 ghost use Rattle.lam_main_plan.specs.Threads.{IsOfThreads, TakesTurns};
 ghost use Rattle.lam_main_replay.specs.Asked.{reader_of, lines_for};
 ghost use Rattle.lam_main_threads.specs.Taken.{HasBook, IsShown, planned, Offers};
+ghost use Rattle.turn_book.specs.Limits.{most_turns, most_workers};
 
 use crate::Bounds;
 use crate::taking::{Ended, EndedKept, taken_turns};
@@ -14,7 +15,7 @@ use lam_io::Gate;
 use lam_machine_replay::World;
 use lam_machine_runs::How;
 use lam_main_files::Halt;
-use lam_main_replay::{Reader, Viewer, let_go_world, viewer_of};
+use lam_main_replay::{NamedViewer, Reader, let_go_world, viewer_of};
 use std::alloc::Global;
 use std::sync::Wait;
 use std::thread::Threads;
@@ -43,8 +44,8 @@ pub(crate) fn shown<R: Threads + Wait + Sync, G: Gate + Sync>(
     gate: &G,
 ) -> Result<Taken, Halt>
     requires sound { IsSound code start }
-    requires workers { (0 < bounds.workers) × (bounds.workers ≤ 16) }
-    requires turns { (0 < bounds.turns) × (bounds.turns ≤ 1000000) }
+    requires workers { (0 < bounds.workers) × (bounds.workers ≤ most_workers) }
+    requires turns { (0 < bounds.turns) × (bounds.turns ≤ most_turns) }
     ensures offers { Offers result (λ out. TakesTurns out bounds.turns (reader_of reader.now) code start) }
     ensures no_fault { IfErr result (λ halt. halt ≢ Halt.ShelfFailed) }
 {
@@ -63,14 +64,14 @@ fn viewed<R: Threads + Wait + Sync, G: Gate + Sync>(
     alloc: Global,
     code: Verified,
     start: World,
-    viewer: &Viewer,
+    viewer: &NamedViewer,
     bounds: Bounds,
     gate: &G,
 ) -> Result<Taken, NoMemory>
     requires sound { IsSound code start }
-    requires workers { (0 < bounds.workers) × (bounds.workers ≤ 16) }
-    requires turns { (0 < bounds.turns) × (bounds.turns ≤ 1000000) }
-    ensures { IfOk result (λ taken. (out : Text) → IsOfThreads code start out bounds.turns (lines_for viewer.now.eye viewer.now.names) (planned out taken)) }
+    requires workers { (0 < bounds.workers) × (bounds.workers ≤ most_workers) }
+    requires turns { (0 < bounds.turns) × (bounds.turns ≤ most_turns) }
+    ensures { IfOk result (λ taken. (out : Text) → IsOfThreads code start out bounds.turns (lines_for viewer.now.who viewer.now.names) (planned out taken)) }
 {
     let text = String::new(alloc);
     match taken_turns(rt, alloc, code, start, bounds, gate, viewer, text) {

@@ -1,9 +1,10 @@
 //! The turns that threads take, as the parts of their run, and what is kept of them.
 
 ghost use Rattle.std.specs.Prelude.{◌<◌, ◌≤◌, [], IfOk};
-ghost use Rattle.described_runs.specs.Worlds.{IsSound};
+ghost use Rattle.guarded_code_runs.specs.Worlds.{IsSound};
 ghost use Rattle.lam_machine_terms.specs.Turns.{moments};
 ghost use Rattle.lam_main_threads.specs.Taken.{IsParted, IsEndedRun, HasBook};
+ghost use Rattle.turn_book.specs.Limits.{most_turns, most_workers};
 
 use crate::Bounds;
 use guarded_code::Verified;
@@ -46,8 +47,8 @@ pub(crate) fn taken_turns<
     nothing: Kept,
 ) -> Result<EndedKept<Kept>, NoMemory>
     requires sound { IsSound code start }
-    requires workers { (0 < bounds.workers) × (bounds.workers ≤ 16) }
-    requires turns { (0 < bounds.turns) × (bounds.turns ≤ 1000000) }
+    requires workers { (0 < bounds.workers) × (bounds.workers ≤ most_workers) }
+    requires turns { (0 < bounds.turns) × (bounds.turns ≤ most_turns) }
     requires nothing { K.AreKept who.now [] nothing }
     ensures run { IfOk result (λ e. IsEndedRun code start bounds.turns e.ended) }
     ensures book { IfOk result (λ e. HasBook e.ended) }

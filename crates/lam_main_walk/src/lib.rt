@@ -11,7 +11,7 @@ mod telling;
 
 ghost use Rattle.std.specs.Prelude.{◌≡◌, ℕ, List, IsTrue, IfErr, string_bytes};
 ghost use Rattle.lam_io.specs.Outside.{Rose, AllStay};
-ghost use Rattle.described_runs.specs.Worlds.{IsSound};
+ghost use Rattle.guarded_code_runs.specs.Worlds.{IsSound};
 ghost use Rattle.lam_main_plan.specs.Reading.{WithFile, program_limit};
 ghost use Rattle.lam_main_plan.specs.Books.{WithRun};
 ghost use Rattle.lam_resolve_tree.specs.Tree.{resolved_tree};

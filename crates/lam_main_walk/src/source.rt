@@ -17,7 +17,7 @@ use barrier_thin::thin_verified;
 use guarded_code::Verified;
 use lam_front::check_program;
 use lam_io::Shelf;
-use lam_main_files::{Halt, read_file};
+use lam_main_files::{Halt, PROGRAM_LIMIT, read_file};
 use lam_main_plan::{CompileFault, compile};
 use lam_resolve::resolve;
 use lam_resolve_laws::resolves;
@@ -26,9 +26,6 @@ use region_check::Checked;
 use std::alloc::Global;
 use std::mem::forget;
 use want_of_memory::NoMemory;
-
-/// The most bytes of a program.
-const PROGRAM_LIMIT: u64 = 1_048_576;
 
 /// The code that is run of a program, and the program with its names resolved. Neither is let go: whoever is done with both
 /// hands them to [`let_go_source`].

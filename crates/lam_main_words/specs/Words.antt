@@ -15,29 +15,22 @@ use Rattle.lam_main_words.specs.declared.Command.{Command}
 use Rattle.lam_main_words.specs.declared.Command.TheVariants.{Play, Check, Format, Code, Replay, Run, Audit, Make, Help, Next, Pair, Walk}
 use Rattle.lam_main_words.specs.declared.WordFault.{WordFault}
 use Rattle.lam_main_words.specs.declared.WordFault.TheVariants.{Word, NoMemory}
+use Rattle.turn_book.specs.Limits.{most_turns, most_workers}
+use Rattle.lam_make.specs.Made.{most_made_threads}
 
 abbrev pub Text : Type 0
 Text = List ℕ
 
--- the most workers and turns of `run`, and as many where the words do not say
-abbrev pub most_workers : ℕ
-most_workers = 16
-
-abbrev pub most_turns : ℕ
-most_turns = 1000000
-
+-- as many workers and turns as there are where the words do not say
 abbrev pub usual_workers : ℕ
 usual_workers = 4
 
 abbrev pub usual_turns : ℕ
 usual_turns = 100000
 
--- the greatest seed and the most threads of `make`
+-- the greatest seed of `make`
 abbrev pub most_seed : ℕ
 most_seed = 18446744073709551615
-
-abbrev pub most_threads : ℕ
-most_threads = 64
 
 -- the name of a form's command
 abbrev pub name : Form → Text
@@ -98,7 +91,7 @@ kinds code_form = Name code_form ∷ File ∷ []
 kinds replay_form = Name replay_form ∷ File ∷ File ∷ File ∷ Observer ∷ []
 kinds (run_form options) = run_kinds options
 kinds audit_form = Name audit_form ∷ File ∷ File ∷ File ∷ []
-kinds make_form = Name make_form ∷ Number 0 most_seed ∷ Number 1 most_threads ∷ File ∷ []
+kinds make_form = Name make_form ∷ Number 0 most_seed ∷ Number 1 most_made_threads ∷ File ∷ []
 kinds help_form = Name help_form ∷ []
 kinds next_form = Name next_form ∷ File ∷ File ∷ File ∷ File ∷ []
 kinds pair_form = Name pair_form ∷ File ∷ File ∷ File ∷ File ∷ File ∷ Observer ∷ []
@@ -164,7 +157,7 @@ requested ws code_form = code (word ws 1)
 requested ws replay_form = replay (word ws 1) (word ws 2) (word ws 3) (word ws 4)
 requested ws (run_form options) = run (word ws 1) (word ws 2) (word ws 3) (word ws 4) (workers_in ws options) (turns_in ws options)
 requested ws audit_form = audit (word ws 1) (word ws 2) (word ws 3)
-requested ws make_form = make (number ws 1 0 most_seed) (number ws 2 1 most_threads) (word ws 3)
+requested ws make_form = make (number ws 1 0 most_seed) (number ws 2 1 most_made_threads) (word ws 3)
 requested ws help_form = help
 requested ws next_form = next (word ws 1) (word ws 2) (word ws 3) (word ws 4)
 requested ws pair_form = pair (word ws 1) (word ws 2) (word ws 3) (word ws 4) (word ws 5) (word ws 6)
@@ -204,7 +197,7 @@ pub record RunsInRange (workers turns : ℕ) : Type 0 where
 pub record MakesInRange (seed threads : ℕ) : Type 0 where
   pub seed_most : seed < 2 ^ 64
   pub some_thread : 1 ≤ threads
-  pub threads_most : threads ≤ most_threads
+  pub threads_most : threads ≤ most_made_threads
 
 -- the numbers of a request are in their ranges
 abbrev pub InRange : Request → Type 0

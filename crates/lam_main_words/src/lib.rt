@@ -5,12 +5,15 @@
 #![tactic(auto)]
 
 ghost use Rattle.std.specs.Prelude.{◌≡◌, ◌≤◌, IfOk, IfSome, length, map, find, string_bytes};
-ghost use Rattle.lam_main_words.specs.Words.{name, commands, help_lines, in_range, number_in, fits, kinds, run_kinds, forms, agreed, is_in, longest, word, number, most_workers, most_turns, workers_in, turns_in, requested, request_of, asked, ReadsCommand, InRange};
+ghost use Rattle.lam_main_words.specs.Words.{name, commands, help_lines, in_range, number_in, fits, kinds, run_kinds, forms, agreed, is_in, longest, word, number, workers_in, turns_in, requested, request_of, asked, ReadsCommand, InRange};
 ghost use Rattle.lam_main_words.specs.declared.WordFault.TheVariants.{NoMemory as no_memory};
+ghost use Rattle.turn_book.specs.Limits.{most_turns, most_workers};
 
 use decimal_text::{NumberFault, read_number};
 use flow_labels::{Form as TwoLists, bad_place};
+use lam_make::MADE_THREADS_LIMIT;
 use std::alloc::{AllocError, AllocFailed, Global};
+use turn_book::TURN_LIMIT;
 use want_of_memory::NoMemory;
 
 /// How many workers `run` has where the words do not say, and the most that it may have.
@@ -18,15 +21,11 @@ const USUAL_WORKERS: u64 = 4;
 
 const MOST_WORKERS: u64 = 16;
 
-/// How many turns `run` takes at most where the words do not say, and the most that it may take.
+/// How many turns `run` takes at most where the words do not say.
 const USUAL_TURNS: u64 = 100_000;
 
-const MOST_TURNS: u64 = 1_000_000;
-
-/// The greatest seed that `make` may name, and the most threads.
+/// The greatest seed that `make` may name.
 const MOST_SEED: u64 = u64::MAX;
-
-const MOST_THREADS: u64 = 64;
 
 /// The name of `run`.
 const RUN: Kind = Kind::Name(Form::Run(Options::Neither));
@@ -114,7 +113,7 @@ impl Form {
             Form::Make => &[
                 Kind::Name(Form::Make),
                 Kind::Number(0, MOST_SEED),
-                Kind::Number(1, MOST_THREADS),
+                Kind::Number(1, MADE_THREADS_LIMIT),
                 Kind::File,
             ],
             Form::Help => &[Kind::Name(Form::Help)],
@@ -162,7 +161,7 @@ impl Options {
                 Kind::Observer,
                 Kind::File,
                 Kind::TurnsOption,
-                Kind::Number(1, MOST_TURNS),
+                Kind::Number(1, TURN_LIMIT),
             ],
             Options::Both => &[
                 RUN,
@@ -173,7 +172,7 @@ impl Options {
                 Kind::WorkersOption,
                 Kind::Number(1, MOST_WORKERS),
                 Kind::TurnsOption,
-                Kind::Number(1, MOST_TURNS),
+                Kind::Number(1, TURN_LIMIT),
             ],
         }
     }
@@ -435,7 +434,7 @@ fn make_command(alloc: Global, words: &[String]) -> Result<Command, WordFault>
 {
     Ok(Command::Make {
         seed: number_at(words, 1, 0, MOST_SEED),
-        threads: number_at(words, 2, 1, MOST_THREADS),
+        threads: number_at(words, 2, 1, MADE_THREADS_LIMIT),
         book_out: String::from_str(alloc, word_at(words, 3))?,
     })
 }
@@ -496,8 +495,8 @@ fn turns_in(words: &[String], options: Options) -> u64
     ensures most { result ≤ most_turns }
 {
     match options {
-        Options::Turns => number_at(words, 6, 1, MOST_TURNS),
-        Options::Both => number_at(words, 8, 1, MOST_TURNS),
+        Options::Turns => number_at(words, 6, 1, TURN_LIMIT),
+        Options::Both => number_at(words, 8, 1, TURN_LIMIT),
         Options::Neither | Options::Workers => USUAL_TURNS,
     }
 }

@@ -9,6 +9,10 @@ use Rattle.std.specs.Fmt.{digits}
 abbrev pub Text : Type 0
 Text = List ℕ
 
+-- the most threads of a made world
+abbrev pub most_made_threads : ℕ
+most_made_threads = 64
+
 -- ---- the numbers that are drawn
 
 -- the state that follows a state

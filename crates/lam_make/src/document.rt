@@ -1,7 +1,7 @@
 //! The document of the world.
 
 ghost use Rattle.std.specs.Prelude.{◌≡◌, ◌≤◌, ◌++◌, [], codes, nat_eq, if◌then◌else◌, OnOk, string_bytes};
-ghost use Rattle.lam_make.specs.Made.{listed, nth_thread, tag_word, args_text, caps_text, thread_text, world_text};
+ghost use Rattle.lam_make.specs.Made.{listed, nth_thread, tag_word, args_text, caps_text, thread_text, world_text, most_made_threads};
 
 use crate::draws::{next, number_in};
 use decimal_text::push_number;
@@ -9,7 +9,7 @@ use want_of_memory::NoMemory;
 
 /// Writes the document of a world.
 pub(crate) fn push_world(text: &mut String, seed: u64, threads: u64) -> Result<(), NoMemory>
-    requires { threads ≤ 64 }
+    requires { threads ≤ most_made_threads }
     ensures { OnOk result (string_bytes text.new ≡ string_bytes text.old ++ world_text seed threads) }
 {
     text.push_str("{\"version\":1,\"tags\":[")?;

@@ -9,11 +9,14 @@ mod document;
 mod draws;
 
 ghost use Rattle.std.specs.Prelude.{◌≡◌, ◌≤◌, IfOk, string_bytes};
-ghost use Rattle.lam_make.specs.Made.{program_text, world_text};
+ghost use Rattle.lam_make.specs.Made.{program_text, world_text, most_made_threads};
 
 use crate::document::push_world;
 use std::alloc::Global;
 use want_of_memory::NoMemory;
+
+/// The most threads of a made world.
+pub const MADE_THREADS_LIMIT: u64 = 64;
 
 /// The text of the program.
 const PROGRAM: &str = "fn work(a: tag, n: int): int {
@@ -39,7 +42,7 @@ const PROGRAM: &str = "fn work(a: tag, n: int): int {
 ///
 /// `NoMemory` where memory is refused, and no other.
 pub fn make(alloc: Global, seed: u64, threads: u64) -> Result<(String, String), NoMemory>
-    requires { (1 ≤ threads) × (threads ≤ 64) }
+    requires { (1 ≤ threads) × (threads ≤ most_made_threads) }
     ensures { IfOk result (λ texts. (string_bytes texts.0 ≡ program_text) × (string_bytes texts.1 ≡ world_text seed threads)) }
 {
     let program = program(alloc)?;
@@ -54,7 +57,7 @@ fn program(alloc: Global) -> Result<String, NoMemory>
 }
 
 fn world(alloc: Global, seed: u64, threads: u64) -> Result<String, NoMemory>
-    requires { threads ≤ 64 }
+    requires { threads ≤ most_made_threads }
     ensures { IfOk result (λ text. string_bytes text ≡ world_text seed threads) }
 {
     let mut text = String::new(alloc);

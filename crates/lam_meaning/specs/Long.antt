@@ -4,9 +4,12 @@ use Rattle.lam_resolve_tree.specs.Tree.{ResolvedTree}
 use Rattle.lam_bytecode.specs.Codes.{CodeTree}
 use Rattle.lam_meaning.specs.Scheme.{Draft, drafts, scheme}
 
--- a unit has at most 65,535 operations
+-- the most operations of a unit
+abbrev pub most_operations : ℕ
+most_operations = 65535
+
 abbrev pub is_long : Draft → Bool
-is_long d = nat_lt 65535 (length d.code)
+is_long d = nat_lt most_operations (length d.code)
 
 -- the place of the first that is too long, where the places are counted from n
 abbrev pub long_from : ℕ → List Draft → Option ℕ

@@ -40,9 +40,6 @@ left_again {all} {left} {after} {gone} {more} a b = record {
   some = λ h. elim (cases_lt 0 more) [ inl lt ↦ b.some lt | inr le ↦ omega (arith, a.some (omega arith), b.count) ];
 }
 
-pub none_freed : (ts : List Token) (end : ℕ) → end ≤ length ts → IsFreed ts ts end end
-none_freed ts end h = record { gone = 0; left = all_left ts; moved = zero-add end; within = h }
-
 get_dropped : (n : ℕ) (ts : List Token) (i : ℕ) → slice_get (drop n ts) i ≡ slice_get ts (n + i)
 get_dropped n ts i =
     elim (slice_get_cases ts (n + i)).1 [

@@ -4,6 +4,7 @@ ghost use Rattle.std.specs.Prelude.{◌≡◌, ◌<◌, ◌≤◌, length, IfOk}
 ghost use Rattle.lam_parser_tokens.specs.Reading.{Taken};
 ghost use Rattle.lam_parser_stmts.specs.Parts.{ReadsStmt};
 ghost use Rattle.lam_parser.specs.Parts.{ReadsBlock, ReadsElse, ReadsHandler};
+ghost use Rattle.lam_grammar.specs.Program.{most_depth};
 
 use lam_lexer::Token;
 use lam_parser_exprs::parens;
@@ -28,7 +29,7 @@ pub(crate) fn block(
     depth: u64,
 ) -> Result<ReadBlock, Break>
     requires in_range { at ≤ length tokens.now }
-    requires bounded { depth ≤ 128 }
+    requires bounded { depth ≤ most_depth }
     ensures reads { ReadsBlock tokens.now depth at result }
     ensures goes_on { IfOk result (λ x. (at < x.1) × (x.1 ≤ length tokens.now)) }
 {
@@ -62,7 +63,7 @@ fn fitted(mut body: Vec<Stmt>) -> Vec<Stmt>
 #[cycle(statement)]
 fn statement(alloc: Global, tokens: &[Token], at: usize, depth: u64) -> Result<ReadStmt, Break>
     requires in_range { at ≤ length tokens.now }
-    requires bounded { depth ≤ 128 }
+    requires bounded { depth ≤ most_depth }
     ensures reads { ReadsStmt tokens.now depth at result }
     ensures goes_on { IfOk result (λ x. (at < x.1) × (x.1 ≤ length tokens.now)) }
 {
@@ -100,7 +101,7 @@ fn if_statement(
     word: &Token,
 ) -> Result<ReadStmt, Break>
     requires in_range { at ≤ length tokens.now }
-    requires bounded { depth ≤ 128 }
+    requires bounded { depth ≤ most_depth }
     requires begun { Taken tokens.now depth at Mark.If word.now }
     ensures reads { ReadsStmt tokens.now depth at result }
     ensures goes_on { IfOk result (λ x. (at < x.1) × (x.1 ≤ length tokens.now)) }
@@ -120,7 +121,7 @@ fn else_part(
     depth: u64,
 ) -> Result<(Option<Vec<Stmt>>, usize), Break>
     requires in_range { at ≤ length tokens.now }
-    requires bounded { depth ≤ 128 }
+    requires bounded { depth ≤ most_depth }
     ensures reads { ReadsElse tokens.now depth at result }
     ensures goes_on { IfOk result (λ x. (at ≤ x.1) × (x.1 ≤ length tokens.now)) }
 {
@@ -141,7 +142,7 @@ fn while_statement(
     word: &Token,
 ) -> Result<ReadStmt, Break>
     requires in_range { at ≤ length tokens.now }
-    requires bounded { depth ≤ 128 }
+    requires bounded { depth ≤ most_depth }
     requires begun { Taken tokens.now depth at Mark.While word.now }
     ensures reads { ReadsStmt tokens.now depth at result }
     ensures goes_on { IfOk result (λ x. (at < x.1) × (x.1 ≤ length tokens.now)) }
@@ -161,7 +162,7 @@ fn sync_statement(
     word: &Token,
 ) -> Result<ReadStmt, Break>
     requires in_range { at ≤ length tokens.now }
-    requires bounded { depth ≤ 128 }
+    requires bounded { depth ≤ most_depth }
     requires begun { Taken tokens.now depth at Mark.Sync word.now }
     ensures reads { ReadsStmt tokens.now depth at result }
     ensures goes_on { IfOk result (λ x. (at < x.1) × (x.1 ≤ length tokens.now)) }
@@ -181,7 +182,7 @@ fn region_statement(
     word: &Token,
 ) -> Result<ReadStmt, Break>
     requires in_range { at ≤ length tokens.now }
-    requires bounded { depth ≤ 128 }
+    requires bounded { depth ≤ most_depth }
     requires begun { Taken tokens.now depth at Mark.Region word.now }
     ensures reads { ReadsStmt tokens.now depth at result }
     ensures goes_on { IfOk result (λ x. (at < x.1) × (x.1 ≤ length tokens.now)) }
@@ -202,7 +203,7 @@ fn handler(
     depth: u64,
 ) -> Result<(Handler, usize), Break>
     requires in_range { at ≤ length tokens.now }
-    requires bounded { depth ≤ 128 }
+    requires bounded { depth ≤ most_depth }
     ensures reads { ReadsHandler tokens.now depth at result }
     ensures goes_on { IfOk result (λ x. (at < x.1) × (x.1 ≤ length tokens.now)) }
 {

@@ -4,6 +4,7 @@ ghost use Rattle.std.specs.Prelude.{◌≡◌, ◌<◌, ◌≤◌, length, IfOk,
 ghost use Rattle.lam_grammar.specs.Table as table;
 ghost use Rattle.lam_parser_tokens.specs.Reading.{ReadsExpr};
 ghost use Rattle.lam_parser_parts.specs.Parts.{IsElement, IndexFails};
+ghost use Rattle.lam_grammar.specs.Program.{most_depth};
 
 use crate::primary::primary;
 use lam_grammar::Level;
@@ -155,7 +156,7 @@ fn postfix(alloc: Global, tokens: &[Token], at: usize, depth: u64) -> Result<Rea
 #[cycle(expression)]
 fn indexed(alloc: Global, tokens: &[Token], of: Read) -> Result<Read, Break>
     requires in_range { of.next < length tokens.now }
-    requires bounded { of.depth ≤ 128 }
+    requires bounded { of.depth ≤ most_depth }
     ensures reads { MatchResult result (IsElement tokens.now of) (IndexFails tokens.now of) }
     ensures within { IfOk result (λ x. x.next ≤ length tokens.now) }
 {

@@ -11,6 +11,7 @@ ghost use Rattle.lam_parser_tokens.specs.declared.marks.Mark.TheVariants as mark
 ghost use Rattle.lam_parser_parts.specs.Forms.{form_of};
 ghost use Rattle.lam_parser_parts.specs.Parts.{ReadsArgs, ReadsForm};
 ghost use Rattle.lam_parser_parts.specs.declared.primary.Form.TheVariants as form;
+ghost use Rattle.lam_grammar.specs.Program.{most_depth};
 
 use crate::operators::expression;
 use lam_lexer::Token;
@@ -120,7 +121,7 @@ pub fn arguments(
 #[cycle(expression)]
 fn list(alloc: Global, tokens: &[Token], at: usize, depth: u64) -> Result<(Vec<Expr>, usize), Break>
     requires in_range { at ≤ length tokens.now }
-    requires bounded { depth ≤ 128 }
+    requires bounded { depth ≤ most_depth }
     ensures reads { ReadsArgs tokens.now table.args depth at result }
     ensures goes_on { IfOk result (λ x. (at ≤ x.1) × (x.1 ≤ length tokens.now)) }
 {

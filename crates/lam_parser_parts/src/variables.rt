@@ -3,6 +3,7 @@
 ghost use Rattle.std.specs.Prelude.{◌<◌, ◌≤◌, length, IfOk};
 ghost use Rattle.lam_grammar.specs.Table.{fields, params, names};
 ghost use Rattle.lam_parser_parts.specs.Variables.{TakesName, ReadsVariable, ReadsVariables, ReadsNames};
+ghost use Rattle.lam_grammar.specs.Program.{most_depth};
 
 use crate::types::typ;
 use lam_lexer::Token;
@@ -27,7 +28,7 @@ pub fn variable(
     depth: u64,
 ) -> Result<(Var, usize), Break>
     requires in_range { at ≤ length tokens.now }
-    requires bounded { depth ≤ 128 }
+    requires bounded { depth ≤ most_depth }
     ensures reads { ReadsVariable tokens.now depth at result }
     ensures goes_on { IfOk result (λ x. (at < x.1) × (x.1 ≤ length tokens.now)) }
 {
@@ -46,7 +47,7 @@ pub fn fields(
     depth: u64,
 ) -> Result<(Vec<Var>, usize), Break>
     requires in_range { at ≤ length tokens.now }
-    requires bounded { depth ≤ 128 }
+    requires bounded { depth ≤ most_depth }
     ensures reads { ReadsVariables tokens.now fields depth at result }
     ensures goes_on { IfOk result (λ x. (at ≤ x.1) × (x.1 ≤ length tokens.now)) }
 {
@@ -69,7 +70,7 @@ pub fn params(
     depth: u64,
 ) -> Result<(Vec<Var>, usize), Break>
     requires in_range { at ≤ length tokens.now }
-    requires bounded { depth ≤ 128 }
+    requires bounded { depth ≤ most_depth }
     ensures reads { ReadsVariables tokens.now params depth at result }
     ensures goes_on { IfOk result (λ x. (at ≤ x.1) × (x.1 ≤ length tokens.now)) }
 {
@@ -95,7 +96,7 @@ pub fn names(
     depth: u64,
 ) -> Result<(Vec<Id>, usize), Break>
     requires in_range { at ≤ length tokens.now }
-    requires bounded { depth ≤ 128 }
+    requires bounded { depth ≤ most_depth }
     ensures reads { ReadsNames tokens.now names depth at result }
     ensures goes_on { IfOk result (λ x. (at ≤ x.1) × (x.1 ≤ length tokens.now)) }
 {

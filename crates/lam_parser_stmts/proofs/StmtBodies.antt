@@ -63,9 +63,6 @@ region_kind before at _ h = cc
 pub region_body : {tokens : List Token} {s k : ℕ} {w : Token} → Taken tokens s k m.Region w → (before : Value) → production lam stmt before (slice_get tokens k) ≡ Some (region_word ∷ rule region_head ∷ rule captures ∷ rule block ∷ rule handler ∷ [])
 region_body {w = w} t before = ap (production lam stmt before) t.is ∙ region_kind before w.at w.kind t.fit
 
-abbrev let_form : List Sym
-let_form = let_word ∷ rule variable ∷ equals ∷ rule expr ∷ semicolon ∷ []
-
 abbrev if_form : List Sym
 if_form = if_word ∷ rule parens ∷ rule block ∷ rule else_part ∷ []
 

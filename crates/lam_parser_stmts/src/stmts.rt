@@ -7,6 +7,7 @@ ghost use Rattle.lam_grammar.specs.Meaning.{expr_value, is_place};
 ghost use Rattle.lam_parser_tokens.specs.Reading.{Gives, Taken};
 ghost use Rattle.lam_parser_parts.specs.Variables.{ReadsNames};
 ghost use Rattle.lam_parser_stmts.specs.Parts.{ReadsStmt, ReadsHead, NoWord};
+ghost use Rattle.lam_grammar.specs.Program.{most_depth};
 
 use crate::nodes::{make_assign, make_do, make_let, make_return, make_throw};
 use lam_lexer::Token;
@@ -28,7 +29,7 @@ pub fn let_statement(
     word: &Token,
 ) -> Result<ReadStmt, Break>
     requires in_range { at ≤ length tokens.now }
-    requires bounded { depth ≤ 128 }
+    requires bounded { depth ≤ most_depth }
     requires begun { Taken tokens.now depth at Mark.Let word.now }
     ensures reads { ReadsStmt tokens.now depth at result }
     ensures goes_on { IfOk result (λ x. (at < x.1) × (x.1 ≤ length tokens.now)) }
@@ -49,7 +50,7 @@ pub fn return_statement(
     word: &Token,
 ) -> Result<ReadStmt, Break>
     requires in_range { at ≤ length tokens.now }
-    requires bounded { depth ≤ 128 }
+    requires bounded { depth ≤ most_depth }
     requires begun { Taken tokens.now depth at Mark.Return word.now }
     ensures reads { ReadsStmt tokens.now depth at result }
     ensures goes_on { IfOk result (λ x. (at < x.1) × (x.1 ≤ length tokens.now)) }
@@ -76,7 +77,7 @@ pub fn throw_statement(
     word: &Token,
 ) -> Result<ReadStmt, Break>
     requires in_range { at ≤ length tokens.now }
-    requires bounded { depth ≤ 128 }
+    requires bounded { depth ≤ most_depth }
     requires begun { Taken tokens.now depth at Mark.Throw word.now }
     ensures reads { ReadsStmt tokens.now depth at result }
     ensures goes_on { IfOk result (λ x. (at < x.1) × (x.1 ≤ length tokens.now)) }
@@ -97,7 +98,7 @@ pub struct Head {
 /// `(label, caps)`
 pub fn region_head(alloc: Global, tokens: &[Token], at: usize, depth: u64) -> Result<Head, Break>
     requires in_range { at ≤ length tokens.now }
-    requires bounded { depth ≤ 128 }
+    requires bounded { depth ≤ most_depth }
     ensures reads { ReadsHead tokens.now depth at result }
     ensures goes_on { IfOk result (λ x. (at < x.next) × (x.next ≤ length tokens.now)) }
 {
@@ -121,7 +122,7 @@ pub fn captures(
     depth: u64,
 ) -> Result<(Vec<Id>, usize), Break>
     requires in_range { at ≤ length tokens.now }
-    requires bounded { depth ≤ 128 }
+    requires bounded { depth ≤ most_depth }
     ensures reads { ReadsNames tokens.now captures depth at result }
     ensures goes_on { IfOk result (λ x. (at < x.1) × (x.1 ≤ length tokens.now)) }
 {
@@ -139,7 +140,7 @@ pub fn expression_statement(
     depth: u64,
 ) -> Result<ReadStmt, Break>
     requires in_range { at ≤ length tokens.now }
-    requires bounded { depth ≤ 128 }
+    requires bounded { depth ≤ most_depth }
     requires begun { NoWord tokens.now at }
     ensures reads { ReadsStmt tokens.now depth at result }
     ensures goes_on { IfOk result (λ x. (at < x.1) × (x.1 ≤ length tokens.now)) }
@@ -163,7 +164,7 @@ fn assignment(
     equals: &Token,
 ) -> Result<ReadStmt, Break>
     requires in_range { left.next < length tokens.now }
-    requires bounded { depth ≤ 128 }
+    requires bounded { depth ≤ most_depth }
     requires begun { NoWord tokens.now at }
     requires left { Gives (slice_get tokens.now) expr depth at (expr_value left.begin (expr_tree left.expr.value)) left.next depth }
     requires behind { at < left.next }

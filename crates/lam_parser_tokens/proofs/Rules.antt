@@ -4,12 +4,12 @@
 use Rattle.std.proofs.Common.{◌≡◌, ℕ, ◌+◌, ◌<◌, ◌≤◌, ◌⊎◌, inl, inr, Bool, true, false, cond, Option, Some, None, List, [], ◌∷◌, slice_get, refl, sym, ap, ◌∙◌, subst, arith, add-zero}
 use Rattle.lam_grammar_laws.specs.Grammar.{mark, rule, pick, is_empty, production, enters, leaves}
 use Rattle.lam_grammar_laws.specs.Texts.{limited}
-use Rattle.lam_grammar_laws.specs.Stopping.{Stop, unexpected, too_deep, could, Stops, fits_next, begins_next, wrong, deep, sample, opens, skips, inside, barred}
+use Rattle.lam_grammar_laws.specs.Stopping.{Stop, unexpected, too_deep, could, Stops, fits_next, begins_next, wrong, deep, sample, opens, inside}
 use Rattle.lam_grammar_laws.proofs.Bodies.{chosen, picks_mark, picks_rule, picks_past_mark, picks_past_rule, empty_read}
-use Rattle.lam_grammar_laws.proofs.Stages.{Stage, Goes, at_map, begin, begin_full, take_token, take_rule, take_maybe, finish, stop_rule, stop_mark, stop_mark_inside, stop_rule_inside, stop_deep, goes_stop_mark, goes_stop_rule, goes_stop_deep}
+use Rattle.lam_grammar_laws.proofs.Stages.{Stage, Goes, at_map, begin, begin_full, take_token, take_rule, take_maybe, finish, stop_rule, stop_mark, stop_rule_inside, stop_deep, goes_stop_mark, goes_stop_rule, goes_stop_deep}
 use Rattle.lam_grammar_laws.proofs.Stages as stage
 use Rattle.lam_lexer.specs.declared.token.Token.{Token}
-use Rattle.lam_grammar.specs.Table.{Class, Rule, Sym, bodies, counts, assign_part, expr, equals, semicolon}
+use Rattle.lam_grammar.specs.Table.{Class, Rule, Sym, bodies, counts, assign_part, expr, equals}
 use Rattle.lam_grammar.specs.Meaning.{Value, word, permits, act, is_place_value}
 use Rattle.lam_grammar.specs.Program.{lam}
 use Rattle.lam_grammar.specs.Examples.{examples, null, fills, of_kind}
@@ -18,7 +18,6 @@ use Rattle.lam_parser_tokens.specs.declared.marks.Mark.TheVariants as mark_of
 use Rattle.lam_parser_tokens.specs.declared.breaks.Break.{Break}
 use Rattle.lam_parser_tokens.specs.declared.breaks.Break.TheVariants.{Unexpected, TooDeep, NoMemory}
 use Rattle.lam_parser_tokens.specs.declared.breaks.Wanted.{Wanted}
-use Rattle.lam_parser_tokens.specs.declared.breaks.Wanted.TheVariants as wanted_kind
 use Rattle.lam_parser_tokens.specs.Classes.{class_of, fits_at, wanted_of, sample_of, is_barred}
 use Rattle.lam_parser_tokens.specs.Reading.{Fails, Gives, Taken, Absent, IsDeep}
 
@@ -103,10 +102,6 @@ rule_taken {look} h lt g = take_rule lam examples (limited lam) look g lt h
 pub maybe_taken : {look : ℕ → Option Token} {r q : Rule} {s i k u m t : ℕ} {rest : List Sym} {prev : Value → Value} {done : List Value → List Value} {ok : Token → Type 0} {v : Value} → Gives look q u k v m t → k ≤ m → Part look r s i (rule q ∷ rest) prev done k u ok → Part look r s i rest (λ before. v) (λ vs. done (v ∷ vs)) m t (λ w. ok w × (examples.closes q w ≡ true))
 maybe_taken {look} h le g = take_maybe lam examples (limited lam) look g le h
 
--- ask more of a token that could stand there
-pub part_strict : {look : ℕ → Option Token} {r : Rule} {s i k u : ℕ} {rest : List Sym} {prev : Value → Value} {done : List Value → List Value} {ok : Token → Type 0} (ok' : Token → Type 0) → ((w : Token) → ok' w → ok w) → Part look r s i rest prev done k u ok → Part look r s i rest prev done k u ok'
-part_strict {k = k} {ok = ok} ok' f g = record { reads = g.reads; stops = λ before x a h. g.stops before x (at_map k ok' ok x f a) h }
-
 -- the rule is read
 pub rule_read : {look : ℕ → Option Token} {r : Rule} {s i k u : ℕ} {prev : Value → Value} {done : List Value → List Value} {ok : Token → Type 0} → Part look r s i [] prev done k u ok → Gives look r s i (act r (done [])) k (leaves lam r s u)
 rule_read {look} g = finish lam examples (limited lam) look g
@@ -129,9 +124,6 @@ rule_unwanted look r s i c rest wanted f n e p h = (
 )
 
 -- ---- a rule q that is read in part inside r, past its first token
-
-pub mark_fails_inside : {look : ℕ → Option Token} {r q : Rule} {s i k u n t : ℕ} {c : Class} {rest more : List Sym} {prev prev' : Value → Value} {done done' : List Value → List Value} {ok ok' : Token → Type 0} → Part look r s i (rule q ∷ rest) prev done k u ok → k < n → Part look q u k (mark c ∷ more) prev' done' n t ok' → ok' (examples.sample c) → (b : Break) → ((others : List Sym) → Fails look (mark c ∷ others) t n b) → Fails look (rule r ∷ []) s i b
-mark_fails_inside {look} {r} {q} {s} {i} {k} {u} {n} {t} {c} {more = more} g lt y o b h = fails_by look (rule r ∷ []) s i b (λ x e. stop_mark_inside lam examples (limited lam) look g lt y o x (said look (mark c ∷ more) t n b (h more) x e))
 
 pub rule_fails_inside : {look : ℕ → Option Token} {r q p : Rule} {s i k u n t : ℕ} {rest more : List Sym} {prev prev' : Value → Value} {done done' : List Value → List Value} {ok ok' : Token → Type 0} → Part look r s i (rule q ∷ rest) prev done k u ok → k < n → Part look q u k (rule p ∷ more) prev' done' n t ok' → ok' (examples.first p) → (b : Break) → Fails look (rule p ∷ []) t n b → Fails look (rule r ∷ []) s i b
 rule_fails_inside {look} {r} {q} {p} {s} {i} {k} {u} {n} {t} g lt y o b h = fails_by look (rule r ∷ []) s i b (λ x e. stop_rule_inside lam examples (limited lam) look g lt y o x (said look (rule p ∷ []) t n b h x e))
@@ -272,10 +264,3 @@ bars before o p h =
     let all = pick lam (bodies assign_part) o in
     let e : all ≡ equals ∷ rule expr ∷ [] = picks_mark lam (class_of mark_of.Assign) (rule expr ∷ []) ([] ∷ []) o h in
     ap (λ (b : Bool). cond b (Some all) (cond (is_empty all) (Some []) None)) p ∙ ap (λ (q : List Sym). cond (is_empty q) (Some []) None) e
-
--- The statement stops at the `=`, in place of which a `;` could stand.
-pub place_wanted : {look : ℕ → Option Token} {r : Rule} {s i k u : ℕ} {prev : Value → Value} {done : List Value → List Value} {ok : Token → Type 0} → Part look r s i (rule assign_part ∷ semicolon ∷ []) prev done k u ok → ok (sample_of wanted_kind.Place) → ((before : Value) → is_place_value (prev before) ≡ false) → fits_at mark_of.Assign (look k) ≡ true → Fails look (rule r ∷ []) s i (Unexpected k wanted_kind.Place)
-place_wanted {look} {k = k} g o p h = (
-  λ before. g.stops before (unexpected true k) tt (barred (bars _ (look k) (p before) h)),
-  λ before. g.stops before (could k (sample_of wanted_kind.Place)) (λ e. o) (skips refl refl sample),
-)

@@ -7,7 +7,7 @@ use Rattle.lam_lexer.specs.declared.token.Token.{Token}
 use Rattle.lam_syntax.specs.Tree.{expr_tree}
 use Rattle.lam_grammar.specs.Table.{Rule, Sym}
 use Rattle.lam_grammar.specs.Meaning.{Value, expr_value}
-use Rattle.lam_grammar.specs.Program.{lam}
+use Rattle.lam_grammar.specs.Program.{lam, most_depth}
 use Rattle.lam_grammar.specs.Examples.{examples}
 use Rattle.lam_parser_tokens.specs.declared.marks.Mark.{Mark}
 use Rattle.lam_parser_tokens.specs.declared.breaks.Break.{Break}
@@ -35,7 +35,7 @@ ReadsExpr tokens r s i (Err b) = Fails (slice_get tokens) (rule r ∷ []) s i b
 pub record Taken (tokens : List Token) (s i : ℕ) (k : Mark) (w : Token) : Type 0 where
   pub is : slice_get tokens i ≡ Some w
   pub fit : (class_of k).fits w.kind ≡ true
-  pub within : s ≤ 128
+  pub within : s ≤ most_depth
 
 -- No token of the class is taken there.
 abbrev pub TakeFails : List Token → ℕ → ℕ → Mark → Break → Type 0
@@ -50,5 +50,5 @@ pub record IsDeep (tokens : List Token) (s i : ℕ) (k : Mark) (b : Break) : Typ
   pub w : Token
   pub is : slice_get tokens i ≡ Some w
   pub fit : (class_of k).fits w.kind ≡ true
-  pub over : 128 < s
+  pub over : most_depth < s
   pub says : b ≡ TooDeep i

@@ -14,7 +14,7 @@ use std::alloc::Global;
 use want_of_memory::NoMemory;
 
 /// The greatest depth sum that a token may have.
-const LIMIT: u64 = 128;
+const DEPTH_LIMIT: u64 = 128;
 
 /// An expression that was read.
 #[derive(Drop)]
@@ -126,7 +126,7 @@ pub fn take<'a, 'b>(
             wanted: wanted_of(mark),
         });
     }
-    if depth > LIMIT {
+    if depth > DEPTH_LIMIT {
         return Err(Break::TooDeep { at });
     }
     Ok(token)
@@ -148,7 +148,7 @@ pub fn take_if<'a, 'b>(
     if !is_mark(mark, &token.kind) {
         return Ok(None);
     }
-    if depth > LIMIT {
+    if depth > DEPTH_LIMIT {
         return Err(Break::TooDeep { at });
     }
     Ok(Some(token))

@@ -67,10 +67,6 @@ vr v ps h = nm v.name whole (token Kind.Colon ∷ blank ∷ lay_type v.ty ps) re
 
 -- ---- lists
 
-cm : (later : Bool) (s : Side) (ps : List Piece) → joins s wordy ≡ false → Good whole ps → (Good whole ps → Good s ps) → Good s (comma later ps)
-cm true s ps q h f = mk s Kind.Comma (blank ∷ ps) refl refl h
-cm false s ps q h f = f h
-
 -- the first item, or one behind a comma
 listed : (later : Bool) (ps : List Piece) → Good whole ps → Good whole (comma later ps)
 listed true ps h = mk whole Kind.Comma (blank ∷ ps) refl refl h

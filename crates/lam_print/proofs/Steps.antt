@@ -12,13 +12,6 @@ use Rattle.lam_print.specs.Printing.{Puts}
 pub said : (old text : List ℕ) {new : List ℕ} → new ≡ old ++ text → (rest : List ℕ) → old ++ (text ++ rest) ≡ new ++ rest
 said old text {new} e rest = sym (append_assoc old text rest) ∙ ap (λ (x : List ℕ). x ++ rest) (sym e)
 
--- a text that is another
-pub said_as : (old : List ℕ) {text spelt new : List ℕ} → new ≡ old ++ text → text ≡ spelt → (rest : List ℕ) → old ++ (spelt ++ rest) ≡ new ++ rest
-said_as old {text} {spelt} {new} e t rest = ap (λ (x : List ℕ). old ++ (x ++ rest)) (sym t) ∙ said old text e rest
-
-pub puts_nothing : {now : List ℕ} → Puts now now (λ ps. ps)
-puts_nothing = record { gives = λ ps. refl }
-
 -- the pieces of equal trees
 pub puts_of : {X : Type 0} {old new : List ℕ} (f : X → List Piece → List Piece) {a b : X} → a ≡ b → Puts old new (f b) → Puts old new (f a)
 puts_of {X} {old} {new} f e p = subst (λ (x : X). Puts old new (f x)) (sym e) p
@@ -37,9 +30,6 @@ pub record ListedSoFar {X : Type 0} (f : Bool → List X → List Piece → List
 pub record IsListed {X : Type 0} (between : Bool → List Piece → List Piece) (one : X → List Piece → List Piece) (f : Bool → List X → List Piece → List Piece) : Type 0 where
   pub nothing : (later : Bool) (ps : List Piece) → f later [] ps ≡ ps
   pub more : (later : Bool) (x : X) (xs : List X) (ps : List Piece) → f later (x ∷ xs) ps ≡ between later (one x (f true xs ps))
-
-pub listed_first : {X : Type 0} (f : Bool → List X → List Piece → List Piece) (xs : List X) (now : List ℕ) → ListedSoFar f xs now now 0
-listed_first f xs now = record { gives = λ ps. refl }
 
 pub listed_more : {X : Type 0} {between : Bool → List Piece → List Piece} {one : X → List Piece → List Piece} {f : Bool → List X → List Piece → List Piece} → IsListed between one f → (xs : List X) {old now mid next : List ℕ} (i : ℕ) (x : X) → i < length xs → x ≡ get_or xs i x → Puts now mid (between (nat_lt 0 i)) → Puts mid next (one x) → ListedSoFar f xs old now i → ListedSoFar f xs old next (i + 1)
 listed_more {X} {between} {one} {f} l xs {old} {now} {mid} {next} i x h e a b g =

@@ -1,18 +1,15 @@
 -- The statements of a block, one after the other.
 use Rattle.std.proofs.Common.{◌≡◌, ℕ, ◌+◌, ◌<◌, ◌≤◌, arith, List, [], ◌∷◌, ◌++◌, length, drop, take, get_or, Option, Some, None, IsSome, is_some, refl, sym, ap, ◌∙◌, take-take}
 use Rattle.std.proofs.Math.Seq.{take-length}
-use Rattle.std.proofs.lemmas.List.{length-map, length-take}
+use Rattle.std.proofs.lemmas.List.{length-take}
 use Rattle.lam_syntax.specs.declared.Stmt.{Stmt}
 use Rattle.lam_syntax.specs.Tree.{stmt_tree, stmts_tree}
-use Rattle.lam_operators.specs.Words.{Word}
 use Rattle.lam_resolve_tree.specs.declared.Stmt.{Stmt as Resolved}
 use Rattle.lam_resolve_tree.specs.Tree.{Block, block_end, block_more, stmt_tree as resolved_stmt, stmts_tree as resolved_stmts}
 use Rattle.lam_resolve_laws.specs.Resolved.{then_some, Tables, Locals, State, step_as, Closed, closed_as, resolve_stmt, resolve_stmts}
-use Rattle.lam_resolve_exprs.specs.declared.values.Local.{Local}
 use Rattle.lam_resolve_tables.proofs.Options.{first_some, goes, one_more}
 use Rattle.lam_resolve_units.specs.Meets.{Extends}
 use Rattle.lam_resolve_stmts.proofs.Sizes.{stmt_size, stmts_size, item_smaller}
-use Rattle.lam_resolve_units.proofs.UnitSteps.{seen}
 
 abbrev pub glued : Block → Block → Block
 glued block_end r = r
@@ -78,6 +75,3 @@ pub extends_more : {A : Type 0} (xs ys zs : List A) → Extends xs ys → Extend
 extends_more xs ys zs e f =
     let h : length xs ≤ length ys = omega (arith, length-take (length xs) ys, ap length e) in
     sym (take-take (length xs) (length ys) zs h) ∙ ap (take (length xs)) f ∙ e
-
-pub closed_again : (es : List (Word × Local)) (ns old now : Locals) (n : ℕ) → old ≡ seen es → n ≡ length es → Extends old ns → now ≡ take n ns → now ≡ old
-closed_again es ns old now n a b e c = c ∙ ap (λ n. take n ns) (b ∙ sym (length-map {B = Word × _} es _) ∙ sym (ap length a)) ∙ e

@@ -1,6 +1,6 @@
 -- Lists of children that are gone through one by one.
-use Rattle.std.proofs.Common.{◌≡◌, ◌≢◌, ℕ, ◌+◌, ◌<◌, ◌≤◌, ◌↔◌, IsTrue, Bool, true, false, List, [], ◌∷◌, ◌++◌, length, get_or, drop, refl, sym, ap, ◌∙◌, arith, append_assoc}
-use Rattle.std.proofs.lemmas.List.{append-nil, drop_more, drop_all}
+use Rattle.std.proofs.Common.{◌≡◌, ◌≢◌, ℕ, ◌+◌, ◌<◌, ◌↔◌, IsTrue, Bool, false, List, [], ◌∷◌, ◌++◌, length, get_or, drop, refl, sym, ap, ◌∙◌, append_assoc}
+use Rattle.std.proofs.lemmas.List.{drop_more}
 use Rattle.std.proofs.lemmas.Bool.{both_ways}
 
 -- a view of lists, by a view of their items
@@ -19,24 +19,6 @@ pub record SameSoFar {X L : Type 0} (g : List X → L) (xs ys : List X) (i : ℕ
 pub same_first : {X L : Type 0} (g : List X → L) (xs ys : List X) → SameSoFar g xs ys 0
 same_first g xs ys = record { to_rest = λ e. e; from_rest = λ e. e }
 
-pub same_heads : {X Y L : Type 0} {f : X → Y} {g : List X → L} → IsListView f g → (xs ys : List X) (i : ℕ) (x y : X) → i < length xs → length xs ≡ length ys → x ≡ get_or xs i x → y ≡ get_or ys i y → SameSoFar g xs ys i → g xs ≡ g ys → f x ≡ f y
-same_heads {X} {Y} {L} {f} {g} v xs ys i x y h n p q s e =
-    let a = ap g (drop_more xs i x h) ∙ ap (λ (z : X). g (z ∷ drop (i + 1) xs)) (sym p) in
-    let b = ap g (drop_more ys i y (omega arith)) ∙ ap (λ (z : X). g (z ∷ drop (i + 1) ys)) (sym q) in
-    v.heads x y (drop (i + 1) xs) (drop (i + 1) ys) (sym a ∙ s.to_rest e ∙ b)
-
-pub same_more : {X Y L : Type 0} {f : X → Y} {g : List X → L} → IsListView f g → (xs ys : List X) (i : ℕ) (x y : X) → i < length xs → length xs ≡ length ys → x ≡ get_or xs i x → y ≡ get_or ys i y → f x ≡ f y → SameSoFar g xs ys i → SameSoFar g xs ys (i + 1)
-same_more {X} {Y} {L} {f} {g} v xs ys i x y h n p q e s =
-    let a = ap g (drop_more xs i x h) ∙ ap (λ (z : X). g (z ∷ drop (i + 1) xs)) (sym p) in
-    let b = ap g (drop_more ys i y (omega arith)) ∙ ap (λ (z : X). g (z ∷ drop (i + 1) ys)) (sym q) in
-    record {
-      to_rest = λ r. v.tails x y (drop (i + 1) xs) (drop (i + 1) ys) (sym a ∙ s.to_rest r ∙ b);
-      from_rest = λ r. s.from_rest (a ∙ v.joins x y (drop (i + 1) xs) (drop (i + 1) ys) e r ∙ sym b);
-    }
-
-pub same_last : {X L : Type 0} (g : List X → L) (xs ys : List X) (i : ℕ) → length xs ≤ i → length ys ≤ i → SameSoFar g xs ys i → IsTrue true ↔ (g xs ≡ g ys)
-same_last g xs ys i h k s = (λ t. s.from_rest (ap g (drop_all i xs h) ∙ sym (ap g (drop_all i ys k))), λ e. refl)
-
 pub same_never : {P : Type 0} → (P → ⊥) → IsTrue false ↔ P
 same_never f = (λ t. absurd (both_ways false refl t), λ p. absurd (f p))
 
@@ -51,9 +33,6 @@ test_moved F p q t = (λ h. ap F p ∙ t.0 h ∙ sym (ap F q), λ e. t.1 (sym (a
 pub record CopiedSoFar {X L : Type 0} (g : List X → L) (xs out : List X) (i : ℕ) : Type 0 where
   pub whole : g (out ++ drop i xs) ≡ g xs
 
-pub copied_first : {X L : Type 0} (g : List X → L) (xs out : List X) → out ≡ [] → CopiedSoFar g xs out 0
-copied_first g xs out e = record { whole = ap (λ o. g (o ++ xs)) e }
-
 joins_after : {X Y L : Type 0} {f : X → Y} {g : List X → L} → IsListView f g → (out : List X) (x y : X) (xs : List X) → f y ≡ f x → g (out ++ y ∷ xs) ≡ g (out ++ x ∷ xs)
 joins_after v [] x y xs e = v.joins y x xs xs e refl
 joins_after v (o ∷ out) x y xs e = v.joins o o (out ++ y ∷ xs) (out ++ x ∷ xs) refl (joins_after v out x y xs e)
@@ -62,9 +41,6 @@ pub copied_more : {X Y L : Type 0} {f : X → Y} {g : List X → L} → IsListVi
 copied_more {X} {Y} {L} {f} {g} v xs out next i x y h p e n s =
     let a : drop i xs ≡ x ∷ drop (i + 1) xs = drop_more xs i x h ∙ ap (λ (z : X). z ∷ drop (i + 1) xs) (sym p) in
     record { whole = ap (λ (o : List X). g (o ++ drop (i + 1) xs)) n ∙ ap g (append_assoc out (y ∷ []) (drop (i + 1) xs)) ∙ joins_after v out x y (drop (i + 1) xs) e ∙ ap (λ (r : List X). g (out ++ r)) (sym a) ∙ s.whole }
-
-pub copied_last : {X L : Type 0} (g : List X → L) (xs out : List X) (i : ℕ) → length xs ≤ i → CopiedSoFar g xs out i → g out ≡ g xs
-copied_last g xs out i h s = ap g (sym (append-nil out)) ∙ ap (λ (r : List _). g (out ++ r)) (sym (drop_all i xs h)) ∙ s.whole
 
 -- two equations whose ends are equal
 pub between : {X : Type 0} {a b c d : X} → a ≡ c → b ≡ d → c ≡ d → a ≡ b

@@ -18,22 +18,6 @@ abbrev count_stmts : StmtList → ℕ
 count_stmts no_stmts = 0
 count_stmts (stmts s ss) = suc (count_stmts ss)
 
-count-ids : (xs : List Id) → length (ids_tree xs) ≡ length xs
-count-ids [] = refl
-count-ids (x ∷ xs) = ap suc (count-ids xs)
-
-heads-ids : (x y : Id) (xs ys : List Id) → ids_tree (x ∷ xs) ≡ ids_tree (y ∷ ys) → (id_tree x) ≡ (id_tree y)
-heads-ids x y xs ys e = cc
-
-tails-ids : (x y : Id) (xs ys : List Id) → ids_tree (x ∷ xs) ≡ ids_tree (y ∷ ys) → (ids_tree xs) ≡ (ids_tree ys)
-tails-ids x y xs ys e = cc
-
-joins-ids : (x y : Id) (xs ys : List Id) → id_tree x ≡ id_tree y → ids_tree xs ≡ ids_tree ys → ids_tree (x ∷ xs) ≡ ids_tree (y ∷ ys)
-joins-ids x y xs ys e r = cc
-
-pub ids-list : IsListView id_tree ids_tree
-ids-list = record { count = length; counts = count-ids; heads = heads-ids; tails = tails-ids; joins = joins-ids }
-
 count-unplaced_ids : (xs : List Id) → length (unplaced_ids (ids_tree xs)) ≡ length xs
 count-unplaced_ids [] = refl
 count-unplaced_ids (x ∷ xs) = ap suc (count-unplaced_ids xs)
@@ -49,22 +33,6 @@ joins-unplaced_ids x y xs ys e r = cc
 
 pub unplaced_ids-list : IsListView (λ (x : Id). unplaced_id (id_tree x)) (λ (xs : List Id). unplaced_ids (ids_tree xs))
 unplaced_ids-list = record { count = length; counts = count-unplaced_ids; heads = heads-unplaced_ids; tails = tails-unplaced_ids; joins = joins-unplaced_ids }
-
-count-vars : (xs : List Var) → length (vars_tree xs) ≡ length xs
-count-vars [] = refl
-count-vars (x ∷ xs) = ap suc (count-vars xs)
-
-heads-vars : (x y : Var) (xs ys : List Var) → vars_tree (x ∷ xs) ≡ vars_tree (y ∷ ys) → (var_tree x) ≡ (var_tree y)
-heads-vars x y xs ys e = cc
-
-tails-vars : (x y : Var) (xs ys : List Var) → vars_tree (x ∷ xs) ≡ vars_tree (y ∷ ys) → (vars_tree xs) ≡ (vars_tree ys)
-tails-vars x y xs ys e = cc
-
-joins-vars : (x y : Var) (xs ys : List Var) → var_tree x ≡ var_tree y → vars_tree xs ≡ vars_tree ys → vars_tree (x ∷ xs) ≡ vars_tree (y ∷ ys)
-joins-vars x y xs ys e r = cc
-
-pub vars-list : IsListView var_tree vars_tree
-vars-list = record { count = length; counts = count-vars; heads = heads-vars; tails = tails-vars; joins = joins-vars }
 
 count-unplaced_vars : (xs : List Var) → length (unplaced_vars (vars_tree xs)) ≡ length xs
 count-unplaced_vars [] = refl
@@ -82,22 +50,6 @@ joins-unplaced_vars x y xs ys e r = cc
 pub unplaced_vars-list : IsListView (λ (x : Var). unplaced_var (var_tree x)) (λ (xs : List Var). unplaced_vars (vars_tree xs))
 unplaced_vars-list = record { count = length; counts = count-unplaced_vars; heads = heads-unplaced_vars; tails = tails-unplaced_vars; joins = joins-unplaced_vars }
 
-count-caps : (xs : List CapItem) → length (caps_tree xs) ≡ length xs
-count-caps [] = refl
-count-caps (x ∷ xs) = ap suc (count-caps xs)
-
-heads-caps : (x y : CapItem) (xs ys : List CapItem) → caps_tree (x ∷ xs) ≡ caps_tree (y ∷ ys) → (cap_tree x) ≡ (cap_tree y)
-heads-caps x y xs ys e = cc
-
-tails-caps : (x y : CapItem) (xs ys : List CapItem) → caps_tree (x ∷ xs) ≡ caps_tree (y ∷ ys) → (caps_tree xs) ≡ (caps_tree ys)
-tails-caps x y xs ys e = cc
-
-joins-caps : (x y : CapItem) (xs ys : List CapItem) → cap_tree x ≡ cap_tree y → caps_tree xs ≡ caps_tree ys → caps_tree (x ∷ xs) ≡ caps_tree (y ∷ ys)
-joins-caps x y xs ys e r = cc
-
-pub caps-list : IsListView cap_tree caps_tree
-caps-list = record { count = length; counts = count-caps; heads = heads-caps; tails = tails-caps; joins = joins-caps }
-
 count-unplaced_caps : (xs : List CapItem) → length (unplaced_caps (caps_tree xs)) ≡ length xs
 count-unplaced_caps [] = refl
 count-unplaced_caps (x ∷ xs) = ap suc (count-unplaced_caps xs)
@@ -113,22 +65,6 @@ joins-unplaced_caps x y xs ys e r = cc
 
 pub unplaced_caps-list : IsListView (λ (x : CapItem). unplaced_cap (cap_tree x)) (λ (xs : List CapItem). unplaced_caps (caps_tree xs))
 unplaced_caps-list = record { count = length; counts = count-unplaced_caps; heads = heads-unplaced_caps; tails = tails-unplaced_caps; joins = joins-unplaced_caps }
-
-count-items : (xs : List Item) → length (items_tree xs) ≡ length xs
-count-items [] = refl
-count-items (x ∷ xs) = ap suc (count-items xs)
-
-heads-items : (x y : Item) (xs ys : List Item) → items_tree (x ∷ xs) ≡ items_tree (y ∷ ys) → (item_tree x) ≡ (item_tree y)
-heads-items x y xs ys e = cc
-
-tails-items : (x y : Item) (xs ys : List Item) → items_tree (x ∷ xs) ≡ items_tree (y ∷ ys) → (items_tree xs) ≡ (items_tree ys)
-tails-items x y xs ys e = cc
-
-joins-items : (x y : Item) (xs ys : List Item) → item_tree x ≡ item_tree y → items_tree xs ≡ items_tree ys → items_tree (x ∷ xs) ≡ items_tree (y ∷ ys)
-joins-items x y xs ys e r = cc
-
-pub items-list : IsListView item_tree items_tree
-items-list = record { count = length; counts = count-items; heads = heads-items; tails = tails-items; joins = joins-items }
 
 count-unplaced_items : (xs : List Item) → length (unplaced (items_tree xs)) ≡ length xs
 count-unplaced_items [] = refl
@@ -146,22 +82,6 @@ joins-unplaced_items x y xs ys e r = cc
 pub unplaced_items-list : IsListView (λ (x : Item). unplaced_item (item_tree x)) (λ (xs : List Item). unplaced (items_tree xs))
 unplaced_items-list = record { count = length; counts = count-unplaced_items; heads = heads-unplaced_items; tails = tails-unplaced_items; joins = joins-unplaced_items }
 
-count-exprs : (xs : List Expr) → count_exprs (exprs_tree xs) ≡ length xs
-count-exprs [] = refl
-count-exprs (x ∷ xs) = ap suc (count-exprs xs)
-
-heads-exprs : (x y : Expr) (xs ys : List Expr) → exprs_tree (x ∷ xs) ≡ exprs_tree (y ∷ ys) → (expr_tree x) ≡ (expr_tree y)
-heads-exprs x y xs ys e = cc
-
-tails-exprs : (x y : Expr) (xs ys : List Expr) → exprs_tree (x ∷ xs) ≡ exprs_tree (y ∷ ys) → (exprs_tree xs) ≡ (exprs_tree ys)
-tails-exprs x y xs ys e = cc
-
-joins-exprs : (x y : Expr) (xs ys : List Expr) → expr_tree x ≡ expr_tree y → exprs_tree xs ≡ exprs_tree ys → exprs_tree (x ∷ xs) ≡ exprs_tree (y ∷ ys)
-joins-exprs x y xs ys e r = cc
-
-pub exprs-list : IsListView expr_tree exprs_tree
-exprs-list = record { count = count_exprs; counts = count-exprs; heads = heads-exprs; tails = tails-exprs; joins = joins-exprs }
-
 count-unplaced_exprs : (xs : List Expr) → count_exprs (unplaced_exprs (exprs_tree xs)) ≡ length xs
 count-unplaced_exprs [] = refl
 count-unplaced_exprs (x ∷ xs) = ap suc (count-unplaced_exprs xs)
@@ -177,22 +97,6 @@ joins-unplaced_exprs x y xs ys e r = cc
 
 pub unplaced_exprs-list : IsListView (λ (x : Expr). unplaced_expr (expr_tree x)) (λ (xs : List Expr). unplaced_exprs (exprs_tree xs))
 unplaced_exprs-list = record { count = count_exprs; counts = count-unplaced_exprs; heads = heads-unplaced_exprs; tails = tails-unplaced_exprs; joins = joins-unplaced_exprs }
-
-count-stmts : (xs : List Stmt) → count_stmts (stmts_tree xs) ≡ length xs
-count-stmts [] = refl
-count-stmts (x ∷ xs) = ap suc (count-stmts xs)
-
-heads-stmts : (x y : Stmt) (xs ys : List Stmt) → stmts_tree (x ∷ xs) ≡ stmts_tree (y ∷ ys) → (stmt_tree x) ≡ (stmt_tree y)
-heads-stmts x y xs ys e = cc
-
-tails-stmts : (x y : Stmt) (xs ys : List Stmt) → stmts_tree (x ∷ xs) ≡ stmts_tree (y ∷ ys) → (stmts_tree xs) ≡ (stmts_tree ys)
-tails-stmts x y xs ys e = cc
-
-joins-stmts : (x y : Stmt) (xs ys : List Stmt) → stmt_tree x ≡ stmt_tree y → stmts_tree xs ≡ stmts_tree ys → stmts_tree (x ∷ xs) ≡ stmts_tree (y ∷ ys)
-joins-stmts x y xs ys e r = cc
-
-pub stmts-list : IsListView stmt_tree stmts_tree
-stmts-list = record { count = count_stmts; counts = count-stmts; heads = heads-stmts; tails = tails-stmts; joins = joins-stmts }
 
 count-unplaced_stmts : (xs : List Stmt) → count_stmts (unplaced_stmts (stmts_tree xs)) ≡ length xs
 count-unplaced_stmts [] = refl

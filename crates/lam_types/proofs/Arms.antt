@@ -3,7 +3,7 @@ use Rattle.std.proofs.Common.{◌≡◌, ℕ, List, Option, Result, Ok, Err, OnO
 use Rattle.lam_syntax.specs.Tree.{ExprTree, StmtForm, StmtList, ElseTree, no_else, else_block, IdTree, while_stmt, sync_stmt, if_stmt, region_stmt, return_stmt, do_stmt, assign_stmt}
 use Rattle.lam_operators.specs.Words.{Word}
 use Rattle.lam_builtins.specs.Types.{ValueType, Given}
-use Rattle.lam_types_breaks.specs.Verdicts.{Fine, then_on}
+use Rattle.lam_types_kinds.specs.Verdicts.{Fine, then_on}
 use Rattle.lam_types_kinds.specs.Breaks.{Verdict}
 use Rattle.lam_types_kinds.specs.Tables.{Decls}
 use Rattle.lam_types_kinds.specs.Values.{Breaks, names}

@@ -4,7 +4,7 @@ use Rattle.lam_syntax.specs.declared.Var.{Var}
 use Rattle.lam_syntax.specs.Tree.{FunctionTree, VarTree, vars_tree}
 use Rattle.lam_operators.specs.Words.{Word}
 use Rattle.lam_builtins.specs.Types.{ValueType}
-use Rattle.lam_types_breaks.specs.Verdicts.{Fine, then_on}
+use Rattle.lam_types_kinds.specs.Verdicts.{Fine, then_on}
 use Rattle.lam_types_kinds.specs.Breaks.{Verdict}
 use Rattle.lam_types_kinds.specs.Tables.{Names, Decls, vars_known}
 use Rattle.lam_types_kinds.specs.Values.{Breaks, names}

@@ -5,7 +5,7 @@ use Rattle.lam_syntax.specs.Tree.{IdTree, ExprTree, stmt_node, StmtForm, let_stm
 use Rattle.lam_operators.specs.Words.{Word}
 use Rattle.lam_builtins.specs.Types.{ValueType, int, bool, label, caps, Given, a_value, a_null, nothing, given_type, Place, exactly, any_object}
 use Rattle.lam_types_kinds.specs.Written.{written}
-use Rattle.lam_types_breaks.specs.Verdicts.{Fine, Stop, then_on}
+use Rattle.lam_types_kinds.specs.Verdicts.{Fine, Stop, then_on}
 use Rattle.lam_types_kinds.specs.Breaks.{Break, too_many, Verdict, mismatch_of}
 use Rattle.lam_types_kinds.specs.Tables.{Names, Decls, find, fresh, twice_if, room, named_if, type_known}
 use Rattle.lam_types_exprs.specs.Exprs.{at_of, placed, given_of}

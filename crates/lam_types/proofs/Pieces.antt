@@ -4,7 +4,7 @@ use Rattle.lam_syntax.specs.declared.Stmt.{Stmt}
 use Rattle.lam_syntax.specs.Tree.{IdTree, ExprTree, stmts_tree}
 use Rattle.lam_operators.specs.Words.{Word}
 use Rattle.lam_builtins.specs.Types.{ValueType, given_type}
-use Rattle.lam_types_breaks.specs.Verdicts.{Fine, Stop, then_on}
+use Rattle.lam_types_kinds.specs.Verdicts.{Fine, Stop, then_on}
 use Rattle.lam_types_kinds.specs.Breaks.{Verdict, mismatch_of}
 use Rattle.lam_types_kinds.specs.Tables.{Names, Decls, find, fresh, twice_if}
 use Rattle.lam_types_kinds.specs.Values.{Breaks, names, keyed, value_type}

@@ -2,7 +2,7 @@
 use Rattle.std.proofs.Common.{◌≡◌, ℕ, ◌+◌, ◌<◌, ◌≤◌, Bool, true, false, cond, not, ◌&&◌, List, [], ◌∷◌, ◌++◌, length, Option, Some, None, is_some, refl, sym, ap, ◌∙◌, arith, append_assoc}
 use Rattle.lam_syntax.specs.Tree.{IdTree, TypeTree, VarTree, ClassTree, FunctionTree, class_item, function_item, ProgramTree, StmtList}
 use Rattle.lam_operators.specs.Words.{Word}
-use Rattle.lam_types_breaks.specs.Verdicts.{Fine, Stop, then_on, first_break}
+use Rattle.lam_types_kinds.specs.Verdicts.{Fine, Stop, then_on, first_break}
 use Rattle.lam_types_kinds.specs.Breaks.{no_return, Verdict}
 use Rattle.lam_builtins.specs.Builtins.{Signature, builtin_named}
 use Rattle.lam_types_kinds.specs.Tables.{Names, Decls, typed_name, typed_names, fresh, room, twice_if, new_name, with_class, class_table, function_name, with_function, function_table, tables_of, with_var, vars_known, type_known, with_fields, fields_of, signature_of, declared, declared_classes, declared_functions}
@@ -64,9 +64,6 @@ in_order : (es : Names) (vs : List VarTree) → Differ es (typed_names vs) → w
 in_order es [] n = sym (no_more es)
 in_order es (v ∷ vs) (n, m) =
     ap (λ (l : Names). with_fields l vs) (field_new es v (ap is_some n)) ∙ in_order (es ++ typed_name v ∷ []) vs m ∙ append_assoc es (typed_name v ∷ []) (typed_names vs)
-
-pub fields_in_order : (d : Decls) (c : ClassTree) → AreVars d 256 c.fields → fields_of c ≡ typed_names c.fields
-fields_in_order d c (n, l, h) = in_order [] c.fields n
 
 -- classes
 

@@ -2,7 +2,7 @@
 use Rattle.std.proofs.Common.{◌≡◌, ℕ, List, Option, Some, None, is_none, IsTrue, Err, refl, sym, ap, subst}
 use Rattle.lam_syntax.specs.declared.Item.{Item}
 use Rattle.lam_syntax.specs.Tree.{ProgramTree, items_tree}
-use Rattle.lam_types_breaks.specs.Verdicts.{Fine, Stop, first_break}
+use Rattle.lam_types_kinds.specs.Verdicts.{Fine, Stop, first_break}
 use Rattle.lam_types_kinds.specs.Breaks.{Break, Verdict}
 use Rattle.lam_types_kinds.specs.Values.{Breaks}
 use Rattle.lam_types_kinds.specs.declared.fault.TypeFault.{TypeFault}

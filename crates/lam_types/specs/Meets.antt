@@ -1,6 +1,6 @@
 -- How the code meets the definitions.
 use Rattle.std.specs.Prelude.{◌≡◌, ℕ, Result, Ok, Err}
-use Rattle.lam_types_breaks.specs.Verdicts.{Fine}
+use Rattle.lam_types_kinds.specs.Verdicts.{Fine}
 use Rattle.lam_types_kinds.specs.Breaks.{Verdict}
 use Rattle.lam_types_kinds.specs.Tables.{Names}
 use Rattle.lam_types_kinds.specs.Values.{Breaks}

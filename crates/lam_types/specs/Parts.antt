@@ -1,6 +1,6 @@
 -- Parts of statements for which the checker has a function of its own. The rules of the language do not speak of them.
 use Rattle.std.specs.Prelude.{ℕ, List, Option}
-use Rattle.lam_types_breaks.specs.Verdicts.{then_on}
+use Rattle.lam_types_kinds.specs.Verdicts.{then_on}
 use Rattle.lam_syntax.specs.Tree.{IdTree, ExprTree, StmtList}
 use Rattle.lam_builtins.specs.Types.{ValueType, int, bool, exactly, any_object}
 use Rattle.lam_types_kinds.specs.Breaks.{Verdict}

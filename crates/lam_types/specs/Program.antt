@@ -9,7 +9,7 @@ use Rattle.lam_syntax.specs.Tree.{TypeTree, ClassTree, FunctionTree, ItemTree, c
 use Rattle.lam_builtins.specs.Limits.{most_fields, most_params}
 use Rattle.lam_builtins.specs.Types.{ValueType}
 use Rattle.lam_types_kinds.specs.Written.{written}
-use Rattle.lam_types_breaks.specs.Verdicts.{Fine, Stop, then_on, first_break}
+use Rattle.lam_types_kinds.specs.Verdicts.{Fine, Stop, then_on, first_break}
 use Rattle.lam_types_kinds.specs.Breaks.{Break, no_return, Verdict}
 use Rattle.lam_types_kinds.specs.Tables.{Decls, type_known, vars_known, tables_of}
 use Rattle.lam_types.specs.declared.stmts.Counts.{Counts}

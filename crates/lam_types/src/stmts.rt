@@ -3,7 +3,7 @@
 ghost use Rattle.std.specs.Prelude.{◌≡◌, OnOk, IfErr, None};
 ghost use Rattle.lam_syntax.specs.Tree.{expr_tree, id_tree, ids_tree, option_expr_tree, stmt_tree, stmts_tree, var_tree};
 ghost use Rattle.lam_builtins.specs.Types.{exactly, int};
-ghost use Rattle.lam_types_breaks.specs.Verdicts.{Fine, then_on};
+ghost use Rattle.lam_types_kinds.specs.Verdicts.{Fine, then_on};
 ghost use Rattle.lam_types_kinds.specs.Tables.{find};
 ghost use Rattle.lam_types_kinds.specs.Values.{decls, names, value_type, option_type, given, place, Passes, Extends};
 ghost use Rattle.lam_types_exprs.specs.Exprs.{at_of, given_of};

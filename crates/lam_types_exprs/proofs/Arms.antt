@@ -7,7 +7,7 @@ use Rattle.lam_operators.specs.declared.UnaryOp.{UnaryOp}
 use Rattle.lam_syntax.specs.Tree.{IdTree, TypeTree, ExprTree, ExprForm, ExprList, expr_tree, binary_expr, unary_expr, field_expr, element_expr, new_array_expr, label_expr, spawn_expr}
 use Rattle.lam_builtins.specs.Types.{ValueType, Given, a_value, Place, exactly, any_class, any_array, int, label, caps, array}
 use Rattle.lam_types_kinds.specs.Written.{written}
-use Rattle.lam_types_breaks.specs.Verdicts.{Fine, then_on}
+use Rattle.lam_types_kinds.specs.Verdicts.{Fine, then_on}
 use Rattle.lam_types_kinds.specs.Breaks.{Verdict}
 use Rattle.lam_builtins.specs.Builtins.{Signature}
 use Rattle.lam_types_kinds.specs.Tables.{Names, Decls, find, type_known}

@@ -6,7 +6,7 @@ use Rattle.lam_syntax.specs.Tree.{CapTree, TypeTree, type_node, TypeForm, int_ty
 use Rattle.lam_operators.specs.Words.{Word}
 use Rattle.lam_builtins.specs.Types.{ValueType, int, bool, bytes, tag, label, caps, file, dir, pipe, thread, object, array, Given, a_value, a_null, nothing, given_type, Place, exactly, any_class, any_array, suits, wanted_type, comparable, same_type}
 use Rattle.lam_types_kinds.specs.Written.{written}
-use Rattle.lam_types_breaks.specs.Verdicts.{Fine, Stop, then_on}
+use Rattle.lam_types_kinds.specs.Verdicts.{Fine, Stop, then_on}
 use Rattle.lam_types_kinds.specs.Breaks.{Break, no_name, arity, Verdict, fit, unequal, mismatch_of}
 use Rattle.lam_builtins.specs.Builtins.{Answer, answers, no_answer, as_first, Signature, answered}
 use Rattle.lam_types_kinds.specs.Tables.{Names, Decls, find, signature_named, type_known, form_known, named_if}

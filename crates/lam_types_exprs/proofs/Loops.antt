@@ -5,8 +5,8 @@ use Rattle.std.proofs.Math.Seq.{drop-cons}
 use Rattle.lam_syntax.specs.declared.Expr.{Expr}
 use Rattle.lam_syntax.specs.declared.CapItem.{CapItem}
 use Rattle.lam_syntax.specs.Tree.{ExprTree, ExprList, no_exprs, exprs, exprs_tree, expr_tree, caps_tree, cap_tree}
-use Rattle.lam_builtins.specs.Types.{Given, nothing, Place, exactly, tag}
-use Rattle.lam_types_breaks.specs.Verdicts.{Fine, Stop, then_on}
+use Rattle.lam_builtins.specs.Types.{Given, Place, exactly, tag}
+use Rattle.lam_types_kinds.specs.Verdicts.{Fine, Stop, then_on}
 use Rattle.lam_types_kinds.specs.Breaks.{Verdict}
 use Rattle.lam_builtins.specs.Builtins.{Answer, answered}
 use Rattle.lam_types_kinds.specs.Tables.{Names, Decls}
@@ -22,12 +22,6 @@ abbrev pub after : Decls → Names → ℕ → Given → List Place → ExprList
 after d env zero f (p ∷ ps) (exprs e rest) = args_given d env (p ∷ ps) (exprs e rest)
 after d env zero f _ _ = Fine f
 after d env (suc i) f ps es = then_on (rest_given d env ps es) (λ _. Fine f)
-
-pub after_none : (d : Decls) (env : Names) (ps : List Place) (es : ExprList) → args_given d env ps es ≡ after d env 0 nothing ps es
-after_none d env [] no_exprs = refl
-after_none d env [] (exprs e rest) = refl
-after_none d env (p ∷ ps) no_exprs = refl
-after_none d env (p ∷ ps) (exprs e rest) = refl
 
 pub after_all : (d : Decls) (env : Names) (i : ℕ) (f : Given) → after d env i f [] no_exprs ≡ Fine f
 after_all d env zero f = refl

@@ -5,7 +5,7 @@ use Rattle.lam_operators.specs.Words.{Word}
 use Rattle.lam_builtins.specs.Types.{ValueType, int, bool, bytes, tag, label, caps, thread, object, array, Given, a_value, a_null, nothing, Place, exactly, any_class, any_array, comparable}
 use Rattle.lam_types_kinds.specs.Written.{written}
 use Rattle.lam_builtins.specs.Operators.{operand, operator_type, unary_type}
-use Rattle.lam_types_breaks.specs.Verdicts.{Fine, Stop, then_on}
+use Rattle.lam_types_kinds.specs.Verdicts.{Fine, Stop, then_on}
 use Rattle.lam_types_kinds.specs.Breaks.{no_name, arity, no_field, Verdict, fit, unequal}
 use Rattle.lam_builtins.specs.Builtins.{Signature, answered}
 use Rattle.lam_types_kinds.specs.Tables.{Names, Decls, find, signature_named, type_known, named_if}

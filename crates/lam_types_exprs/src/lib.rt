@@ -13,7 +13,7 @@ ghost use Rattle.lam_syntax.specs.Tree.{expr_tree, exprs_tree, id_tree, cap_tree
 ghost use Rattle.lam_builtins.specs.Types.{Given, a_value, int, caps, object, array, exactly, any_class};
 ghost use Rattle.lam_types_kinds.specs.Written.{written};
 ghost use Rattle.lam_types_kinds.specs.Tables.{find, named_if, type_known};
-ghost use Rattle.lam_types_breaks.specs.Verdicts.{Fine, then_on};
+ghost use Rattle.lam_types_kinds.specs.Verdicts.{Fine, then_on};
 ghost use Rattle.lam_types_kinds.specs.Values.{decls, names, value_type, option_type, given, place, places, answer, option_signature, Gives, Passes};
 ghost use Rattle.lam_types_exprs.specs.Exprs.{at_of, placed, operate, field_type, found_field, element_of, known as known_name, count, counted, called, spawnable, started, cap_tag, cap_tags, given_of, form_given, args_given, tags_given};
 ghost use Rattle.lam_builtins.specs.Operators.{operand, operator_type as type_of_operator, unary_type};

@@ -3,7 +3,7 @@ use Rattle.std.proofs.Common.{◌≡◌, ℕ, Bool, true, false, List, [], ◌�
 use Rattle.lam_builtins.specs.Limits.{most_functions}
 use Rattle.lam_syntax.specs.Tree.{IdTree}
 use Rattle.lam_operators.specs.Words.{Word}
-use Rattle.lam_types_breaks.specs.Verdicts.{Fine, then_on}
+use Rattle.lam_types_kinds.specs.Verdicts.{Fine, then_on}
 use Rattle.lam_types_kinds.specs.Breaks.{Verdict}
 use Rattle.lam_builtins.specs.Builtins.{builtin_named}
 use Rattle.lam_types_kinds.specs.Tables.{new_name, function_name, twice_if}

@@ -1,6 +1,6 @@
 -- Breaks go through checks that follow one another.
 use Rattle.std.proofs.Common.{◌≡◌, sym, subst}
-use Rattle.lam_types_breaks.specs.Verdicts.{Fine, Stop, then_on}
+use Rattle.lam_types_kinds.specs.Verdicts.{Fine, Stop, then_on}
 use Rattle.lam_types_kinds.specs.Breaks.{Verdict}
 use Rattle.lam_types_kinds.specs.Values.{Breaks, IsFault}
 use Rattle.lam_types_kinds.specs.declared.fault.TypeFault.{TypeFault}

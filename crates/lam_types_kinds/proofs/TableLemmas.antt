@@ -11,7 +11,7 @@ use Rattle.lam_operators.specs.Words.{Word}
 use Rattle.lam_builtins.specs.Types.{ValueType}
 use Rattle.lam_types_kinds.specs.Written.{written}
 use Rattle.lam_types_kinds.specs.Meets.{or_else}
-use Rattle.lam_types_breaks.specs.Verdicts.{Fine, then_on}
+use Rattle.lam_types_kinds.specs.Verdicts.{Fine, then_on}
 use Rattle.lam_types_kinds.specs.Breaks.{Verdict}
 use Rattle.lam_types_kinds.specs.Tables.{Names, Decls, typed_name, typed_names, with_field, with_fields, find, fresh, new_name, room, twice_if, with_var, vars_known}
 use Rattle.lam_types_kinds.specs.Values.{keyed, Breaks}

@@ -1,7 +1,7 @@
 -- Breaks of the typing rules.
 use Rattle.std.specs.Prelude.{ℕ, if◌then◌else◌, Option, Some, None}
-use Rattle.lam_types_breaks.specs.Verdicts as verdicts
-use Rattle.lam_types_breaks.specs.Verdicts.{Fine, Stop}
+use Rattle.lam_types_kinds.specs.Verdicts as verdicts
+use Rattle.lam_types_kinds.specs.Verdicts.{Fine, Stop}
 use Rattle.lam_syntax.specs.Tree.{TypeTree}
 use Rattle.lam_builtins.specs.Types.{ValueType, Given, a_value, a_null, nothing, given_type, Place, suits, wanted_type}
 use Rattle.lam_types_kinds.specs.Written.{plain}

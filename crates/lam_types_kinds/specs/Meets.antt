@@ -1,7 +1,7 @@
 -- How the code meets the definitions.
 use Rattle.std.specs.Prelude.{List, Option, Some, None, Result}
 use Rattle.lam_operators.specs.Words.{Word}
-use Rattle.lam_types_breaks.specs.Meets.{LeavesBy, MakesBy, IsFirstBy, HasNoBreakBy}
+use Rattle.lam_types_kinds.specs.MeetsVerdicts.{LeavesBy, MakesBy, IsFirstBy, HasNoBreakBy}
 use Rattle.lam_types_kinds.specs.Breaks.{Break, Verdict}
 use Rattle.lam_builtins.specs.Builtins.{Signature}
 use Rattle.lam_types_kinds.specs.Tables.{Names}

@@ -9,7 +9,7 @@ use Rattle.lam_syntax.specs.Tree.{type_tree, option_type_tree}
 use Rattle.lam_operators.specs.Words.{Word}
 use Rattle.lam_builtins.specs.Types.{ValueType, int, bool, bytes, tag, label, caps, file, dir, pipe, thread, object, array, Given, a_value, a_null, nothing, Place, exactly, any_class, any_array, any_object, any_labelled}
 use Rattle.lam_types_kinds.specs.Written.{written}
-use Rattle.lam_types_breaks.specs.Meets.{BreaksBy, PassesBy, MakesBy}
+use Rattle.lam_types_kinds.specs.MeetsVerdicts.{BreaksBy, PassesBy, MakesBy}
 use Rattle.lam_types_kinds.specs.Breaks.{Break, no_name, twice, arity, no_field, no_return, too_many, mismatch, Verdict}
 use Rattle.lam_builtins.specs.Builtins.{Answer, answers, no_answer, as_first, Signature}
 use Rattle.lam_types_kinds.specs.Tables.{Names, Decls}

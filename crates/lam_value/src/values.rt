@@ -130,8 +130,7 @@ impl Values {
         }
     }
 
-    /// No values, with room for so many. The room is no part of the list, so no clause speaks of it: see
-    /// [`Values::into_vec`].
+    /// No values, with room for so many. The room is no part of the list, so no clause speaks of it.
     ///
     /// # Errors
     ///
@@ -148,17 +147,6 @@ impl Values {
         ensures { result ≡ items.items }
     {
         Values { items }
-    }
-
-    /// The values as a vector, which are not copied.
-    ///
-    /// A vector's clauses speak of its room. Whoever has to know that a push finds room makes it there, pushes, and
-    /// gives the vector back to [`Values::from_vec`].
-    pub fn into_vec(self) -> Vec<Value>
-        ensures { result.items ≡ self }
-    {
-        let Values { items } = self;
-        items
     }
 
     /// The values.

@@ -1,1 +1,4 @@
 mod PairedLemmas
+mod WalkLemmas
+mod StoreLemmas
+mod WorldLemmas

@@ -4,30 +4,39 @@
 //! their agendas are equal. Up to there the runs look the same to the observer, whatever else differs (`pair_check_terms`,
 //! `specs/Laws`): no visible event of theirs has to be compared.
 //!
-//! Whoever has no [`Run`], but starts and lists of turns, takes [`agenda_of`] once for each, which says too whether the
-//! turns are a run, and then [`answer_of_starts`].
+//! [`agenda_for`] is what an observer notes of a run, entry by entry. `worlds` finds the first part in which two starts differ,
+//! `stores` and `threads` compare their parts. A caller that has no [`Run`], but starts and lists of turns, takes [`agenda_of`]
+//! once for each, which says too whether the turns are a run, and then [`answer_of_starts`].
 #![tactic(auto)]
+
+mod stores;
+mod threads;
+mod worlds;
 
 ghost use Rattle.std.specs.Prelude.{◌≡◌, None, IfOk};
 ghost use Rattle.lam_machine_terms.specs.Turns.{moments};
-ghost use Rattle.described_runs.specs.Worlds.{IsSound};
+ghost use Rattle.guarded_code_runs.specs.Worlds.{IsSound};
 ghost use Rattle.lam_machine_terms.specs.Views.{Agree, agenda};
 ghost use Rattle.lam_machine_runs.specs.Stops.{stopped_at};
 ghost use Rattle.pair_check_terms.specs.Pairs.{IsPairedBy, IsPaired};
+ghost use Rattle.pair_check_terms.specs.Laws.{LookSameBy};
+ghost use Rattle.pair_check_agenda.specs.Agendas.{items_in};
 
 use flow_labels::Label;
 use guarded_code::Verified;
 use lam_machine_replay::{RunFault, World, runs_are_whole};
 use pair_check_agenda::answer_of;
-pub use pair_check_agenda::{Agenda, agenda_of};
+pub use pair_check_agenda::{Agenda, Entry, Release, agenda_of};
+use pair_check_terms::pairs_look_same;
 pub use pair_check_terms::{PairAnswer, Part};
-use pair_check_worlds::first_part;
 use std::alloc::Global;
 use thread_host_run::Run;
 use want_of_memory::NoMemory;
+pub use worlds::first_part;
 
 /// Whether an observer may expect to see the same of two runs of a code, and how far: the first part in which their
-/// starts differ; or, where they agree, the first place at which their agendas differ; or how far both agendas go.
+/// starts differ; or, where they agree, the first place at which their agendas differ; or how far both agendas go. Up to the
+/// number of the answer both runs look the same to the observer.
 ///
 /// It takes a step for each turn of both runs, but none where the starts differ.
 ///
@@ -36,6 +45,17 @@ use want_of_memory::NoMemory;
 /// `NoMemory` where memory is refused.
 pub fn pair(alloc: Global, a: &Run, b: &Run, observer: &Label) -> Result<PairAnswer, NoMemory>
     requires { a.now.code ≡ b.now.code }
+    ensures paired { IfOk result (λ answer. IsPaired observer.now a.now.start (moments a.now.code a.now.turns a.now.start) b.now.start (moments b.now.code b.now.turns b.now.start) answer) }
+    ensures same { IfOk result (λ answer. LookSameBy answer observer.now a.now.start (moments a.now.code a.now.turns a.now.start) b.now.start (moments b.now.code b.now.turns b.now.start)) }
+{
+    pairs_look_same();
+    let _turns = a.turns();
+    let _others = b.turns();
+    answer_of_pair(alloc, a, b, observer)
+}
+
+/// What is to be said of two runs.
+fn answer_of_pair(alloc: Global, a: &Run, b: &Run, observer: &Label) -> Result<PairAnswer, NoMemory>
     ensures { IfOk result (λ answer. IsPaired observer.now a.now.start (moments a.now.code a.now.turns a.now.start) b.now.start (moments b.now.code b.now.turns b.now.start) answer) }
 {
     match first_part(a.start(), b.start(), observer) {
@@ -54,7 +74,19 @@ fn answer_of_runs(alloc: Global, a: &Run, b: &Run, observer: &Label) -> Result<P
     Ok(answer_of(&first, &second))
 }
 
-/// What an observer notes of a run.
+/// What an observer notes of a run, entry by entry.
+///
+/// # Errors
+///
+/// `NoMemory` where memory is refused.
+pub fn agenda_for(alloc: Global, run: &Run, observer: &Label) -> Result<Vec<Entry>, NoMemory>
+    ensures { IfOk result (λ noted. items_in noted.items ≡ agenda observer.now (moments run.now.code run.now.turns run.now.start)) }
+{
+    let noted = agenda_of_run(alloc, run, observer)?;
+    Ok(noted.into_entries())
+}
+
+/// What an observer notes of a run, as the comparison takes it.
 fn agenda_of_run(alloc: Global, run: &Run, observer: &Label) -> Result<Agenda, NoMemory>
     ensures { IfOk result (λ noted. noted ≡ agenda observer.now (moments run.now.code run.now.turns run.now.start)) }
 {

@@ -17,7 +17,7 @@ use Rattle.lam_bytecode.specs.Codes.{CodeTree}
 use Rattle.thread_steps.specs.Threads.{Context, Thread}
 use Rattle.thread_steps.specs.Next.{Next, goes, asks, stuck, next_of}
 use Rattle.lam_machine_terms.specs.Worlds.{World}
-use Rattle.lam_machine_terms.specs.Deeds.{Made, a_region, a_thing, Deed}
+use Rattle.lam_machine_terms.specs.Serves.{Made, a_region, a_thing, Served}
 use Rattle.lam_machine_terms.specs.Serving.{renamed, serve}
 use Rattle.lam_machine_terms.specs.Turns.{is_ready, Moment, step, served, turn_by}
 use Rattle.lam_machine_laws.proofs.ThreadLemmas.{some_inj}
@@ -68,7 +68,7 @@ other_label (Val v) (CopyTo r l) e = absurd (true≢false e)
 other_label x a e = refl
 
 module _ (w : World) (c : Context) where
-  abbrev Names : Ask → Deed → Type 0
+  abbrev Names : Ask → Served → Type 0
   Names a d = IsNamedBy (label_by d.answer a) d.made
 
   entry_named : (l : Label) (k : Caps) (region : ℕ) (args : List Value) → Names (Enter l k region args) (serve w c (Enter l k region args))

@@ -10,7 +10,7 @@ use Rattle.flow_labels.specs.Flow.{seen}
 use Rattle.capabilities.specs.declared.Caps.{Caps}
 use Rattle.capabilities.specs.Changes.{used}
 use Rattle.lam_bytecode.specs.Codes.{CodeTree}
-use Rattle.lam_machine_terms.specs.Deeds.{Made}
+use Rattle.lam_machine_terms.specs.Serves.{Made}
 use Rattle.lam_machine_terms.specs.Turns.{Moment}
 use Rattle.lam_machine_terms.specs.Views.{Item, turn, past, is_release, shows, release_of, used_by, is_noted, noted, item_of, agenda}
 use Rattle.lam_machine_laws.proofs.DownLemmas.{two_release}

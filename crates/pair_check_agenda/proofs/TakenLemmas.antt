@@ -9,7 +9,7 @@ use Rattle.lam_bytecode.specs.Codes.{CodeTree}
 use Rattle.lam_machine_terms.specs.Worlds.{World}
 use Rattle.lam_machine_terms.specs.Turns.{Moment}
 use Rattle.lam_machine_terms.specs.Views.{Item, turn}
-use Rattle.lam_machine_turns.specs.Turned.{IsTurn}
+use Rattle.lam_machine_laws.specs.Turned.{IsTurn}
 use Rattle.lam_machine.specs.Asking.{label_at}
 use Rattle.lam_machine.specs.Privately.{IsPrivateStep, private_event}
 use Rattle.lam_machine_replay.specs.Keeping.{TakesTurn}

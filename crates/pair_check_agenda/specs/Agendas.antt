@@ -5,7 +5,7 @@ use Rattle.flow_labels.specs.Flow.{public_label}
 use Rattle.lam_value.specs.declared.names.Name.{Name}
 use Rattle.lam_value.specs.declared.values.Value.{Value}
 use Rattle.lam_value.specs.declared.values.Value.TheVariants.{Obj, Arr}
-use Rattle.lam_machine_terms.specs.Deeds.{Made, a_region, a_thing}
+use Rattle.lam_machine_terms.specs.Serves.{Made, a_region, a_thing}
 use Rattle.lam_machine_terms.specs.Turns.{Moment}
 use Rattle.lam_machine_terms.specs.Views.{Item, turn, past, agenda}
 use Rattle.lam_machine_terms.specs.Views as views

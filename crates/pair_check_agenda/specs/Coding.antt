@@ -10,7 +10,7 @@ use Rattle.lam_value.specs.contracts.values.Value as value
 use Rattle.lam_value.specs.Names.{coded_name}
 use Rattle.lam_value.specs.NameParts.{coded_label}
 use Rattle.thread_core_state.specs.Coding.{coded_caps, coded_values}
-use Rattle.lam_machine_terms.specs.Deeds.{Made, a_region, a_thing, a_file, a_dir, a_pipe, a_thread}
+use Rattle.lam_machine_terms.specs.Serves.{Made, a_region, a_thing, a_file, a_dir, a_pipe, a_thread}
 use Rattle.lam_machine_terms.specs.Views.{Release, Item, turn, past}
 
 abbrev pub Region : Type 0

@@ -2,11 +2,12 @@
 
 ghost use Rattle.std.specs.Prelude.{◌≡◌, None, IfOk, OnOk, IfErr};
 ghost use Rattle.lam_machine_terms.specs.Turns.{moments};
-ghost use Rattle.described_runs.specs.Worlds.{IsSound};
+ghost use Rattle.guarded_code_runs.specs.Worlds.{IsSound};
 ghost use Rattle.lam_machine_terms.specs.Views.{agenda};
 ghost use Rattle.lam_machine_runs.specs.Stops.{stopped_at};
 ghost use Rattle.lam_machine_replay.specs.Stops.{IsStop};
 ghost use Rattle.pair_check_terms.specs.Pairs.{IsMet};
+ghost use Rattle.pair_check_agenda.specs.Agendas.{items_in};
 
 use crate::entry::Entry;
 use crate::meeting::meeting;
@@ -37,6 +38,23 @@ impl Model for Agenda {
     ghost use Rattle.pair_check_agenda.specs.Agendas.{items_in};
 
     ghost view = { λ a. items_in a.entries.items };
+}
+
+impl Agenda {
+    /// What is noted, entry by entry.
+    pub fn entries(&self) -> &[Entry]
+        ensures { items_in result.now ≡ self.now }
+    {
+        self.entries.as_slice()
+    }
+
+    /// The same as a list of its own.
+    pub fn into_entries(self) -> Vec<Entry>
+        ensures { items_in result.items ≡ self }
+    {
+        let Agenda { entries } = self;
+        entries
+    }
 }
 
 /// What an observer notes of the turns of a start: those of the threads whose labels flow to its own, private ones too,

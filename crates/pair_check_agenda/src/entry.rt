@@ -11,7 +11,7 @@ use capabilities::Caps;
 
 /// What an observer notes of one turn.
 #[derive(Drop)]
-pub(crate) enum Entry {
+pub enum Entry {
     /// A thread that it sees took the turn.
     Turn { thread: u32 },
     /// A thread that it does not see released something past it.
@@ -20,10 +20,10 @@ pub(crate) enum Entry {
 
 /// A release: who made it, what was made, and the capabilities that it took.
 #[derive(Drop)]
-pub(crate) struct Release {
-    pub(crate) thread: u32,
-    pub(crate) content: Content,
-    pub(crate) by: Caps,
+pub struct Release {
+    pub thread: u32,
+    pub content: Content,
+    pub by: Caps,
 }
 
 /// Whether a turn was seen.

@@ -9,7 +9,7 @@
 //! words for each of its entries, and the contents of its releases.
 //!
 //! - `contents` says whether two contents of releases are equal.
-//! - `entry` has what is kept of one turn, and `agenda` the list.
+//! - `entry` has what is kept of one turn, and `agenda` the list: [`Agenda::entries`] reads it.
 //! - `noting` makes an entry of a turn's event and the world after it, `taking` takes the turns one by one.
 //! - `meeting` compares two agendas.
 //!
@@ -24,5 +24,6 @@ mod noting;
 mod taking;
 
 pub use agenda::{Agenda, agenda_of, answer_of};
+pub use entry::{Entry, Release};
 pub use lam_machine_replay::{RunFault, World};
 pub use pair_check_terms::PairAnswer;

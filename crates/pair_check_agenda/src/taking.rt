@@ -3,7 +3,7 @@
 ghost use Rattle.std.specs.Prelude.{◌≡◌, ℕ, [], None, IfOk, OnOk, IfErr};
 ghost use Rattle.flow_labels.specs.Flow.{seen};
 ghost use Rattle.lam_machine_terms.specs.Turns.{moments};
-ghost use Rattle.described_runs.specs.Worlds.{IsSound};
+ghost use Rattle.guarded_code_runs.specs.Worlds.{IsSound};
 ghost use Rattle.lam_machine_terms.specs.Views.{agenda};
 ghost use Rattle.lam_machine.specs.Asking.{label_at};
 ghost use Rattle.lam_machine_runs.specs.Stops.{stopped_at};

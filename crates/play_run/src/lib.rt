@@ -18,7 +18,7 @@ mod lines;
 mod steps;
 
 ghost use Rattle.std.specs.Prelude.{◌≡◌, ◌≤◌, length, IfOk, string_bytes};
-ghost use Rattle.play_script.specs.Script.{play_of};
+ghost use Rattle.play_script.specs.Script.{play_of, most_lines};
 ghost use Rattle.play_run.specs.Lines.{play_lines};
 ghost use Rattle.play_run.specs.Isolation.{IsolatedScripts};
 ghost use Rattle.play_run.specs.Laws.{NotesAreExact, ReleasesAreAllowed};
@@ -40,7 +40,7 @@ use steps::{cells_of, take_step};
 ///
 /// `NoMemory` where memory is refused, and no other.
 pub fn play_text(alloc: Global, script: &Script, observer: &Label) -> Result<String, NoMemory>
-    requires { length script.now.cells.items ≤ 65536 }
+    requires { length script.now.cells.items ≤ most_lines }
     ensures { IfOk result (λ text. string_bytes text ≡ play_lines (play_of script.now) observer.now) }
 {
     let public = public_of(alloc, script.kinds.as_slice())?;

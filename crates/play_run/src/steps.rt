@@ -6,7 +6,7 @@ ghost use Rattle.flow_labels.specs.Failing.{first_failing};
 ghost use Rattle.capabilities.specs.Changes.{no_caps};
 ghost use Rattle.labelled_heap.specs.CellAt.{with_value};
 ghost use Rattle.play_script.specs.declared.Step.TheVariants.{Read, Write, Copy};
-ghost use Rattle.play_script.specs.Script.{play_of};
+ghost use Rattle.play_script.specs.Script.{play_of, most_lines};
 ghost use Rattle.play_run.specs.Steps.{with_public, held, copy_test, went, put, cells_after, taken, moment_of};
 ghost use Rattle.play_run.specs.Seen.{noted};
 ghost use Rattle.play_run.specs.Shown.{cells_from, entry_text, text_of};
@@ -29,7 +29,7 @@ pub enum Outcome {
 
 /// The cells of a script, as they are declared.
 pub fn cells_of(alloc: Global, declared: &[play_script::Cell]) -> Result<Cells, NoMemory>
-    requires { length declared.now ≤ 65536 }
+    requires { length declared.now ≤ most_lines }
     ensures { IfOk result (λ cells. cells ≡ held declared.now) }
 {
     let mut cells = Cells::new(alloc);

@@ -13,7 +13,7 @@ use Rattle.capabilities.specs.declared.kinds.TagKind.TheVariants.{Read as read_k
 use Rattle.play_script.specs.Pieces.{Word, parted, ended, lacks, each_lacks}
 use Rattle.decimal_text.specs.Decimal.{int_of}
 use Rattle.play_script.specs.declared.Step.TheVariants.{Read, Write, Copy}
-use Rattle.play_script.specs.Script.{Play, nothing, may_declare, with_tag, with_actor, with_cell, with_step, is_ascii, after_line, read_script}
+use Rattle.play_script.specs.Script.{Play, nothing, may_declare, with_tag, with_actor, with_cell, with_step, is_ascii, after_line, read_script, most_lines}
 
 -- no word that begins a declaration
 abbrev pub begins_step : Word → Bool
@@ -48,7 +48,7 @@ pub record Spells (text : Word) (p : Play) : Type 0 where
   pub lines : List Word
   pub text_is : text ≡ ended lines
   pub no_feeds : each_lacks 10 lines ≡ true
-  pub few : length lines ≤ 65536
+  pub few : length lines ≤ most_lines
   pub go : Goes nothing lines p
 
 -- what begins at the line of this number, after the play p, breaks a script there
@@ -64,7 +64,7 @@ pub record FirstBroken (text : Word) (n : ℕ) : Type 0 where
   pub play : Play
   pub text_is : text ≡ ended lines ++ rest
   pub no_feeds : each_lacks 10 lines ≡ true
-  pub few : length lines ≤ 65536
+  pub few : length lines ≤ most_lines
   pub number : n ≡ length lines + 1
   pub go : Goes nothing lines play
   pub breaks : Breaks play n rest

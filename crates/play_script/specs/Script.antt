@@ -22,6 +22,10 @@ use Rattle.play_script.specs.declared.ScriptFault.TheVariants.{Line, NoMemory}
 use Rattle.play_script.specs.declared.faults.LineFault.{LineFault}
 use Rattle.play_script.specs.declared.faults.LineFault.TheVariants.{Broken, NoMemory as no_room}
 
+-- the most lines of a script
+abbrev pub most_lines : ℕ
+most_lines = 65536
+
 -- what a script says: its tags with their kinds, its actors and its cells with their names, and its steps;
 -- a tag's number, and the numbers by which a step names its actor and cells, are places in these lists
 pub record Play : Type 0 where
@@ -156,7 +160,7 @@ or_line None number f = Err number
 or_line (Some p) number f = f p
 
 abbrev pub at_line : Play → Word → ℕ → Option Play
-at_line p line number = when (nat_le number 65536) (after_line p line)
+at_line p line number = when (nat_le number most_lines) (after_line p line)
 
 -- what stands after the last line feed is no line
 abbrev pub at_end : Play → Word → ℕ → Result Play ℕ

@@ -5,7 +5,7 @@ use Rattle.flow_labels.specs.Names.{AreNames}
 use Rattle.play_script.specs.Pieces.{Word}
 use Rattle.play_script.specs.declared.Step.{Step}
 use Rattle.play_script.specs.declared.Step.TheVariants.{Read, Write, Copy}
-use Rattle.play_script.specs.Script.{Play, is_reserved}
+use Rattle.play_script.specs.Script.{Play, is_reserved, most_lines}
 
 -- the one name space of tags, actors and cells
 abbrev pub all_names : Play → List Word
@@ -28,4 +28,4 @@ pub record IsWhole (p : Play) : Type 0 where
   pub names : AreNames (all_names p)
   pub unreserved : list_all (λ n. not (is_reserved n)) (all_names p) ≡ true
   pub steps : All (IsDeclared p) p.steps
-  pub few : size p ≤ 65536
+  pub few : size p ≤ most_lines

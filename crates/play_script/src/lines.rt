@@ -14,6 +14,9 @@ use flow_labels::TagNames;
 use std::alloc::Global;
 use std::str;
 
+/// The most lines of a script.
+const LINE_LIMIT: u64 = 65_536;
+
 /// The script that a text spells, or its least broken line. In a script that was read each name
 /// was declared once, each step's actor and cells are declared, and at most 65,536 lines stand.
 pub fn read_script(alloc: Global, text: &[u8]) -> Result<Script, ScriptFault>
@@ -32,7 +35,7 @@ pub fn read_script(alloc: Global, text: &[u8]) -> Result<Script, ScriptFault>
     let mut rest = text;
     let mut number = 1u64;
     while let Some((line, after)) = cut_line(rest) {
-        if number > 65_536 {
+        if number > LINE_LIMIT {
             return Err(ScriptFault::Line(number));
         }
         match take_line(alloc, &mut script, line) {

@@ -2,7 +2,7 @@
 
 use crate::stop::Stop;
 use flow_labels::TagNames;
-use lam_main_replay::{Eye, Viewer, shown_turns};
+use lam_main_replay::{NamedViewer, Viewer, shown_turns};
 use seat_host::Closed;
 use std::alloc::Global;
 use std::mem::forget;
@@ -13,16 +13,16 @@ use turn_book::{Turns, read_book, write_book};
 pub fn audited(alloc: Global, closed: Closed, names: TagNames) -> Result<String, Stop> {
     let Closed { run, places } = closed;
     drop(places);
-    let viewer = Viewer {
+    let viewer = NamedViewer {
         names,
-        eye: Eye::Auditor,
+        who: Viewer::Auditor,
     };
     let audit = audit_of(alloc, &run, &viewer);
     let_go_run(run);
     audit
 }
 
-fn audit_of(alloc: Global, run: &Run, viewer: &Viewer) -> Result<String, Stop> {
+fn audit_of(alloc: Global, run: &Run, viewer: &NamedViewer) -> Result<String, Stop> {
     let turns = booked(alloc, run)?;
     let audit = notes_of(alloc, run, turns, viewer)?;
     without_turns(alloc, audit.as_str())
@@ -38,7 +38,7 @@ fn booked(alloc: Global, run: &Run) -> Result<Turns, Stop> {
 }
 
 /// The audit of turns, from the start of a run.
-fn notes_of(alloc: Global, run: &Run, turns: Turns, viewer: &Viewer) -> Result<String, Stop> {
+fn notes_of(alloc: Global, run: &Run, turns: Turns, viewer: &NamedViewer) -> Result<String, Stop> {
     let _whole = run.turns();
     let start = run.start().copy()?;
     match shown_turns(alloc, run.code(), start, turns.as_slice(), viewer) {

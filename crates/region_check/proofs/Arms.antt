@@ -4,7 +4,7 @@ use Rattle.lam_syntax.specs.declared.Expr.{Expr}
 use Rattle.lam_syntax.specs.declared.Stmt.{Stmt}
 use Rattle.lam_syntax.specs.Tree.{IdTree, ExprTree, ExprForm, ExprList, expr_tree, spawn_expr, StmtForm, StmtList, ElseTree, no_else, else_block, while_stmt, sync_stmt, if_stmt, region_stmt, assign_stmt, stmts_tree}
 use Rattle.lam_operators.specs.Words.{Word}
-use Rattle.lam_types_breaks.specs.Verdicts.{Fine, then_on}
+use Rattle.lam_types_kinds.specs.Verdicts.{Fine, then_on}
 use Rattle.region_check.specs.Parts.{guarded}
 use Rattle.region_check.specs.Breaks.{Verdict, both, expr_checked, exprs_checked, form_checked, stmt_form_checked, closed, stmts_checked, else_checked, head_checked, place_checked, with_name}
 use Rattle.region_check.specs.Values.{texts, Passes, Leaves, Breaks}

@@ -2,7 +2,7 @@
 use Rattle.std.proofs.Common.{◌≡◌, ℕ, Bool, true, false, not, List, [], ◌∷◌, ◌++◌, Option, Some, None, refl, sym, ap, ◌∙◌, subst, append_assoc}
 use Rattle.lam_syntax.specs.Tree.{IdTree, CapTree, ExprTree, expr_node, ExprForm, binary_expr, unary_expr, field_expr, element_expr, number_expr, text_expr, bool_expr, null_expr, name_expr, call_expr, new_class_expr, new_array_expr, label_expr, caps_expr, spawn_expr, ExprList, no_exprs, exprs, stmt_node, StmtForm, let_stmt, if_stmt, while_stmt, return_stmt, throw_stmt, sync_stmt, region_stmt, do_stmt, assign_stmt, StmtList, no_stmts, stmts, ElseTree, no_else, else_block, class_item, function_item, ProgramTree}
 use Rattle.lam_operators.specs.Words.{Word}
-use Rattle.lam_types_breaks.specs.Verdicts.{Fine, Stop, then_on, first_break}
+use Rattle.lam_types_kinds.specs.Verdicts.{Fine, Stop, then_on, first_break}
 use Rattle.region_check.specs.Breaks.{Break, outer_read, outer_write, return_in_region, capture_twice, Verdict, has, with_name, allowed, test, read_checked, caps_checked, both, expr_checked, form_checked, exprs_checked, capture_checked, captures_checked, value_checked, return_checked, place_form, closed, head_checked, stmt_form_checked, else_checked, stmts_checked, program_checked, first_region_break}
 use Rattle.region_check.specs.Legal.{IsReached, ReachesCaps, Reaches, FormReaches, AllReach, AreReached, Differ, ValueReaches, words, after, IsLegalForm, IsLegalElse, IsLegalBlock, IsRegionLegal}
 

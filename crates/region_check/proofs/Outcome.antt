@@ -1,7 +1,7 @@
 -- A program without a break keeps the region rules, as the code meets it.
 use Rattle.std.proofs.Common.{◌≡◌, Option, Some, None, is_none, IsTrue, Err, refl, sym, ap, subst}
 use Rattle.lam_syntax.specs.Tree.{ProgramTree}
-use Rattle.lam_types_breaks.specs.Verdicts.{Fine, Stop, first_break}
+use Rattle.lam_types_kinds.specs.Verdicts.{Fine, Stop, first_break}
 use Rattle.region_check.specs.Breaks.{Break, Verdict, program_checked, first_region_break}
 use Rattle.region_check.specs.Legal.{IsRegionLegal}
 use Rattle.region_check.specs.Values.{Breaks, IsFirst, HasNoBreak}

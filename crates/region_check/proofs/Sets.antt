@@ -8,11 +8,10 @@ use Rattle.std.specs.declared.hash.BuildHasherDefault.{BuildHasherDefault}
 use Rattle.indexmap.specs.IndexSet.{IndexSet, contains_by}
 use Rattle.lam_syntax.specs.declared.Id.{Id}
 use Rattle.lam_syntax.specs.declared.CapItem.{CapItem}
-use Rattle.lam_syntax.specs.declared.Expr.{Expr}
-use Rattle.lam_syntax.specs.Tree.{ids_tree, id_tree, caps_tree, cap_tree, exprs_tree, expr_tree}
+use Rattle.lam_syntax.specs.Tree.{ids_tree, id_tree, caps_tree, cap_tree}
 use Rattle.lam_operators.specs.Words.{Word}
-use Rattle.lam_types_breaks.specs.Verdicts.{Fine, then_on}
-use Rattle.region_check.specs.Breaks.{Verdict, has, with_name, read_checked, caps_checked, capture_checked, captures_checked, expr_checked, exprs_checked}
+use Rattle.lam_types_kinds.specs.Verdicts.{Fine, then_on}
+use Rattle.region_check.specs.Breaks.{Verdict, has, with_name, read_checked, caps_checked, capture_checked, captures_checked}
 use Rattle.region_check.specs.Values.{texts, Breaks, Extends}
 use Rattle.region_check.specs.declared.RegionFault.{RegionFault}
 use Rattle.region_check.proofs.Steps.{stops}
@@ -79,13 +78,6 @@ capture_next inside own seen new xs i x w v lt q is b n e m =
     is ∙ ap (λ (l : List Id). captures_checked inside own seen (ids_tree l)) (one_more xs i x lt q) ∙
     ap (λ (u : Verdict (Unit {0})). then_on u (λ _. captures_checked inside own (seen ++ (id_tree x).word ∷ []) (ids_tree (drop (i + 1) xs)))) b ∙
     ap (λ (l : List Word). captures_checked inside own l (ids_tree (drop (i + 1) xs))) (sym (new_name seen (id_tree x).word n) ∙ ap (with_name seen) (sym e) ∙ sym m)
-
--- the break of one expression of several
-pub expr_stop : (f : RegionFault) (inside : Bool) (own : List Word) (xs : List Expr) (i : ℕ) (x : Expr) (v : Verdict (Unit {0})) → i < length xs → x ≡ get_or xs i x →
-    v ≡ exprs_checked inside own (exprs_tree (drop i xs)) → Breaks f (expr_checked inside own (expr_tree x)) → Breaks f v
-expr_stop f inside own xs i x v lt q is b =
-    subst (λ (v : Verdict (Unit {0})). Breaks f v) (sym (is ∙ ap (λ (l : List Expr). exprs_checked inside own (exprs_tree l)) (one_more xs i x lt q)))
-    (stops f (expr_checked inside own (expr_tree x)) (λ _. exprs_checked inside own (exprs_tree (drop (i + 1) xs))) b)
 
 pub contains_texts : (x : Word) (s : IndexSet (Bor Word) (BuildHasherDefault FoldHasher)) → contains_by (λ (k : Bor Word). bytes_eq x k.now) s ≡ has (texts s.keys) x
 contains_texts x s = has_texts x s.keys

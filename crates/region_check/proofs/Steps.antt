@@ -1,6 +1,6 @@
 -- Breaks go through checks that follow one another.
 use Rattle.std.proofs.Common.{◌≡◌, sym, ap, ◌∙◌, subst}
-use Rattle.lam_types_breaks.specs.Verdicts.{Fine, Stop, then_on}
+use Rattle.lam_types_kinds.specs.Verdicts.{Fine, Stop, then_on}
 use Rattle.region_check.specs.Breaks.{Verdict, both}
 use Rattle.region_check.specs.Values.{Breaks, IsFault}
 use Rattle.region_check.specs.declared.RegionFault.{RegionFault}

@@ -4,8 +4,8 @@
 use Rattle.std.specs.Prelude.{ℕ, Bool, true, false, if◌then◌else◌, ◌||◌, not, List, [], ◌∷◌, ◌++◌, Option, Some, None}
 use Rattle.std.specs.Str.{bytes_eq}
 use Rattle.std.specs.List.{list_any}
-use Rattle.lam_types_breaks.specs.Verdicts as verdicts
-use Rattle.lam_types_breaks.specs.Verdicts.{Fine, Stop, then_on, first_break}
+use Rattle.lam_types_kinds.specs.Verdicts as verdicts
+use Rattle.lam_types_kinds.specs.Verdicts.{Fine, Stop, then_on, first_break}
 use Rattle.lam_syntax.specs.Tree.{IdTree, CapTree, ExprTree, expr_node, ExprForm, binary_expr, unary_expr, field_expr, element_expr, number_expr, text_expr, bool_expr, null_expr, name_expr, call_expr, new_class_expr, new_array_expr, label_expr, caps_expr, spawn_expr, ExprList, no_exprs, exprs, StmtTree, stmt_node, StmtForm, let_stmt, if_stmt, while_stmt, return_stmt, throw_stmt, sync_stmt, region_stmt, do_stmt, assign_stmt, StmtList, no_stmts, stmts, ElseTree, no_else, else_block, class_item, function_item, ProgramTree}
 use Rattle.lam_operators.specs.Words.{Word}
 

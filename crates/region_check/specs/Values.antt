@@ -2,7 +2,7 @@
 use Rattle.std.specs.Prelude.{◌≡◌, List, map, Option, Result, take, length}
 use Rattle.std.specs.Borrow.{Bor}
 use Rattle.lam_operators.specs.Words.{Word}
-use Rattle.lam_types_breaks.specs.Meets.{BreaksBy, PassesBy, LeavesBy, MakesBy, IsFirstBy, HasNoBreakBy}
+use Rattle.lam_types_kinds.specs.MeetsVerdicts.{BreaksBy, PassesBy, LeavesBy, MakesBy, IsFirstBy, HasNoBreakBy}
 use Rattle.region_check.specs.Breaks.{Break, outer_read, outer_write, return_in_region, capture_twice, Verdict}
 use Rattle.region_check.specs.declared.RegionFault.{RegionFault}
 use Rattle.region_check.specs.declared.RegionFault.TheVariants.{OuterRead, OuterWrite, ReturnInRegion, CaptureTwice, NoMemory}

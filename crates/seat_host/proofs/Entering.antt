@@ -3,7 +3,7 @@ use Rattle.std.proofs.Common.{◌≡◌, ℕ, suc, ◌+◌, ◌<◌, ◌≤◌, 
 use Rattle.lam_machine_terms.specs.Worlds.{World}
 use Rattle.lam_machine_terms.specs.Turns.{replay, ready}
 use Rattle.lam_asks.specs.declared.answer.Event.{Event}
-use Rattle.lam_machine_turns.specs.Turned.{IsTurn}
+use Rattle.lam_machine_laws.specs.Turned.{IsTurn}
 use Rattle.thread_host_run.specs.Runs.{Ran, IsWhole}
 use Rattle.seat_host.specs.declared.answer.TurnAnswer.{TurnAnswer}
 use Rattle.seat_host.specs.declared.answer.TurnAnswer.TheVariants.{Worn, Stale, Full, NotReady, NoMemory, Took}

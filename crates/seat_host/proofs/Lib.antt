@@ -5,5 +5,4 @@ pub mod Moves
 pub mod Turning
 pub mod Closing
 pub mod Apart
-pub mod Tables
 pub mod Merging

@@ -1,5 +1,5 @@
 -- A call of a seat, put together from its steps.
-use Rattle.std.proofs.Common.{◌≡◌, ℕ, ◌+◌, ◌<◌, arith, length-append, List, [], ◌∷◌, ◌++◌, length, Option, Ok, refl, sym, ap, ◌∙◌, subst}
+use Rattle.std.proofs.Common.{◌≡◌, ℕ, ◌+◌, ◌<◌, arith, length-append, List, [], ◌∷◌, ◌++◌, length, Option, Ok, sym, ap, ◌∙◌, subst}
 use mathlib.Core.List.{IsPrefix}
 use Rattle.atomic_table.specs.Table.{Me}
 use Rattle.atomic_table.specs.Seated.{TableId}
@@ -9,7 +9,7 @@ use Rattle.seat_host.specs.declared.answer.TurnAnswer.TheVariants.{Worn, Stale, 
 use Rattle.seat_host.specs.Places.{Shared, shared}
 use Rattle.seat_host.specs.Answers.{holding, Comes}
 use Rattle.seat_host.specs.Law.{looked, ticketed, served, finished, places_in}
-use Rattle.seat_host.specs.Seats.{Drew, Came, Sitting, sitting, NextPlace, TookTurn, seen_after}
+use Rattle.seat_host.specs.Seats.{Drew, Came, Sitting, sitting, NextPlace, TookTurn}
 use Rattle.seat_host.proofs.Moves.{last_place-push}
 
 next_place : (id id' : TableId) (m m1 m2 m3 m4 : Me Shared View) (n seen thread : ℕ) (a : TurnAnswer) → seen ≡ length m.0.seen → Drew m (Ok n) m1 → Came m1 m2 → Comes (shared m2.0.code m2.0.start m2.0.seen) seen thread a
@@ -46,12 +46,3 @@ next_seen v w thread p a place n =
     let is : p ≡ length before = place before n.2 in
     let len : length w.seen ≡ length before + 1 = ap length n.4 ∙ length-append before (holding thread a ∷ []) in
     let lt = n.3 in (omega arith, omega arith)
-
--- the number of places seen is kept
-pub seen_is : (v w : Sitting) (thread : ℕ) (a : TurnAnswer) → TookTurn v thread a w → (seen_after (length v.seen) a ≡ length w.seen) × (length v.seen < 18446744073709551616 → seen_after (length v.seen) a < 18446744073709551616)
-seen_is v w thread (Worn d) t = (ap length (sym t.2), λ lt. lt)
-seen_is v w thread (Stale p l) t = let n = next_seen v w thread p (Stale p l) (λ b c. c.0) t in (n.0, λ _. n.1)
-seen_is v w thread (Full p) t = let n = next_seen v w thread p (Full p) (λ b c. c.0) t in (n.0, λ _. n.1)
-seen_is v w thread (NotReady p) t = let n = next_seen v w thread p (NotReady p) (λ b c. c.0.place_is) t in (n.0, λ _. n.1)
-seen_is v w thread (NoMemory p) t = let n = next_seen v w thread p (NoMemory p) (λ b c. c.0.place_is) t in (n.0, λ _. n.1)
-seen_is v w thread (Took p e) t = let n = next_seen v w thread p (Took p e) (λ b c. c.0.place_is) t in (n.0, λ _. n.1)

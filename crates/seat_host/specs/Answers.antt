@@ -3,10 +3,11 @@ use Rattle.std.specs.Prelude.{◌≡◌, ℕ, ◌<◌, ◌≤◌, List, true, fa
 use Rattle.lam_asks.specs.declared.answer.Event.{Event}
 use Rattle.lam_machine_terms.specs.Worlds.{World}
 use Rattle.lam_machine_terms.specs.Turns.{ready}
-use Rattle.lam_machine_turns.specs.Turned.{IsTurn}
+use Rattle.lam_machine_laws.specs.Turned.{IsTurn}
 use Rattle.seat_host.specs.Places.{Shared, turns_in, world_at, last_of}
 use Rattle.seat_host.specs.declared.answer.TurnAnswer.{TurnAnswer}
 use Rattle.seat_host.specs.declared.answer.TurnAnswer.TheVariants.{Worn, Stale, Full, NotReady, NoMemory, Took}
+use Rattle.turn_book.specs.Limits.{most_turns}
 
 -- what the place of an answer holds
 abbrev pub holding : ℕ → TurnAnswer → Option ℕ
@@ -29,13 +30,13 @@ world_of s = world_at s.code s.start s.places
 pub record HasRoom (s : Shared) (seen thread place : ℕ) : Type 0 where
   pub place_is : place ≡ length s.places
   pub fresh : IsFresh seen (last_of thread s.places)
-  pub room : length (turns_in s.places) < 1000000
+  pub room : length (turns_in s.places) < most_turns
 
 -- when each answer comes at the next place, to a caller that had seen so many
 abbrev pub Comes : Shared → ℕ → ℕ → TurnAnswer → Type 0
 Comes s seen thread (Worn drawn) = ⊥
 Comes s seen thread (Stale place last) = (place ≡ length s.places) × (last_of thread s.places ≡ Some last) × (seen ≤ last)
-Comes s seen thread (Full place) = (place ≡ length s.places) × IsFresh seen (last_of thread s.places) × (1000000 ≤ length (turns_in s.places))
+Comes s seen thread (Full place) = (place ≡ length s.places) × IsFresh seen (last_of thread s.places) × (most_turns ≤ length (turns_in s.places))
 Comes s seen thread (NotReady place) = HasRoom s seen thread place × (ready s.code (world_of s) thread ≡ false)
 Comes s seen thread (NoMemory place) = HasRoom s seen thread place × (ready s.code (world_of s) thread ≡ true)
 Comes s seen thread (Took place event) = HasRoom s seen thread place × ((after : World) × IsTurn s.code thread (world_of s) event after)

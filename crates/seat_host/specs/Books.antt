@@ -2,12 +2,13 @@
 use Rattle.std.specs.Prelude.{◌≡◌, ℕ, ◌+◌, ◌<◌, ◌≤◌, ◌++◌, ◌==◌, List, [], ◌∷◌, cond, true, false, length, Option, Some, None, slice_index_or}
 use Rattle.lam_asks.specs.declared.answer.Event.{Event}
 use Rattle.lam_machine_terms.specs.Turns.{ready}
-use Rattle.lam_machine_turns.specs.Turned.{IsTurn}
+use Rattle.lam_machine_laws.specs.Turned.{IsTurn}
 use Rattle.thread_host_run.specs.Runs.{Ran, with_turn}
 use Rattle.seat_host.specs.Places.{turns_in, spread, last_of}
 use Rattle.seat_host.specs.Answers.{IsFresh}
 use Rattle.seat_host.specs.declared.answer.TurnAnswer.{TurnAnswer}
 use Rattle.seat_host.specs.declared.answer.TurnAnswer.TheVariants.{Worn, Stale, Full, NotReady, NoMemory, Took}
+use Rattle.turn_book.specs.Limits.{most_turns}
 
 -- the last place of a thread, in a table by threads
 abbrev pub last_in : List (Option ℕ) → ℕ → Option ℕ
@@ -48,14 +49,14 @@ Tries r held table place thread a s held' table' = ⊥
 -- there is room for a turn, which the caller may ask for
 pub record MayTry (r : Ran) (table : List (Option ℕ)) (seen thread : ℕ) : Type 0 where
   pub fresh : IsFresh seen (last_in table thread)
-  pub room : length r.turns < 1000000
+  pub room : length r.turns < most_turns
 
 -- what a call answers at the next place, and what it leaves
 abbrev pub Enters : Ran → List ℕ → List (Option ℕ) → ℕ → ℕ → ℕ → TurnAnswer → Ran → List ℕ → List (Option ℕ) → Type 0
 Enters r held table place seen thread (Worn drawn) s held' table' = ⊥
 Enters r held table place seen thread (Stale p last) s held' table' = (p ≡ place) × (last_in table thread ≡ Some last) × (seen ≤ last) × Stays r held table s held' table'
 Enters r held table place seen thread (Full p) s held' table' =
-    (p ≡ place) × IsFresh seen (last_in table thread) × (1000000 ≤ length r.turns) × Stays r held table s held' table'
+    (p ≡ place) × IsFresh seen (last_in table thread) × (most_turns ≤ length r.turns) × Stays r held table s held' table'
 Enters r held table place seen thread (NotReady p) s held' table' =
     (p ≡ place) × MayTry r table seen thread × (ready r.code r.world thread ≡ false) × Stays r held table s held' table'
 Enters r held table place seen thread (NoMemory p) s held' table' =

@@ -1,6 +1,7 @@
 -- What callers see of a shared run and of its seats, and what the calls of a seat do.
-use Rattle.std.specs.Prelude.{◌≡◌, ℕ, ◌+◌, ◌<◌, ◌≤◌, ◌++◌, List, [], ◌∷◌, true, false, length, Option, Result, max, Ok, Err, Some, slice_get, refl}
+use Rattle.std.specs.Prelude.{◌≡◌, ℕ, ◌+◌, ◌<◌, ◌≤◌, ◌≢◌, ◌++◌, List, [], ◌∷◌, true, false, length, Option, Result, max, Ok, Err, Some, slice_get, refl}
 use Rattle.std.specs.List.{All}
+use Rattle.seat_host.specs.declared.answer.Closed.{Closed}
 use Rattle.seat_host.specs.declared.answer.CloseFault.{CloseFault}
 use Rattle.seat_host.specs.declared.answer.CloseFault.TheVariants.{Open, NoMemory as OutOfMemory}
 use mathlib.Core.List.{IsPrefix}
@@ -106,11 +107,27 @@ pub record Closes (v : Sitting) (r : Ran) (places : List (Option ℕ)) : Type 0 
   pub turns : r.turns ≡ turns_in places
   pub seen : IsPrefix v.seen places
   pub mine : All (λ e. slice_get places e.0 ≡ Some e.1) v.mine
+  pub drawn : v.drawn ≤ length places
 
 -- a ticket is open: more were drawn than places are finished, and no fewer than the seat knew
 abbrev pub StaysOpen : Sitting → CloseFault → Type 0
 StaysOpen v (Open served drawn) = (served < drawn) × (length v.seen ≤ served) × (v.drawn ≤ drawn)
 StaysOpen v OutOfMemory = Unit {0}
+
+-- the last words of the table: how many places are finished, and how many tickets were drawn
+pub record AreLast (v : Sitting) (served drawn : ℕ) : Type 0 where
+  pub order : served ≤ drawn
+  pub seen : length v.seen ≤ served
+  pub known : v.drawn ≤ drawn
+
+-- a ticket is open exactly where the words differ, and the answer has both; else the run comes, or memory ran out
+abbrev pub ClosesBy : ℕ → ℕ → Result Closed CloseFault → Type 0
+ClosesBy served drawn (Ok c) = served ≡ drawn
+ClosesBy served drawn (Err (Open s d)) = (served ≢ drawn) × (s ≡ served) × (d ≡ drawn)
+ClosesBy served drawn (Err OutOfMemory) = served ≡ drawn
+
+abbrev pub ClosesExactly : Sitting → Result Closed CloseFault → Type 0
+ClosesExactly v r = (served : ℕ) × (drawn : ℕ) × AreLast v served drawn × ClosesBy served drawn r
 
 -- how many places are seen after an answer
 abbrev pub seen_after : ℕ → TurnAnswer → ℕ

@@ -8,6 +8,7 @@ ghost use Rattle.seat_host.specs.Places.{shared, turns_in, spread};
 ghost use Rattle.seat_host.specs.Books.{last_in, SaysSame, MayTry, Tries, Enters, first_at, passed};
 ghost use Rattle.seat_host.specs.declared.answer.CloseFault.TheVariants.{NoMemory as OutOfMemory};
 ghost use Rattle.seat_host.specs.Answers.{holding, Comes};
+ghost use Rattle.turn_book.specs.Limits.{most_turns};
 
 use crate::answer::{CloseFault, Closed, TurnAnswer};
 use std::alloc::Global;
@@ -221,7 +222,7 @@ fn take_turn(
     thread: u32,
 ) -> TurnAnswer
     requires ready { ready run.old.code run.old.world thread ≡ true }
-    requires room { length run.old.turns < 1000000 }
+    requires room { length run.old.turns < most_turns }
     ensures { Tries run.old held.old.items last.old.items place thread result run.new held.new.items last.new.items }
 {
     if make_room(last, thread).is_err() || held.reserve(1).is_err() {

@@ -5,15 +5,15 @@
 //! after all that its seat had seen; [`SeatRun::close`] gives the run, which is one of the given code from the given start.
 //!
 //! Whoever calls draws a ticket, and waits until it is served. A ticket's use is a *place*: it holds the thread that took
-//! a turn there, or nothing. `desk` has the atomic steps, `law` the rule that they keep, `book` what the slot keeps.
+//! a turn there, or nothing. `seat_table` has the atomic steps, `law` the rule that they keep, `book` what the slot keeps.
 #![tactic(auto)]
 
 mod answer;
 mod book;
-mod desk;
 mod law;
 mod places;
 mod seat;
+mod seat_table;
 
 pub use answer::{CloseFault, Closed, TurnAnswer, let_go_answer, let_go_closed};
 pub use places::places_differ;

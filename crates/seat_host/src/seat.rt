@@ -2,11 +2,11 @@
 
 ghost use Rattle.std.specs.Prelude.{◌≡◌, ◌<◌, ◌^◌, length, IfOk, IfErr};
 ghost use mathlib.Core.List.{IsPrefix};
-ghost use Rattle.described_runs.specs.Worlds.{IsSound};
-ghost use Rattle.seat_host.specs.Seats.{new_seat, without_calls, both_seats, TookTurn, Closes, StaysOpen, seen_after};
+ghost use Rattle.guarded_code_runs.specs.Worlds.{IsSound};
+ghost use Rattle.seat_host.specs.Seats.{new_seat, without_calls, both_seats, TookTurn, Closes, StaysOpen, ClosesExactly, seen_after};
 
 use crate::answer::{CloseFault, Closed, TurnAnswer};
-use crate::desk::{Desk, Pass};
+use crate::seat_table::{Pass, SeatTable};
 use guarded_code::Verified;
 use lam_machine_world::World;
 use std::alloc::Global;
@@ -17,7 +17,7 @@ use want_of_memory::NoMemory;
 /// A run whose turns callers take on threads of their own. Contracts see which one it is, its code and its start.
 #[derive(Drop)]
 pub struct SeatRun {
-    desk: Desk,
+    seat_table: SeatTable,
 }
 
 impl Model for SeatRun {
@@ -27,7 +27,7 @@ impl Model for SeatRun {
 
     ghost coded = { coded_shared_run };
 
-    ghost view = { λ r. shared_run r.desk.table.shared.table_id r.desk.table.shared.key.code r.desk.table.shared.key.start };
+    ghost view = { λ r. shared_run r.seat_table.table.shared.table_id r.seat_table.table.shared.key.code r.seat_table.table.shared.key.start };
 }
 
 /// A caller's seat at a shared run. Contracts see the run that it is of, what the places hold that it has seen, its own
@@ -71,8 +71,8 @@ impl SeatRun {
         ensures run { IfOk result (λ r. (r.0.code ≡ code) × (r.0.start ≡ start)) }
         ensures seat { IfOk result (λ r. r.1 ≡ new_seat r.0) }
     {
-        let (desk, pass) = Desk::new(alloc, code, start)?;
-        Ok((SeatRun { desk }, Seat { pass, seen: 0 }))
+        let (seat_table, pass) = SeatTable::new(alloc, code, start)?;
+        Ok((SeatRun { seat_table }, Seat { pass, seen: 0 }))
     }
 
     /// Draws a ticket, waits until it is served, and takes a turn of the thread if one may be taken. The place of the call
@@ -83,7 +83,7 @@ impl SeatRun {
         ensures turn { TookTurn seat thread result.1 result.0 }
     {
         let Seat { mut pass, seen } = seat;
-        let answer = self.desk.turn(rt, &mut pass, seen, thread);
+        let answer = self.seat_table.turn(rt, &mut pass, seen, thread);
         let seen = seen_by(seen, &answer);
         (Seat { pass, seen }, answer)
     }
@@ -95,7 +95,7 @@ impl SeatRun {
         ensures other { result.1 ≡ without_calls seat }
     {
         let Seat { mut pass, seen } = seat;
-        let other = self.desk.split(&mut pass);
+        let other = self.seat_table.split(&mut pass);
         (Seat { pass, seen }, Seat { pass: other, seen })
     }
 
@@ -111,7 +111,7 @@ impl SeatRun {
             pass: other,
             seen: more,
         } = b;
-        self.desk.join(&mut pass, other);
+        self.seat_table.join(&mut pass, other);
         let seen = seen.max(more);
         Seat { pass, seen }
     }
@@ -126,9 +126,10 @@ impl SeatRun {
         requires own { seat.of ≡ self }
         ensures ok { IfOk result (λ c. Closes seat c.run c.places.items) }
         ensures err { IfErr result (StaysOpen seat) }
+        ensures exact { ClosesExactly seat result }
     {
         let Seat { pass, seen: _ } = seat;
-        self.desk.close(alloc, pass)
+        self.seat_table.close(alloc, pass)
     }
 }
 

@@ -7,7 +7,7 @@
 
 ghost use Rattle.std.specs.Prelude.{◌≡◌, ◌≢◌, IfOk, IfErr};
 ghost use Rattle.lam_bytecode.specs.Codes.{IsCode};
-ghost use Rattle.described_runs.specs.Worlds.{IsSound};
+ghost use Rattle.guarded_code_runs.specs.Worlds.{IsSound};
 ghost use Rattle.lam_main_plan.specs.Reading.{Thins};
 ghost use Rattle.lam_main_plan.specs.Replays.{NoStart};
 ghost use Rattle.lam_main_files.specs.Halts.{Finds};

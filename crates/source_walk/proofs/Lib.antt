@@ -4,3 +4,4 @@ mod Beginnings
 mod Telling
 mod Starting
 mod Counted
+pub mod Reading

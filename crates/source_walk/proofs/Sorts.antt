@@ -33,19 +33,6 @@ as_tested b ts vs e = ((λ (t : IsTrue b). says_of ts vs (e ∙ t)), (λ h. sym 
 abbrev pub IsLeft : List ValueType → List Value → ℕ → Type 0
 IsLeft ts vs at = are_of (types_tree (drop at ts)) (drop at vs) ≡ are_of (types_tree ts) vs
 
-pub left_more : (ts : List ValueType) (vs : List Value) (at : ℕ) (t : ValueType) (v : Value) → at < length ts → length ts ≡ length vs → t ≡ get_or ts at t → v ≡ get_or vs at v → is_of (sort_of (type_tree t)) v ≡ true → IsLeft ts vs at → IsLeft ts vs (at + 1)
-left_more ts vs at t v lt same t_is v_is of left =
-    sym (ap (λ b. b && are_of (types_tree (drop (at + 1) ts)) (drop (at + 1) vs)) (here ∙ of)) ∙ (λ i. are_of (types_tree (sym ts_at i)) (sym vs_at i)) ∙ left
-  where
-    ts_at : drop at ts ≡ get_or ts at t ∷ drop (at + 1) ts
-    ts_at = drop_more ts at t lt
-
-    vs_at : drop at vs ≡ get_or vs at v ∷ drop (at + 1) vs
-    vs_at = drop_more vs at v (omega (arith, lt, same))
-
-    here : is_of (sort_of (type_tree (get_or ts at t))) (get_or vs at v) ≡ is_of (sort_of (type_tree t)) v
-    here = λ i. is_of (sort_of (type_tree (sym t_is i))) (sym v_is i)
-
 -- one that is not of its sort
 pub left_none : (ts : List ValueType) (vs : List Value) (at : ℕ) (t : ValueType) (v : Value) → at < length ts → length ts ≡ length vs → t ≡ get_or ts at t → v ≡ get_or vs at v → is_of (sort_of (type_tree t)) v ≡ false → IsLeft ts vs at → are_of (types_tree ts) vs ≡ false
 left_none ts vs at t v lt same t_is v_is not left =

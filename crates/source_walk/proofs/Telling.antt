@@ -25,9 +25,9 @@ use Rattle.source_walk_follow.specs.Followed.{IsFollowed}
 use Rattle.source_walk_meets.specs.Births.{births, HasThreads}
 use Rattle.source_walk_meets.proofs.Lists.{is_there, split_get, made_get}
 use Rattle.source_walk_meets.proofs.Runs.{was_spawned, at_number}
-use Rattle.source_walk_run.specs.declared.doings.Doings.{Doings}
+use Rattle.source_walk_run.specs.declared.histories.ThreadHistories.{ThreadHistories}
 use Rattle.source_walk_run.specs.Putting.{only_asked, beginning_of}
-use Rattle.source_walk_run.specs.Doings.{AreDoings}
+use Rattle.source_walk_run.specs.ThreadHistories.{AreThreadHistories}
 use Rattle.source_walk.specs.Starts.{BeginsAt, AreBeginnings}
 use Rattle.source_walk.specs.Walking.{IsMet, IsMetAt, TellsAnswer}
 
@@ -61,7 +61,7 @@ followed_all r ms u n b did at took asked h =
 
 -- ---- one thread
 
-module _ (r : ResolvedTree) (code : CodeTree) (w : World) (ms : List Moment) (last : World) (starts : List Beginning) (d : Doings) (begins : AreBeginnings r code w.threads starts) (doings : AreDoings (length w.threads) ms d) (has : HasThreads (length w.threads) ms last) where
+module _ (r : ResolvedTree) (code : CodeTree) (w : World) (ms : List Moment) (last : World) (starts : List Beginning) (d : ThreadHistories) (begins : AreBeginnings r code w.threads starts) (histories : AreThreadHistories (length w.threads) ms d) (has : HasThreads (length w.threads) ms last) where
   -- it stood in the start at its beginning, or was spawned so
   abbrev BeganSo : ℕ → Beginning → Type 0
   BeganSo u b = ((th : Thread) × (thread_at w u ≡ Some th) × BeginsAt r code th b) ⊎ WasSpawned ms u b.function b.args b.caps
@@ -76,7 +76,7 @@ module _ (r : ResolvedTree) (code : CodeTree) (w : World) (ms : List Moment) (la
           let there = is_there w.threads u (omega (arith, lt, many)) in
           inl (there.0, there.1, begins.each u there.0 b there.1 h)
       by (inr (j, f, h)) =
-          let born = made_get beginning_of (births ms) j b (ap (λ l. slice_get l j) (sym doings.begun) ∙ h) in
+          let born = made_get beginning_of (births ms) j b (ap (λ l. slice_get l j) (sym histories.begun) ∙ h) in
           let number = at_number (length w.threads) ms last has j born.0 born.1 in
           let many = begins.many in
           let same : born.0.number ≡ u = omega (arith, number, many, f) in
@@ -94,7 +94,7 @@ module _ (r : ResolvedTree) (code : CodeTree) (w : World) (ms : List Moment) (la
         caps = m.beginning.caps;
         began = began u m.beginning (began_so u m.beginning m.began);
         entry = h.0;
-        asks = followed_all r ms u m.units m.beginning m.did None (doings.each_turns u m.units m.took) (doings.asked.each u m.did m.asked) h.1;
+        asks = followed_all r ms u m.units m.beginning m.did None (histories.each_turns u m.units m.took) (histories.asked.each u m.did m.asked) h.1;
       }
   keeps_by u m (inr h) = absurd (let z = h.1 in cc)
 
@@ -115,21 +115,21 @@ module _ (r : ResolvedTree) (code : CodeTree) (w : World) (ms : List Moment) (la
         function = m.beginning.function;
         args = m.beginning.args;
         caps = m.beginning.caps;
-        leaves = leaves_by u place m.beginning m.units m.did (doings.each_turns u m.units m.took) (doings.asked.each u m.did m.asked) (began_so u m.beginning m.began) m.met;
+        leaves = leaves_by u place m.beginning m.units m.did (histories.each_turns u m.units m.took) (histories.asked.each u m.did m.asked) (began_so u m.beginning m.began) m.met;
       }
 
 -- ---- all of them
 
-same_many : (n : ℕ) (ms : List Moment) (last : World) (d : Doings) → AreDoings n ms d → HasThreads n ms last → length last.threads ≡ length d.asked.items
-same_many n ms last d doings has = has.all ∙ sym doings.asked.many ∙ length-map d.asked.items _
+same_many : (n : ℕ) (ms : List Moment) (last : World) (d : ThreadHistories) → AreThreadHistories n ms d → HasThreads n ms last → length last.threads ≡ length d.asked.items
+same_many n ms last d histories has = has.all ∙ sym histories.asked.many ∙ length-map d.asked.items _
 
-pub tells_same : (r : ResolvedTree) (starts : List Beginning) (d : Doings) → ((u : ℕ) → u < length d.asked.items → IsMetAt r starts d u None) → TellsAnswer r starts d (Same d.asks)
-tells_same r starts d each code w ms last begins doings has =
-    ((λ u lt. keeps r code w ms last starts d begins doings has u (each u (let many = same_many (length w.threads) ms last d doings has in omega (arith, lt, many)))), doings.asks)
+pub tells_same : (r : ResolvedTree) (starts : List Beginning) (d : ThreadHistories) → ((u : ℕ) → u < length d.asked.items → IsMetAt r starts d u None) → TellsAnswer r starts d (Same d.asks)
+tells_same r starts d each code w ms last begins histories has =
+    ((λ u lt. keeps r code w ms last starts d begins histories has u (each u (let many = same_many (length w.threads) ms last d histories has in omega (arith, lt, many)))), histories.asks)
 
-pub tells_departs : (r : ResolvedTree) (starts : List Beginning) (d : Doings) (t place : ℕ) → t < length d.asked.items → ((u : ℕ) → u < t → IsMetAt r starts d u None) → IsMetAt r starts d t (Some place) → TellsAnswer r starts d (Departs t place)
-tells_departs r starts d t place lt each here code w ms last begins doings has = (
-  let many = same_many (length w.threads) ms last d doings has in omega (arith, lt, many),
-  (λ u below. keeps r code w ms last starts d begins doings has u (each u below)),
-  leaves r code w ms last starts d begins doings has t place here,
+pub tells_departs : (r : ResolvedTree) (starts : List Beginning) (d : ThreadHistories) (t place : ℕ) → t < length d.asked.items → ((u : ℕ) → u < t → IsMetAt r starts d u None) → IsMetAt r starts d t (Some place) → TellsAnswer r starts d (Departs t place)
+tells_departs r starts d t place lt each here code w ms last begins histories has = (
+  let many = same_many (length w.threads) ms last d histories has in omega (arith, lt, many),
+  (λ u below. keeps r code w ms last starts d begins histories has u (each u below)),
+  leaves r code w ms last starts d begins histories has t place here,
 )

@@ -10,9 +10,9 @@ use Rattle.source_walk_terms.specs.Walks.{IsEntry, IsWalkedOf}
 use Rattle.source_walk_state.specs.declared.Beginning.{Beginning}
 use Rattle.source_walk_follow.specs.Followed.{IsFollowed}
 use Rattle.source_walk_meets.specs.Births.{HasThreads}
-use Rattle.source_walk_run.specs.declared.doings.Doings.{Doings}
+use Rattle.source_walk_run.specs.declared.histories.ThreadHistories.{ThreadHistories}
 use Rattle.source_walk_run.specs.Putting.{lists_of}
-use Rattle.source_walk_run.specs.Doings.{AreDoings}
+use Rattle.source_walk_run.specs.ThreadHistories.{AreThreadHistories}
 use Rattle.source_walk.specs.Starts.{AreBeginnings}
 
 -- what a thread that began so did with so many units, against its source: where it began at no entry it leaves it at once
@@ -20,7 +20,7 @@ abbrev pub IsMet : ResolvedTree → ℕ → Beginning → List What → Option �
 IsMet r n b did at = (IsEntry r b.function b.args × IsFollowed r n b.function b.args b.caps did at) ⊎ ((IsEntry r b.function b.args → ⊥) × (at ≡ Some 0))
 
 -- of a thread by its number: those of the start come first, and then those that were started
-pub record IsMetAt (r : ResolvedTree) (starts : List Beginning) (d : Doings) (u : ℕ) (at : Option ℕ) : Type 0 where
+pub record IsMetAt (r : ResolvedTree) (starts : List Beginning) (d : ThreadHistories) (u : ℕ) (at : Option ℕ) : Type 0 where
   pub beginning : Beginning
   pub units : ℕ
   pub did : List What
@@ -30,7 +30,7 @@ pub record IsMetAt (r : ResolvedTree) (starts : List Beginning) (d : Doings) (u 
   pub met : IsMet r units beginning did at
 
 -- the beginnings of a start's threads and what the threads of its run did tell the answer of the walk
-abbrev pub TellsAnswer : ResolvedTree → List Beginning → Doings → Walked → Type 0
+abbrev pub TellsAnswer : ResolvedTree → List Beginning → ThreadHistories → Walked → Type 0
 TellsAnswer r starts d answer =
-    (code : CodeTree) (w : World) (ms : List Moment) (last : World) → AreBeginnings r code w.threads starts → AreDoings (length w.threads) ms d → HasThreads (length w.threads) ms last →
+    (code : CodeTree) (w : World) (ms : List Moment) (last : World) → AreBeginnings r code w.threads starts → AreThreadHistories (length w.threads) ms d → HasThreads (length w.threads) ms last →
     IsWalkedOf r code w ms (length last.threads) answer

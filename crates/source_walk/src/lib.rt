@@ -8,15 +8,18 @@
 //! - `entries` says whether a thread may begin where it was started;
 //! - `starts` has how the threads of a start begin, `source_walk_run` how the others do, and what each did;
 //! - `walking` is the walk over all of them, `source_walk_follow` that over one.
+//! - `runs` has the walk over a run of a checked program: [`walk`].
 //!
 //! `specs/Walking` says what a walk finds of each thread. That a walk has one answer, and which it is where the code of a
 //! run means its source, are laws of `source_walk_meets`.
 #![tactic(auto)]
 
 mod entries;
+mod runs;
 mod starts;
 mod walking;
 
 pub use lam_machine_replay::{RunFault, World};
+pub use runs::walk;
 pub use source_walk_terms::Walked;
 pub use walking::walk_turns;

@@ -3,7 +3,7 @@
 ghost use Rattle.std.specs.Prelude.{◌≡◌, ◌+◌, ◌<◌, ◌≤◌, ◌++◌, length, slice_get, Some, None, IfOk, OnOk, IfErr};
 ghost use Rattle.lam_resolve_tree.specs.Tree.{resolved_tree};
 ghost use Rattle.lam_resolve_tree.specs.Limits.{WithinLimits};
-ghost use Rattle.described_runs.specs.Worlds.{IsSound};
+ghost use Rattle.guarded_code_runs.specs.Worlds.{IsSound};
 ghost use Rattle.lam_machine_terms.specs.Limits.{most_threads};
 ghost use Rattle.lam_machine_runs.specs.Stops.{stopped_at};
 ghost use Rattle.lam_machine_replay.specs.Stops.{IsStop};
@@ -21,7 +21,7 @@ use lam_machine_world::let_go_world;
 use lam_resolve_tree::Resolved;
 use source_walk_follow::follow;
 use source_walk_meets::runs_have_threads;
-use source_walk_run::{Doings, doings_of};
+use source_walk_run::{ThreadHistories, histories_of};
 use source_walk_state::Beginning;
 use source_walk_terms::Walked;
 use std::alloc::Global;
@@ -75,14 +75,14 @@ fn walk_from(
 {
     runs_stay_valid();
     runs_have_threads();
-    match doings_of(alloc, code, start, turns) {
+    match histories_of(alloc, code, start, turns) {
         Err(fault) => {
             drop(starts);
             Err(fault)
         }
-        Ok(doings) => {
-            let walked = walk_threads(alloc, program, starts.as_slice(), &doings);
-            drop(doings);
+        Ok(histories) => {
+            let walked = walk_threads(alloc, program, starts.as_slice(), &histories);
+            drop(histories);
             drop(starts);
             Ok(walked?)
         }
@@ -94,22 +94,24 @@ fn walk_threads(
     alloc: Global,
     program: &Resolved,
     starts: &[Beginning],
-    doings: &Doings,
+    histories: &ThreadHistories,
 ) -> Result<Walked, NoMemory>
-    requires begun { length doings.now.asked.items ≡ length starts.now + length doings.now.begun.items }
-    requires turns { length doings.now.turns.items ≡ length doings.now.asked.items }
-    requires few { length doings.now.asked.items ≤ most_threads }
-    ensures { IfOk result (TellsAnswer (resolved_tree program.now) starts.now doings.now) }
+    requires begun { length histories.now.asked.items ≡ length starts.now + length histories.now.begun.items }
+    requires turns { length histories.now.turns.items ≡ length histories.now.asked.items }
+    requires few { length histories.now.asked.items ≤ most_threads }
+    ensures { IfOk result (TellsAnswer (resolved_tree program.now) starts.now histories.now) }
 {
-    for thread in 0..doings.asked.len() {
-        if let Some(ask) = departure(alloc, program, starts, doings, thread)? {
+    for thread in 0..histories.asked.len() {
+        if let Some(ask) = departure(alloc, program, starts, histories, thread)? {
             return Ok(Walked::Departs {
                 thread: thread as u32,
                 ask,
             });
         }
     }
-    Ok(Walked::Same { asks: doings.asks })
+    Ok(Walked::Same {
+        asks: histories.asks,
+    })
 }
 
 /// Where a thread departs from its source, `None` where it does not.
@@ -117,21 +119,21 @@ fn departure(
     alloc: Global,
     program: &Resolved,
     starts: &[Beginning],
-    doings: &Doings,
+    histories: &ThreadHistories,
     thread: usize,
 ) -> Result<Option<u64>, NoMemory>
-    requires there { thread < length doings.now.asked.items }
-    requires begun { length doings.now.asked.items ≡ length starts.now + length doings.now.begun.items }
-    requires turns { length doings.now.turns.items ≡ length doings.now.asked.items }
-    ensures { IfOk result (IsMetAt (resolved_tree program.now) starts.now doings.now thread) }
+    requires there { thread < length histories.now.asked.items }
+    requires begun { length histories.now.asked.items ≡ length starts.now + length histories.now.begun.items }
+    requires turns { length histories.now.turns.items ≡ length histories.now.asked.items }
+    ensures { IfOk result (IsMetAt (resolved_tree program.now) starts.now histories.now thread) }
 {
-    let begin = beginning_at(starts, doings.begun.as_slice(), thread);
+    let begin = beginning_at(starts, histories.begun.as_slice(), thread);
     meet(
         alloc,
         program,
         begin,
-        doings.turns[thread],
-        doings.asked[thread].as_slice(),
+        histories.turns[thread],
+        histories.asked[thread].as_slice(),
     )
 }
 

@@ -15,7 +15,7 @@ use Rattle.lam_resolve_tree.specs.Tree.{types_tree, stmts_tree, class_tree, clas
 use Rattle.lam_meaning.specs.Trees.{on_end}
 use Rattle.lam_meaning.specs.Means.{body_of, block_runs, first_locals, last_ask, means}
 use Rattle.source_walk_state.specs.declared.Control.TheVariants as control
-use Rattle.source_walk_laws.proofs.Begins.{walk_begins}
+use Rattle.source_walk_state.proofs.Begins.{walk_begins}
 use Rattle.source_walk_parts.specs.States.{State, left_at}
 use Rattle.source_walk_follow.specs.Standing.{first_state}
 

@@ -5,6 +5,7 @@ ghost use Rattle.lam_resolve_tree.specs.Tree.{resolved_tree, function_tree, Reso
 ghost use Rattle.source_walk_state.specs.declared.Using.TheVariants as purposes;
 ghost use Rattle.source_walk_parts.specs.States.{State, state_of};
 ghost use Rattle.source_walk_go.specs.Uses.{Uses};
+ghost use Rattle.thread_steps.specs.Limits.{frames_limit};
 
 use lam_asks::Fault;
 use lam_builtins::Builtin;
@@ -13,10 +14,11 @@ use lam_value::{Value, Values};
 use source_walk_parts::{Walk, begin_call, built, labelled, padded, push, spawns, spend};
 use source_walk_state::{Control, Frame, Sort, Using};
 use std::alloc::Global;
+use thread_core_ops::FRAMES_LIMIT;
 use want_of_memory::NoMemory;
 
 /// How many calls of a context may be open.
-const CALLS_LIMIT: u64 = 256;
+const CALLS_LIMIT: u64 = FRAMES_LIMIT as u64;
 
 /// The values of all arguments are there.
 ///
@@ -113,7 +115,7 @@ fn call_of<'a>(
     callee: &'a Function,
     args: Values,
 ) -> Result<Control<'a>, NoMemory>
-    requires calls { w.old.calls < 256 }
+    requires calls { w.old.calls < frames_limit }
     requires units { 0 < w.old.units }
     ensures { IfOk result (λ d. (r : ResolvedTree) (f : ℕ) → slice_get r.functions f ≡ Some (function_tree callee.now) → Uses r depth (purposes.Call f) args (state_of w.old) d (state_of w.new)) }
 {

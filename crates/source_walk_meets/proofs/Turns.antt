@@ -11,7 +11,7 @@ use Rattle.lam_bytecode.specs.Codes.{CodeTree, AreCounted}
 use Rattle.thread_steps.specs.Threads.{Inside, Context, Thread}
 use Rattle.thread_steps.specs.Next.{Next, goes, asks, stuck, next_of, with_inside, started, takes}
 use Rattle.lam_machine_terms.specs.Worlds.{World, thread_at, with_thread}
-use Rattle.lam_machine_terms.specs.Deeds.{Effect, adds_thread, effect_of, Deed, answers}
+use Rattle.lam_machine_terms.specs.Serves.{Effect, adds_thread, effect_of, Served, answers}
 use Rattle.lam_machine_terms.specs.Serving.{served_by, publicly, serve}
 use Rattle.lam_machine_terms.specs.Turns.{is_ready, Moment, goes_on, served, turn_by, step}
 use Rattle.lam_machine_laws.specs.Judged.{deed_by}
@@ -27,11 +27,11 @@ abbrev growth : Effect → ℕ
 growth (adds_thread unit args caps) = 1
 growth e = 0
 
-abbrev born : Ask → Deed → List Birth
+abbrev born : Ask → Served → List Birth
 born a d = option_to_list (birth_by a d.answer)
 
 -- a thread is added exactly where the answer says so, and it has the number that it says
-abbrev Bears : ℕ → Ask → Deed → Type 0
+abbrev Bears : ℕ → Ask → Served → Type 0
 Bears n a d = (growth d.effect ≡ length (born a d)) × AreCounted n (numbers (born a d))
 
 refused_bears : (n : ℕ) (a : Ask) (x : Denied) → Bears n a (answers (Refused x))

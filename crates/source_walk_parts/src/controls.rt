@@ -18,27 +18,27 @@ use lam_value::Value;
 use source_walk_state::{Control, Reply, Sort};
 use std::alloc::Global;
 use thread_core_calls::builtin;
-use thread_core_effects::{Called, Computed, Sketch, Worth, ask_from, some_null, value_from};
+use thread_core_effects::{AskRef, Called, Computed, ValueRef, ask_from, some_null, value_from};
 use thread_core_ops::{label_from, operator, prefix, with_sign};
 use want_of_memory::NoMemory;
 
 /// With a value, its parts where they stand.
-fn give<'a>(alloc: Global, worth: &Worth<'_>) -> Result<Control<'a>, NoMemory>
-    ensures { IfOk result (λ c. c ≡ controls.Give (value_of worth.now)) }
+fn give<'a>(alloc: Global, value_ref: &ValueRef<'_>) -> Result<Control<'a>, NoMemory>
+    ensures { IfOk result (λ c. c ≡ controls.Give (value_of value_ref.now)) }
 {
-    Ok(Control::Give(value_from(alloc, worth)?))
+    Ok(Control::Give(value_from(alloc, value_ref)?))
 }
 
 /// With an ask, its parts where they stand.
 fn ask<'a>(
     alloc: Global,
-    sketch: &Sketch<'_>,
+    ask_ref: &AskRef<'_>,
     sort: Sort,
     reply: Reply,
 ) -> Result<Control<'a>, NoMemory>
-    ensures { IfOk result (λ c. c ≡ controls.Ask (ask_of sketch.now) sort reply) }
+    ensures { IfOk result (λ c. c ≡ controls.Ask (ask_of ask_ref.now) sort reply) }
 {
-    let ask = ask_from(alloc, sketch)?;
+    let ask = ask_from(alloc, ask_ref)?;
     Ok(Control::Ask { ask, sort, reply })
 }
 
@@ -51,7 +51,7 @@ pub fn prefixed<'a>(alloc: Global, op: UnaryOp, v: &Value) -> Result<Control<'a>
     ensures { IfOk result (λ c. c ≡ pure_control (prefix op v.now)) }
 {
     match prefix(op, v) {
-        Computed::Fine(worth) => give(alloc, &worth),
+        Computed::Fine(value_ref) => give(alloc, &value_ref),
         Computed::Faults(fault) => Ok(Control::Raise(fault)),
         Computed::Wrong => Ok(Control::Broken),
     }
@@ -71,7 +71,7 @@ pub fn operated<'a>(
     ensures { IfOk result (λ c. c ≡ pure_control (operator op v.now w.now)) }
 {
     match operator(op, v, w) {
-        Computed::Fine(worth) => give(alloc, &worth),
+        Computed::Fine(value_ref) => give(alloc, &value_ref),
         Computed::Faults(fault) => Ok(Control::Raise(fault)),
         Computed::Wrong => Ok(Control::Broken),
     }
@@ -90,7 +90,7 @@ pub fn labelled<'a>(
     ensures { IfOk result (λ c. c ≡ pure_control (label_from secrets.now vouchers.now)) }
 {
     match label_from(secrets, vouchers) {
-        Computed::Fine(worth) => give(alloc, &worth),
+        Computed::Fine(value_ref) => give(alloc, &value_ref),
         Computed::Faults(fault) => Ok(Control::Raise(fault)),
         Computed::Wrong => Ok(Control::Broken),
     }
@@ -110,7 +110,7 @@ pub fn signed<'a>(
     ensures { IfOk result (λ c. c ≡ pure_control (with_sign plus caps.now tag.now)) }
 {
     match with_sign(plus, caps, tag) {
-        Computed::Fine(worth) => give(alloc, &worth),
+        Computed::Fine(value_ref) => give(alloc, &value_ref),
         Computed::Faults(fault) => Ok(Control::Raise(fault)),
         Computed::Wrong => Ok(Control::Broken),
     }
@@ -147,10 +147,10 @@ pub fn built<'a>(
         return Ok(too_many(args));
     }
     match builtin(label, caps, call, args) {
-        Called::Now(worth) => give(alloc, &worth),
+        Called::Now(value_ref) => give(alloc, &value_ref),
         Called::Faults(fault) => Ok(Control::Raise(fault)),
-        Called::Asks(sketch) => ask(alloc, &sketch, sort, Reply::Value),
-        Called::Acts(sketch) => ask(alloc, &sketch, Sort::Number, Reply::Done),
+        Called::Asks(ask_ref) => ask(alloc, &ask_ref, sort, Reply::Value),
+        Called::Acts(ask_ref) => ask(alloc, &ask_ref, Sort::Number, Reply::Done),
         Called::Wrong => Ok(Control::Broken),
     }
 }

@@ -12,10 +12,8 @@ use capabilities::Caps;
 use lam_asks::{Ask, Fault};
 use lam_value::{Kind, Shape, Value, Values};
 use source_walk_state::{Control, Frame, Reply, Sort};
+use thread_core_calls::LENGTH_LIMIT;
 use want_of_memory::NoMemory;
-
-/// How long an array may be.
-const LENGTH_LIMIT: u64 = 65_536;
 
 /// Asks for a new array, of a number as its length.
 pub fn new_array<'a>(kind: Kind, length: &Value) -> Control<'a>

@@ -13,13 +13,13 @@ use Rattle.source_walk_state.specs.declared.Beginning.{Beginning}
 use Rattle.source_walk_meets.specs.Births.{births}
 use Rattle.source_walk_meets.proofs.Runs.{runs_have}
 use Rattle.source_walk_run.specs.declared.keeping.Kept.{Kept}
-use Rattle.source_walk_run.specs.declared.doings.Doings.{Doings}
+use Rattle.source_walk_run.specs.declared.histories.ThreadHistories.{ThreadHistories}
 use Rattle.source_walk_run.specs.Counting.{AreTurnsOf}
 use Rattle.source_walk_run.specs.Putting.{lists_of}
-use Rattle.source_walk_run.specs.Doings.{AreAsked, IsKept, AreDoings}
+use Rattle.source_walk_run.specs.ThreadHistories.{AreAsked, IsKept, AreThreadHistories}
 use Rattle.source_walk_run.proofs.Counts.{run_counts}
 
-module _ (code : CodeTree) (turns : List ℕ) (w : World) (kept : Kept) (d : Doings) (run : IsRun code turns w) (is : IsKept (length w.threads) (moments code turns w) kept) where
+module _ (code : CodeTree) (turns : List ℕ) (w : World) (kept : Kept) (d : ThreadHistories) (run : IsRun code turns w) (is : IsKept (length w.threads) (moments code turns w) kept) where
   known : AreAsked (length w.threads + length (births (moments code turns w))) (moments code turns w) (lists_of kept.asked.items)
   known = is.asked (runs_have code w turns).turns
 
@@ -32,7 +32,7 @@ module _ (code : CodeTree) (turns : List ℕ) (w : World) (kept : Kept) (d : Doi
       let long = counts.0 in
       sym (get_or_from_slice_get d.turns.items u k 0 e) ∙ counts.1 u (omega (arith, lt, long)) ∙ run_counts code u turns w run
 
-  pub all_done : d.begun ≡ kept.begun → d.asked ≡ kept.asked → d.asks ≡ kept.asks → AreTurnsOf turns (length kept.asked.items) d.turns.items → AreDoings (length w.threads) (moments code turns w) d
+  pub all_done : d.begun ≡ kept.begun → d.asked ≡ kept.asked → d.asks ≡ kept.asks → AreTurnsOf turns (length kept.asked.items) d.turns.items → AreThreadHistories (length w.threads) (moments code turns w) d
   all_done begun asked asks counts =
       record {
         begun = ap (λ (v : Vec Beginning Global). v.items) begun ∙ is.begun;

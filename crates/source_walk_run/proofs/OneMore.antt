@@ -24,7 +24,7 @@ use Rattle.source_walk_meets.specs.Births.{Birth, birth_of, births, AreOfThreads
 use Rattle.source_walk_meets.proofs.Runs.{births_append}
 use Rattle.source_walk_run.specs.declared.keeping.Kept.{Kept}
 use Rattle.source_walk_run.specs.Putting.{lists_of, put_at, empties, only_asked, beginning_of, begun_by, Adds}
-use Rattle.source_walk_run.specs.Doings.{asked_by, AreAsked, IsKept}
+use Rattle.source_walk_run.specs.ThreadHistories.{asked_by, AreAsked, IsKept}
 use Rattle.source_walk_run.proofs.Puts.{put_length, put_here, put_apart, put_none, grown_get, none_in}
 
 -- ---- what a thread did, with one moment more

@@ -1,3 +1,3 @@
 pub mod Counting
 pub mod Putting
-pub mod Doings
+pub mod ThreadHistories

@@ -4,17 +4,17 @@
 //! started. A private turn leaves nothing behind but that it was taken, which the list of turns tells: how many turns each
 //! thread took is counted there.
 //!
-//! - `doings` has what is kept, and [`doings_of`];
+//! - `histories` has what is kept, and [`histories_of`];
 //! - `keeping` is the pass, and `putting` what one turn puts there;
 //! - `counting` counts the turns.
 //!
-//! `specs/Doings` says what is kept of a run, `specs/Putting` what one turn adds, and `specs/Counting` what is counted.
+//! `specs/ThreadHistories` says what is kept of a run, `specs/Putting` what one turn adds, and `specs/Counting` what is counted.
 #![tactic(auto)]
 
 mod counting;
-mod doings;
+mod histories;
 mod keeping;
 mod putting;
 
-pub use doings::{Doings, doings_of};
+pub use histories::{ThreadHistories, histories_of};
 pub use lam_machine_replay::{RunFault, World};

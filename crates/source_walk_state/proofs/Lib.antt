@@ -2,3 +2,4 @@ pub mod Chains
 pub mod Opening
 pub mod Going
 pub mod Marks
+pub mod Begins

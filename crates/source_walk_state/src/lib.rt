@@ -10,8 +10,12 @@
 //! frames do with each of its ends. That each step leaves that tree as it is, or goes from an ask to one of its answers,
 //! is proved where the steps are; `proofs/Steps` has the law of each.
 //!
+//! `walk_laws` says that a walk begins as the thread's meaning, and that marks keep what stood around them.
+//!
 //! A meaning bounds how deep loops and calls go inside each other. What is pending has that bound, its *depth*, beside it.
 #![tactic(auto)]
+
+mod walk_laws;
 
 use capabilities::Caps;
 use flow_labels::Label;
@@ -20,6 +24,7 @@ use lam_builtins::Builtin;
 use lam_operators::{BinaryOp, UnaryOp};
 use lam_resolve_tree::{Expr, Stmt};
 use lam_value::{Kind, Value, Values};
+pub use walk_laws::{marks_keep, walks_begin};
 
 /// The sort of value that the place of an ask wants. Where it wants none, it is a number.
 #[derive(Clone, Copy, Debug, PartialEq, Eq)]

@@ -34,10 +34,6 @@ again_of (ReadBarrier depth) d e = (Reading, depth, refl, e)
 again_of (WriteBarrier depth) d e = (Writing, depth, refl, e)
 again_of op d e = absurd (false≢true e)
 
-pub barrier_again : (access : Access) (depth : ℕ) (d : Description) → tests_again (barrier access depth) d ≡ is_tested_at access (slice_get d.stack depth)
-barrier_again Reading depth d = refl
-barrier_again Writing depth d = refl
-
 -- ---- an operation with the address that it names moved
 pub by_moved : (ks : List Bool) (P : Op → Op → Type 0) → ((to : ℕ) → P (Jump to) (Jump (moved ks to))) → ((to : ℕ) → P (JumpIfFalse to) (JumpIfFalse (moved ks to))) → ((op : Op) → P op op) → (op : Op) → P op (moved_op ks op)
 by_moved ks P j f h (Jump to) = j to

@@ -12,9 +12,9 @@ use Rattle.guarded_code.specs.Breaks.{IsGuarded}
 use Rattle.thinned_code.specs.Thinned.{thinned}
 use Rattle.thinned_code.proofs.Thinned.{thin_is}
 use Rattle.thinned_code.proofs.Units.{same_takes}
-use Rattle.thinned_code_turns.specs.Moved.{staying_at}
-use Rattle.thinned_code_turns.specs.Matches.{StartsMatch, NextMatches, AnswersMatch, PlaceIsKept}
-use Rattle.described_threads.specs.Laws.{StartsDescribed, PrivateTurnsKeep, AnswersKeep}
+use Rattle.thinned_code_acts.specs.Moved.{staying_at}
+use Rattle.thinned_code_acts.specs.Matches.{StartsMatch, NextMatches, AnswersMatch, PlaceIsKept}
+use Rattle.guarded_code_threads.specs.Laws.{StartsDescribed, PrivateTurnsKeep, AnswersKeep}
 use Rattle.lam_resolve_tree.specs.Tree.{ResolvedTree}
 use Rattle.lam_meaning.specs.Trees.{Asked}
 use Rattle.lam_meaning.specs.Means.{means}

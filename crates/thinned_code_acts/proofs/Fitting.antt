@@ -14,10 +14,10 @@ use Rattle.thread_steps.specs.Next.{Next, goes, asks, stuck, next_of}
 use Rattle.guarded_code.specs.Breaks.{IsGuarded}
 use Rattle.guarded_code.proofs.Tables.{none_some, some_inj}
 use Rattle.thinned_code.proofs.Thinning.{map_some}
-use Rattle.described_threads.specs.Described.{IsDescribedContext}
-use Rattle.described_threads.specs.Answers.{IsOfForm, Answers}
-use Rattle.described_threads.specs.Laws.{PrivateTurnsKeep, AnswersKeep}
-use Rattle.described_threads.proofs.Forms.{fits_form}
+use Rattle.guarded_code_threads.specs.Described.{IsDescribedContext}
+use Rattle.guarded_code_threads.specs.Answers.{IsOfForm, Answers}
+use Rattle.guarded_code_threads.specs.Laws.{PrivateTurnsKeep, AnswersKeep}
+use Rattle.guarded_code_threads.proofs.Forms.{fits_form}
 use Rattle.lam_meaning.specs.Trees.{Asked}
 use Rattle.lam_meaning.specs.Plays.{AllFit}
 use Rattle.lam_meaning_laws.specs.Lone.{Lone, runs, waits, work_of, done, turn_of, turn, asks_in}

@@ -3,3 +3,7 @@ pub mod Passing
 pub mod Lone
 pub mod Fitting
 pub mod Acting
+pub mod Dids
+pub mod Places
+pub mod Nexts
+pub mod Answers

@@ -25,11 +25,11 @@ use Rattle.thinned_code.specs.Thinned.{moved, moved_op, thinned}
 use Rattle.thinned_code.proofs.Sifting.{next_dropped}
 use Rattle.thinned_code.proofs.Ops.{barrier, by_moved}
 use Rattle.thinned_code.proofs.Thinned.{thin_is}
-use Rattle.thinned_code_turns.specs.Moved.{staying_at, moved_frame, moved_inside, moved_phase, outer_unit, moved_context, moved_thread, moved_next, StaysBy, Stays}
-use Rattle.thinned_code_turns.specs.Matches.{NextMatches, AnswersMatch, IsKept, PlaceIsKept}
-use Rattle.thinned_code_turns.proofs.Places.{outer_same, staying_is, staying_count, staying_op, thin_unit_is}
-use Rattle.thinned_code_turns.proofs.Answers.{inside_moved}
-use Rattle.described_threads.specs.Described.{found_at, known_in, description_at, FrameAgrees, ActingAgrees, IsDescribedContext, IsDescribed}
+use Rattle.thinned_code_acts.specs.Moved.{staying_at, moved_frame, moved_inside, moved_phase, outer_unit, moved_context, moved_thread, moved_next, StaysBy, Stays}
+use Rattle.thinned_code_acts.specs.Matches.{NextMatches, AnswersMatch, IsKept, PlaceIsKept}
+use Rattle.thinned_code_acts.proofs.Places.{outer_same, staying_is, staying_count, staying_op, thin_unit_is}
+use Rattle.thinned_code_acts.proofs.Answers.{inside_moved}
+use Rattle.guarded_code_threads.specs.Described.{found_at, known_in, description_at, FrameAgrees, ActingAgrees, IsDescribedContext, IsDescribed}
 use Rattle.lam_meaning_laws.specs.Lone.{Lone, runs, waits, is_barrier, op_work, work_in, work_of, asked, done, turn_of, turn, asks_in, work_done, NotStuck}
 use Rattle.thinned_code_acts.proofs.Passing.{left_out, passes_on}
 

@@ -21,8 +21,8 @@ use Rattle.guarded_code.proofs.Breaking.{guarded_means}
 use Rattle.thinned_code.specs.Thinned.{staying_by}
 use Rattle.thinned_code.proofs.Ops.{barrier}
 use Rattle.thinned_code.proofs.Thinning.{Again, again}
-use Rattle.thinned_code_turns.specs.Moved.{staying_of, staying_at}
-use Rattle.described_threads.specs.Described.{rule_of, Allows, OperandHolds, found_at, known_in, description_at, FrameAgrees}
+use Rattle.thinned_code_acts.specs.Moved.{staying_of, staying_at}
+use Rattle.guarded_code_threads.specs.Described.{rule_of, Allows, OperandHolds, found_at, known_in, description_at, FrameAgrees}
 
 -- where a barrier was left out, and what is known there
 pub record LeftOut (code : CodeTree) (n at : ℕ) : Type 0 where

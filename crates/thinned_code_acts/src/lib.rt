@@ -4,20 +4,22 @@
 //! that stayed is matched by the same operation's turn; a barrier that was left out passes, asks nothing and counts as no
 //! work. So after as many turns, or fewer, the thread of thinned code has made the same asks and done the same work.
 //!
-//! That a barrier that was left out passes rests on what is known at its address (`described_threads`), and that holds
+//! That a barrier that was left out passes rests on what is known at its address (`guarded_code_threads`), and that holds
 //! while each ask gets an answer of its form. The answers suit the asks that the program means, of which each wants an
 //! answer of its own form (`proofs/Wanted`).
 //!
-//! `specs/Laws` has the statement, `proofs/Lone` single turns, and `proofs/Acting` whole runs.
+//! `turns` has one turn of both threads beside each other (`specs/Matches`). `specs/Laws` has the statement, `proofs/Lone` single turns, and `proofs/Acting` whole runs.
 #![tactic(auto)]
+
+mod turns;
 
 ghost use Rattle.lam_resolve_tree.specs.Tree.{ResolvedTree};
 ghost use Rattle.lam_bytecode.specs.Codes.{CodeTree};
 ghost use Rattle.thinned_code_acts.specs.Laws.{ThinnedActs, KeepsFunctions, SchemeHasFunctions, ThinnedSchemeActs};
 
-use described_threads::threads_stay_described;
+use guarded_code_threads::threads_stay_described;
 use lam_meaning_laws::compiled_code_acts_as_its_source;
-use thinned_code_turns::turns_of_thinned_code_match;
+pub use turns::turns_of_thinned_code_match;
 
 /// Thinned code acts as a program where the code does, and has its functions.
 pub fn thinned_code_acts()

@@ -87,9 +87,6 @@ pub set_waits : (p : Label) (code : CodeTree) (ph : Phase) (i : Inside) (s ls : 
 set_waits p code ph i [] ls n = refl
 set_waits p code ph i (v ∷ s) ls n = refl
 
-pub set_stands : (code : CodeTree) (ph : Phase) (i : Inside) (v : Value) (s ls : List Value) (n : ℕ) → stands (next_by code ph i (on_any (v ∷ s) (λ v s. sets (slice_set ls n v) s))) ≡ is_private
-set_stands code ph i v s ls n = refl
-
 pub set_asked : (code : CodeTree) (ph : Phase) (i : Inside) (s ls : List Value) (n : ℕ) → asked (next_by code ph i (on_any s (λ v s. sets (slice_set ls n v) s))) ≡ None
 set_asked code ph i [] ls n = refl
 set_asked code ph i (v ∷ s) ls n = refl

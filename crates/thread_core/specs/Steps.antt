@@ -2,7 +2,7 @@
 use Rattle.std.specs.Prelude.{◌+◌, ◌<◌, ◌^◌}
 use Rattle.lam_bytecode.specs.Codes.{CodeTree}
 use Rattle.thread_steps.specs.Threads.{Context}
-use Rattle.thread_core_effects.specs.declared.acted.Sight.TheVariants as sight
+use Rattle.thread_core_effects.specs.declared.acted.OpEffect.TheVariants as op_effect
 use Rattle.thread_core.specs.declared.coming.Coming.TheVariants.{Sees}
 use Rattle.thread_steps.specs.Next as next
 use Rattle.thread_steps.specs.Next.{stands}
@@ -23,14 +23,14 @@ changed code c (change.Fails f) = failed c f
 
 abbrev pub stands_by : CodeTree → Context → Step → next.Standing
 stands_by code c (step.Changes d) = next.is_private
-stands_by code c (step.Sets local) = stands (next_from code c (Sees (sight.Sets local)))
-stands_by code c step.Returns = stands (next_from code c (Sees sight.Returns))
+stands_by code c (step.Sets local) = stands (next_from code c (Sees (op_effect.Sets local)))
+stands_by code c step.Returns = stands (next_from code c (Sees op_effect.Returns))
 stands_by code c (step.Keeps s) = standing_of s
 
 abbrev pub moved_by : CodeTree → Context → Step → Context
 moved_by code c (step.Changes d) = changed code c d
-moved_by code c (step.Sets local) = moved c (next_from code c (Sees (sight.Sets local)))
-moved_by code c step.Returns = moved c (next_from code c (Sees sight.Returns))
+moved_by code c (step.Sets local) = moved c (next_from code c (Sees (op_effect.Sets local)))
+moved_by code c step.Returns = moved c (next_from code c (Sees op_effect.Returns))
 moved_by code c (step.Keeps s) = c
 
 -- a change and a store go on at the next address

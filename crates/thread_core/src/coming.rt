@@ -7,7 +7,7 @@ ghost use Rattle.thread_core.specs.Untested.{untested_next};
 
 use lam_asks::Fault;
 use lam_bytecode::{Code, Op};
-use thread_core_effects::Sight;
+use thread_core_effects::OpEffect;
 use thread_core_ops::see;
 use thread_core_state::Context;
 
@@ -17,7 +17,7 @@ pub enum Coming<'a> {
     /// A fault that was raised is handled.
     Handles(Fault),
     /// An operation.
-    Sees(Sight<'a>),
+    Sees(OpEffect<'a>),
     /// No operation stands here.
     Nothing,
 }

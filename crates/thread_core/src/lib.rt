@@ -4,7 +4,7 @@
 //! `waits_for` and `ask` say what that is; [`go_on`] computes it once, takes a private turn, and tells of any other only
 //! how the thread stands; [`advance`] hands the ask out, too. A step that memory is refused to leaves the thread as it was.
 //! An access goes by the barrier before it, and its rule is not tested a second time: the code is guarded, and its runs meet no
-//! access whose rule fails (`described_runs`).
+//! access whose rule fails (`guarded_code_runs`).
 //! What an answer does to a thread is a crate of its own, above this one.
 #![tactic(auto)]
 

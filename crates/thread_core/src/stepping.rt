@@ -22,7 +22,7 @@ use lam_asks::{Ask, Fault, Outcome};
 use lam_bytecode::Code;
 use lam_value::{Name, Value};
 use std::mem::replace;
-use thread_core_effects::{Sight, Sketch, ask_from, thing_in, value_from};
+use thread_core_effects::{AskRef, OpEffect, ask_from, thing_in, value_from};
 use thread_core_state::{Context, Frame, Operands, Phase, locals_of};
 use want_of_memory::NoMemory;
 
@@ -49,8 +49,8 @@ fn puts(c: &mut Context, takes: usize, value: Value) -> Result<(), NoMemory>
 /// The top operand goes into a local.
 fn sets(c: &mut Context, local: usize) -> Standing
     requires { c.old.inside.frame.at + 1 < 2 ^ 64 }
-    ensures stands { (code : CodeTree) → standing_of result ≡ stands (next_from code c.old (Coming.Sees (Sight.Sets local))) }
-    ensures new { (code : CodeTree) → c.new ≡ moved c.old (next_from code c.old (Coming.Sees (Sight.Sets local))) }
+    ensures stands { (code : CodeTree) → standing_of result ≡ stands (next_from code c.old (Coming.Sees (OpEffect.Sets local))) }
+    ensures new { (code : CodeTree) → c.new ≡ moved c.old (next_from code c.old (Coming.Sees (OpEffect.Sets local))) }
 {
     let Some(value) = c.stack.pop() else {
         return Standing::Stuck;
@@ -179,8 +179,8 @@ fn acts(c: &mut Context, frame: Frame)
 fn goes_back(c: &mut Context, value: Value) -> Result<Standing, NoMemory>
     requires waits { 0 < length c.old.inside.callers }
     requires top { slice_get c.old.inside.frame.stack 0 ≡ Some value }
-    ensures stands { IfOk result (λ s. (code : CodeTree) → standing_of s ≡ stands (next_from code c.old (Coming.Sees Sight.Returns))) }
-    ensures new { OnOk result ((code : CodeTree) → c.new ≡ moved c.old (next_from code c.old (Coming.Sees Sight.Returns))) }
+    ensures stands { IfOk result (λ s. (code : CodeTree) → standing_of s ≡ stands (next_from code c.old (Coming.Sees OpEffect.Returns))) }
+    ensures new { OnOk result ((code : CodeTree) → c.new ≡ moved c.old (next_from code c.old (Coming.Sees OpEffect.Returns))) }
     ensures err { OnErr result (c.new ≡ c.old) }
 {
     match take_back(&mut c.callers, value)? {
@@ -206,8 +206,8 @@ fn ends(phase: Phase) -> Standing
 /// The top operand is the result of the call.
 #[tactic(auto, using(crate::proofs::Cases::ended_stands, crate::proofs::Cases::ended_moved, crate::proofs::Tops::first_none))]
 fn returns(c: &mut Context) -> Result<Standing, NoMemory>
-    ensures stands { IfOk result (λ s. (code : CodeTree) → standing_of s ≡ stands (next_from code c.old (Coming.Sees Sight.Returns))) }
-    ensures new { OnOk result ((code : CodeTree) → c.new ≡ moved c.old (next_from code c.old (Coming.Sees Sight.Returns))) }
+    ensures stands { IfOk result (λ s. (code : CodeTree) → standing_of s ≡ stands (next_from code c.old (Coming.Sees OpEffect.Returns))) }
+    ensures new { OnOk result ((code : CodeTree) → c.new ≡ moved c.old (next_from code c.old (Coming.Sees OpEffect.Returns))) }
     ensures err { OnErr result (c.new ≡ c.old) }
 {
     match top_copy(&c.stack)? {
@@ -261,20 +261,20 @@ fn step_of(c: &Context, code: &Code) -> Result<Step, NoMemory>
     match next(c, code) {
         Coming::Nothing => Ok(Step::Keeps(Standing::Stuck)),
         Coming::Handles(_) => Ok(Step::Keeps(Standing::Shared)),
-        Coming::Sees(sight) => match sight {
-            Sight::Drops { takes } => Ok(Step::Changes(Change::Drops { takes })),
-            Sight::Puts { takes, worth } => {
-                let value = value_from(c.stack.allocator(), &worth)?;
+        Coming::Sees(op_effect) => match op_effect {
+            OpEffect::Drops { takes } => Ok(Step::Changes(Change::Drops { takes })),
+            OpEffect::Puts { takes, value_ref } => {
+                let value = value_from(c.stack.allocator(), &value_ref)?;
                 Ok(Step::Changes(Change::Puts { takes, value }))
             }
-            Sight::Sets { local } => Ok(Step::Sets { local }),
-            Sight::Jumps { to, takes } => Ok(Step::Changes(Change::Jumps { to, takes })),
-            Sight::Calls { unit, count } => Ok(Step::Changes(Change::Calls { unit, count })),
-            Sight::Returns => Ok(Step::Returns),
-            Sight::Fails(fault) => Ok(Step::Changes(Change::Fails(fault))),
-            Sight::Asks { .. } => Ok(Step::Keeps(Standing::Shared)),
-            Sight::Leaves => Ok(Step::Keeps(leaves(c.phase))),
-            Sight::Breaks => Ok(Step::Keeps(Standing::Stuck)),
+            OpEffect::Sets { local } => Ok(Step::Sets { local }),
+            OpEffect::Jumps { to, takes } => Ok(Step::Changes(Change::Jumps { to, takes })),
+            OpEffect::Calls { unit, count } => Ok(Step::Changes(Change::Calls { unit, count })),
+            OpEffect::Returns => Ok(Step::Returns),
+            OpEffect::Fails(fault) => Ok(Step::Changes(Change::Fails(fault))),
+            OpEffect::Asks { .. } => Ok(Step::Keeps(Standing::Shared)),
+            OpEffect::Leaves => Ok(Step::Keeps(leaves(c.phase))),
+            OpEffect::Breaks => Ok(Step::Keeps(Standing::Stuck)),
         },
     }
 }
@@ -347,7 +347,7 @@ fn private_where(holds: bool) -> Standing
 /// How a context stands whose call returns.
 #[tactic(auto, using(crate::proofs::Cases::ending_stands))]
 fn returning(c: &Context) -> Standing
-    ensures { (code : CodeTree) → standing_of result ≡ stands (next_from code c.now (Coming.Sees Sight.Returns)) }
+    ensures { (code : CodeTree) → standing_of result ≡ stands (next_from code c.now (Coming.Sees OpEffect.Returns)) }
 {
     if c.stack.len() == 0 {
         return Standing::Stuck;
@@ -370,23 +370,23 @@ pub fn context_stands(c: &Context, code: &Code) -> Standing
     match next(c, code) {
         Coming::Nothing => Standing::Stuck,
         Coming::Handles(_) => Standing::Shared,
-        Coming::Sees(sight) => match sight {
-            Sight::Drops { .. } => Standing::Private,
-            Sight::Puts { .. } => Standing::Private,
-            Sight::Sets { .. } => private_where(c.stack.len() > 0),
-            Sight::Jumps { .. } => Standing::Private,
-            Sight::Calls { .. } => Standing::Private,
-            Sight::Returns => returning(c),
-            Sight::Fails(_) => Standing::Private,
-            Sight::Asks { .. } => Standing::Shared,
-            Sight::Leaves => {
+        Coming::Sees(op_effect) => match op_effect {
+            OpEffect::Drops { .. } => Standing::Private,
+            OpEffect::Puts { .. } => Standing::Private,
+            OpEffect::Sets { .. } => private_where(c.stack.len() > 0),
+            OpEffect::Jumps { .. } => Standing::Private,
+            OpEffect::Calls { .. } => Standing::Private,
+            OpEffect::Returns => returning(c),
+            OpEffect::Fails(_) => Standing::Private,
+            OpEffect::Asks { .. } => Standing::Shared,
+            OpEffect::Leaves => {
                 if is_bottom(c.phase) {
                     Standing::Stuck
                 } else {
                     Standing::Shared
                 }
             }
-            Sight::Breaks => Standing::Stuck,
+            OpEffect::Breaks => Standing::Stuck,
         },
     }
 }
@@ -394,7 +394,7 @@ pub fn context_stands(c: &Context, code: &Code) -> Standing
 /// The ask of a context whose call returns, if it asks.
 #[tactic(auto, using(crate::proofs::Cases::ending_asked))]
 fn returning_ask(c: &Context) -> Result<Option<Ask>, NoMemory>
-    ensures { IfOk result (λ a. (code : CodeTree) → a ≡ asked (next_from code c.now (Coming.Sees Sight.Returns))) }
+    ensures { IfOk result (λ a. (code : CodeTree) → a ≡ asked (next_from code c.now (Coming.Sees OpEffect.Returns))) }
 {
     if c.callers.len() > 0 || !is_bottom(c.phase) {
         return Ok(None);
@@ -417,23 +417,23 @@ pub fn context_ask(c: &Context, code: &Code) -> Result<Option<Ask>, NoMemory>
     match next(c, code) {
         Coming::Nothing => Ok(None),
         Coming::Handles(fault) => Ok(Some(handling(c.phase, fault))),
-        Coming::Sees(sight) => match sight {
-            Sight::Drops { .. } => Ok(None),
-            Sight::Puts { .. } => Ok(None),
-            Sight::Sets { .. } => Ok(None),
-            Sight::Jumps { .. } => Ok(None),
-            Sight::Calls { .. } => Ok(None),
-            Sight::Returns => returning_ask(c),
-            Sight::Fails(_) => Ok(None),
-            Sight::Asks { ask, .. } => ask_from(c.stack.allocator(), &ask).map(Some),
-            Sight::Leaves => {
+        Coming::Sees(op_effect) => match op_effect {
+            OpEffect::Drops { .. } => Ok(None),
+            OpEffect::Puts { .. } => Ok(None),
+            OpEffect::Sets { .. } => Ok(None),
+            OpEffect::Jumps { .. } => Ok(None),
+            OpEffect::Calls { .. } => Ok(None),
+            OpEffect::Returns => returning_ask(c),
+            OpEffect::Fails(_) => Ok(None),
+            OpEffect::Asks { ask, .. } => ask_from(c.stack.allocator(), &ask).map(Some),
+            OpEffect::Leaves => {
                 if is_bottom(c.phase) {
                     Ok(None)
                 } else {
                     Ok(Some(Ask::Leave))
                 }
             }
-            Sight::Breaks => Ok(None),
+            OpEffect::Breaks => Ok(None),
         },
     }
 }
@@ -469,12 +469,12 @@ fn end_of(p: &Label, thread: u32) -> Waits<'static>
     }
 }
 
-fn awaited_by_sketch<'a>(p: &Label, sketch: &Sketch<'a>) -> Waits<'a>
-    ensures { awaited_by result ≡ awaited p.now (Some (ask_of sketch.now)) }
+fn awaited_by_sketch<'a>(p: &Label, ask_ref: &AskRef<'a>) -> Waits<'a>
+    ensures { awaited_by result ≡ awaited p.now (Some (ask_of ask_ref.now)) }
 {
-    match sketch {
-        Sketch::MonEnter { r } => monitor_of(p, r),
-        Sketch::Join { thread } => end_of(p, *thread),
+    match ask_ref {
+        AskRef::MonEnter { r } => monitor_of(p, r),
+        AskRef::Join { thread } => end_of(p, *thread),
         _ => Waits::Nobody,
     }
 }
@@ -487,17 +487,17 @@ pub fn context_waits<'a>(c: &'a Context, code: &'a Code) -> Waits<'a>
     match next(c, code) {
         Coming::Nothing => Waits::Nobody,
         Coming::Handles(_) => Waits::Nobody,
-        Coming::Sees(sight) => match sight {
-            Sight::Asks { ask, .. } => awaited_by_sketch(&c.label, &ask),
-            Sight::Drops { .. } => Waits::Nobody,
-            Sight::Puts { .. } => Waits::Nobody,
-            Sight::Sets { .. } => Waits::Nobody,
-            Sight::Jumps { .. } => Waits::Nobody,
-            Sight::Calls { .. } => Waits::Nobody,
-            Sight::Returns => Waits::Nobody,
-            Sight::Fails(_) => Waits::Nobody,
-            Sight::Leaves => Waits::Nobody,
-            Sight::Breaks => Waits::Nobody,
+        Coming::Sees(op_effect) => match op_effect {
+            OpEffect::Asks { ask, .. } => awaited_by_sketch(&c.label, &ask),
+            OpEffect::Drops { .. } => Waits::Nobody,
+            OpEffect::Puts { .. } => Waits::Nobody,
+            OpEffect::Sets { .. } => Waits::Nobody,
+            OpEffect::Jumps { .. } => Waits::Nobody,
+            OpEffect::Calls { .. } => Waits::Nobody,
+            OpEffect::Returns => Waits::Nobody,
+            OpEffect::Fails(_) => Waits::Nobody,
+            OpEffect::Leaves => Waits::Nobody,
+            OpEffect::Breaks => Waits::Nobody,
         },
     }
 }

@@ -15,7 +15,8 @@ use thread_core_state::{Context, LamThread};
 use want_of_memory::NoMemory;
 
 /// How a thread stands: ended exactly where it has a result. At an access no rule is tested: it stands shared there also where
-/// the rule fails, which no run of guarded code meets.
+/// the rule fails, which no run of guarded code meets. Where an operand of an access is missing, or is no reference, it is
+/// stuck.
 pub fn standing(thread: &LamThread, code: &Verified) -> Standing
     ensures near { StandsAs code.now thread.now (standing_of result) }
     ensures standing { ThreadFinds code.now thread.now → standing_of result ≡ standing code.now thread.now }

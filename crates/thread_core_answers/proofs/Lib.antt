@@ -4,4 +4,3 @@ pub mod Going
 pub mod Tops
 pub mod Outermost
 pub mod Held
-pub mod Results

@@ -30,10 +30,6 @@ abbrev pub nulls : Bool → List Value
 nulls true = Nothing ∷ []
 nulls false = []
 
-abbrev pub added_ones : Bool → Option Value → List Value
-added_ones b None = nulls b
-added_ones b (Some v) = v ∷ nulls b
-
 abbrev pub without_at : Option ℕ → List Name → List Name
 without_at None ns = ns
 without_at (Some k) ns = remove ns k

@@ -7,7 +7,6 @@
 #![tactic(auto)]
 
 mod answering;
-mod both;
 mod doing;
 mod plan;
 mod planning;

@@ -12,15 +12,14 @@ ghost use Rattle.thread_core_effects.specs.Reading.{thing_in};
 ghost use Rattle.thread_core.specs.Untested.{untested_next};
 ghost use Rattle.thread_core_answers.specs.Preparing.{held_after, held_before, taken_by, given_by, catch_place_in, after_of, nulls, without_at, caps_or, gone, undone, done_in, undone_in, ending_of};
 
-use crate::both::both;
 use crate::plan::{Going, Left, Monitor, Plan};
 use capabilities::Caps;
 use flow_labels::Label;
-use lam_asks::{Answer, Ask, Fault, Outcome};
+use lam_asks::{Answer, Ask, Fault, Outcome, both};
 use lam_bytecode::{Code, UnitKind};
 use lam_value::{Name, Value};
 use thread_core::{Coming, next, region_of};
-use thread_core_effects::{Sight, same_names, thing_in};
+use thread_core_effects::{OpEffect, same_names, thing_in};
 use thread_core_state::{Context, Operands, Phase, filled, locals_of};
 use want_of_memory::NoMemory;
 
@@ -42,8 +41,8 @@ fn left_untested(c: &Context, code: &Code) -> Left
     match next(c, code) {
         Coming::Nothing => stays(c),
         Coming::Handles(_) => stays(c),
-        Coming::Sees(sight) => match sight {
-            Sight::Asks {
+        Coming::Sees(op_effect) => match op_effect {
+            OpEffect::Asks {
                 takes,
                 leaves_null,
                 ..
@@ -52,15 +51,15 @@ fn left_untested(c: &Context, code: &Code) -> Left
                 takes,
                 leaves_null,
             },
-            Sight::Drops { .. } => stays(c),
-            Sight::Puts { .. } => stays(c),
-            Sight::Sets { .. } => stays(c),
-            Sight::Jumps { .. } => stays(c),
-            Sight::Calls { .. } => stays(c),
-            Sight::Returns => stays(c),
-            Sight::Fails(_) => stays(c),
-            Sight::Leaves => stays(c),
-            Sight::Breaks => stays(c),
+            OpEffect::Drops { .. } => stays(c),
+            OpEffect::Puts { .. } => stays(c),
+            OpEffect::Sets { .. } => stays(c),
+            OpEffect::Jumps { .. } => stays(c),
+            OpEffect::Calls { .. } => stays(c),
+            OpEffect::Returns => stays(c),
+            OpEffect::Fails(_) => stays(c),
+            OpEffect::Leaves => stays(c),
+            OpEffect::Breaks => stays(c),
         },
     }
 }

@@ -1,15 +1,10 @@
 -- Operands by their heads.
-use Rattle.std.proofs.Common.{◌≡◌, ℕ, suc, zero, true, false, List, [], ◌∷◌, drop, Option, Some, None, ap, refl}
+use Rattle.std.proofs.Common.{◌≡◌, ℕ, suc, zero, List, [], ◌∷◌, drop, Option, Some, None, ap, refl}
 use Rattle.std.specs.Prelude.{slice_get}
 use Rattle.flow_labels.specs.declared.Label.{Label}
 use Rattle.flow_labels.specs.declared.Denied.{Denied}
-use Rattle.lam_value.specs.declared.names.Name.{Name}
 use Rattle.lam_value.specs.declared.values.Value.{Value}
-use Rattle.lam_value.specs.declared.values.Value.TheVariants.{Obj, Arr, Nothing}
-use Rattle.lam_asks.specs.declared.fault.Fault.TheVariants.{Null}
-use Rattle.thread_steps.specs.Operators.{is_null}
-use Rattle.thread_steps.specs.Ops.{Did, breaks, fails, on_thing, tested, barrier}
-use Rattle.thread_core_effects.specs.Reading.{thing_in}
+use Rattle.thread_steps.specs.Ops.{breaks, on_thing, tested, barrier}
 
 pub drop_none : {A : Type 0} (s : List A) (d : ℕ) → slice_get s d ≡ None → drop d s ≡ []
 drop_none [] zero e = refl
@@ -22,21 +17,6 @@ drop_some [] zero v e = cc
 drop_some [] (suc d) v e = cc
 drop_some (x ∷ s) zero v e = let f : x ≡ v = cc in ap (λ y. y ∷ s) f
 drop_some (x ∷ s) (suc d) v e = drop_some s d v e
-
-pub thing_null : (v : Value) (s : List Value) (go : Name → List Value → Did) → is_null v ≡ true → on_thing (v ∷ s) go ≡ fails Null
-thing_null Nothing s go e = refl
-thing_null v s go e = cc
-
-pub thing_other : (v : Value) (s : List Value) (go : Name → List Value → Did) → is_null v ≡ false → thing_in v ≡ None → on_thing (v ∷ s) go ≡ breaks
-thing_other Nothing s go e f = cc
-thing_other (Obj n) s go e f = cc
-thing_other (Arr n len) s go e f = cc
-thing_other v s go e f = refl
-
-pub thing_some : (v : Value) (s : List Value) (go : Name → List Value → Did) (n : Name) → thing_in v ≡ Some n → on_thing (v ∷ s) go ≡ go n s
-thing_some (Obj m) s go n e = let f : m ≡ n = cc in ap (λ k. go k s) f
-thing_some (Arr m len) s go n e = let f : m ≡ n = cc in ap (λ k. go k s) f
-thing_some v s go n e = cc
 
 -- ---- barriers
 

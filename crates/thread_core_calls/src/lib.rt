@@ -1,8 +1,8 @@
 //! The built-in calls, and the barriers, accesses and monitors.
 //!
 //! A built-in call is seen before it is done, without memory: its value, fault or ask stands as [`Called`], with the
-//! parts of its arguments where they are. [`system`] is the sight of a call with the arguments on top of the operands.
-//! `access` has the sights of the operations that reach a thing or make one.
+//! parts of its arguments where they are. [`system`] is the effect of a call with the arguments on top of the operands.
+//! `access` has the effects of the operations that reach a thing or make one.
 #![tactic(auto)]
 
 mod access;
@@ -16,8 +16,8 @@ ghost use Rattle.thread_core_effects.specs.Acting.{calls_of, did_of, systems};
 ghost use Rattle.lam_value.specs.declared.values.Value.{Value};
 
 pub use access::{
-    enter_monitor, get_element, get_field, leave_monitor, new_array, new_object, put_element,
-    put_field, read_barrier, write_barrier,
+    LENGTH_LIMIT, enter_monitor, get_element, get_field, leave_monitor, new_array, new_object,
+    put_element, put_field, read_barrier, write_barrier,
 };
 use capabilities::Caps;
 use decimal_text::read_int;
@@ -25,7 +25,7 @@ use flow_labels::Label;
 use lam_asks::Fault;
 use lam_builtins::Builtin;
 use lam_value::{ByteText, Name, Value};
-use thread_core_effects::{Called, Sight, Sketch, Worth, some_null};
+use thread_core_effects::{AskRef, Called, OpEffect, ValueRef, some_null};
 use thread_core_state::Operands;
 
 /// How many bytes a value may have, and how many of a file are read at once.
@@ -37,7 +37,7 @@ fn number_now(n: u64) -> Called<'static>
     ensures { calls_of result ≡ number_now (pos n) }
 {
     if n < 9_223_372_036_854_775_808 {
-        Called::Now(Worth::Int(n as i64))
+        Called::Now(ValueRef::Int(n as i64))
     } else {
         Called::Faults(Fault::Overflow)
     }
@@ -51,7 +51,7 @@ fn byte_at(bytes: &[u8], i: i64) -> Called<'static>
     }
     match bytes.get(i as usize) {
         None => Called::Faults(Fault::Index),
-        Some(byte) => Called::Now(Worth::Int(i64::from(*byte))),
+        Some(byte) => Called::Now(ValueRef::Int(i64::from(*byte))),
     }
 }
 
@@ -65,7 +65,7 @@ fn slice_at(bytes: &[u8], i: i64, j: i64) -> Called<'_>
     if start > end || end > bytes.len() {
         return Called::Faults(Fault::Index);
     }
-    Called::Now(Worth::Bytes(&bytes[start..end]))
+    Called::Now(ValueRef::Bytes(&bytes[start..end]))
 }
 
 fn joined<'a>(a: &'a [u8], b: &'a [u8]) -> Called<'a>
@@ -74,7 +74,7 @@ fn joined<'a>(a: &'a [u8], b: &'a [u8]) -> Called<'a>
     if a.len() > BYTES_LIMIT || b.len() > BYTES_LIMIT - a.len() {
         return Called::Faults(Fault::Long);
     }
-    Called::Now(Worth::Joined(a, b))
+    Called::Now(ValueRef::Joined(a, b))
 }
 
 fn number_from(bytes: &[u8]) -> Called<'static>
@@ -82,7 +82,7 @@ fn number_from(bytes: &[u8]) -> Called<'static>
 {
     match read_int(bytes) {
         None => Called::Faults(Fault::Form),
-        Some(z) => Called::Now(Worth::Int(z)),
+        Some(z) => Called::Now(ValueRef::Int(z)),
     }
 }
 
@@ -90,11 +90,11 @@ fn own_label(v: &Value) -> Called<'_>
     ensures { calls_of result ≡ own_label v.now }
 {
     match v {
-        Value::Obj(name) => Called::Now(Worth::Lab(name.own())),
-        Value::Arr { name, .. } => Called::Now(Worth::Lab(name.own())),
-        Value::File(name) => Called::Now(Worth::Lab(name.own())),
-        Value::Dir(name) => Called::Now(Worth::Lab(name.own())),
-        Value::Pipe(name) => Called::Now(Worth::Lab(name.own())),
+        Value::Obj(name) => Called::Now(ValueRef::Lab(name.own())),
+        Value::Arr { name, .. } => Called::Now(ValueRef::Lab(name.own())),
+        Value::File(name) => Called::Now(ValueRef::Lab(name.own())),
+        Value::Dir(name) => Called::Now(ValueRef::Lab(name.own())),
+        Value::Pipe(name) => Called::Now(ValueRef::Lab(name.own())),
         _ => Called::Wrong,
     }
 }
@@ -103,8 +103,8 @@ fn copied<'a>(v: &'a Value, own: &'a Label) -> Called<'a>
     ensures { calls_of result ≡ copied v.now own.now }
 {
     match v {
-        Value::Obj(_) => Called::Asks(Sketch::CopyTo { r: v, own }),
-        Value::Arr { .. } => Called::Asks(Sketch::CopyTo { r: v, own }),
+        Value::Obj(_) => Called::Asks(AskRef::CopyTo { r: v, own }),
+        Value::Arr { .. } => Called::Asks(AskRef::CopyTo { r: v, own }),
         _ => Called::Wrong,
     }
 }
@@ -122,7 +122,7 @@ fn read_from(file: &Name, at: i64, n: i64) -> Called<'_>
     if n > BYTES_LIMIT as u64 {
         return Called::Faults(Fault::Long);
     }
-    Called::Asks(Sketch::FileRead { file, at, n })
+    Called::Asks(AskRef::FileRead { file, at, n })
 }
 
 fn cut_to(file: &Name, len: i64) -> Called<'_>
@@ -132,7 +132,7 @@ fn cut_to(file: &Name, len: i64) -> Called<'_>
         return Called::Faults(Fault::Index);
     }
     let len = len as u64;
-    Called::Acts(Sketch::Cut { file, len })
+    Called::Acts(AskRef::Cut { file, len })
 }
 
 fn send_into<'a>(pipe: &'a Name, bytes: &'a ByteText) -> Called<'a>
@@ -141,7 +141,7 @@ fn send_into<'a>(pipe: &'a Name, bytes: &'a ByteText) -> Called<'a>
     if bytes.bytes().len() > MESSAGE_LIMIT {
         return Called::Faults(Fault::Long);
     }
-    Called::Acts(Sketch::Send { pipe, bytes })
+    Called::Acts(AskRef::Send { pipe, bytes })
 }
 
 /// Without arguments.
@@ -149,10 +149,10 @@ fn of_none<'a>(label: &'a Label, caps: &'a Caps, b: Builtin) -> Called<'a>
     ensures { calls_of result ≡ calls label.now caps.now b [] }
 {
     match b {
-        Builtin::MyLabel => Called::Now(Worth::Lab(label)),
-        Builtin::MyCaps => Called::Now(Worth::Caps(caps)),
-        Builtin::Root => Called::Now(Worth::Root),
-        Builtin::Mint => Called::Asks(Sketch::Mint),
+        Builtin::MyLabel => Called::Now(ValueRef::Lab(label)),
+        Builtin::MyCaps => Called::Now(ValueRef::Caps(caps)),
+        Builtin::Root => Called::Now(ValueRef::Root),
+        Builtin::Mint => Called::Asks(AskRef::Mint),
         _ => Called::Wrong,
     }
 }
@@ -181,7 +181,7 @@ fn text(v: &Value) -> Called<'_>
     let Value::Int(i) = v else {
         return Called::Wrong;
     };
-    Called::Now(Worth::Text(*i))
+    Called::Now(ValueRef::Text(*i))
 }
 
 fn number(v: &Value) -> Called<'_>
@@ -199,7 +199,7 @@ fn say(v: &Value) -> Called<'_>
     let Value::Bytes(bytes) = v else {
         return Called::Wrong;
     };
-    Called::Acts(Sketch::Say { bytes })
+    Called::Acts(AskRef::Say { bytes })
 }
 
 fn length(v: &Value) -> Called<'_>
@@ -208,7 +208,7 @@ fn length(v: &Value) -> Called<'_>
     let Value::File(file) = v else {
         return Called::Wrong;
     };
-    Called::Asks(Sketch::FileLength { file })
+    Called::Asks(AskRef::FileLength { file })
 }
 
 fn make_pipe(v: &Value) -> Called<'_>
@@ -217,7 +217,7 @@ fn make_pipe(v: &Value) -> Called<'_>
     let Value::Lab(own) = v else {
         return Called::Wrong;
     };
-    Called::Asks(Sketch::MakePipe { own })
+    Called::Asks(AskRef::MakePipe { own })
 }
 
 fn receive(v: &Value) -> Called<'_>
@@ -226,7 +226,7 @@ fn receive(v: &Value) -> Called<'_>
     let Value::Pipe(pipe) = v else {
         return Called::Wrong;
     };
-    Called::Asks(Sketch::Receive { pipe })
+    Called::Asks(AskRef::Receive { pipe })
 }
 
 fn receive_caps(v: &Value) -> Called<'_>
@@ -235,7 +235,7 @@ fn receive_caps(v: &Value) -> Called<'_>
     let Value::Pipe(pipe) = v else {
         return Called::Wrong;
     };
-    Called::Asks(Sketch::ReceiveCaps { pipe })
+    Called::Asks(AskRef::ReceiveCaps { pipe })
 }
 
 fn join(v: &Value) -> Called<'_>
@@ -244,7 +244,7 @@ fn join(v: &Value) -> Called<'_>
     let Value::Thread(thread) = v else {
         return Called::Wrong;
     };
-    Called::Asks(Sketch::Join { thread: *thread })
+    Called::Asks(AskRef::Join { thread: *thread })
 }
 
 fn byte<'a>(v: &'a Value, w: &'a Value) -> Called<'a>
@@ -289,7 +289,7 @@ fn open_file<'a>(v: &'a Value, w: &'a Value) -> Called<'a>
     let Value::Bytes(entry) = w else {
         return Called::Wrong;
     };
-    Called::Asks(Sketch::OpenFile { dir, entry })
+    Called::Asks(AskRef::OpenFile { dir, entry })
 }
 
 fn open_dir<'a>(v: &'a Value, w: &'a Value) -> Called<'a>
@@ -301,7 +301,7 @@ fn open_dir<'a>(v: &'a Value, w: &'a Value) -> Called<'a>
     let Value::Bytes(entry) = w else {
         return Called::Wrong;
     };
-    Called::Asks(Sketch::OpenDir { dir, entry })
+    Called::Asks(AskRef::OpenDir { dir, entry })
 }
 
 fn remove<'a>(v: &'a Value, w: &'a Value) -> Called<'a>
@@ -313,7 +313,7 @@ fn remove<'a>(v: &'a Value, w: &'a Value) -> Called<'a>
     let Value::Bytes(entry) = w else {
         return Called::Wrong;
     };
-    Called::Acts(Sketch::Remove { dir, entry })
+    Called::Acts(AskRef::Remove { dir, entry })
 }
 
 fn append<'a>(v: &'a Value, w: &'a Value) -> Called<'a>
@@ -325,7 +325,7 @@ fn append<'a>(v: &'a Value, w: &'a Value) -> Called<'a>
     let Value::Bytes(bytes) = w else {
         return Called::Wrong;
     };
-    Called::Acts(Sketch::Append { file, bytes })
+    Called::Acts(AskRef::Append { file, bytes })
 }
 
 fn cut<'a>(v: &'a Value, w: &'a Value) -> Called<'a>
@@ -361,7 +361,7 @@ fn send_caps<'a>(v: &'a Value, w: &'a Value) -> Called<'a>
     let Value::CapV { plus, minus } = w else {
         return Called::Wrong;
     };
-    Called::Acts(Sketch::SendCaps { pipe, plus, minus })
+    Called::Acts(AskRef::SendCaps { pipe, plus, minus })
 }
 
 fn slice<'a>(v: &'a Value, w: &'a Value, x: &'a Value) -> Called<'a>
@@ -391,7 +391,7 @@ fn make_file<'a>(v: &'a Value, w: &'a Value, x: &'a Value) -> Called<'a>
     let Value::Lab(own) = x else {
         return Called::Wrong;
     };
-    Called::Asks(Sketch::MakeFile { dir, entry, own })
+    Called::Asks(AskRef::MakeFile { dir, entry, own })
 }
 
 fn make_dir<'a>(v: &'a Value, w: &'a Value, x: &'a Value) -> Called<'a>
@@ -406,7 +406,7 @@ fn make_dir<'a>(v: &'a Value, w: &'a Value, x: &'a Value) -> Called<'a>
     let Value::Lab(own) = x else {
         return Called::Wrong;
     };
-    Called::Asks(Sketch::MakeDir { dir, entry, own })
+    Called::Asks(AskRef::MakeDir { dir, entry, own })
 }
 
 fn read<'a>(v: &'a Value, w: &'a Value, x: &'a Value) -> Called<'a>
@@ -502,26 +502,26 @@ pub fn builtin<'a>(label: &'a Label, caps: &'a Caps, b: Builtin, args: &'a [Valu
 }
 
 /// A built-in call with the arguments on top, at a label with capabilities.
-pub fn system<'a>(stack: &'a Operands, label: &'a Label, caps: &'a Caps, b: Builtin) -> Sight<'a>
+pub fn system<'a>(stack: &'a Operands, label: &'a Label, caps: &'a Caps, b: Builtin) -> OpEffect<'a>
     ensures { (locals : List Value) → did_of result locals stack.now ≡ systems label.now caps.now b stack.now }
 {
     let takes = b.arity();
     let Some(args) = stack.last_many(takes) else {
-        return Sight::Breaks;
+        return OpEffect::Breaks;
     };
     match builtin(label, caps, b, args) {
-        Called::Now(worth) => Sight::Puts { takes, worth },
-        Called::Faults(fault) => Sight::Fails(fault),
-        Called::Asks(ask) => Sight::Asks {
+        Called::Now(value_ref) => OpEffect::Puts { takes, value_ref },
+        Called::Faults(fault) => OpEffect::Fails(fault),
+        Called::Asks(ask) => OpEffect::Asks {
             ask,
             takes,
             leaves_null: false,
         },
-        Called::Acts(ask) => Sight::Asks {
+        Called::Acts(ask) => OpEffect::Asks {
             ask,
             takes,
             leaves_null: true,
         },
-        Called::Wrong => Sight::Breaks,
+        Called::Wrong => OpEffect::Breaks,
     }
 }

@@ -25,45 +25,45 @@ use Rattle.thread_steps.specs.Ops.{Did, gives, sets, jumps, calls, returns, fail
 use Rattle.lam_asks.specs.declared.fault.Fault.TheVariants as fault
 use Rattle.thread_core_effects.specs.declared.acted.Computed.{Computed}
 use Rattle.thread_core_effects.specs.declared.acted.Computed.TheVariants as computed
-use Rattle.thread_core_effects.specs.declared.acted.Sketch.{Sketch}
-use Rattle.thread_core_effects.specs.declared.acted.Sketch.TheVariants as sketch
-use Rattle.thread_core_effects.specs.declared.acted.Worth.{Worth}
-use Rattle.thread_core_effects.specs.declared.acted.Worth.TheVariants as worth
+use Rattle.thread_core_effects.specs.declared.acted.AskRef.{AskRef}
+use Rattle.thread_core_effects.specs.declared.acted.AskRef.TheVariants as ask_ref
+use Rattle.thread_core_effects.specs.declared.acted.ValueRef.{ValueRef}
+use Rattle.thread_core_effects.specs.declared.acted.ValueRef.TheVariants as value_ref
 use Rattle.thread_core_effects.specs.declared.acted.Called.{Called}
 use Rattle.thread_core_effects.specs.declared.acted.Called.TheVariants as calling
-use Rattle.thread_core_effects.specs.declared.acted.Sight.{Sight}
-use Rattle.thread_core_effects.specs.declared.acted.Sight.TheVariants as sight
+use Rattle.thread_core_effects.specs.declared.acted.OpEffect.{OpEffect}
+use Rattle.thread_core_effects.specs.declared.acted.OpEffect.TheVariants as op_effect
 
 -- ---- asks and values whose parts are borrowed
 
-abbrev pub ask_of : Sketch → Ask
-ask_of (sketch.Read r at) = ask.Read r.now at
-ask_of (sketch.Write r at v) = ask.Write r.now at v.now
-ask_of (sketch.NewObject class kinds) = ask.New (shape.Class class (map zero_of kinds.now))
-ask_of (sketch.NewArray kind len) = ask.New (shape.Array kind len)
-ask_of (sketch.CopyTo r own) = ask.CopyTo r.now own.now
-ask_of sketch.Mint = ask.Mint
-ask_of (sketch.Enter label plus minus region args) = ask.Enter label.now (record { plus = plus.now; minus = minus.now }) region args.now
-ask_of (sketch.Barred denied) = ask.Barred denied
-ask_of (sketch.MonEnter r) = ask.MonEnter r.now
-ask_of (sketch.MonLeave r) = ask.MonLeave r.now
-ask_of (sketch.MakeFile dir entry own) = ask.MakeFile dir.now entry.now own.now
-ask_of (sketch.MakeDir dir entry own) = ask.MakeDir dir.now entry.now own.now
-ask_of (sketch.OpenFile dir entry) = ask.OpenFile dir.now entry.now
-ask_of (sketch.OpenDir dir entry) = ask.OpenDir dir.now entry.now
-ask_of (sketch.Remove dir entry) = ask.Remove dir.now entry.now
-ask_of (sketch.FileRead file at n) = ask.FileRead file.now at n
-ask_of (sketch.FileLength file) = ask.FileLength file.now
-ask_of (sketch.Append file bytes) = ask.Append file.now bytes.now
-ask_of (sketch.Cut file len) = ask.Cut file.now len
-ask_of (sketch.MakePipe own) = ask.MakePipe own.now
-ask_of (sketch.Send pipe bytes) = ask.Send pipe.now bytes.now
-ask_of (sketch.SendCaps pipe plus minus) = ask.SendCaps pipe.now (record { plus = plus.now; minus = minus.now })
-ask_of (sketch.Receive pipe) = ask.Receive pipe.now
-ask_of (sketch.ReceiveCaps pipe) = ask.ReceiveCaps pipe.now
-ask_of (sketch.Spawn unit args plus minus) = ask.Spawn unit args.now (record { plus = plus.now; minus = minus.now })
-ask_of (sketch.Join thread) = ask.Join thread
-ask_of (sketch.Say bytes) = ask.Say bytes.now
+abbrev pub ask_of : AskRef → Ask
+ask_of (ask_ref.Read r at) = ask.Read r.now at
+ask_of (ask_ref.Write r at v) = ask.Write r.now at v.now
+ask_of (ask_ref.NewObject class kinds) = ask.New (shape.Class class (map zero_of kinds.now))
+ask_of (ask_ref.NewArray kind len) = ask.New (shape.Array kind len)
+ask_of (ask_ref.CopyTo r own) = ask.CopyTo r.now own.now
+ask_of ask_ref.Mint = ask.Mint
+ask_of (ask_ref.Enter label plus minus region args) = ask.Enter label.now (record { plus = plus.now; minus = minus.now }) region args.now
+ask_of (ask_ref.Barred denied) = ask.Barred denied
+ask_of (ask_ref.MonEnter r) = ask.MonEnter r.now
+ask_of (ask_ref.MonLeave r) = ask.MonLeave r.now
+ask_of (ask_ref.MakeFile dir entry own) = ask.MakeFile dir.now entry.now own.now
+ask_of (ask_ref.MakeDir dir entry own) = ask.MakeDir dir.now entry.now own.now
+ask_of (ask_ref.OpenFile dir entry) = ask.OpenFile dir.now entry.now
+ask_of (ask_ref.OpenDir dir entry) = ask.OpenDir dir.now entry.now
+ask_of (ask_ref.Remove dir entry) = ask.Remove dir.now entry.now
+ask_of (ask_ref.FileRead file at n) = ask.FileRead file.now at n
+ask_of (ask_ref.FileLength file) = ask.FileLength file.now
+ask_of (ask_ref.Append file bytes) = ask.Append file.now bytes.now
+ask_of (ask_ref.Cut file len) = ask.Cut file.now len
+ask_of (ask_ref.MakePipe own) = ask.MakePipe own.now
+ask_of (ask_ref.Send pipe bytes) = ask.Send pipe.now bytes.now
+ask_of (ask_ref.SendCaps pipe plus minus) = ask.SendCaps pipe.now (record { plus = plus.now; minus = minus.now })
+ask_of (ask_ref.Receive pipe) = ask.Receive pipe.now
+ask_of (ask_ref.ReceiveCaps pipe) = ask.ReceiveCaps pipe.now
+ask_of (ask_ref.Spawn unit args plus minus) = ask.Spawn unit args.now (record { plus = plus.now; minus = minus.now })
+ask_of (ask_ref.Join thread) = ask.Join thread
+ask_of (ask_ref.Say bytes) = ask.Say bytes.now
 
 -- the tags among values
 abbrev pub tag_list : List Value → List ℕ
@@ -75,19 +75,19 @@ abbrev pub signed : Bool → Tags → Tags → ℕ → Value
 signed true p m t = value.CapV (insert p t) m
 signed false p m t = value.CapV p (insert m t)
 
-abbrev pub value_of : Worth → Value
-value_of (worth.Int n) = value.Int n
-value_of (worth.Bool b) = value.Bool b
-value_of (worth.Same v) = v.now
-value_of (worth.Bytes bytes) = value.Bytes bytes.now
-value_of (worth.Joined a b) = value.Bytes (a.now ++ b.now)
-value_of (worth.Text n) = value.Bytes (signed_decimal n)
-value_of (worth.Lab label) = value.Lab label.now
-value_of (worth.OfTags secrets vouchers) = value.Lab (record { s = from_list (tag_list secrets.now); i = from_list (tag_list vouchers.now) })
-value_of (worth.Caps caps) = value.CapV caps.now.plus caps.now.minus
-value_of worth.NoCaps = value.CapV no_caps.plus no_caps.minus
-value_of (worth.Signed sign plus minus tag) = signed sign plus.now minus.now tag
-value_of worth.Root = value.Dir root_name
+abbrev pub value_of : ValueRef → Value
+value_of (value_ref.Int n) = value.Int n
+value_of (value_ref.Bool b) = value.Bool b
+value_of (value_ref.Same v) = v.now
+value_of (value_ref.Bytes bytes) = value.Bytes bytes.now
+value_of (value_ref.Joined a b) = value.Bytes (a.now ++ b.now)
+value_of (value_ref.Text n) = value.Bytes (signed_decimal n)
+value_of (value_ref.Lab label) = value.Lab label.now
+value_of (value_ref.OfTags secrets vouchers) = value.Lab (record { s = from_list (tag_list secrets.now); i = from_list (tag_list vouchers.now) })
+value_of (value_ref.Caps caps) = value.CapV caps.now.plus caps.now.minus
+value_of value_ref.NoCaps = value.CapV no_caps.plus no_caps.minus
+value_of (value_ref.Signed sign plus minus tag) = signed sign plus.now minus.now tag
+value_of value_ref.Root = value.Dir root_name
 
 -- what an operator gives
 abbrev pub pure_of : Computed → Pure
@@ -108,17 +108,17 @@ left_over takes true s = value.Nothing ∷ drop takes s
 left_over takes false s = drop takes s
 
 -- what an operation does to the locals and the operands, as it was seen
-abbrev pub did_of : Sight → List Value → List Value → Did
-did_of (sight.Drops takes) locals s = gives (drop takes s)
-did_of (sight.Puts takes w) locals s = gives (value_of w ∷ drop takes s)
-did_of (sight.Sets local) locals s = on_any s (λ v s. sets (slice_set locals local v) s)
-did_of (sight.Jumps to takes) locals s = jumps to (drop takes s)
-did_of (sight.Calls unit count) locals s = calls unit (reverse (take count s)) (drop count s)
-did_of sight.Returns locals s = on_any s (λ v s. returns v)
-did_of (sight.Fails f) locals s = fails f
-did_of (sight.Asks k takes leaves_null) locals s = wants (ask_of k) (left_over takes leaves_null s)
-did_of sight.Leaves locals s = leaves
-did_of sight.Breaks locals s = breaks
+abbrev pub did_of : OpEffect → List Value → List Value → Did
+did_of (op_effect.Drops takes) locals s = gives (drop takes s)
+did_of (op_effect.Puts takes w) locals s = gives (value_of w ∷ drop takes s)
+did_of (op_effect.Sets local) locals s = on_any s (λ v s. sets (slice_set locals local v) s)
+did_of (op_effect.Jumps to takes) locals s = jumps to (drop takes s)
+did_of (op_effect.Calls unit count) locals s = calls unit (reverse (take count s)) (drop count s)
+did_of op_effect.Returns locals s = on_any s (λ v s. returns v)
+did_of (op_effect.Fails f) locals s = fails f
+did_of (op_effect.Asks k takes leaves_null) locals s = wants (ask_of k) (left_over takes leaves_null s)
+did_of op_effect.Leaves locals s = leaves
+did_of op_effect.Breaks locals s = breaks
 
 -- ---- operations
 

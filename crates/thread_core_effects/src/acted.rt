@@ -7,7 +7,7 @@ use lam_value::{ByteText, Kind, Name, Value};
 
 /// An ask, its parts where they stand. It takes no memory.
 #[derive(Clone, Copy)]
-pub enum Sketch<'a> {
+pub enum AskRef<'a> {
     Read {
         r: &'a Value,
         at: u64,
@@ -116,7 +116,7 @@ pub enum Sketch<'a> {
 
 /// A value, its parts where they stand. It takes no memory.
 #[derive(Clone, Copy)]
-pub enum Worth<'a> {
+pub enum ValueRef<'a> {
     Int(i64),
     Bool(bool),
     /// A value as it stands.
@@ -149,7 +149,7 @@ pub enum Worth<'a> {
 /// What an operator gives.
 #[derive(Clone, Copy)]
 pub enum Computed<'a> {
-    Fine(Worth<'a>),
+    Fine(ValueRef<'a>),
     Faults(Fault),
     /// An operand is of another kind.
     Wrong,
@@ -159,19 +159,19 @@ pub enum Computed<'a> {
 #[derive(Clone, Copy)]
 pub enum Called<'a> {
     /// It has a value at once.
-    Now(Worth<'a>),
+    Now(ValueRef<'a>),
     Faults(Fault),
     /// It asks, and the answer's value is its result.
-    Asks(Sketch<'a>),
+    Asks(AskRef<'a>),
     /// It asks, and has no result.
-    Acts(Sketch<'a>),
+    Acts(AskRef<'a>),
     /// Arguments of another number or kind.
     Wrong,
 }
 
 /// What an operation does, before it is done. It takes no memory.
 #[derive(Clone, Copy)]
-pub enum Sight<'a> {
+pub enum OpEffect<'a> {
     /// It takes so many operands away.
     Drops {
         takes: usize,
@@ -179,7 +179,7 @@ pub enum Sight<'a> {
     /// It puts a value in the place of so many operands.
     Puts {
         takes: usize,
-        worth: Worth<'a>,
+        value_ref: ValueRef<'a>,
     },
     /// It puts the top operand into a local.
     Sets {
@@ -201,7 +201,7 @@ pub enum Sight<'a> {
     Fails(Fault),
     /// It asks. It takes so many operands, and leaves null in the answer's place where there is no value.
     Asks {
-        ask: Sketch<'a>,
+        ask: AskRef<'a>,
         takes: usize,
         leaves_null: bool,
     },

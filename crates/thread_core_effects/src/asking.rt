@@ -7,13 +7,12 @@ ghost use Rattle.lam_value.specs.Shapes.{zero_of};
 ghost use Rattle.thread_steps.specs.Builtins.{root_name};
 ghost use Rattle.thread_core_effects.specs.Acting.{ask_of, value_of, signed, tag_list};
 
-use crate::acted::{Sketch, Worth};
-use crate::both::both;
+use crate::acted::{AskRef, ValueRef};
 use crate::reading::tag_in;
 use capabilities::Caps;
 use decimal_text::push_int_bytes;
 use flow_labels::{Label, TagId, TagSet};
-use lam_asks::Ask;
+use lam_asks::{Ask, both};
 use lam_value::{ByteText, Kind, Name, Shape, Value, Values};
 use std::alloc::Global;
 use thread_core_state::listed;
@@ -222,53 +221,53 @@ fn mon_leave(r: &Value) -> Result<Ask, NoMemory>
 /// # Errors
 ///
 /// `NoMemory` where memory is refused.
-pub fn ask_from(alloc: Global, sketch: &Sketch<'_>) -> Result<Ask, NoMemory>
-    ensures { IfOk result (λ a. a ≡ ask_of sketch.now) }
+pub fn ask_from(alloc: Global, ask_ref: &AskRef<'_>) -> Result<Ask, NoMemory>
+    ensures { IfOk result (λ a. a ≡ ask_of ask_ref.now) }
 {
-    match sketch {
-        Sketch::Read { r, at } => read(r, *at),
-        Sketch::Write { r, at, v } => write(r, *at, v),
-        Sketch::NewObject { class, kinds } => new_object(alloc, *class, kinds),
-        Sketch::NewArray { kind, len } => Ok(Ask::New {
+    match ask_ref {
+        AskRef::Read { r, at } => read(r, *at),
+        AskRef::Write { r, at, v } => write(r, *at, v),
+        AskRef::NewObject { class, kinds } => new_object(alloc, *class, kinds),
+        AskRef::NewArray { kind, len } => Ok(Ask::New {
             shape: Shape::Array {
                 kind: *kind,
                 len: *len,
             },
         }),
-        Sketch::CopyTo { r, own } => copy_to(r, own),
-        Sketch::Mint => Ok(Ask::Mint),
-        Sketch::Enter {
+        AskRef::CopyTo { r, own } => copy_to(r, own),
+        AskRef::Mint => Ok(Ask::Mint),
+        AskRef::Enter {
             label,
             plus,
             minus,
             region,
             args,
         } => enter(label, plus, minus, *region, args),
-        Sketch::Barred(denied) => Ok(Ask::Barred(*denied)),
-        Sketch::MonEnter { r } => mon_enter(r),
-        Sketch::MonLeave { r } => mon_leave(r),
-        Sketch::Spawn {
+        AskRef::Barred(denied) => Ok(Ask::Barred(*denied)),
+        AskRef::MonEnter { r } => mon_enter(r),
+        AskRef::MonLeave { r } => mon_leave(r),
+        AskRef::Spawn {
             unit,
             args,
             plus,
             minus,
         } => spawn(alloc, *unit, args, plus, minus),
-        Sketch::Join { thread } => Ok(Ask::Join { thread: *thread }),
-        Sketch::MakeFile { dir, entry, own } => make_file(dir, entry, own),
-        Sketch::MakeDir { dir, entry, own } => make_dir(dir, entry, own),
-        Sketch::OpenFile { dir, entry } => open_file(dir, entry),
-        Sketch::OpenDir { dir, entry } => open_dir(dir, entry),
-        Sketch::Remove { dir, entry } => remove(dir, entry),
-        Sketch::FileRead { file, at, n } => file_read(file, *at, *n),
-        Sketch::FileLength { file } => file_length(file),
-        Sketch::Append { file, bytes } => append(file, bytes),
-        Sketch::Cut { file, len } => cut(file, *len),
-        Sketch::MakePipe { own } => make_pipe(own),
-        Sketch::Send { pipe, bytes } => send(pipe, bytes),
-        Sketch::SendCaps { pipe, plus, minus } => send_caps(pipe, plus, minus),
-        Sketch::Receive { pipe } => receive(pipe),
-        Sketch::ReceiveCaps { pipe } => receive_caps(pipe),
-        Sketch::Say { bytes } => say(bytes),
+        AskRef::Join { thread } => Ok(Ask::Join { thread: *thread }),
+        AskRef::MakeFile { dir, entry, own } => make_file(dir, entry, own),
+        AskRef::MakeDir { dir, entry, own } => make_dir(dir, entry, own),
+        AskRef::OpenFile { dir, entry } => open_file(dir, entry),
+        AskRef::OpenDir { dir, entry } => open_dir(dir, entry),
+        AskRef::Remove { dir, entry } => remove(dir, entry),
+        AskRef::FileRead { file, at, n } => file_read(file, *at, *n),
+        AskRef::FileLength { file } => file_length(file),
+        AskRef::Append { file, bytes } => append(file, bytes),
+        AskRef::Cut { file, len } => cut(file, *len),
+        AskRef::MakePipe { own } => make_pipe(own),
+        AskRef::Send { pipe, bytes } => send(pipe, bytes),
+        AskRef::SendCaps { pipe, plus, minus } => send_caps(pipe, plus, minus),
+        AskRef::Receive { pipe } => receive(pipe),
+        AskRef::ReceiveCaps { pipe } => receive_caps(pipe),
+        AskRef::Say { bytes } => say(bytes),
     }
 }
 
@@ -365,29 +364,29 @@ fn root(alloc: Global) -> Result<Value, NoMemory>
 /// # Errors
 ///
 /// `NoMemory` where memory is refused.
-pub fn value_from(alloc: Global, worth: &Worth<'_>) -> Result<Value, NoMemory>
-    ensures { IfOk result (λ v. v ≡ value_of worth.now) }
+pub fn value_from(alloc: Global, value_ref: &ValueRef<'_>) -> Result<Value, NoMemory>
+    ensures { IfOk result (λ v. v ≡ value_of value_ref.now) }
 {
-    match worth {
-        Worth::Int(n) => Ok(Value::Int(*n)),
-        Worth::Bool(b) => Ok(Value::Bool(*b)),
-        Worth::Same(v) => v.copy(),
-        Worth::Bytes(bytes) => copied(alloc, bytes),
-        Worth::Joined(a, b) => joined(alloc, a, b),
-        Worth::Text(n) => text_of(alloc, *n),
-        Worth::Lab(label) => label_value(label),
-        Worth::OfTags { secrets, vouchers } => label_of(alloc, secrets, vouchers),
-        Worth::Caps(caps) => caps_value(caps),
-        Worth::NoCaps => Ok(Value::CapV {
+    match value_ref {
+        ValueRef::Int(n) => Ok(Value::Int(*n)),
+        ValueRef::Bool(b) => Ok(Value::Bool(*b)),
+        ValueRef::Same(v) => v.copy(),
+        ValueRef::Bytes(bytes) => copied(alloc, bytes),
+        ValueRef::Joined(a, b) => joined(alloc, a, b),
+        ValueRef::Text(n) => text_of(alloc, *n),
+        ValueRef::Lab(label) => label_value(label),
+        ValueRef::OfTags { secrets, vouchers } => label_of(alloc, secrets, vouchers),
+        ValueRef::Caps(caps) => caps_value(caps),
+        ValueRef::NoCaps => Ok(Value::CapV {
             plus: TagSet::empty(alloc),
             minus: TagSet::empty(alloc),
         }),
-        Worth::Signed {
+        ValueRef::Signed {
             sign,
             plus,
             minus,
             tag,
         } => signed(*sign, plus, minus, *tag),
-        Worth::Root => root(alloc),
+        ValueRef::Root => root(alloc),
     }
 }

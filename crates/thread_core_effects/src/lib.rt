@@ -1,18 +1,17 @@
-//! What an operation does, seen before it is done: the types of sights, and what is made of them.
+//! What an operation does, seen before it is done: the types of effects, and what is made of them.
 //!
-//! A [`Sight`] says exactly what an operation does to the acting call, as its definition says (`did_of`), with the parts
+//! An [`OpEffect`] says exactly what an operation does to the acting call, as its definition says (`did_of`), with the parts
 //! of values and asks where they stand. It takes no memory. [`value_from`] and [`ask_from`] make a value or an ask of
-//! its parts, which they copy. The crates above give the sight of each operation: `thread_core_calls` those of built-in
+//! its parts, which they copy. The crates above give the effect of each operation: `thread_core_calls` those of built-in
 //! calls, `thread_core_ops` all others.
 #![tactic(auto)]
 
 mod acted;
 mod asking;
-mod both;
 mod equal;
 mod reading;
 
-pub use acted::{Called, Computed, Sight, Sketch, Worth};
+pub use acted::{AskRef, Called, Computed, OpEffect, ValueRef};
 pub use asking::{ask_from, value_from};
 pub use equal::{same_names, same_values};
 pub use reading::{is_null, number_in, some_null, tag_in, thing_in, truth_in};

@@ -1,8 +1,8 @@
 -- So many operands from the top.
 use Rattle.std.proofs.Common.{◌≡◌, ℕ, ◌+◌, ◌-◌, ◌<◌, ◌≤◌, Bool, true, false, cond, List, [], ◌∷◌, ◌++◌, length, take, drop, reverse, Option, Some, None, sym, ap, ◌∙◌, refl, arith}
-use Rattle.std.specs.Prelude.{nat_le, ◌&&◌, ◌||◌, is_some}
+use Rattle.std.specs.Prelude.{◌&&◌, ◌||◌, is_some}
 use Rattle.std.specs.FinSet.{from_list}
-use Rattle.std.proofs.lemmas.Bool.{le-leb, lt-leb, leb-true}
+use Rattle.std.proofs.lemmas.Bool.{le-leb, lt-leb}
 use Rattle.std.proofs.lemmas.List.{reverse-append, length-reverse, length-take-le, length-drop, take-append-drop, take-take, take_at, drop_at, drop-drop, drop-take}
 use Rattle.lam_value.specs.declared.values.Value.{Value}
 use Rattle.lam_value.specs.declared.values.Value.TheVariants.{Lab}
@@ -91,16 +91,6 @@ labelled_fits p q s h =
     ∙ (ap (λ l. operated l (label_from (reverse (take p (drop q s))) (reverse (take q s)))) d
     ∙ (ap (λ l. operated (drop (p + q) s) (label_from l (reverse (take q s)))) (sym x)
     ∙ ap (λ l. operated (drop (p + q) s) (label_from (take p (reverse (take (p + q) s))) l)) (sym y))))
-
-labelled_by : (p q : ℕ) (s : List Value) → length s < p + q → (a b : Bool) → nat_le q (length s) ≡ a → nat_le p (length (drop q s)) ≡ b → labelled p q s ≡ breaks
-labelled_by p q s h false b e f = ap (λ c. cond c (on_many p (drop q s) (λ secrets u. operated u (label_from secrets (reverse (take q s))))) breaks) e
-labelled_by p q s h true false e f =
-    ap (λ c. cond c (on_many p (drop q s) (λ secrets u. operated u (label_from secrets (reverse (take q s))))) breaks) e
-    ∙ ap (λ c. cond c (operated (drop p (drop q s)) (label_from (reverse (take p (drop q s))) (reverse (take q s)))) breaks) f
-labelled_by p q s h true true e f = absurd (omega (arith, leb-true q (length s) e, leb-true p (length (drop q s)) f, length-drop q s))
-
-pub labelled_short : (p q : ℕ) (s : List Value) → length s < p + q → labelled p q s ≡ breaks
-labelled_short p q s h = labelled_by p q s h (nat_le q (length s)) (nat_le p (length (drop q s))) refl refl
 
 pub made_label : (p q : ℕ) (s tags a b : List Value) (x : Pure) → p + q ≤ length s → tags ≡ reverse (take (p + q) s) → a ≡ take p tags → b ≡ drop p tags → x ≡ label_from a b
     → operated (drop (p + q) s) x ≡ labelled p q s

@@ -1,6 +1,6 @@
 //! What each operation does in the acting call of a context.
 //!
-//! [`see`] says of an operation what it does, before it is done: a `Sight`, exactly what the definition says, with the
+//! [`see`] says of an operation what it does, before it is done: an `OpEffect`, exactly what the definition says, with the
 //! parts of values and asks where they stand. It takes no memory and changes nothing, so the same answer serves to say
 //! how a thread stands, to ask, to act, and to know what is left of the operands when an ask was answered.
 //!
@@ -13,5 +13,5 @@ mod seeing;
 mod units;
 
 pub use operators::{label_from, operator, prefix, with_sign};
-pub use seeing::see;
+pub use seeing::{FRAMES_LIMIT, see};
 pub use units::{UnitAt, region_of};

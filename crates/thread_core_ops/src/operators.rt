@@ -12,13 +12,15 @@ ghost use Rattle.thread_core_effects.specs.Fitting.{number_if};
 use lam_asks::Fault;
 use lam_operators::{BinaryOp, UnaryOp};
 use lam_value::Value;
-use thread_core_effects::{Computed, Sight, Worth, number_in, same_values, some_null, tag_in};
+use thread_core_effects::{
+    Computed, OpEffect, ValueRef, number_in, same_values, some_null, tag_in,
+};
 use thread_core_state::Operands;
 
 fn truth(b: bool) -> Computed<'static>
-    ensures { result ≡ Computed.Fine (Worth.Bool b) }
+    ensures { result ≡ Computed.Fine (ValueRef.Bool b) }
 {
-    Computed::Fine(Worth::Bool(b))
+    Computed::Fine(ValueRef::Bool(b))
 }
 
 /// A number of 64 bits, or Overflow.
@@ -26,7 +28,7 @@ fn number(n: Option<i64>) -> Computed<'static>
     ensures { pure_of result ≡ number_if n }
 {
     match n {
-        Some(n) => Computed::Fine(Worth::Int(n)),
+        Some(n) => Computed::Fine(ValueRef::Int(n)),
         None => Computed::Faults(Fault::Overflow),
     }
 }
@@ -46,7 +48,7 @@ fn remainder(a: i64, b: i64) -> Computed<'static>
     if b == 0 {
         return Computed::Faults(Fault::Zero);
     }
-    Computed::Fine(Worth::Int(a.wrapping_rem(b)))
+    Computed::Fine(ValueRef::Int(a.wrapping_rem(b)))
 }
 
 fn sum(a: i64, b: i64) -> Computed<'static>
@@ -125,33 +127,39 @@ pub fn prefix(op: UnaryOp, v: &Value) -> Computed<'static>
 }
 
 /// An operator between the two top operands.
-pub fn between(op: BinaryOp, stack: &Operands) -> Sight<'_>
+pub fn between(op: BinaryOp, stack: &Operands) -> OpEffect<'_>
     ensures { (locals : List Value) → did_of result locals stack.now ≡ between op stack.now }
 {
     let Some(w) = stack.get(0) else {
-        return Sight::Breaks;
+        return OpEffect::Breaks;
     };
     let Some(v) = stack.get(1) else {
-        return Sight::Breaks;
+        return OpEffect::Breaks;
     };
     match operator(op, v, w) {
-        Computed::Fine(worth) => Sight::Puts { takes: 2, worth },
-        Computed::Faults(fault) => Sight::Fails(fault),
-        Computed::Wrong => Sight::Breaks,
+        Computed::Fine(value_ref) => OpEffect::Puts {
+            takes: 2,
+            value_ref,
+        },
+        Computed::Faults(fault) => OpEffect::Fails(fault),
+        Computed::Wrong => OpEffect::Breaks,
     }
 }
 
 /// An operator before the top operand.
-pub fn before(op: UnaryOp, stack: &Operands) -> Sight<'_>
+pub fn before(op: UnaryOp, stack: &Operands) -> OpEffect<'_>
     ensures { (locals : List Value) → did_of result locals stack.now ≡ before op stack.now }
 {
     let Some(v) = stack.get(0) else {
-        return Sight::Breaks;
+        return OpEffect::Breaks;
     };
     match prefix(op, v) {
-        Computed::Fine(worth) => Sight::Puts { takes: 1, worth },
-        Computed::Faults(fault) => Sight::Fails(fault),
-        Computed::Wrong => Sight::Breaks,
+        Computed::Fine(value_ref) => OpEffect::Puts {
+            takes: 1,
+            value_ref,
+        },
+        Computed::Faults(fault) => OpEffect::Fails(fault),
+        Computed::Wrong => OpEffect::Breaks,
     }
 }
 
@@ -188,7 +196,7 @@ pub fn label_from<'a>(secrets: &'a [Value], vouchers: &'a [Value]) -> Computed<'
         return Computed::Faults(Fault::Null);
     }
     if are_all_tags(secrets, vouchers) {
-        Computed::Fine(Worth::OfTags { secrets, vouchers })
+        Computed::Fine(ValueRef::OfTags { secrets, vouchers })
     } else {
         Computed::Wrong
     }
@@ -200,7 +208,7 @@ pub fn with_sign<'a>(sign: bool, c: &'a Value, t: &'a Value) -> Computed<'a>
 {
     match c {
         Value::CapV { plus, minus } => match t {
-            Value::Tag(tag) => Computed::Fine(Worth::Signed {
+            Value::Tag(tag) => Computed::Fine(ValueRef::Signed {
                 sign,
                 plus,
                 minus,
@@ -219,34 +227,37 @@ pub fn with_sign<'a>(sign: bool, c: &'a Value, t: &'a Value) -> Computed<'a>
 }
 
 /// The label of so many tags of secrecy and, above them, so many of integrity.
-pub fn make_label(stack: &Operands, secrecy: u32, integrity: u32) -> Sight<'_>
+pub fn make_label(stack: &Operands, secrecy: u32, integrity: u32) -> OpEffect<'_>
     ensures { (locals : List Value) → did_of result locals stack.now ≡ labelled secrecy integrity stack.now }
 {
     let takes = secrecy as usize + integrity as usize;
     let Some(tags) = stack.last_many(takes) else {
-        return Sight::Breaks;
+        return OpEffect::Breaks;
     };
     let (secrets, vouchers) = tags.split_at(secrecy as usize);
     match label_from(secrets, vouchers) {
-        Computed::Fine(worth) => Sight::Puts { takes, worth },
-        Computed::Faults(fault) => Sight::Fails(fault),
-        Computed::Wrong => Sight::Breaks,
+        Computed::Fine(value_ref) => OpEffect::Puts { takes, value_ref },
+        Computed::Faults(fault) => OpEffect::Fails(fault),
+        Computed::Wrong => OpEffect::Breaks,
     }
 }
 
 /// Capabilities and a tag above them, to capabilities with the tag's plus or its minus.
-pub fn add_cap(sign: bool, stack: &Operands) -> Sight<'_>
+pub fn add_cap(sign: bool, stack: &Operands) -> OpEffect<'_>
     ensures { (locals : List Value) → did_of result locals stack.now ≡ signs sign stack.now }
 {
     let Some(t) = stack.get(0) else {
-        return Sight::Breaks;
+        return OpEffect::Breaks;
     };
     let Some(c) = stack.get(1) else {
-        return Sight::Breaks;
+        return OpEffect::Breaks;
     };
     match with_sign(sign, c, t) {
-        Computed::Fine(worth) => Sight::Puts { takes: 2, worth },
-        Computed::Faults(fault) => Sight::Fails(fault),
-        Computed::Wrong => Sight::Breaks,
+        Computed::Fine(value_ref) => OpEffect::Puts {
+            takes: 2,
+            value_ref,
+        },
+        Computed::Faults(fault) => OpEffect::Fails(fault),
+        Computed::Wrong => OpEffect::Breaks,
     }
 }

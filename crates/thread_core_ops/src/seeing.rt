@@ -18,114 +18,114 @@ use thread_core_calls::{
     enter_monitor, get_element, get_field, leave_monitor, new_array, new_object, put_element,
     put_field, read_barrier, system, write_barrier,
 };
-use thread_core_effects::{Sight, Worth, number_in, truth_in};
+use thread_core_effects::{OpEffect, ValueRef, number_in, truth_in};
 use thread_core_state::{Context, Operands};
 
 /// How many calls may be open in a context.
-const FRAMES_LIMIT: usize = 256;
+pub const FRAMES_LIMIT: usize = 256;
 
 /// The value with a number, on top.
-fn given(values: &[Value], n: u32) -> Sight<'_>
+fn given(values: &[Value], n: u32) -> OpEffect<'_>
     ensures { (locals s : List Value) → did_of result locals s ≡ on_constant s (slice_get values.now n) }
 {
     match values.get(n as usize) {
-        None => Sight::Breaks,
-        Some(v) => Sight::Puts {
+        None => OpEffect::Breaks,
+        Some(v) => OpEffect::Puts {
             takes: 0,
-            worth: Worth::Same(v),
+            value_ref: ValueRef::Same(v),
         },
     }
 }
 
-fn store(stack: &Operands, locals: &[Value], n: u32) -> Sight<'static>
+fn store(stack: &Operands, locals: &[Value], n: u32) -> OpEffect<'static>
     ensures { did_of result locals.now stack.now ≡ on_any stack.now (λ v s. stores locals.now n v s) }
 {
     let local = n as usize;
     if stack.len() > 0 && local < locals.len() {
-        Sight::Sets { local }
+        OpEffect::Sets { local }
     } else {
-        Sight::Breaks
+        OpEffect::Breaks
     }
 }
 
-fn pop(stack: &Operands) -> Sight<'static>
+fn pop(stack: &Operands) -> OpEffect<'static>
     ensures { (locals : List Value) → did_of result locals stack.now ≡ on_any stack.now (λ v s. gives s) }
 {
     if stack.len() > 0 {
-        Sight::Drops { takes: 1 }
+        OpEffect::Drops { takes: 1 }
     } else {
-        Sight::Breaks
+        OpEffect::Breaks
     }
 }
 
 /// An address of the unit, which has so many operations.
-fn jump(size: usize, to: u32) -> Sight<'static>
+fn jump(size: usize, to: u32) -> OpEffect<'static>
     ensures { (locals s : List Value) → did_of result locals s ≡ at_address size to (jumps to s) }
 {
     let to = to as usize;
     if to < size {
-        Sight::Jumps { to, takes: 0 }
+        OpEffect::Jumps { to, takes: 0 }
     } else {
-        Sight::Breaks
+        OpEffect::Breaks
     }
 }
 
 /// An address of the unit, where the top operand is false. One that the unit does not have breaks whatever the operand is.
-fn jump_if_false(stack: &Operands, size: usize, to: u32) -> Sight<'static>
+fn jump_if_false(stack: &Operands, size: usize, to: u32) -> OpEffect<'static>
     ensures { (locals : List Value) → did_of result locals stack.now ≡ at_address size to (on_truth stack.now (λ b s. if b then gives s else jumps to s)) }
 {
     let to = to as usize;
     if to >= size {
-        return Sight::Breaks;
+        return OpEffect::Breaks;
     }
     let Some(v) = stack.get(0) else {
-        return Sight::Breaks;
+        return OpEffect::Breaks;
     };
     match truth_in(v) {
-        None => Sight::Breaks,
-        Some(true) => Sight::Drops { takes: 1 },
-        Some(false) => Sight::Jumps { to, takes: 1 },
+        None => OpEffect::Breaks,
+        Some(true) => OpEffect::Drops { takes: 1 },
+        Some(false) => OpEffect::Jumps { to, takes: 1 },
     }
 }
 
-fn call(stack: &Operands, units: &[CodeUnit], unit: u32, callers: usize) -> Sight<'static>
+fn call(stack: &Operands, units: &[CodeUnit], unit: u32, callers: usize) -> OpEffect<'static>
     ensures { (locals : List Value) → did_of result locals stack.now ≡ calls_unit units.now (callers + 1) unit stack.now }
 {
     let Some(count) = function_takes(units, unit) else {
-        return Sight::Breaks;
+        return OpEffect::Breaks;
     };
     if stack.len() < count {
-        return Sight::Breaks;
+        return OpEffect::Breaks;
     }
     if callers < FRAMES_LIMIT - 1 {
-        Sight::Calls {
+        OpEffect::Calls {
             unit: unit as usize,
             count,
         }
     } else {
-        Sight::Fails(Fault::Deep)
+        OpEffect::Fails(Fault::Deep)
     }
 }
 
-fn ret(stack: &Operands) -> Sight<'static>
+fn ret(stack: &Operands) -> OpEffect<'static>
     ensures { (locals : List Value) → did_of result locals stack.now ≡ on_any stack.now (λ v s. returns v) }
 {
     if stack.len() > 0 {
-        Sight::Returns
+        OpEffect::Returns
     } else {
-        Sight::Breaks
+        OpEffect::Breaks
     }
 }
 
-fn throw(stack: &Operands) -> Sight<'static>
+fn throw(stack: &Operands) -> OpEffect<'static>
     ensures { (locals : List Value) → did_of result locals stack.now ≡ on_int stack.now (λ n s. fails (fault.Thrown n)) }
 {
     let Some(v) = stack.get(0) else {
-        return Sight::Breaks;
+        return OpEffect::Breaks;
     };
     match number_in(v) {
-        None => Sight::Breaks,
-        Some(n) => Sight::Fails(Fault::Thrown(n)),
+        None => OpEffect::Breaks,
+        Some(n) => OpEffect::Fails(Fault::Thrown(n)),
     }
 }
 
@@ -141,7 +141,7 @@ fn size_of(code: &Code, unit: usize) -> usize
 
 /// What an operation does in the acting call of a context, exactly, where an access goes by the barrier before it.
 #[tactic(auto, unfolding(thread_steps::specs::Ops::effect, crate::specs::Untested::untested))]
-pub fn see<'a>(c: &'a Context, code: &'a Code, op: Op) -> Sight<'a>
+pub fn see<'a>(c: &'a Context, code: &'a Code, op: Op) -> OpEffect<'a>
     ensures { did_of result c.now.inside.frame.locals c.now.inside.frame.stack ≡ untested (around code.now c.now) c.now.inside.frame.stack op }
 {
     let stack = &c.stack;
@@ -177,9 +177,9 @@ pub fn see<'a>(c: &'a Context, code: &'a Code, op: Op) -> Sight<'a>
         Op::NewObject(class) => new_object(code.classes(), class),
         Op::NewArray(kind) => new_array(stack, kind),
         Op::MakeLabel { secrecy, integrity } => make_label(stack, secrecy, integrity),
-        Op::NoCaps => Sight::Puts {
+        Op::NoCaps => OpEffect::Puts {
             takes: 0,
-            worth: Worth::NoCaps,
+            value_ref: ValueRef::NoCaps,
         },
         Op::WithPlus => add_cap(true, stack),
         Op::WithMinus => add_cap(false, stack),
@@ -187,7 +187,7 @@ pub fn see<'a>(c: &'a Context, code: &'a Code, op: Op) -> Sight<'a>
         Op::EnterMonitor => enter_monitor(stack),
         Op::LeaveMonitor => leave_monitor(stack, c.held.as_slice()),
         Op::EnterRegion(region) => enter_region(stack, code, region),
-        Op::LeaveRegion => Sight::Leaves,
+        Op::LeaveRegion => OpEffect::Leaves,
         Op::Spawn(unit) => spawn(stack, code.units(), unit),
     }
 }

@@ -11,7 +11,7 @@ use flow_labels::TagSet;
 use lam_asks::Fault;
 use lam_bytecode::{Code, CodeUnit, UnitKind};
 use lam_value::Value;
-use thread_core_effects::{Sight, Sketch};
+use thread_core_effects::{AskRef, OpEffect};
 use thread_core_state::Operands;
 
 /// How many arguments the function with a number takes, `None` where there is no such function.
@@ -136,12 +136,12 @@ pub fn region_takes(code: &Code, region: u32) -> Option<u32>
 }
 
 /// Asks for a thread that runs a function, with a description of capabilities. It takes so many operands.
-fn spawning<'a>(unit: u32, args: &'a [Value], c: &'a Value, takes: usize) -> Sight<'a>
+fn spawning<'a>(unit: u32, args: &'a [Value], c: &'a Value, takes: usize) -> OpEffect<'a>
     ensures { (locals s rest : List Value) → drop takes s ≡ rest → did_of result locals s ≡ on_caps (c.now ∷ rest) (λ k t. wants (ask.Spawn unit args.now k) t) }
 {
     match c {
-        Value::CapV { plus, minus } => Sight::Asks {
-            ask: Sketch::Spawn {
+        Value::CapV { plus, minus } => OpEffect::Asks {
+            ask: AskRef::Spawn {
                 unit,
                 args,
                 plus,
@@ -150,8 +150,8 @@ fn spawning<'a>(unit: u32, args: &'a [Value], c: &'a Value, takes: usize) -> Sig
             takes,
             leaves_null: false,
         },
-        Value::Nothing => Sight::Fails(Fault::Null),
-        _ => Sight::Breaks,
+        Value::Nothing => OpEffect::Fails(Fault::Null),
+        _ => OpEffect::Breaks,
     }
 }
 
@@ -163,12 +163,12 @@ fn entering<'a>(
     minus: &'a TagSet,
     l: &'a Value,
     takes: usize,
-) -> Sight<'a>
+) -> OpEffect<'a>
     ensures { (locals s rest : List Value) → drop takes s ≡ rest → did_of result locals s ≡ on_label (l.now ∷ rest) (λ label t. wants (ask.Enter label (record { plus = plus.now; minus = minus.now }) region args.now) t) }
 {
     match l {
-        Value::Lab(label) => Sight::Asks {
-            ask: Sketch::Enter {
+        Value::Lab(label) => OpEffect::Asks {
+            ask: AskRef::Enter {
                 label,
                 plus,
                 minus,
@@ -178,8 +178,8 @@ fn entering<'a>(
             takes,
             leaves_null: false,
         },
-        Value::Nothing => Sight::Fails(Fault::Null),
-        _ => Sight::Breaks,
+        Value::Nothing => OpEffect::Fails(Fault::Null),
+        _ => OpEffect::Breaks,
     }
 }
 
@@ -193,31 +193,31 @@ fn after(stack: &Operands, below: usize) -> usize
 }
 
 /// Asks for a thread with arguments, above which so many operands stand.
-fn spawn_with<'a>(stack: &'a Operands, unit: u32, args: &'a [Value], count: usize) -> Sight<'a>
+fn spawn_with<'a>(stack: &'a Operands, unit: u32, args: &'a [Value], count: usize) -> OpEffect<'a>
     ensures { (locals : List Value) → did_of result locals stack.now ≡ spawns_with unit args.now (drop count stack.now) }
 {
     match stack.get(count) {
-        None => Sight::Breaks,
+        None => OpEffect::Breaks,
         Some(c) => spawning(unit, args, c, after(stack, count)),
     }
 }
 
 /// Asks for a thread that runs a function of so many parameters.
-fn spawn_many(stack: &Operands, unit: u32, count: usize) -> Sight<'_>
+fn spawn_many(stack: &Operands, unit: u32, count: usize) -> OpEffect<'_>
     ensures { (locals : List Value) → did_of result locals stack.now ≡ on_many count stack.now (λ args s. spawns_with unit args s) }
 {
     match stack.last_many(count) {
-        None => Sight::Breaks,
+        None => OpEffect::Breaks,
         Some(args) => spawn_with(stack, unit, args, count),
     }
 }
 
 /// Asks for a thread that runs a function, with the capabilities and the arguments that stand on top.
-pub fn spawn<'a>(stack: &'a Operands, units: &[CodeUnit], unit: u32) -> Sight<'a>
+pub fn spawn<'a>(stack: &'a Operands, units: &[CodeUnit], unit: u32) -> OpEffect<'a>
     ensures { (locals : List Value) → did_of result locals stack.now ≡ spawns units.now unit stack.now }
 {
     match function_takes(units, unit) {
-        None => Sight::Breaks,
+        None => OpEffect::Breaks,
         Some(count) => spawn_many(stack, unit, count),
     }
 }
@@ -230,11 +230,11 @@ fn enter_at<'a>(
     plus: &'a TagSet,
     minus: &'a TagSet,
     count: usize,
-) -> Sight<'a>
+) -> OpEffect<'a>
     ensures { (locals : List Value) → did_of result locals stack.now ≡ on_label (drop count stack.now) (λ label t. wants (ask.Enter label (record { plus = plus.now; minus = minus.now }) region args.now) t) }
 {
     match stack.get(count) {
-        None => Sight::Breaks,
+        None => OpEffect::Breaks,
         Some(l) => entering(region, args, plus, minus, l, after(stack, count)),
     }
 }
@@ -246,42 +246,42 @@ fn enter_by<'a>(
     args: &'a [Value],
     c: &'a Value,
     count: usize,
-) -> Sight<'a>
+) -> OpEffect<'a>
     ensures { (locals rest : List Value) → drop count stack.now ≡ rest → did_of result locals stack.now ≡ enters_with region args.now (c.now ∷ rest) }
 {
     match c {
         Value::CapV { plus, minus } => enter_at(stack, region, args, plus, minus, count),
-        Value::Nothing => Sight::Fails(Fault::Null),
-        _ => Sight::Breaks,
+        Value::Nothing => OpEffect::Fails(Fault::Null),
+        _ => OpEffect::Breaks,
     }
 }
 
 /// Asks that a region be entered with captures, above which so many operands stand.
-fn enter_with<'a>(stack: &'a Operands, region: u32, args: &'a [Value], count: usize) -> Sight<'a>
+fn enter_with<'a>(stack: &'a Operands, region: u32, args: &'a [Value], count: usize) -> OpEffect<'a>
     ensures { (locals : List Value) → did_of result locals stack.now ≡ enters_with region args.now (drop count stack.now) }
 {
     match stack.get(count) {
-        None => Sight::Breaks,
+        None => OpEffect::Breaks,
         Some(c) => enter_by(stack, region, args, c, after(stack, count)),
     }
 }
 
 /// Asks that a region be entered that captures so many locals.
-fn enter_many(stack: &Operands, region: u32, count: usize) -> Sight<'_>
+fn enter_many(stack: &Operands, region: u32, count: usize) -> OpEffect<'_>
     ensures { (locals : List Value) → did_of result locals stack.now ≡ on_many count stack.now (λ args s. enters_with region args s) }
 {
     match stack.last_many(count) {
-        None => Sight::Breaks,
+        None => OpEffect::Breaks,
         Some(args) => enter_with(stack, region, args, count),
     }
 }
 
 /// Asks that a region be entered, with the label, the capabilities and the captures that stand on top.
-pub fn enter_region<'a>(stack: &'a Operands, code: &Code, region: u32) -> Sight<'a>
+pub fn enter_region<'a>(stack: &'a Operands, code: &Code, region: u32) -> OpEffect<'a>
     ensures { (locals : List Value) → did_of result locals stack.now ≡ enters code.now.units region stack.now }
 {
     match region_takes(code, region) {
-        None => Sight::Breaks,
+        None => OpEffect::Breaks,
         Some(count) => enter_many(stack, region, count as usize),
     }
 }

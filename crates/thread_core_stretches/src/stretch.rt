@@ -1,7 +1,7 @@
 //! The type of stretches.
 
-ghost use Rattle.std.specs.Prelude.{◌≡◌, IfOk, OnErr};
-ghost use Rattle.thread_core_stretches.specs.Stretches.{StretchStands, begun, goes_further, further, IsFurther};
+ghost use Rattle.std.specs.Prelude.{◌≡◌, false, IfOk, OnOk, OnErr};
+ghost use Rattle.thread_core_stretches.specs.Stretches.{StretchStands, begun, goes_further, further, IsFurther, HasGone};
 
 use guarded_code::Verified;
 use thread_core::{Standing, go_on};
@@ -80,8 +80,11 @@ impl Stretch {
     ///
     /// # Errors
     ///
-    /// `NoMemory` where memory is refused; the stretch stands as far as it came.
+    /// `NoMemory` where memory is refused; the stretch then has the private turns that it took, and stands as far as it came.
+    #[tactic(auto, using(crate::proofs::Rows::none_gone, crate::proofs::Rows::one_gone, crate::proofs::Rows::ends_full))]
     pub fn go(&mut self, code: &Verified) -> Result<(), NoMemory>
+        ensures gone { HasGone code.now self.old self.new }
+        ensures ends { OnOk result (goes_further code.now self.new ≡ false) }
         ensures same { (self.new.thread ≡ self.old.thread) × (self.new.before ≡ self.old.before) }
         ensures stands { StretchStands code.now self.old → StretchStands code.now self.new }
     {

@@ -1,11 +1,12 @@
 //! A run on workers, to its end.
 
 ghost use Rattle.std.specs.Prelude.{◌≡◌, ◌<◌, ◌≤◌, [], length, IfOk};
-ghost use Rattle.described_runs.specs.Worlds.{IsSound};
+ghost use Rattle.guarded_code_runs.specs.Worlds.{IsSound};
 ghost use Rattle.lam_machine_terms.specs.Turns.{moments};
 ghost use Rattle.lam_machine_runs.specs.Ends.{HasEnded, EndsOnlySo};
 ghost use Rattle.thread_host_run.specs.Courses.{IsCourse, ran_to};
 ghost use Rattle.thread_host.specs.Visits.{EndsAs};
+ghost use Rattle.turn_book.specs.Limits.{most_turns, most_workers};
 
 use crate::keepers::Nobody;
 use crate::workers::{Ending, by_workers};
@@ -40,8 +41,8 @@ pub struct FinishedKept<Kept: Drop> {
 ///
 /// The hook is asked under the lock, once for each turn that is served and for up to 64 private turns of one thread, or for
 /// one of a thread that holds many values, with the number of turns so far and the ready threads in increasing order; its
-/// answer is taken modulo their number. After each check-in it is called outside the lock. Where it picks a thread of which
-/// another worker takes private turns, the worker waits until one is back and asks anew. Private turns that would pass
+/// answer is taken modulo their number. After each check-in it is called outside the lock. If the chosen thread is on loan to
+/// another worker, the next ready one that is not is taken; a worker sleeps only while all are. Private turns that would pass
 /// `turns`, or whose thread has changed, are not taken; the hook is asked anew for one turn. Once the workers have stopped,
 /// the caller goes on as worker 0, where something is left. A turn takes no memory for its list of ready threads.
 ///
@@ -58,8 +59,8 @@ pub fn run_on<R: Threads + Wait + Sync, G: Gate + Sync>(
     gate: &G,
 ) -> Result<Finished, NoMemory>
     requires sound { IsSound code start }
-    requires workers { (0 < workers) × (workers ≤ 16) }
-    requires turns { (0 < turns) × (turns ≤ 1000000) }
+    requires workers { (0 < workers) × (workers ≤ most_workers) }
+    requires turns { (0 < turns) × (turns ≤ most_turns) }
     ensures start { IfOk result (λ f. (f.run.code ≡ code) × (f.run.start ≡ start)) }
     ensures budget { IfOk result (λ f. length f.run.turns ≤ turns) }
     ensures how { IfOk result (λ f. HasEnded f.run.code f.run.world (length f.run.turns) turns f.how) }
@@ -90,8 +91,8 @@ pub fn run_kept<Kept: Drop + Send, K: Keeps<Kept> + Sync, R: Threads + Wait + Sy
     nothing: Kept,
 ) -> Result<FinishedKept<Kept>, NoMemory>
     requires sound { IsSound code start }
-    requires workers { (0 < workers) × (workers ≤ 16) }
-    requires turns { (0 < turns) × (turns ≤ 1000000) }
+    requires workers { (0 < workers) × (workers ≤ most_workers) }
+    requires turns { (0 < turns) × (turns ≤ most_turns) }
     requires nothing { K.AreKept who.now [] nothing }
     ensures start { IfOk result (λ f. (f.finished.run.code ≡ code) × (f.finished.run.start ≡ start)) }
     ensures budget { IfOk result (λ f. length f.finished.run.turns ≤ turns) }

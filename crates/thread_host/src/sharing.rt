@@ -1,7 +1,7 @@
 //! What lies under the lock: a course that is known to be one of its origin, and what is kept of it.
 
 ghost use Rattle.std.specs.Prelude.{◌≡◌, ◌<◌, ◌≤◌, true, [], length, IsTrue, ◌↔◌, IfOk, OnOk, IfSome, MatchOption};
-ghost use Rattle.described_runs.specs.Worlds.{IsSound};
+ghost use Rattle.guarded_code_runs.specs.Worlds.{IsSound};
 ghost use Rattle.lam_machine_terms.specs.Turns as turns;
 ghost use Rattle.lam_machine_terms.specs.Turns.{moments};
 ghost use Rattle.lam_machine_runs.specs.Ends.{SomeReady};
@@ -11,6 +11,8 @@ ghost use Rattle.thread_core_stretches.specs.Stretches.{StretchStands};
 ghost use Rattle.thread_host_run.specs.Stretched.{checked_in};
 ghost use Rattle.thread_host.specs.Stretching.{StretchOf, StretchKeepsTo, Begins, EndsStretch};
 ghost use Rattle.thread_host.specs.Visits.{GoesOn, EndsAs, TookReady, Visits};
+ghost use Rattle.turn_book.specs.Limits.{most_turns};
+ghost use Rattle.lam_machine_terms.specs.Limits.{most_threads};
 
 use crate::origins::Origin;
 use crate::stretching::{Opening, keeps_to, stretch_of, take_stretch};
@@ -43,6 +45,7 @@ impl<J: Origin<Kept>, Kept: Drop> Model for Shared<J, Kept> {
     ghost use Rattle.std.specs.Prelude.{◌≡◌, ◌≤◌, vec_capacity};
     ghost use Rattle.thread_host_run.specs.Courses.{Progress, coded_progress};
     ghost use Rattle.thread_host_run.specs.ReadyLists.{ready_threads};
+    ghost use Rattle.lam_machine_terms.specs.Limits.{most_threads};
     ghost use Rattle.thread_host.specs.Sharing.{IsShared};
 
     ghost Value = { Progress };
@@ -51,7 +54,7 @@ impl<J: Origin<Kept>, Kept: Drop> Model for Shared<J, Kept> {
 
     ghost view = { λ s. s.course };
 
-    ghost invariant = { λ s. IsShared J.AreKept J.code J.start J.budget s.course s.lost s.kept × (s.ready.items ≡ ready_threads J.code s.course.world) × (4096 ≤ vec_capacity s.ready) };
+    ghost invariant = { λ s. IsShared J.AreKept J.code J.start J.budget s.course s.lost s.kept × (s.ready.items ≡ ready_threads J.code s.course.world) × (most_threads ≤ vec_capacity s.ready) };
 }
 
 impl<J: Origin<Kept>, Kept: Drop> Shared<J, Kept> {
@@ -99,7 +102,7 @@ impl<J: Origin<Kept>, Kept: Drop> Shared<J, Kept> {
         budget: u64,
         gate: &G,
     ) -> Result<Visit, NoMemory>
-        requires few { budget ≤ 1000000 }
+        requires few { budget ≤ most_turns }
         requires of { (code.now ≡ J.code) × (budget ≡ J.budget) }
         requires keeps { Agree (K.AreKept who.now) J.AreKept }
         ensures { IfOk result (Visits code.now budget self.old self.new) }
@@ -130,7 +133,7 @@ impl<J: Origin<Kept>, Kept: Drop> Shared<J, Kept> {
         budget: u64,
         gate: &G,
     ) -> Result<Opening, NoMemory>
-        requires few { budget ≤ 1000000 }
+        requires few { budget ≤ most_turns }
         requires of { (code.now ≡ J.code) × (budget ≡ J.budget) }
         requires keeps { Agree (K.AreKept who.now) J.AreKept }
         ensures { IfOk result (Begins code.now budget self.old self.new) }
@@ -171,7 +174,7 @@ impl<J: Origin<Kept>, Kept: Drop> Shared<J, Kept> {
         budget: u64,
         gate: &G,
     ) -> Result<Visit, NoMemory>
-        requires few { budget ≤ 1000000 }
+        requires few { budget ≤ most_turns }
         requires of { (code.now ≡ J.code) × (budget ≡ J.budget) }
         requires keeps { Agree (K.AreKept who.now) J.AreKept }
         requires stands { StretchStands code.now stretch }
@@ -233,13 +236,13 @@ impl<J: Origin<Kept>, Kept: Drop> Shared<J, Kept> {
         self.asleep = self.asleep.saturating_sub(1);
     }
 
-    /// Whether some worker sleeps.
-    pub fn has_sleepers(&self) -> bool {
-        self.asleep > 0
+    /// Whether a worker that sleeps is to be woken: some thread can be taken, or none is ready any more.
+    pub fn is_to_wake(&self) -> bool {
+        self.asleep > 0 && (self.ready.is_empty() || self.ready.len() > self.away.len())
     }
 
     fn keeps_to(&self, stretch: &Stretch, budget: u64) -> bool
-        requires { budget ≤ 1000000 }
+        requires { budget ≤ most_turns }
         ensures { IsTrue result ↔ StretchKeepsTo budget self.now stretch.now }
     {
         keeps_to(&self.course, stretch, budget)
@@ -253,7 +256,7 @@ impl<J: Origin<Kept>, Kept: Drop> Shared<J, Kept> {
         stretch: Stretch,
         budget: u64,
     ) -> Result<(), NoMemory>
-        requires few { budget ≤ 1000000 }
+        requires few { budget ≤ most_turns }
         requires of { (code.now ≡ J.code) × (budget ≡ J.budget) }
         requires agree { Agree (K.AreKept who.now) J.AreKept }
         requires stands { StretchStands code.now stretch }
@@ -288,7 +291,14 @@ impl<J: Origin<Kept>, Kept: Drop> Shared<J, Kept> {
         requires some { SomeReady code.now self.now.world }
         ensures { turns.ready code.now self.now.world result ≡ true }
     {
-        picked(code, &self.course, self.ready.as_slice(), worker, gate)
+        picked(
+            code,
+            &self.course,
+            self.ready.as_slice(),
+            worker,
+            gate,
+            self.away.as_slice(),
+        )
     }
 
     /// A turn of a thread that is ready.
@@ -300,7 +310,7 @@ impl<J: Origin<Kept>, Kept: Drop> Shared<J, Kept> {
         thread: u32,
         budget: u64,
     ) -> Result<(), NoMemory>
-        requires few { budget ≤ 1000000 }
+        requires few { budget ≤ most_turns }
         requires of { (code.now ≡ J.code) × (budget ≡ J.budget) }
         requires keeps { Agree (K.AreKept who.now) J.AreKept }
         requires ready { turns.ready code.now self.old.world thread ≡ true }

@@ -6,6 +6,8 @@ ghost use Rattle.thread_host_run.specs.Stretched.{StretchFits, checked_in};
 ghost use Rattle.thread_host_run.specs.ReadyLists.{ready_threads};
 ghost use Rattle.thread_host.specs.Sharing.{IsShared};
 ghost use Rattle.thread_host.specs.Stretching.{StretchOf, StretchKeepsTo};
+ghost use Rattle.turn_book.specs.Limits.{most_turns};
+ghost use Rattle.lam_machine_terms.specs.Limits.{most_threads};
 
 use crate::lightness::is_light;
 use crate::origins::Origin;
@@ -70,7 +72,7 @@ fn private_stretch(
 
 /// Whether a stretch can be checked in within the budget.
 pub fn keeps_to(course: &Course, stretch: &Stretch, budget: u64) -> bool
-    requires { budget ≤ 1000000 }
+    requires { budget ≤ most_turns }
     ensures { IsTrue result ↔ StretchKeepsTo budget course.now stretch.now }
 {
     stretch.count > 0 && is_within(course.turns(), stretch.count, budget) && course.fits(stretch)
@@ -96,12 +98,12 @@ pub fn take_stretch<J: Origin<Kept>, Kept: Drop, K: Keeps<Kept>>(
 ) -> Result<(), NoMemory>
     requires stands { StretchStands code.now stretch }
     requires keeps { StretchKeepsTo budget course.old stretch }
-    requires few { budget ≤ 1000000 }
+    requires few { budget ≤ most_turns }
     requires list { list.old.items ≡ ready_threads code.now course.old.world }
-    requires room { 4096 ≤ vec_capacity list.old }
+    requires room { most_threads ≤ vec_capacity list.old }
     requires shared { IsShared (K.AreKept who.now) code.now J.start budget course.old false kept.now }
     ensures list { list.new.items ≡ ready_threads code.now course.new.world }
-    ensures room { 4096 ≤ vec_capacity list.new }
+    ensures room { most_threads ≤ vec_capacity list.new }
     ensures shared { IsShared (K.AreKept who.now) code.now J.start budget course.new false kept.now }
     ensures ok { OnOk result (course.new ≡ checked_in course.old stretch) }
 {

@@ -7,6 +7,8 @@ ghost use Rattle.thread_host_run.specs.Courses.{one_more};
 ghost use Rattle.thread_host_run.specs.ReadyLists.{ready_threads};
 ghost use Rattle.thread_host.specs.Sharing.{IsShared, KeepsTaken, Unless};
 ghost use Rattle.thread_host.specs.Visits.{GoesOn, EndsAs};
+ghost use Rattle.turn_book.specs.Limits.{most_turns};
+ghost use Rattle.lam_machine_terms.specs.Limits.{most_threads};
 
 use crate::origins::Origin;
 use guarded_code::Verified;
@@ -45,13 +47,14 @@ pub fn how_it_stands(code: &Verified, course: &Course, ready: &[u32], budget: u6
     None
 }
 
-/// The thread among the ready ones that the hook picks.
+/// The thread among the ready ones that the hook picks, or the next one of which no worker takes turns.
 pub fn picked<G: Gate>(
     code: &Verified,
     course: &Course,
     ready: &[u32],
     worker: u64,
     gate: &G,
+    away: &[u32],
 ) -> u32
     requires list { ready.now ≡ ready_threads code.now course.now.world }
     requires some { 0 < length ready.now }
@@ -59,7 +62,27 @@ pub fn picked<G: Gate>(
 {
     let turn = course.turns().len() as u64;
     let place = gate.pick(worker, turn, ready) % ready.len() as u64;
-    ready[place as usize]
+    let at = place_from(ready, place as usize, away);
+    ready[at]
+}
+
+/// The place of the first thread from there on, and again from the first one, that is not away; the place itself where all
+/// are away.
+fn place_from(ready: &[u32], place: usize, away: &[u32]) -> usize
+    requires { place < length ready.now }
+    ensures { result < length ready.now }
+{
+    for at in place..ready.len() {
+        if !away.contains(&ready[at]) {
+            return at;
+        }
+    }
+    for at in 0..place {
+        if !away.contains(&ready[at]) {
+            return at;
+        }
+    }
+    place
 }
 
 /// A turn of a thread that is ready, and what is kept of it. `list` is that of the ready threads, and stays so. Where memory
@@ -75,15 +98,15 @@ pub fn take_turn<J: Origin<Kept>, Kept: Drop, K: Keeps<Kept>>(
     thread: u32,
     budget: u64,
 ) -> Result<(), NoMemory>
-    requires few { budget ≤ 1000000 }
+    requires few { budget ≤ most_turns }
     requires ready { turns.ready code.now course.old.world thread ≡ true }
     requires left { length course.old.turns < budget }
     requires list { list.old.items ≡ ready_threads code.now course.old.world }
-    requires room { 4096 ≤ vec_capacity list.old }
+    requires room { most_threads ≤ vec_capacity list.old }
     requires shared { IsShared (K.AreKept who.now) code.now J.start budget course.old false kept.old }
     requires still { lost.old ≡ false }
     ensures list { list.new.items ≡ ready_threads code.now course.new.world }
-    ensures room { 4096 ≤ vec_capacity list.new }
+    ensures room { most_threads ≤ vec_capacity list.new }
     ensures shared { IsShared (K.AreKept who.now) code.now J.start budget course.new lost.new kept.new }
     ensures ok { OnOk result (course.new ≡ one_more course.old thread course.new.world) }
 {
@@ -103,7 +126,7 @@ fn keep_taken<Kept: Drop, K: Keeps<Kept>>(
     taken: Option<Event>,
     world: &World,
 ) -> Result<(), NoMemory>
-    requires few { turn < 1000000 }
+    requires few { turn < most_turns }
     requires before { KeptOfSoMany (K.AreKept who.now) turn kept.old }
     requires still { lost.old ≡ false }
     ensures { Unless lost.new (KeepsTaken (K.AreKept who.now) turn taken world.now kept.old kept.new) }

@@ -1,13 +1,14 @@
 //! The workers that share a course under one lock.
 
 ghost use Rattle.std.specs.Prelude.{◌≡◌, ◌<◌, ◌≤◌, [], length, IfOk, vec_len};
-ghost use Rattle.described_runs.specs.Worlds.{IsSound};
+ghost use Rattle.guarded_code_runs.specs.Worlds.{IsSound};
 ghost use Rattle.lam_machine_terms.specs.Turns.{moments};
 ghost use Rattle.thread_core_stretches.specs.Stretches.{StretchStands};
 ghost use Rattle.thread_host_run.specs.Courses.{IsCourse};
 ghost use Rattle.thread_host.specs.Sharing.{Agree};
 ghost use Rattle.thread_host.specs.Stretching.{GoesBy};
 ghost use Rattle.thread_host.specs.Visits.{EndsAs};
+ghost use Rattle.turn_book.specs.Limits.{most_turns, most_workers};
 
 use crate::origins::Origin;
 use crate::sharing::Shared;
@@ -40,7 +41,7 @@ pub struct Ending<Kept: Drop> {
     pub kept: Kept,
 }
 
-/// What workers share: a course under its lock, and where they sleep until a thread is back.
+/// What workers share: a course under its lock, and where they sleep while every ready thread is away.
 #[derive(Drop)]
 struct Desk<J: Origin<Kept>, Kept: Drop> {
     shared: Mutex<Shared<J, Kept>>,
@@ -58,7 +59,7 @@ fn work<J: Origin<Kept>, Kept: Drop, K: Keeps<Kept>, R: Wait, G: Gate>(
     budget: u64,
     gate: &G,
 ) -> Result<(), NoMemory>
-    requires few { budget ≤ 1000000 }
+    requires few { budget ≤ most_turns }
     requires of { (code.now ≡ J.code) × (budget ≡ J.budget) }
     requires keeps { Agree (K.AreKept who.now) J.AreKept }
 {
@@ -81,7 +82,7 @@ fn take_turns<J: Origin<Kept>, Kept: Drop, K: Keeps<Kept>, R: Wait, G: Gate>(
     budget: u64,
     gate: &G,
 ) -> Result<(), NoMemory>
-    requires few { budget ≤ 1000000 }
+    requires few { budget ≤ most_turns }
     requires of { (code.now ≡ J.code) × (budget ≡ J.budget) }
     requires keeps { Agree (K.AreKept who.now) J.AreKept }
 {
@@ -105,7 +106,8 @@ fn take_turns<J: Origin<Kept>, Kept: Drop, K: Keeps<Kept>, R: Wait, G: Gate>(
     unreachable!()
 }
 
-/// What a worker finds under the lock. Where the thread that it is to take turns of is away, it sleeps until one is back.
+/// What a worker finds under the lock. It sleeps only where every ready thread is away. Else it wakes another one, if there is
+/// more to take: so the sleepers are woken one by one as long as there is something for them.
 fn opened<J: Origin<Kept>, Kept: Drop, K: Keeps<Kept>, R: Wait, G: Gate>(
     rt: &R,
     alloc: Global,
@@ -116,7 +118,7 @@ fn opened<J: Origin<Kept>, Kept: Drop, K: Keeps<Kept>, R: Wait, G: Gate>(
     budget: u64,
     gate: &G,
 ) -> Result<Opening, NoMemory>
-    requires few { budget ≤ 1000000 }
+    requires few { budget ≤ most_turns }
     requires of { (code.now ≡ J.code) × (budget ≡ J.budget) }
     requires keeps { Agree (K.AreKept who.now) J.AreKept }
     ensures { IfOk result (GoesBy code.now) }
@@ -127,6 +129,12 @@ fn opened<J: Origin<Kept>, Kept: Drop, K: Keeps<Kept>, R: Wait, G: Gate>(
         held.falls_asleep();
         let mut woken = desk.back.wait(rt, held);
         woken.wakes_up();
+        return Ok(opening);
+    }
+    let wakes = held.is_to_wake();
+    drop(held);
+    if wakes {
+        desk.back.notify_one();
     }
     Ok(opening)
 }
@@ -135,7 +143,7 @@ fn is_away(opening: &Opening) -> bool {
     matches!(opening, Opening::Away)
 }
 
-/// A stretch comes back, and one worker that sleeps is woken.
+/// A stretch comes back, and one worker that sleeps is woken where there is something to take.
 fn ended<J: Origin<Kept>, Kept: Drop, K: Keeps<Kept>, R: Wait, G: Gate>(
     rt: &R,
     alloc: Global,
@@ -147,14 +155,14 @@ fn ended<J: Origin<Kept>, Kept: Drop, K: Keeps<Kept>, R: Wait, G: Gate>(
     budget: u64,
     gate: &G,
 ) -> Result<Visit, NoMemory>
-    requires few { budget ≤ 1000000 }
+    requires few { budget ≤ most_turns }
     requires of { (code.now ≡ J.code) × (budget ≡ J.budget) }
     requires keeps { Agree (K.AreKept who.now) J.AreKept }
     requires stands { StretchStands code.now stretch }
 {
     let mut held = desk.shared.lock(rt);
     let visit = held.end(alloc, code, who, stretch, worker, budget, gate)?;
-    let wakes = held.has_sleepers();
+    let wakes = held.is_to_wake();
     drop(held);
     if wakes {
         desk.back.notify_one();
@@ -217,8 +225,8 @@ pub fn by_workers<
     requires keeps { Agree (K.AreKept who.now) J.AreKept }
     requires sound { IsSound code.now start.now }
     requires nothing { K.AreKept who.now [] nothing }
-    requires workers { (0 < count) × (count ≤ 16) }
-    requires few { budget ≤ 1000000 }
+    requires workers { (0 < count) × (count ≤ most_workers) }
+    requires few { budget ≤ most_turns }
     ensures course { IfOk result (λ e. IsCourse code.now start.now e.course) }
     ensures budget { IfOk result (λ e. length e.course.turns ≤ budget) }
     ensures how { IfOk result (λ e. EndsAs code.now budget e.course e.how) }
@@ -235,7 +243,7 @@ pub fn by_workers<
         workers.as_mut_slice(),
         count as usize,
         &|_, worker: &mut Worker|
-            requires { (code.now ≡ J.code) × (budget ≡ J.budget) × (budget ≤ 1000000) × Agree (K.AreKept who.now) J.AreKept }
+            requires { (code.now ≡ J.code) × (budget ≡ J.budget) × (budget ≤ most_turns) × Agree (K.AreKept who.now) J.AreKept }
         { worker.refused = work(rt, alloc, at, code, who, worker.number, budget, gate).is_err() },
     );
     let refused = workers.iter().any(|worker| worker.refused);
@@ -253,7 +261,7 @@ fn finish<J: Origin<Kept>, Kept: Drop, K: Keeps<Kept>, G: Gate>(
     budget: u64,
     gate: &G,
 ) -> Result<Ending<Kept>, NoMemory>
-    requires few { budget ≤ 1000000 }
+    requires few { budget ≤ most_turns }
     requires of { (code.now ≡ J.code) × (budget ≡ J.budget) }
     requires keeps { Agree (K.AreKept who.now) J.AreKept }
     ensures course { IfOk result (λ e. IsCourse code.now J.start e.course) }
@@ -291,7 +299,7 @@ fn go_on<J: Origin<Kept>, Kept: Drop, K: Keeps<Kept>, G: Gate>(
     budget: u64,
     gate: &G,
 ) -> Result<How, NoMemory>
-    requires few { budget ≤ 1000000 }
+    requires few { budget ≤ most_turns }
     requires of { (code.now ≡ J.code) × (budget ≡ J.budget) }
     requires keeps { Agree (K.AreKept who.now) J.AreKept }
     ensures { IfOk result (EndsAs code.now budget shared.new) }

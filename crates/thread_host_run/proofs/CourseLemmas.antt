@@ -1,15 +1,14 @@
 -- A course with one turn more.
-use Rattle.std.proofs.Common.{◌≡◌, ℕ, ◌<◌, true, Bool, Option, Some, None, length, subst, sym}
+use Rattle.std.proofs.Common.{◌≡◌, ℕ, ◌<◌, Bool, Option, Some, None, length, subst, sym}
 use Rattle.lam_asks.specs.declared.answer.Event.{Event}
 use Rattle.lam_bytecode.specs.Codes.{CodeTree}
 use Rattle.lam_machine_terms.specs.Worlds.{World}
-use Rattle.lam_machine_terms.specs.Valid.{IsValid}
-use Rattle.described_runs.specs.Worlds.{IsSound}
-use Rattle.lam_machine_turns.specs.Turned.{IsTurn}
+use Rattle.guarded_code_runs.specs.Worlds.{IsSound}
+use Rattle.lam_machine_laws.specs.Turned.{IsTurn}
 use Rattle.lam_machine.specs.Privately.{private_event}
 use Rattle.thread_host_run.specs.Courses.{Progress, IsCourse, ran_to, one_more, TookTurn, was_quiet}
 use Rattle.thread_host_run.specs.Runs.{HasTurn}
-use Rattle.thread_host_run.proofs.RunLemmas.{sound_now, valid_now, whole_grows}
+use Rattle.thread_host_run.proofs.RunLemmas.{sound_now, whole_grows}
 
 module _ (code : CodeTree) (t : ℕ) (w : World) where
   pub took_turn : (o : Option Event) (after : World) → TookTurn code t w o after → (e : Event) × IsTurn code t w e after
@@ -30,7 +29,3 @@ grown code start p q t e after h few turn is = subst (IsCourse code start) (sym 
 -- the world that it leaves is sound
 pub course_sound : (code : CodeTree) (start : World) (p : Progress) → IsCourse code start p → IsSound code p.world
 course_sound code start p h = sound_now (ran_to code start p) h
-
--- so it is valid
-pub course_valid : (code : CodeTree) (start : World) (p : Progress) → IsCourse code start p → IsValid p.world
-course_valid code start p h = valid_now (ran_to code start p) h

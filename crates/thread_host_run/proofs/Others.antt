@@ -14,7 +14,7 @@ use Rattle.lam_bytecode.specs.Codes.{CodeTree}
 use Rattle.thread_steps.specs.Threads.{Context, Thread}
 use Rattle.thread_steps.specs.Next.{Next, goes, asks, stuck, next_of, with_inside, result_after, takes}
 use Rattle.lam_machine_terms.specs.Worlds.{World, thread_at, with_thread}
-use Rattle.lam_machine_terms.specs.Deeds.{Deed, Effect, takes_monitor, gives_back, drops, adds_thread, effect_of}
+use Rattle.lam_machine_terms.specs.Serves.{Served, Effect, takes_monitor, gives_back, drops, adds_thread, effect_of}
 use Rattle.lam_machine_terms.specs.Serving.{publicly, serve}
 use Rattle.lam_machine_terms.specs.Turns.{may_ask, is_living, is_taken, waits, is_ready, Moment, goes_on, served, turn_by, turn_on, turn_in, step, ready}
 use Rattle.lam_machine_laws.specs.Judged.{deed_by}
@@ -59,7 +59,7 @@ deed_still w c (End outcome) h = absurd cc
 deed_still w c a h = tt
 
 serve_still : (w : World) (c : Context) (a : Ask) → not (touches_others a) ≡ true → IsStill (serve w c a).effect
-serve_still w c a h = judged_by (λ (d : Deed). IsStill d.effect) w (publicly w.public c) a (λ x e. tt) (λ f e g. tt) (λ e g. deed_still w (publicly w.public c) a h)
+serve_still w c a h = judged_by (λ (d : Served). IsStill d.effect) w (publicly w.public c) a (λ x e. tt) (λ f e g. tt) (λ e g. deed_still w (publicly w.public c) a h)
 
 result_stays : (old : Option Outcome) (a : Ask) → not (touches_others a) ≡ true → result_after old a ≡ old
 result_stays old (End outcome) h = absurd cc

@@ -2,7 +2,7 @@
 use Rattle.std.proofs.Common.{◌≡◌, ℕ, Bool, true, false, Result, Ok, Err, OnErr, subst}
 use Rattle.lam_bytecode.specs.Codes.{CodeTree}
 use Rattle.lam_machine_terms.specs.Worlds.{World}
-use Rattle.lam_machine_turns.specs.Turned.{IsTurn}
+use Rattle.lam_machine_laws.specs.Turned.{IsTurn}
 use Rattle.lam_machine.specs.Privately.{IsPrivateStep, private_event}
 
 pub on_err : {A E P : Type 0} (r : Result A E) → P → OnErr r P

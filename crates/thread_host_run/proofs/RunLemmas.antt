@@ -9,11 +9,11 @@ use Rattle.lam_machine_terms.specs.Worlds.{World}
 use Rattle.lam_machine_terms.specs.Turns.{Moment, step, ready}
 use Rattle.lam_machine_terms.specs.Valid.{IsValid}
 use Rattle.lam_machine_laws.proofs.TurnLemmas.{acts}
-use Rattle.described_runs.specs.Worlds.{IsSound}
-use Rattle.described_runs.proofs.Sound.{sound_replay}
+use Rattle.guarded_code_runs.specs.Worlds.{IsSound}
+use Rattle.guarded_code_runs.proofs.Sound.{sound_replay}
 use Rattle.lam_machine_runs.proofs.RunLemmas.{joined_runs}
 use Rattle.turn_book.specs.Book.{AreTurns}
-use Rattle.lam_machine_turns.specs.Turned.{IsTurn}
+use Rattle.lam_machine_laws.specs.Turned.{IsTurn}
 use Rattle.thread_host_run.specs.Runs.{Ran, IsWhole, opened, with_turn}
 
 pub none_taken : (code : CodeTree) (w : World) (t : ℕ) → ready code w t ≡ true → step code w t ≡ None → ⊥

@@ -16,12 +16,12 @@ use Rattle.lam_machine_terms.specs.Worlds.{World, thread_at, with_thread}
 use Rattle.lam_machine_terms.specs.Turns.{step, ready}
 use Rattle.lam_machine_laws.proofs.ThreadLemmas.{set_same}
 use Rattle.lam_machine_laws.proofs.OwnLemmas.{set_here}
-use Rattle.lam_machine_turns.specs.Turned.{IsTurn, Acts, gone_on}
-use Rattle.lam_machine_turns.proofs.PartLemmas.{private_parts}
+use Rattle.lam_machine_laws.specs.Turned.{IsTurn, Acts, gone_on}
+use Rattle.lam_machine_laws.proofs.PartLemmas.{private_parts}
 use Rattle.lam_machine.specs.Privately.{private_event}
 use Rattle.lam_machine.proofs.AskLemmas.{acts_label}
-use Rattle.described_runs.specs.Worlds.{IsSound}
-use Rattle.described_runs.proofs.Sound.{sound_step}
+use Rattle.guarded_code_runs.specs.Worlds.{IsSound}
+use Rattle.guarded_code_runs.proofs.Sound.{sound_step}
 use Rattle.thread_host_run.specs.Courses.{Progress, IsCourse, one_more}
 use Rattle.thread_host_run.specs.Stretched.{StretchFits, checked_in}
 use Rattle.thread_host_run.proofs.CourseLemmas.{course_grows}

@@ -5,10 +5,10 @@ use Rattle.lam_asks.specs.declared.answer.Event.{Event}
 use Rattle.lam_bytecode.specs.Codes.{CodeTree, coded_code}
 use Rattle.lam_machine_terms.specs.Worlds.{World}
 use Rattle.lam_machine_terms.specs.Turns.{replay, IsRun}
-use Rattle.described_runs.specs.Worlds.{IsSound}
+use Rattle.guarded_code_runs.specs.Worlds.{IsSound}
 use Rattle.turn_book.specs.Book.{AreTurns}
 use Rattle.lam_machine_world.specs.Coding.{coded_world}
-use Rattle.lam_machine_turns.specs.Turned.{IsTurn}
+use Rattle.lam_machine_laws.specs.Turned.{IsTurn}
 use Rattle.thread_host_run.specs.Quiet.{is_quiet}
 
 -- a run as contracts see it: a code, a start, the threads of the turns in order, and the world that they leave

@@ -4,10 +4,11 @@ use Rattle.std.specs.Prelude.{◌≡◌, ◌+◌, ◌≤◌, ◌++◌, Some, len
 use Rattle.lam_machine_terms.specs.Worlds.{thread_at, with_thread}
 use Rattle.thread_core_stretches.specs.declared.stretch.Stretch.{Stretch}
 use Rattle.thread_host_run.specs.Courses.{Progress}
+use Rattle.turn_book.specs.Limits.{most_turns}
 
 -- there is room for its turns, and its thread is there as it was when the stretch began
 abbrev pub StretchFits : Progress → Stretch → Type 0
-StretchFits p s = (length p.turns + s.count ≤ 1000000) × (thread_at p.world s.thread ≡ Some s.before)
+StretchFits p s = (length p.turns + s.count ≤ most_turns) × (thread_at p.world s.thread ≡ Some s.before)
 
 -- as many turns of its thread more, and the thread as the stretch left it; all else stays
 abbrev pub checked_in : Progress → Stretch → Progress

@@ -1,8 +1,9 @@
 //! The run of a book of turns, or where they stop to be one.
 
 ghost use Rattle.std.specs.Prelude.{◌≡◌, ◌≤◌, [], length, IfOk, OnOk};
-ghost use Rattle.described_runs.specs.Worlds.{IsSound};
+ghost use Rattle.guarded_code_runs.specs.Worlds.{IsSound};
 ghost use Rattle.thread_host_run.specs.Books.{IsRunOf, HasTaken};
+ghost use Rattle.turn_book.specs.Limits.{most_turns};
 
 use crate::run::{Run, let_go_run};
 use guarded_code::Verified;
@@ -29,7 +30,7 @@ pub enum RunOf {
 /// `NoMemory` where memory is refused.
 pub fn run_of(alloc: Global, code: Verified, start: World, turns: &[u32]) -> Result<RunOf, NoMemory>
     requires sound { IsSound code start }
-    requires few { length turns.now ≤ 1000000 }
+    requires few { length turns.now ≤ most_turns }
     ensures { IfOk result (IsRunOf code start turns.now) }
 {
     let mut run = Run::new(alloc, code, start)?;
@@ -44,7 +45,7 @@ pub fn run_of(alloc: Global, code: Verified, start: World, turns: &[u32]) -> Res
 
 /// Takes the turns in order, up to the first whose thread is not ready: the number of that turn.
 fn take_all(run: &mut Run, turns: &[u32]) -> Result<Option<u64>, NoMemory>
-    requires few { length turns.now ≤ 1000000 }
+    requires few { length turns.now ≤ most_turns }
     requires none { run.old.turns ≡ [] }
     ensures code { OnOk result (run.new.code ≡ run.old.code) }
     ensures start { OnOk result (run.new.start ≡ run.old.start) }

@@ -4,11 +4,12 @@ ghost use Rattle.std.specs.Prelude.{◌≡◌, ◌↔◌, ◌<◌, true, [], len
 ghost use Rattle.lam_bytecode.specs.Codes.{CodeTree};
 ghost use Rattle.lam_machine_terms.specs.Worlds.{World as Plain};
 ghost use Rattle.lam_machine_terms.specs.Turns as turns;
-ghost use Rattle.described_runs.specs.Worlds.{IsSound};
-ghost use Rattle.lam_machine_turns.specs.Turned.{IsTurn};
+ghost use Rattle.guarded_code_runs.specs.Worlds.{IsSound};
+ghost use Rattle.lam_machine_laws.specs.Turned.{IsTurn};
 ghost use Rattle.thread_core_stretches.specs.Stretches.{StretchStands};
 ghost use Rattle.thread_host_run.specs.Courses.{IsCourse, one_more, TookTurn};
 ghost use Rattle.thread_host_run.specs.Stretched.{StretchFits, checked_in};
+ghost use Rattle.turn_book.specs.Limits.{most_turns};
 
 use crate::stretches;
 use crate::taking::{go_turn, take_turn};
@@ -84,7 +85,7 @@ impl Course {
     pub fn turn(&mut self, code: &Verified, thread: u32) -> Result<Event, NoMemory>
         requires sound { IsSound code.now self.old.world }
         requires ready { turns.ready code.now self.old.world thread ≡ true }
-        requires room { length self.old.turns < 1000000 }
+        requires room { length self.old.turns < most_turns }
         ensures ok { IfOk result (λ e. IsTurn code.now thread self.old.world e self.new.world × (self.new ≡ one_more self.old thread self.new.world)) }
         ensures err { OnErr result (self.new ≡ self.old) }
         ensures course { OnOk result ((start : Plain) → IsCourse code.now start self.old → IsCourse code.now start self.new) }
@@ -101,7 +102,7 @@ impl Course {
     pub fn go(&mut self, code: &Verified, thread: u32) -> Result<Option<Event>, NoMemory>
         requires sound { IsSound code.now self.old.world }
         requires ready { turns.ready code.now self.old.world thread ≡ true }
-        requires room { length self.old.turns < 1000000 }
+        requires room { length self.old.turns < most_turns }
         ensures ok { IfOk result (λ o. TookTurn code.now thread self.old.world o self.new.world × (self.new ≡ one_more self.old thread self.new.world)) }
         ensures err { OnErr result (self.new ≡ self.old) }
         ensures course { OnOk result ((start : Plain) → IsCourse code.now start self.old → IsCourse code.now start self.new) }

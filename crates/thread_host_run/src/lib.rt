@@ -4,7 +4,7 @@
 //! or many workers under one lock, has a run at each moment, and can only make it longer. [`Run::go`] is such a turn for
 //! whoever does not ask what it was.
 //!
-//! The code is guarded and the start is sound for it (`IsSound` of `described_runs`), and so is the world of each moment: every
+//! The code is guarded and the start is sound for it (`IsSound` of `guarded_code_runs`), and so is the world of each moment: every
 //! access finds a reference that its rule allows, and none is tested a second time.
 //!
 //! A [`Course`] is the part of a run that moves, and a run is put together of a code, a start and a course of them
@@ -32,6 +32,7 @@ pub use books::{RunOf, run_of};
 pub use course::{Course, let_go_course};
 pub use listing::{check_in_listed, list_after, list_ready, relist, roomy_list, turn_listed};
 pub use readiness::ready;
-pub use run::{Run, RunParts, TURN_LIMIT, let_go_run, let_go_verified};
+pub use run::{Run, RunParts, let_go_run, let_go_verified};
 pub use seeking::living_in;
 pub use taking::was_quiet;
+pub use turn_book::TURN_LIMIT;

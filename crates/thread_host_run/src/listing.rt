@@ -8,38 +8,38 @@
 ghost use Rattle.std.specs.Prelude.{◌≡◌, ◌<◌, ◌≤◌, true, length, IfOk, OnOk, OnErr, vec_capacity};
 ghost use Rattle.lam_machine_terms.specs.Worlds.{World as Plain};
 ghost use Rattle.lam_machine_terms.specs.Turns as turns;
-ghost use Rattle.described_runs.specs.Worlds.{IsSound};
+ghost use Rattle.guarded_code_runs.specs.Worlds.{IsSound};
 ghost use Rattle.thread_core_stretches.specs.Stretches.{StretchStands};
 ghost use Rattle.thread_host_run.specs.Runs.{with_turn, HasTurn};
 ghost use Rattle.thread_host_run.specs.Stretched.{StretchFits, checked_in};
 ghost use Rattle.thread_host_run.specs.ReadyLists.{ready_threads, is_other, kept_list};
 ghost use Rattle.std.specs.List.{filter};
+ghost use Rattle.turn_book.specs.Limits.{most_turns};
+ghost use Rattle.lam_machine_terms.specs.Limits.{most_threads};
 
 use crate::course::Course;
 use crate::readiness::ready;
 use crate::run::Run;
 use guarded_code::Verified;
+use lam_machine_effects::THREAD_LIMIT;
 use lam_machine_world::World;
 use std::alloc::Global;
 use thread_core_stretches::Stretch;
 use want_of_memory::NoMemory;
 
-/// As many threads as a run can have.
-const THREAD_LIMIT: usize = 4096;
-
 /// A list with room for every thread of a run.
 pub fn roomy_list(alloc: Global) -> Result<Vec<u32>, NoMemory>
-    ensures { IfOk result (λ list. 4096 ≤ vec_capacity list) }
+    ensures { IfOk result (λ list. most_threads ≤ vec_capacity list) }
 {
-    Ok(Vec::with_capacity(alloc, THREAD_LIMIT)?)
+    Ok(Vec::with_capacity(alloc, THREAD_LIMIT as usize)?)
 }
 
 /// Makes the list that of the ready threads of a world, in increasing order, by a walk over all threads.
 pub fn list_ready(list: &mut Vec<u32>, world: &World, code: &Verified)
     requires sound { IsSound code.now world.now }
-    requires room { 4096 ≤ vec_capacity list.old }
+    requires room { most_threads ≤ vec_capacity list.old }
     ensures list { list.new.items ≡ ready_threads code.now world.now }
-    ensures room { 4096 ≤ vec_capacity list.new }
+    ensures room { most_threads ≤ vec_capacity list.new }
 {
     list.clear();
     for thread in 0..few_threads(world) {
@@ -52,7 +52,7 @@ pub fn list_ready(list: &mut Vec<u32>, world: &World, code: &Verified)
 /// How many threads there are.
 fn few_threads(world: &World) -> u32
     ensures count { result ≡ length world.now.threads }
-    ensures few { result ≤ 4096 }
+    ensures few { result ≤ most_threads }
 {
     world.threads().len() as u32
 }
@@ -60,9 +60,9 @@ fn few_threads(world: &World) -> u32
 /// After a turn of a thread, which left this world: the list stays that of the ready threads.
 pub fn list_after(list: &mut Vec<u32>, world: &World, code: &Verified, thread: u32, quiet: bool)
     requires sound { IsSound code.now world.now }
-    requires room { 4096 ≤ vec_capacity list.old }
+    requires room { most_threads ≤ vec_capacity list.old }
     ensures list { (before : Plain) → turns.ready code.now before thread ≡ true → HasTurn code.now thread before quiet world.now → list.old.items ≡ ready_threads code.now before → list.new.items ≡ ready_threads code.now world.now }
-    ensures room { 4096 ≤ vec_capacity list.new }
+    ensures room { most_threads ≤ vec_capacity list.new }
 {
     if quiet {
         after_quiet(list, world, code, thread);
@@ -87,11 +87,11 @@ pub fn check_in_listed(
     requires some { 0 < stretch.count }
     requires fits { StretchFits course.old stretch }
     requires list { list.old.items ≡ ready_threads code.now course.old.world }
-    requires room { 4096 ≤ vec_capacity list.old }
+    requires room { most_threads ≤ vec_capacity list.old }
     ensures ok { OnOk result (course.new ≡ checked_in course.old stretch) }
     ensures err { OnErr result (course.new ≡ course.old) }
     ensures list { list.new.items ≡ ready_threads code.now course.new.world }
-    ensures room { 4096 ≤ vec_capacity list.new }
+    ensures room { most_threads ≤ vec_capacity list.new }
 {
     let thread = stretch.thread;
     course.check_in(stretch)?;
@@ -101,9 +101,9 @@ pub fn check_in_listed(
 
 /// Makes the list that of the ready threads of a run, as [`list_ready`].
 pub fn relist(list: &mut Vec<u32>, run: &Run)
-    requires { 4096 ≤ vec_capacity list.old }
+    requires { most_threads ≤ vec_capacity list.old }
     ensures list { list.new.items ≡ ready_threads run.now.code run.now.world }
-    ensures room { 4096 ≤ vec_capacity list.new }
+    ensures room { most_threads ≤ vec_capacity list.new }
 {
     list_ready(list, run.now(), run.code());
 }
@@ -111,13 +111,13 @@ pub fn relist(list: &mut Vec<u32>, run: &Run)
 /// One turn of a thread that is ready; the list stays that of the ready threads.
 pub fn turn_listed(run: &mut Run, list: &mut Vec<u32>, thread: u32) -> Result<(), NoMemory>
     requires ready { turns.ready run.old.code run.old.world thread ≡ true }
-    requires turns { length run.old.turns < 1000000 }
+    requires turns { length run.old.turns < most_turns }
     requires list { list.old.items ≡ ready_threads run.old.code run.old.world }
-    requires room { 4096 ≤ vec_capacity list.old }
+    requires room { most_threads ≤ vec_capacity list.old }
     ensures turn { OnOk result (run.new ≡ with_turn run.old thread run.new.world) }
     ensures err { OnErr result (run.new ≡ run.old) }
     ensures list { list.new.items ≡ ready_threads run.new.code run.new.world }
-    ensures room { 4096 ≤ vec_capacity list.new }
+    ensures room { most_threads ≤ vec_capacity list.new }
 {
     let quiet = run.go(thread)?;
     list_after(list, run.now(), run.code(), thread, quiet);

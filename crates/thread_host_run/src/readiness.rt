@@ -6,7 +6,7 @@
 
 ghost use Rattle.std.specs.Prelude.{◌≡◌, slice_get};
 ghost use Rattle.std.specs.Option.{option_copied};
-ghost use Rattle.described_runs.specs.Worlds.{IsSound};
+ghost use Rattle.guarded_code_runs.specs.Worlds.{IsSound};
 ghost use Rattle.thread_steps.specs.Next as next;
 ghost use Rattle.thread_core.specs.Turning.{awaited_of, awaited_by};
 ghost use Rattle.thread_core.specs.Untested.{ThreadFinds};

@@ -5,13 +5,14 @@ ghost use Rattle.lam_machine_terms.specs.Worlds.{thread_at};
 ghost use Rattle.lam_machine_terms.specs.Turns as turns;
 ghost use Rattle.lam_machine_terms.specs.Turns.{IsDone, AllWait, is_living};
 ghost use Rattle.lam_machine_terms.specs.Valid.{IsValid};
-ghost use Rattle.described_runs.specs.Worlds.{IsSound};
+ghost use Rattle.guarded_code_runs.specs.Worlds.{IsSound};
 ghost use Rattle.lam_machine_runs.specs.Ends.{NoneReady};
-ghost use Rattle.lam_machine_turns.specs.Turned.{IsTurn};
+ghost use Rattle.lam_machine_laws.specs.Turned.{IsTurn};
 ghost use Rattle.thread_core_stretches.specs.Stretches.{StretchStands};
 ghost use Rattle.thread_host_run.specs.Courses.{IsCourse, ran_to, progress_of, was_quiet};
 ghost use Rattle.thread_host_run.specs.Runs.{IsWhole, HasTurn, opened, with_turn};
 ghost use Rattle.thread_host_run.specs.Stretched.{StretchFits, checked_in};
+ghost use Rattle.turn_book.specs.Limits.{most_turns};
 
 use crate::course::Course;
 use crate::seeking::{count_of, living_in, ready_in};
@@ -24,9 +25,6 @@ use std::alloc::Global;
 use std::marker::Model;
 use thread_core_stretches::Stretch;
 use want_of_memory::NoMemory;
-
-/// The number of turns that a run may have: as many as a book of turns.
-pub const TURN_LIMIT: u64 = 1_000_000;
 
 /// A run. Contracts see its code, its start, the threads of its turns in order, and the world that they leave.
 #[derive(Drop)]
@@ -208,7 +206,7 @@ impl Run {
     /// `NoMemory` where memory is refused; the run is then as it was.
     pub fn turn(&mut self, thread: u32) -> Result<Event, NoMemory>
         requires ready { turns.ready self.old.code self.old.world thread ≡ true }
-        requires room { length self.old.turns < 1000000 }
+        requires room { length self.old.turns < most_turns }
         ensures ok { IfOk result (λ e. IsTurn self.old.code thread self.old.world e self.new.world × (self.new ≡ with_turn self.old thread self.new.world)) }
         ensures err { OnErr result (self.new ≡ self.old) }
     {
@@ -224,7 +222,7 @@ impl Run {
     /// `NoMemory` where memory is refused; the run is then as it was.
     pub fn go(&mut self, thread: u32) -> Result<bool, NoMemory>
         requires ready { turns.ready self.old.code self.old.world thread ≡ true }
-        requires room { length self.old.turns < 1000000 }
+        requires room { length self.old.turns < most_turns }
         ensures ok { IfOk result (λ quiet. HasTurn self.old.code thread self.old.world quiet self.new.world × (self.new ≡ with_turn self.old thread self.new.world)) }
         ensures err { OnErr result (self.new ≡ self.old) }
     {

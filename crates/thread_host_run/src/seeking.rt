@@ -1,7 +1,7 @@
 //! The first thread of a world that lives, and the first that is ready.
 
 ghost use Rattle.std.specs.Prelude.{◌≡◌, true, length, MatchOption};
-ghost use Rattle.described_runs.specs.Worlds.{IsSound};
+ghost use Rattle.guarded_code_runs.specs.Worlds.{IsSound};
 ghost use Rattle.lam_machine_terms.specs.Worlds.{thread_at};
 ghost use Rattle.lam_machine_terms.specs.Turns as turns;
 ghost use Rattle.lam_machine_terms.specs.Turns.{IsDone, is_living};

@@ -3,13 +3,14 @@
 ghost use Rattle.std.specs.Prelude.{◌≡◌, ◌+◌, ◌<◌, ◌≤◌, ◌++◌, Some, length, slice_set, replicate, IsTrue, ◌↔◌, OnOk, OnErr, vec_len, vec_capacity};
 ghost use Rattle.lam_machine_terms.specs.Worlds.{thread_at, with_thread};
 ghost use Rattle.thread_host_run.specs.Stretched.{StretchFits};
+ghost use Rattle.turn_book.specs.Limits.{most_turns};
 
-use crate::run::TURN_LIMIT;
 use lam_machine_equal::same_thread;
 use lam_machine_world::World;
 use std::mem::replace;
 use thread_core_state::LamThread;
 use thread_core_stretches::{Stretch, let_go_stretch};
+use turn_book::TURN_LIMIT;
 use want_of_memory::NoMemory;
 
 /// Whether the thread of a stretch is there as it was when the stretch began, and there is room for its turns.
@@ -21,7 +22,7 @@ pub fn fits(turns: &[u32], world: &World, stretch: &Stretch) -> bool
 
 /// Whether so many turns more are no more than a run may have.
 fn has_room(turns: &[u32], count: u64) -> bool
-    ensures { IsTrue result ↔ (length turns.now + count ≤ 1000000) }
+    ensures { IsTrue result ↔ (length turns.now + count ≤ most_turns) }
 {
     let taken = turns.len() as u64;
     taken <= TURN_LIMIT && count <= TURN_LIMIT - taken

@@ -2,8 +2,8 @@
 
 ghost use Rattle.std.specs.Prelude.{◌≡◌, true, ◌++◌, ◌∷◌, [], IfOk, OnOk, OnErr};
 ghost use Rattle.lam_machine_terms.specs.Turns.{ready};
-ghost use Rattle.lam_machine_turns.specs.Turned.{IsTurn};
-ghost use Rattle.described_runs.specs.Worlds.{IsSound};
+ghost use Rattle.lam_machine_laws.specs.Turned.{IsTurn};
+ghost use Rattle.guarded_code_runs.specs.Worlds.{IsSound};
 ghost use Rattle.thread_host_run.specs.Quiet.{touches_others, is_quiet};
 ghost use Rattle.thread_host_run.specs.Courses.{TookTurn, was_quiet};
 

@@ -212,9 +212,6 @@ stretches_so_far ss h = ap stretches (after-expanded [] ss) ∙ stretches-expand
 headed : (text : Text) → bytes_eq (take 11 text) head ≡ true → text ≡ head ++ drop 11 text
 headed text e = sym (take-append-drop 11 text) ∙ ap (λ (h : Text). h ++ drop 11 text) ((bytes_eq-Decides (take 11 text) head).0 e)
 
-turns_after_head : (text : Text) → bytes_eq (take 11 text) head ≡ true → turns_of text ≡ turns_from [] [] (drop 11 text) 2
-turns_after_head text e = rw e refl
-
 read_after_head : (rest : Text) → turns_of (head ++ rest) ≡ turns_from [] [] rest 2
 read_after_head rest = refl
 

@@ -7,6 +7,7 @@ use Rattle.std.specs.Prelude.{◌≡◌, ℕ, ◌+◌, ◌<◌, ◌≤◌, false
 use Rattle.decimal_text.specs.Decimal.{IsDecimal}
 use Rattle.turn_book.specs.declared.BookFault.{BookFault}
 use Rattle.turn_book.specs.declared.BookFault.TheVariants.{BadHead, BadLine, SameThread, TooMany, NoMemory}
+use Rattle.turn_book.specs.Limits.{most_turns, last_thread}
 
 abbrev pub Text : Type 0
 Text = List ℕ
@@ -61,8 +62,8 @@ book ts = head ++ lines_text (stretches ts)
 
 -- how many turns and which threads a book may have
 pub record AreTurns (ts : List ℕ) : Type 0 where
-  pub few : length ts ≤ 1000000
-  pub threads : All (λ t. t ≤ 4095) ts
+  pub few : length ts ≤ most_turns
+  pub threads : All (λ t. t ≤ last_thread) ts
 
 -- ---- faults
 
@@ -73,7 +74,7 @@ pub record BeginsWithLine (text : Text) (s : Stretch) : Type 0 where
   pub rest : Text
   pub thread_is : IsDecimal thread s.thread
   pub count_is : IsDecimal count s.count
-  pub low : s.thread ≤ 4095
+  pub low : s.thread ≤ last_thread
   pub some : 0 < s.count
   pub text_is : text ≡ thread ++ 32 ∷ (count ++ 10 ∷ rest)
 
@@ -92,7 +93,7 @@ IsOfLastThread ts rest = (s : Stretch) × BeginsWithLine rest s × LastIs ts s.t
 
 -- the next line is one of another thread, and makes too many turns
 abbrev pub IsTooLong : List ℕ → Text → Type 0
-IsTooLong ts rest = (s : Stretch) × BeginsWithLine rest s × (¬ LastIs ts s.thread) × (1000000 < length ts + s.count)
+IsTooLong ts rest = (s : Stretch) × BeginsWithLine rest s × (¬ LastIs ts s.thread) × (most_turns < length ts + s.count)
 
 -- The lines before a line are the book of some turns, whose stretches are one for each line. Line 1 is
 -- the head.

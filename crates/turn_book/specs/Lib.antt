@@ -1,3 +1,4 @@
 pub mod Book
 pub mod Cuts
 pub mod Reading
+pub mod Limits

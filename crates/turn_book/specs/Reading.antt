@@ -6,6 +6,7 @@ use Rattle.decimal_text.specs.Decimal.{number_of}
 use Rattle.turn_book.specs.Book.{Text, Stretch, head}
 use Rattle.turn_book.specs.declared.BookFault.{BookFault}
 use Rattle.turn_book.specs.declared.BookFault.TheVariants.{BadHead, BadLine, SameThread, TooMany, NoMemory}
+use Rattle.turn_book.specs.Limits.{most_turns, last_thread}
 
 infixl 10 ◌>>=◌
 abbrev pub ◌>>=◌ : {A B : Type 0} → Result A BookFault → (A → Result B BookFault) → Result B BookFault
@@ -22,7 +23,7 @@ cut mark [] = None
 cut mark (b ∷ bs) = if nat_eq b mark then Some ([], bs) else onto b (cut mark bs)
 
 abbrev pub stretch_or : Option ℕ → Option ℕ → Option Stretch
-stretch_or (Some thread) (Some count) = if nat_le thread 4095 && nat_lt 0 count then Some (record { thread = thread; count = count }) else None
+stretch_or (Some thread) (Some count) = if nat_le thread last_thread && nat_lt 0 count then Some (record { thread = thread; count = count }) else None
 stretch_or _ _ = None
 
 abbrev pub numbers_in : Option (Text × Text) → Option Stretch
@@ -44,7 +45,7 @@ last_is ts t = is_thread t (slice_get ts (length ts - 1))
 -- the turns so far with those of a stretch, or the fault of its line
 abbrev pub with_stretch : List ℕ → ℕ → Option Stretch → Result (List ℕ) BookFault
 with_stretch ts line None = Err (BadLine line)
-with_stretch ts line (Some s) = if last_is ts s.thread then Err (SameThread line) else (if nat_lt 1000000 (length ts + s.count) then Err (TooMany line) else Ok (ts ++ replicate s.count s.thread))
+with_stretch ts line (Some s) = if last_is ts s.thread then Err (SameThread line) else (if nat_lt most_turns (length ts + s.count) then Err (TooMany line) else Ok (ts ++ replicate s.count s.thread))
 
 abbrev pub at_end : List ℕ → Text → ℕ → Result (List ℕ) BookFault
 at_end ts [] line = Ok ts

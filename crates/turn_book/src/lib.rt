@@ -16,6 +16,7 @@ ghost use Rattle.turn_book.specs.Book.{AreTurns, IsBroken, StretchesAreLongest, 
 ghost use Rattle.turn_book.specs.Reading.{Gives, turns_of};
 ghost use Rattle.turn_book.specs.declared.BookFault.TheVariants.{NoMemory as no_memory};
 
+pub use crate::lines::TURN_LIMIT;
 use crate::lines::{push_line, read_lines, stretch_len};
 use std::alloc::{AllocError, AllocFailed, Global};
 use std::marker::Model;

@@ -6,14 +6,18 @@ ghost use Rattle.decimal_text.specs.Decimal.{number_of};
 ghost use Rattle.turn_book.specs.Book.{line_text};
 ghost use Rattle.turn_book.specs.Reading.{cut, stretch_of, stretch_or, saturated, last_is, with_stretch, turns_from, Gives, GivesOnto};
 ghost use Rattle.turn_book.specs.Cuts.{parts_of, stretch_seen};
+ghost use Rattle.turn_book.specs.Limits.{most_turns};
 
 use crate::BookFault;
 use decimal_text::{NumberFault, push_number_bytes, read_number};
 use std::alloc::Global;
 use want_of_memory::NoMemory;
 
-/// The most turns that a book has.
-const MOST: usize = 1_000_000;
+/// The most turns of a run, and of its book.
+pub const TURN_LIMIT: u64 = 1_000_000;
+
+/// The same as a length.
+const MOST: usize = TURN_LIMIT as usize;
 
 /// The greatest number of a thread.
 const LAST_THREAD: u64 = 4095;
@@ -91,7 +95,7 @@ fn last_is(turns: &[u32], thread: u32) -> bool
 
 /// Puts the turns of a line after the others.
 fn take_line(turns: &mut Vec<u32>, line: &[u8], number: u64) -> Result<(), BookFault>
-    requires { length turns.old.items ≤ 1000000 }
+    requires { length turns.old.items ≤ most_turns }
     ensures { GivesOnto result turns.new.items (with_stretch turns.old.items number (stretch_of line.now)) }
 {
     match stretch_of(line) {

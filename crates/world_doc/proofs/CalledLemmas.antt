@@ -5,11 +5,10 @@ use Rattle.std.proofs.lemmas.Bool.Decides.{nat_tests}
 use Rattle.indexmap.specs.IndexMap.{insert_entry}
 use Rattle.lam_value.specs.Homes.{Home, name_of, count_in}
 use Rattle.labelled_pipes.specs.Queues.{Queues, with_pipe}
-use Rattle.world_doc_terms.specs.Breaks.{BadMember, ◌>>=◌, only_if, present, formed, member_as}
+use Rattle.world_doc_terms.specs.Breaks.{BadMember, only_if, formed, member_as}
 use Rattle.std.specs.Map.{lookup}
-use Rattle.std.specs.Option.{option_and_then}
-use Rattle.serde_json.specs.Data.{Data, Members}
-use Rattle.serde_json.specs.Find.{get_member, as_str}
+use Rattle.serde_json.specs.Data.{Members}
+use Rattle.serde_json.specs.Find.{as_str}
 use Rattle.lam_value.specs.declared.names.Name.{Name}
 use Rattle.flow_labels.specs.TwoLists.{Text}
 use Rattle.labelled_files.specs.Entries.{text_eq}
@@ -24,10 +23,6 @@ key_is text = λ k. text_eq text k.now
 pub found : (text : Text) (es : List (Bor Text × Name)) → pipe_called (called_of es) text ≡ lookup (key_is text) es
 found text [] = refl
 found text (e ∷ es) = ap (cond (text_eq text e.0.now) (Some e.1)) (found text es)
-
-pub called_more : (es : List (Bor Text × Name)) (k : Bor Text) (n : Name) → called_of (es ++ (k, n) ∷ []) ≡ called_of es ++ (k.now, n) ∷ []
-called_more [] k n = refl
-called_more (e ∷ es) k n = ap (λ (rest : List (Text × Name)). (e.0.now, e.1) ∷ rest) (called_more es k n)
 
 pub not_there : {X : Type 0} (o : Option X) → is_some o ≡ false → o ≡ None
 not_there None e = refl
@@ -46,9 +41,6 @@ called_put (e ∷ es) k n =
     ]
 
 -- ---- a home's pipes
-
-pub with_called_full : (p : Pipes) (text : Text) (home : Home) (n : ℕ) → n ≡ count_in p.queues.counts home → n ≡ 4096 → with_called p text home ≡ Err (BadMember (codes "pipes"))
-with_called_full p text home n is full = let past : ltb (count_in p.queues.counts home) 4096 ≡ false = grind (arith, nat_tests) in rw past refl
 
 pub with_called_room : (p : Pipes) (text : Text) (home : Home) (n : ℕ) → n ≡ count_in p.queues.counts home → n ≤ 4096 → n ≢ 4096 →
     with_called p text home ≡ Ok (record { queues = with_pipe p.queues home; called = p.called ++ (text, name_of home (count_in p.queues.counts home)) ∷ [] })
@@ -77,19 +69,3 @@ name_taken es ms text r e is t = member_on (codes "name") as_str (unless_called 
 
 pub name_new : (es : List (Bor Text × Name)) (ms : Members) (text : Text) (r : Bool) → member_as (codes "name") as_str ms ≡ Ok text → r ≡ is_some (lookup (key_is text) es) → r ≡ false → member_as (codes "name") (new_name (called_of es)) ms ≡ Ok text
 name_new es ms text r e is f = member_on (codes "name") as_str (unless_called es) ms text e ∙ by_called es text false r is f
-
-unless_new : (es : List (Bor Text × Name)) (o : Option Text) (text : Text) → formed (codes "name") (option_and_then (unless_called es) o) ≡ Ok text → pipe_called (called_of es) text ≡ None
-unless_new es None text e = absurd cc
-unless_new es (Some t) text e = by_name (pipe_called (called_of es) t) refl e
-  where
-    by_name : (p : Option Name) → pipe_called (called_of es) t ≡ p → formed (codes "name") (only_if (not (is_some p)) t) ≡ Ok text → pipe_called (called_of es) text ≡ None
-    by_name None is e = let same : t ≡ text = cc in ap (pipe_called (called_of es)) (sym same) ∙ is
-    by_name (Some n) is e = absurd cc
-
-present_new : (es : List (Bor Text × Name)) (o : Option Data) (text : Text) → (present (codes "name") o >>= λ d. formed (codes "name") (new_name (called_of es) d)) ≡ Ok text → pipe_called (called_of es) text ≡ None
-present_new es None text e = absurd cc
-present_new es (Some d) text e = unless_new es (as_str d) text e
-
--- a name that was taken is new
-pub called_new : (es : List (Bor Text × Name)) (ms : Members) (text : Text) → member_as (codes "name") (new_name (called_of es)) ms ≡ Ok text → pipe_called (called_of es) text ≡ None
-called_new es ms text e = present_new es (get_member (codes "name") ms) text e

@@ -1,5 +1,5 @@
 -- How many arguments and threads there are.
-use Rattle.std.proofs.Common.{◌≡◌, ◌≢◌, ℕ, ◌≤◌, ◌&&◌, Bool, true, false, eqb, ltb, leb, List, length, Ok, Err, refl, sym, ◌∙◌, arith}
+use Rattle.std.proofs.Common.{◌≡◌, ◌≢◌, ℕ, ◌&&◌, Bool, true, false, eqb, ltb, leb, List, length, Ok, Err, sym, ◌∙◌, arith}
 use Rattle.std.specs.Prelude.{codes}
 use Rattle.std.proofs.lemmas.Bool.Decides.{nat_tests}
 use Rattle.serde_json.specs.Data.{Members}
@@ -41,11 +41,3 @@ module _ (code : CodeTree) (names : List Text) (called : List (Text × Name)) (m
 
   pub threads_off : (e : WorldFault) → Fails e (member_as (codes "threads") as_array ms) → Fails e (threads_in code names called ms)
   threads_off e h = no_list (codes "threads") (λ n. ltb 0 n && leb n 64) ms (threads_of code names called) e h
-
-pub few_of : (n : ℕ) (b : Bool) → b ≡ (ltb 0 n && leb n 64) → b ≡ true → n ≤ 64
-few_of n b is t = by (ltb 0 n) (leb n 64) refl (sym is ∙ t)
-  where
-    by : (a e : Bool) → leb n 64 ≡ e → (a && e) ≡ true → n ≤ 64
-    by true true h k = grind (arith, nat_tests)
-    by true false h k = absurd cc
-    by false e h k = absurd cc

@@ -19,13 +19,13 @@ use thread_core_state::LamThread;
 use world_doc_stores::{WorldFault, array_member, bad_member, object, read_caps};
 
 /// The number of threads that a document may have.
-const THREAD_LIMIT: usize = 64;
+const STARTING_LIMIT: usize = 64;
 
 // Whether a document may have so many threads.
 fn may_be(count: usize) -> bool
     ensures { result ≡ (nat_lt 0 count && nat_le count most_starting) }
 {
-    count > 0 && count <= THREAD_LIMIT
+    count > 0 && count <= STARTING_LIMIT
 }
 
 fn read_thread(

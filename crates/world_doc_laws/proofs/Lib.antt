@@ -10,3 +10,4 @@ pub mod Units
 pub mod Thinner
 pub mod SavedLemmas
 pub mod DigitLemmas
+pub mod Entering

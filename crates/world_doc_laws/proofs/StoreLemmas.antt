@@ -22,7 +22,7 @@ use Rattle.labelled_pipes.proofs.QueueLemmas.{sound_pipe}
 use Rattle.lam_bytecode.specs.Codes.{CodeTree}
 use Rattle.thread_steps.specs.Threads.{Thread}
 use Rattle.lam_machine_terms.specs.Worlds.{World}
-use Rattle.lam_machine_terms.specs.Deeds.{adds_file, adds_dir, appends, adds_pipe}
+use Rattle.lam_machine_terms.specs.Serves.{adds_file, adds_dir, appends, adds_pipe}
 use Rattle.lam_machine_terms.specs.Valid.{AreBelow, Lives, AreSoundStores, StoresLive}
 use Rattle.lam_machine_valid.proofs.GrowLemmas.{lives_on, effect_grows}
 use Rattle.lam_machine_valid.proofs.StoreLemmas.{all_on, all_append, there_now, effect_live}

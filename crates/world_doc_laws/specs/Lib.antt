@@ -3,3 +3,4 @@ pub mod Standing
 pub mod Entries
 pub mod Documents
 pub mod Saved
+pub mod Entered

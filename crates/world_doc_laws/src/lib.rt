@@ -5,15 +5,19 @@
 //!
 //! - `starts`: a world that a document gives is valid, so that everything that is proved of runs from a valid start holds
 //!   of runs from a document, and its threads stand at entries (`specs/Starts`, `specs/Standing`).
+//! - `entered_starts`: the threads of a start stand at entries of guarded code, and agree with its descriptions
+//!   (`specs/Entered`).
 //! - `saved`: what is read of a document of version 3 by the counters and items that it says (`specs/Saved`).
 //! - `runs`: every run from there of a code that acts as a typed program means what its source means (`specs/Documents`,
 //!   `specs/Entries`).
 #![tactic(auto)]
 
+mod entered_starts;
 mod runs;
 mod saved;
 mod starts;
 
+pub use entered_starts::starts_are_entered;
 pub use runs::{entries_are_functions, runs_of_documents_mean};
 pub use saved::{saved_bytes_are_read, saved_files_are_read, saved_starts_are_read};
 pub use starts::{texts_start, threads_stand_at_entries, worlds_start};

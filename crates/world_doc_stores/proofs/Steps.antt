@@ -1,6 +1,5 @@
 -- One reading after another: what a result says of the whole.
 use Rattle.std.proofs.Common.{◌≡◌, List, [], ◌∷◌, ◌++◌, Option, Some, None, Result, Ok, Err, refl, sym, ap, subst, ◌∙◌, append_assoc}
-use Rattle.std.proofs.lemmas.List.{append-nil}
 use Rattle.std.specs.Option.{MatchOption}
 use Rattle.world_doc_terms.specs.Breaks.{Break, Reading, ◌>>=◌}
 use Rattle.world_doc_stores.specs.declared.fault.WorldFault.{WorldFault}
@@ -18,9 +17,6 @@ breaks_here (Some b) r f h = ap (λ r. r >>= f) h
 -- where a reading fails, what goes on from it fails so
 pub fails_here : {A B : Type 0} (e : WorldFault) (r : Reading A) (f : A → Reading B) → Fails e r → Fails e (r >>= f)
 fails_here e r f h = record { breaks = breaks_here (break_of e) r f h.breaks }
-
-pub fails_next : {A B : Type 0} (e : WorldFault) (r : Reading A) (v : A) (f : A → Reading B) → r ≡ Ok v → Fails e (f v) → Fails e (r >>= f)
-fails_next e r v f is h = subst (Fails e) (ap (λ r. r >>= f) (sym is)) h
 
 breaks_so : {X : Type 0} (o : Option Break) (b : Break) (read : Reading X) → MatchOption o (Unit {0}) (λ c. c ≡ b) → read ≡ Err b → MatchOption o (Unit {0}) (λ c. read ≡ Err c)
 breaks_so None b read h e = tt
@@ -47,9 +43,6 @@ onto done later = later >>= λ xs. Ok (done ++ xs)
 pub onto_nil : {A : Type 0} (r : Reading (List A)) → r ≡ onto [] r
 onto_nil (Ok xs) = refl
 onto_nil (Err b) = refl
-
-pub onto_end : {A : Type 0} (done : List A) → onto done (Ok []) ≡ Ok done
-onto_end done = ap Ok (append-nil done)
 
 -- one item, and those after it
 abbrev pub then_later : {A : Type 0} → Reading A → Reading (List A) → Reading (List A)

@@ -1,1 +1,4 @@
 pub mod StepLemmas
+pub mod Readings
+pub mod TreeLemmas
+pub mod StartLemmas

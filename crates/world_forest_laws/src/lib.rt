@@ -1,11 +1,16 @@
-//! The files and directories of every run that starts from a forest are a forest, in proofs alone.
+//! The files and directories of every run from a document are a forest, in proofs alone.
 //!
-//! What a forest of files is, and that each call on files keeps it, is said in `world_forest`; here each turn of the
-//! machine is looked at by its effect, and runs turn by turn.
+//! What a forest of files is, and that each call on files keeps it, is said in `world_forest`. `first_worlds` says that every
+//! world that a document gives begins with one (`specs/FirstWorlds`). The laws below say that each turn of the machine keeps it,
+//! by its effect, and so every run.
 #![tactic(auto)]
+
+mod first_worlds;
 
 ghost use Rattle.lam_bytecode.specs.Codes.{CodeTree};
 ghost use Rattle.world_forest_laws.specs.Laws.{StepsKeepForests, RunsKeepForests};
+
+pub use first_worlds::{texts_begin_as_forests, worlds_begin_as_forests};
 
 /// Every turn of every code, from a world with sound stores, keeps a forest.
 pub fn steps_keep_forests()

@@ -1,3 +1,5 @@
 pub mod Members
 pub mod Bounding
 pub mod Wording
+pub mod WholeLemmas
+pub mod HeldBytes

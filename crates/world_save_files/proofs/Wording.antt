@@ -6,7 +6,7 @@ use Rattle.flow_labels.specs.TwoLists.{Text}
 use Rattle.capabilities.specs.declared.Caps.{Caps}
 use Rattle.lam_value.specs.Homes.{Home, IsListing}
 use Rattle.labelled_files.specs.Trees.{Tree}
-use Rattle.world_save_values.specs.Compact.{IsCompact}
+use Rattle.world_save_terms.specs.Compact.{IsCompact}
 use Rattle.world_save_terms.specs.Items.{items_of}
 use Rattle.world_save_terms.specs.Rows.{Row}
 use Rattle.world_save_terms.specs.Document.{most_document}

@@ -7,7 +7,7 @@ use Rattle.serde_json.specs.Find.{get}
 use Rattle.flow_labels.specs.TwoLists.{Text}
 use Rattle.capabilities.specs.declared.Caps.{Caps}
 use Rattle.labelled_files.specs.Trees.{Tree}
-use Rattle.world_save_terms.specs.Items.{items_of}
+use Rattle.world_save_terms.specs.Items.{items_of, HoldBytes}
 use Rattle.world_save_terms.specs.Rows.{Row, AreRows}
 use Rattle.world_save_terms.specs.Document.{Parts, parts_of, Spells, most_document}
 use Rattle.world_save_terms.specs.Refusals.{AllNamed, IsLeastUnnamed, bad_path}
@@ -48,11 +48,12 @@ pub record IsTextOf (names : List Text) (public : Caps) (t : Tree) (old text : T
   pub parts_are : ArePartsOf names public t old parts
   pub spells : Spells parts text
 
--- the text that is saved, and the number of its items
+-- the text that is saved, and the number of its items; what the files hold are bytes
 pub record IsSavedText (names : List Text) (public : Caps) (t : Tree) (old text : Text) (items : ℕ) : Type 0 where
   pub text_is : IsTextOf names public t old text
   pub fits : length text ≤ most_document
   pub counted : items ≡ length (items_of t)
+  pub bytes : HoldBytes t
 
 -- the text would have too many bytes: so many, or where they are more than any number says, the greatest number
 pub record IsTooBig (names : List Text) (public : Caps) (t : Tree) (old : Text) (bytes : ℕ) : Type 0 where

@@ -5,14 +5,14 @@ ghost use Rattle.serde_json.specs.Data.{Data};
 ghost use Rattle.serde_json.specs.Read.{read};
 ghost use Rattle.serde_json.specs.Find.{get};
 ghost use Rattle.serde_json.specs.View.{view};
-ghost use Rattle.world_save_values.specs.Compact.{IsCompact};
+ghost use Rattle.world_save_terms.specs.Compact.{IsCompact};
 ghost use Rattle.world_save_files.specs.Saved.{HasKept, CanBeKept};
 
+use crate::values::value_text;
 use flow_labels::NoMemory;
 use serde_json::Value;
 use std::alloc::Global;
 use std::str;
-use world_save_values::value_text;
 
 /// The texts of two values of a document, in the compact form.
 #[derive(Drop)]

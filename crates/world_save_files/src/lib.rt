@@ -5,11 +5,16 @@
 //! document would have, and builds it only where it is not too long. What such a document is, and what is refused, is said
 //! in `specs/Saved`.
 //!
+//! - `numbers` and `values` have the text of a JSON value.
 //! - `kept` has the texts that are taken from the older document.
+//! - `holding` says that what the files hold are bytes.
 //! - `saving` has the refusals and the document.
 #![tactic(auto)]
 
+mod holding;
 mod kept;
+mod numbers;
 mod saving;
+mod values;
 
 pub use saving::{DOCUMENT_LIMIT, SaveFault, Saved, save_files};

@@ -4,13 +4,7 @@ use Rattle.std.proofs.lemmas.Grind.{flat_map-append}
 use Rattle.std.specs.Prelude.{Bool, true, false, cond, nat_lt}
 use Rattle.json.specs.Print.{escape, escape_byte, escape_letter}
 use Rattle.world_save_terms.specs.Items.{below}
-use Rattle.world_save_items.specs.Measures.{capped, byte_size, text_size}
-
-pub capped_more : (a b : ℕ) → capped (capped a + b) ≡ capped (a + b)
-capped_more a b = omega arith
-
-pub both_capped : (a b : ℕ) → capped (capped a + capped b) ≡ capped (a + b)
-both_capped a b = omega arith
+use Rattle.world_save_items.specs.Measures.{byte_size, text_size}
 
 pub escape-append : (xs ys : List ℕ) → length (escape (xs ++ ys)) ≡ length (escape xs) + length (escape ys)
 escape-append xs ys = ap length (flat_map-append escape_byte xs ys) ∙ length-append (escape xs) (escape ys)
@@ -18,11 +12,6 @@ escape-append xs ys = ap length (flat_map-append escape_byte xs ys) ∙ length-a
 slash : (ys : List ℕ) → length (escape (47 ∷ ys)) ≡ 1 + length (escape ys)
 unfolding escape_byte
 slash ys = omega arith
-
--- in the root
-pub path_in_root : (path entry : List ℕ) → length path ≡ 0 → length (escape (below path entry)) ≡ length (escape entry)
-path_in_root [] entry e = refl
-path_in_root (b ∷ bs) entry e = absurd (omega arith)
 
 -- in another directory
 pub path_inside : (path entry : List ℕ) → (length path ≡ 0 → ⊥) → length (escape (below path entry)) ≡ length (escape path) + 1 + length (escape entry)

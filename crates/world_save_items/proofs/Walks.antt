@@ -362,13 +362,6 @@ module _ (t : Tree) (sound : IsSound t) (forest : IsForest t) where
 
 -- ---- pushes
 
-pub pushed_one : (old new : List Frame) (f : Frame) (k : Todo) → new ≡ old ++ f ∷ [] → seen f ≡ k → map seen new ≡ map seen old ++ k ∷ []
-pushed_one old new f k e is = ap (map seen) e ∙ map-append seen old (f ∷ []) ∙ ap (λ (g : Todo). map seen old ++ g ∷ []) is
-
-pub pushed_two : (old mid new : List Frame) (f g : Frame) (k m : Todo) → mid ≡ old ++ f ∷ [] → new ≡ mid ++ g ∷ [] → seen f ≡ k → seen g ≡ m → map seen new ≡ map seen old ++ k ∷ m ∷ []
-pushed_two old mid new f g k m e h is are =
-    pushed_one mid new g m h are ∙ ap (λ xs. xs ++ m ∷ []) (pushed_one old mid f k e is) ∙ append_assoc (map seen old) (k ∷ []) (m ∷ [])
-
 pub found_one : (old new : List Step) (s : Step) (f : Found) → new ≡ old ++ s ∷ [] → found s ≡ f → map found new ≡ map found old ++ f ∷ []
 found_one old new s f e is = ap (map found) e ∙ map-append found old (s ∷ []) ∙ ap (λ (g : Found). map found old ++ g ∷ []) is
 

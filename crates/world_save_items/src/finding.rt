@@ -6,6 +6,7 @@ ghost use Rattle.world_forest.specs.Forest.{IsForest};
 ghost use Rattle.world_save_terms.specs.Items.{below};
 ghost use Rattle.world_save_items.specs.Measures.{capped};
 ghost use Rattle.world_save_items.specs.Steps.{IsWalk, found, found_at, todo, todo_after, whole_dir};
+ghost use Rattle.labelled_files.specs.Trees.{most_entries};
 
 use crate::measure::{escaped_len, more};
 use flow_labels::NoMemory;
@@ -89,7 +90,7 @@ fn find<'a>(
     name: &'a Name,
 ) -> Result<(), NoMemory>
     requires cut { frame.now.cut ≤ length trail.old.path.items }
-    requires room { frame.now.next < 4096 }
+    requires room { frame.now.next < most_entries }
     requires bytes { frame.now.bytes ≡ capped (length (escape (take frame.now.cut trail.old.path.items))) }
     ensures path { OnOk result (trail.new.path.items ≡ below (take frame.now.cut trail.old.path.items) entry.now) }
     ensures steps { OnOk result (map found trail.new.steps.items ≡ map found trail.old.steps.items ++ found_at (todo frame.now) (below (take frame.now.cut trail.old.path.items) entry.now) entry.now kind name.now ∷ []) }
@@ -118,7 +119,7 @@ fn go_on<'a>(
     cut: usize,
     bytes: u64,
 ) -> Result<(), NoMemory>
-    requires { frame.now.next < 4096 }
+    requires { frame.now.next < most_entries }
     ensures { OnOk result (map todo stack.new.items ≡ map todo stack.old.items ++ todo_after (todo frame.now) kind (record { dir = name.now; next = 0; cut = cut; bytes = bytes })) }
 {
     stack.push(Frame {

@@ -8,7 +8,7 @@ use Rattle.std.specs.Ordering.{nat_cmp, ordering_then, ordering_reverse, is_lt}
 use Rattle.std.specs.declared.cmp.Ordering.{Ordering}
 use Rattle.std.specs.declared.cmp.Ordering.TheVariants.{Less, Equal, Greater}
 use Rattle.std.specs.Cmp.{IsTotalOrder}
-use Rattle.std.proofs.lemmas.Cmp.{then_total, on_total, nat_list_cmp_total}
+use Rattle.std.proofs.lemmas.Cmp.{then_total, on_total, nat_list_cmp_total, nat_cmp_total}
 use Rattle.std.proofs.lemmas.List.Sorted.{IsPermutation-refl, IsPermutation-sym, IsPermutation-cons, IsPermutation-trans, IsPermutation-middle}
 use Rattle.world_save_terms.specs.Rows.{Row, row_cmp}
 use Rattle.world_save_rows.specs.declared.ordering.Row as code
@@ -80,8 +80,8 @@ module _ {X : Type 0} (lt : X → X → Bool) where
 
 -- ---- rows
 
-rows_total : IsTotalOrder row_cmp
-rows_total = then_total (on_total (λ (r : Row). r.maker) nat_list_cmp_total) (on_total (λ (r : Row). r.own) nat_list_cmp_total)
+pub rows_total : IsTotalOrder row_cmp
+rows_total = then_total (on_total (λ (r : Row). r.maker) nat_list_cmp_total) (then_total (on_total (λ (r : Row). r.own) nat_list_cmp_total) (on_total (λ (r : Row). r.next) nat_cmp_total))
 
 flipped : (o p : Ordering) → o ≡ ordering_reverse p → is_lt p ≡ true → is_lt o ≡ false
 flipped o Less e h = ap is_lt e
@@ -104,14 +104,7 @@ pub sorted_rows : (rows : List Row) → HasSorted rows
 sorted_rows rows =
     record { in_order = sorted by_text rows; same = sorted_same by_text rows; ordered = rises_sorted by_text (sorted by_text rows) (sorted_rises by_text one_way rows) }
 
--- ---- the order of code looks at the counter last
-
-before_number : (x y z : Ordering) → is_lt (ordering_then x (ordering_then y z)) ≡ false → is_lt (ordering_then x y) ≡ false
-before_number Less y z h = h
-before_number Equal Less z h = h
-before_number Equal Equal z h = refl
-before_number Equal Greater z h = refl
-before_number Greater y z h = refl
+-- ---- rows in the order of code
 
 abbrev code_cmp : code.Row → code.Row → Ordering
 code_cmp a b =
@@ -132,10 +125,7 @@ seen_ordered e rows up k d low high =
     let n = length_seen rows in
     let later = get_seen rows (k + 1) d e (omega (arith, high, n)) in
     let here = get_seen rows k d e (omega (arith, high, n)) in
-    let a = get_or rows (k + 1) e in
-    let b = get_or rows k e in
-    ap is_lt (λ i. row_cmp (later i) (here i))
-    ∙ before_number (slice_cmp nat_cmp (string_bytes a.maker) (string_bytes b.maker)) (slice_cmp nat_cmp (string_bytes a.own) (string_bytes b.own)) (nat_cmp a.next b.next) (up k e low (omega (arith, high, n)))
+    ap is_lt (λ i. row_cmp (later i) (here i)) ∙ up k e low (omega (arith, high, n))
 
 pub texts_in_order : (rows : List code.Row) → IsSorted code_cmp rows → IsSorted row_cmp (map row_seen rows)
 texts_in_order [] up = λ k d low high. absurd (omega (arith, high))

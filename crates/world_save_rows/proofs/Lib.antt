@@ -3,3 +3,4 @@ pub mod Entries
 pub mod Listed
 pub mod AllTags
 pub mod InOrder
+pub mod Once

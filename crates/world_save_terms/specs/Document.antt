@@ -11,7 +11,7 @@ use Rattle.serde_json.specs.View.{items_of as data_list}
 use Rattle.serde_json.specs.Written.{comma_if, compact_text}
 use Rattle.std.specs.Fmt.{digits}
 use Rattle.hex.specs.Hex.{encode_lower}
-use Rattle.world_save_values.specs.Compact.{IsCompact}
+use Rattle.world_save_terms.specs.Compact.{IsCompact}
 use Rattle.flow_labels.specs.TwoLists.{Text}
 use Rattle.flow_labels.specs.declared.Label.{Label}
 use Rattle.flow_labels.specs.LabelText.{label_text}

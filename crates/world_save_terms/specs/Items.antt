@@ -3,14 +3,15 @@
 --
 -- A directory `d` with the file `x` in it, and the file `y`, are the items `d`, `d/x` and `y`.
 use Rattle.std.specs.Prelude.{◌≡◌, ℕ, zero, suc, List, [], ◌∷◌, ◌++◌, codes, refl}
-use Rattle.std.specs.List.{flat_map}
+use Rattle.std.specs.List.{All, flat_map}
 use Rattle.std.specs.FinMap.{len}
 use Rattle.flow_labels.specs.TwoLists.{Text}
 use Rattle.lam_value.specs.declared.names.Name.{Name}
 use Rattle.labelled_files.specs.declared.directory.Target.{Target}
 use Rattle.labelled_files.specs.declared.directory.EntryKind.{EntryKind}
 use Rattle.labelled_files.specs.declared.directory.EntryKind.TheVariants.{File, Dir}
-use Rattle.labelled_files.specs.Trees.{Tree, entries_at}
+use Rattle.labelled_files.specs.Trees.{Tree, entries_at, bytes_at}
+use Rattle.hex.specs.Hex.{IsBytes}
 
 -- what an entry leads to, with the entry names on the way from the root
 pub record Item : Type 0 where
@@ -39,6 +40,10 @@ items_below (suc depth) t path dir = flat_map (at_entry (items_below depth t) pa
 -- what the root holds: directories nest no deeper than there are directories
 abbrev pub items_of : Tree → List Item
 items_of t = items_below (len t.dirs) t [] t.root
+
+-- what the files among them hold are bytes
+abbrev pub HoldBytes : Tree → Type 0
+HoldBytes t = All (λ (i : Item). IsBytes (bytes_at t i.target.name)) (items_of t)
 
 -- ---- worked examples
 in_the_root : below [] (codes "x") ≡ codes "x"

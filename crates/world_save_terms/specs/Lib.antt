@@ -1,3 +1,4 @@
+pub mod Compact
 pub mod Items
 pub mod Rows
 pub mod Document

@@ -18,9 +18,10 @@ pub record Row : Type 0 where
   pub own : Text
   pub next : ℕ
 
--- the maker's text, then the own text, each byte by byte
+-- the maker's text, then the own text, each byte by byte; the counter tells apart rows with equal texts, which no two homes have
+-- whose labels' tags all have names
 abbrev pub row_cmp : Row → Row → Ordering
-row_cmp a b = ordering_then (slice_cmp nat_cmp a.maker b.maker) (slice_cmp nat_cmp a.own b.own)
+row_cmp a b = ordering_then (slice_cmp nat_cmp a.maker b.maker) (ordering_then (slice_cmp nat_cmp a.own b.own) (nat_cmp a.next b.next))
 
 abbrev pub row_of : List Text → Home × ℕ → Row
 row_of names e = record { maker = label_text names e.0.maker; own = label_text names e.0.own; next = e.1 }

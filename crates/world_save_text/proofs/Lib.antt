@@ -3,3 +3,4 @@ pub mod Lists
 pub mod Openings
 pub mod Lengths
 pub mod Written
+pub mod Writings

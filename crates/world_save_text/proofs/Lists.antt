@@ -14,9 +14,9 @@ use Rattle.world_save_terms.specs.Document.{kind_at, tag_data, tags_from, item_d
 use Rattle.world_save_items.specs.Measures.{capped}
 use Rattle.world_save_items.specs.Steps.{Found, found, path_of, items_from, AreMeasured}
 use Rattle.world_save_items.specs.declared.finding.Step.{Step}
-use Rattle.world_save_pen.specs.declared.pen.Pen.{Pen}
-use Rattle.world_save_pen.specs.Writing.{Wrote}
-use Rattle.world_save_pen.proofs.Writings.{HasWritten, one_written, all_written, mapped}
+use Rattle.world_save_text.specs.declared.writer.JsonWriter.{JsonWriter}
+use Rattle.world_save_text.specs.Writing.{Wrote}
+use Rattle.world_save_text.proofs.Writings.{HasWritten, one_written, all_written, mapped}
 use Rattle.world_save_text.specs.Pieces.{item_text, items_left}
 
 item_split : (later : Bool) (d : Data) (ds : List Data) → items_left later (d ∷ ds) ≡ item_text later d ++ items_left true ds
@@ -24,13 +24,13 @@ item_split later d ds = sym (append_assoc (comma_if later) (compact_text d) (ite
 
 -- one item more was written
 pub next_item :
-    (old now new : Pen) (all : Text) (later : Bool) (left : List Data) (d : Data) (ds : List Data) → left ≡ d ∷ ds → HasWritten old now all (items_left later left) → Wrote now new (item_text later d) →
+    (old now new : JsonWriter) (all : Text) (later : Bool) (left : List Data) (d : Data) (ds : List Data) → left ≡ d ∷ ds → HasWritten old now all (items_left later left) → Wrote now new (item_text later d) →
     HasWritten old new all (items_left true ds)
 next_item old now new all later left d ds e h w = one_written (items_left true ds) h w (ap (items_left later) e ∙ item_split later d ds)
 
 -- no item is left, and the end was written
 pub list_end :
-    {X E : Type 0} (res : Result X E) (old now new : Pen) (all : Text) (later : Bool) (left : List Data) → left ≡ [] → HasWritten old now all (items_left later left) → OnOk res (Wrote now new (93 ∷ [])) →
+    {X E : Type 0} (res : Result X E) (old now new : JsonWriter) (all : Text) (later : Bool) (left : List Data) → left ≡ [] → HasWritten old now all (items_left later left) → OnOk res (Wrote now new (93 ∷ [])) →
     OnOk res (Wrote old new all)
 list_end res old now new all later left e h ends = mapped res ends (λ w. all_written (one_written [] h w (ap (items_left later) e)) refl)
 
@@ -70,7 +70,7 @@ module _ (public : Caps) (names : List Text) (at : ℕ) where
 
   -- a tag by its name, whichever name is found for it
   pub tag_at :
-      {X E : Type 0} (res : Result X E) (now new : Pen) (name : Text) (later : Bool) (kind : TagKind) → later ≡ nat_lt 0 at → kind ≡ kind_at public at → Some name ≡ slice_get names at → OnOk res (Wrote now new (item_text later (tag_data name kind))) →
+      {X E : Type 0} (res : Result X E) (now new : JsonWriter) (name : Text) (later : Bool) (kind : TagKind) → later ≡ nat_lt 0 at → kind ≡ kind_at public at → Some name ≡ slice_get names at → OnOk res (Wrote now new (item_text later (tag_data name kind))) →
       OnOk res ((other : Text) → Some other ≡ slice_get names at → Wrote now new (item_text (nat_lt 0 at) (tag_data other (kind_at public at))))
   tag_at res now new name later kind l k e h =
       mapped res h (λ w other f.
@@ -87,7 +87,7 @@ module _ (public : Caps) (names : List Text) (at : ℕ) where
       by (n ∷ ns) (suc j) l = by ns j (omega (arith, l))
 
   pub tag_written :
-      at < length names → (old now new : Pen) (all : Text) → HasWritten old now all (items_left (nat_lt 0 at) (tags_from public at (drop at names))) →
+      at < length names → (old now new : JsonWriter) (all : Text) → HasWritten old now all (items_left (nat_lt 0 at) (tags_from public at (drop at names))) →
       ((name : Text) → Some name ≡ slice_get names at → Wrote now new (item_text (nat_lt 0 at) (tag_data name (kind_at public at)))) →
       HasWritten old new all (items_left (nat_lt 0 (at + 1)) (tags_from public (at + 1) (drop (at + 1) names)))
   tag_written less old now new all h w =
@@ -124,7 +124,7 @@ module _ (names : List Text) (t : Tree) (steps : List Step) (i : ℕ) (step : St
     measured_more = subst (λ p. AreMeasured p (map found (drop (i + 1) steps))) (sym e) both_measured.1
 
   pub item_written :
-      (old now new : Pen) (all : Text) (later : Bool) (new_path written : Text) → new_path ≡ path_of path (found step) → written ≡ new_path →
+      (old now new : JsonWriter) (all : Text) (later : Bool) (new_path written : Text) → new_path ≡ path_of path (found step) → written ≡ new_path →
       HasWritten old now all (items_left later (map (item_data names t) (items_from path (map found (drop i steps))))) →
       Wrote now new (item_text later (item_data names t (record { path = written; target = record { kind = step.kind; name = step.name.now } }))) →
       HasWritten old new all (items_left true (map (item_data names t) (items_from new_path (map found (drop (i + 1) steps)))))

@@ -5,7 +5,7 @@ ghost use Rattle.serde_json.specs.Data.{Data};
 ghost use Rattle.world_save_terms.specs.Rows.{Row as RowOfTexts, row_of};
 ghost use Rattle.world_save_items.specs.Measures.{capped};
 ghost use Rattle.world_save_items.specs.Steps.{IsWalk};
-ghost use Rattle.world_save_pen.specs.Writing.{Wrote, kept};
+ghost use Rattle.world_save_text.specs.Writing.{Wrote, kept};
 ghost use Rattle.world_save_rows.specs.Seen.{home_seen, row_seen};
 ghost use Rattle.world_save_text.specs.Pieces.{after_counts};
 ghost use Rattle.world_save_text.specs.Texts.{parts_with, text_with};
@@ -13,12 +13,12 @@ ghost use Rattle.world_save_text.specs.Texts.{parts_with, text_with};
 use crate::rows::{write_homes, write_rows};
 use crate::tags::write_tags;
 use crate::tree::write_tree;
+use crate::{JsonWriter, raw};
 use capabilities::Caps;
 use flow_labels::{NoMemory, TagNames};
 use labelled_files::Files;
 use std::alloc::Global;
 use world_save_items::Step;
-use world_save_pen::{Pen, raw};
 use world_save_rows::{HomeCount, Row};
 
 /// What a document is made of, but for its counters.
@@ -37,47 +37,57 @@ pub struct Contents<'a> {
     pub threads: &'a [u8],
 }
 
-fn write_after_counts(alloc: Global, pen: &mut Pen, contents: &Contents) -> Result<(), NoMemory>
+fn write_after_counts(
+    alloc: Global,
+    writer: &mut JsonWriter,
+    contents: &Contents,
+) -> Result<(), NoMemory>
     requires { IsWalk contents.now.files.now contents.now.steps.now }
-    ensures { OnOk result ((rows : List RowOfTexts) (pipes threads : Data) → Wrote pen.old pen.new (after_counts (parts_with contents.now rows pipes threads) contents.now.pipes.now contents.now.threads.now)) }
+    ensures { OnOk result ((rows : List RowOfTexts) (pipes threads : Data) → Wrote writer.old writer.new (after_counts (parts_with contents.now rows pipes threads) contents.now.pipes.now contents.now.threads.now)) }
 {
-    raw(pen, b",\"pipes\":")?;
-    raw(pen, contents.pipes)?;
-    raw(pen, b",\"tags\":")?;
-    write_tags(pen, contents.names, contents.public)?;
-    raw(pen, b",\"threads\":")?;
-    raw(pen, contents.threads)?;
-    raw(pen, b",\"tree\":")?;
-    write_tree(alloc, pen, contents.names, contents.files, contents.steps)?;
-    raw(pen, b",\"version\":3}")
+    raw(writer, b",\"pipes\":")?;
+    raw(writer, contents.pipes)?;
+    raw(writer, b",\"tags\":")?;
+    write_tags(writer, contents.names, contents.public)?;
+    raw(writer, b",\"threads\":")?;
+    raw(writer, contents.threads)?;
+    raw(writer, b",\"tree\":")?;
+    write_tree(
+        alloc,
+        writer,
+        contents.names,
+        contents.files,
+        contents.steps,
+    )?;
+    raw(writer, b",\"version\":3}")
 }
 
 fn write_by_homes(
     alloc: Global,
-    pen: &mut Pen,
+    writer: &mut JsonWriter,
     contents: &Contents,
     homes: &[HomeCount],
 ) -> Result<(), NoMemory>
     requires { IsWalk contents.now.files.now contents.now.steps.now }
-    ensures { OnOk result ((pipes threads : Data) → Wrote pen.old pen.new (text_with contents.now (map (row_of contents.now.names.now) (map home_seen homes.now)) pipes threads)) }
+    ensures { OnOk result ((pipes threads : Data) → Wrote writer.old writer.new (text_with contents.now (map (row_of contents.now.names.now) (map home_seen homes.now)) pipes threads)) }
 {
-    raw(pen, b"{\"counts\":")?;
-    write_homes(pen, contents.names, homes)?;
-    write_after_counts(alloc, pen, contents)
+    raw(writer, b"{\"counts\":")?;
+    write_homes(writer, contents.names, homes)?;
+    write_after_counts(alloc, writer, contents)
 }
 
 fn write_by_rows(
     alloc: Global,
-    pen: &mut Pen,
+    writer: &mut JsonWriter,
     contents: &Contents,
     rows: &[Row],
 ) -> Result<(), NoMemory>
     requires { IsWalk contents.now.files.now contents.now.steps.now }
-    ensures { OnOk result ((pipes threads : Data) → Wrote pen.old pen.new (text_with contents.now (map row_seen rows.now) pipes threads)) }
+    ensures { OnOk result ((pipes threads : Data) → Wrote writer.old writer.new (text_with contents.now (map row_seen rows.now) pipes threads)) }
 {
-    raw(pen, b"{\"counts\":")?;
-    write_rows(pen, rows)?;
-    write_after_counts(alloc, pen, contents)
+    raw(writer, b"{\"counts\":")?;
+    write_rows(writer, rows)?;
+    write_after_counts(alloc, writer, contents)
 }
 
 /// How many bytes the document of these contents and homes takes, at most the greatest number. Only a row or a file's
@@ -94,16 +104,16 @@ pub fn count_document(
     requires { IsWalk contents.now.files.now contents.now.steps.now }
     ensures { IfOk result (λ n. (rows : List RowOfTexts) (pipes threads : Data) → IsPermutation (map (row_of contents.now.names.now) (map home_seen homes.now)) rows → n ≡ capped (length (text_with contents.now rows pipes threads))) }
 {
-    let mut pen = Pen::counting();
-    write_by_homes(alloc, &mut pen, contents, homes)?;
-    Ok(pen.count)
+    let mut writer = JsonWriter::counting();
+    write_by_homes(alloc, &mut writer, contents, homes)?;
+    Ok(writer.count)
 }
 
-/// The text that a pen kept, empty where it kept none.
-fn text_kept(alloc: Global, pen: Pen) -> Vec<u8>
-    ensures { (text : List ℕ) → kept pen ≡ Some text → result.items ≡ text }
+/// The text that a writer kept, empty where it kept none.
+fn text_kept(alloc: Global, writer: JsonWriter) -> Vec<u8>
+    ensures { (text : List ℕ) → kept writer ≡ Some text → result.items ≡ text }
 {
-    pen.kept.unwrap_or(Vec::new(alloc))
+    writer.kept.unwrap_or(Vec::new(alloc))
 }
 
 /// The document of these contents and rows.
@@ -115,7 +125,7 @@ pub fn write_document(alloc: Global, contents: &Contents, rows: &[Row]) -> Resul
     requires { IsWalk contents.now.files.now contents.now.steps.now }
     ensures { IfOk result (λ text. (pipes threads : Data) → text.items ≡ text_with contents.now (map row_seen rows.now) pipes threads) }
 {
-    let mut pen = Pen::writing(alloc);
-    write_by_rows(alloc, &mut pen, contents, rows)?;
-    Ok(text_kept(alloc, pen))
+    let mut writer = JsonWriter::writing(alloc);
+    write_by_rows(alloc, &mut writer, contents, rows)?;
+    Ok(text_kept(alloc, writer))
 }

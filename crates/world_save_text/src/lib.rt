@@ -1,9 +1,10 @@
-//! The text of a saved world's document, written or only counted by a pen.
+//! The text of a saved world's document, written or only counted by a [`JsonWriter`].
 //!
 //! A text that is too long is not built: [`count_document`] says how long it would be, and takes memory for one row and one
 //! file at a time. Its rows are in the order of the list of homes, since the length is the same in each order.
 //! [`write_document`] writes the text, of rows in order.
 //!
+//! - `writer` has the writer, which keeps a text or its length alone, and `values` the JSON values that are written.
 //! - `paths` has the first item whose path is no text. An item comes after its directory, so it is the first whose own
 //!   entry is none.
 //! - `rows` has the list of counters, `tags` that of tags, and `tree` that of files and directories: the path of each is
@@ -16,6 +17,10 @@ mod paths;
 mod rows;
 mod tags;
 mod tree;
+mod values;
+mod writer;
 
 pub use document::{Contents, count_document, write_document};
 pub use paths::first_bad_path;
+pub use values::{digits, escaped, label, number, quoted};
+pub use writer::{JsonWriter, raw};

@@ -8,49 +8,49 @@ ghost use Rattle.world_save_terms.specs.Items.{items_of};
 ghost use Rattle.world_save_terms.specs.Document.{place_members, item_data, list_text};
 ghost use Rattle.world_save_items.specs.Measures.{capped};
 ghost use Rattle.world_save_items.specs.Steps.{IsWalk, AreMeasured, found, items_from};
-ghost use Rattle.world_save_pen.specs.Writing.{Wrote};
+ghost use Rattle.world_save_text.specs.Writing.{Wrote};
 ghost use Rattle.world_save_text.specs.Pieces.{item_text, items_left, bytes_text, head_text};
 
 use crate::rows::comma;
+use crate::{JsonWriter, digits, label, number, quoted, raw};
 use flow_labels::{NoMemory, TagNames};
 use labelled_files::{EntryKind, Files};
 use lam_value::Name;
 use std::alloc::Global;
 use world_save_items::{Step, lengthen, more};
-use world_save_pen::{Pen, digits, label, number, quoted, raw};
 
-/// Writes a path in quotes. A pen that counts does not go over the path: how many bytes it takes is known.
-fn write_path(pen: &mut Pen, path: &[u8], bytes: u64) -> Result<(), NoMemory>
+/// Writes a path in quotes. A writer that counts does not go over the path: how many bytes it takes is known.
+fn write_path(writer: &mut JsonWriter, path: &[u8], bytes: u64) -> Result<(), NoMemory>
     requires { bytes ≡ capped (length (escape path.now)) }
-    ensures { OnOk result (Wrote pen.old pen.new (quoted path.now)) }
+    ensures { OnOk result (Wrote writer.old writer.new (quoted path.now)) }
 {
-    if pen.kept.is_some() {
-        return quoted(pen, path);
+    if writer.kept.is_some() {
+        return quoted(writer, path);
     }
-    pen.count = more(more(pen.count, bytes), 2);
+    writer.count = more(more(writer.count, bytes), 2);
     Ok(())
 }
 
 /// Writes what is said of a file or directory after what it is.
 fn write_place(
-    pen: &mut Pen,
+    writer: &mut JsonWriter,
     names: &TagNames,
     name: &Name,
     path: &[u8],
     bytes: u64,
 ) -> Result<(), NoMemory>
     requires { bytes ≡ capped (length (escape path.now)) }
-    ensures { OnOk result (Wrote pen.old pen.new (members_text true (place_members names.now path.now name.now))) }
+    ensures { OnOk result (Wrote writer.old writer.new (members_text true (place_members names.now path.now name.now))) }
 {
-    raw(pen, b",\"label\":")?;
-    label(pen, name.own(), names)?;
-    raw(pen, b",\"maker\":")?;
-    label(pen, name.maker(), names)?;
-    raw(pen, b",\"number\":")?;
-    number(pen, name.n())?;
-    raw(pen, b",\"path\":")?;
-    write_path(pen, path, bytes)?;
-    raw(pen, b"}")
+    raw(writer, b",\"label\":")?;
+    label(writer, name.own(), names)?;
+    raw(writer, b",\"maker\":")?;
+    label(writer, name.maker(), names)?;
+    raw(writer, b",\"number\":")?;
+    number(writer, name.n())?;
+    raw(writer, b",\"path\":")?;
+    write_path(writer, path, bytes)?;
+    raw(writer, b"}")
 }
 
 fn contents<'a>(files: &'a Files, name: &Name) -> &'a [u8]
@@ -60,32 +60,32 @@ fn contents<'a>(files: &'a Files, name: &Name) -> &'a [u8]
 }
 
 /// Writes the bytes of a file.
-fn write_bytes(alloc: Global, pen: &mut Pen, bytes: &[u8]) -> Result<(), NoMemory>
-    ensures { OnOk result (Wrote pen.old pen.new (bytes_text bytes.now)) }
+fn write_bytes(alloc: Global, writer: &mut JsonWriter, bytes: &[u8]) -> Result<(), NoMemory>
+    ensures { OnOk result (Wrote writer.old writer.new (bytes_text bytes.now)) }
 {
-    raw(pen, b"{\"hex\":")?;
-    digits(alloc, pen, bytes)
+    raw(writer, b"{\"hex\":")?;
+    digits(alloc, writer, bytes)
 }
 
 /// Writes whether it is a directory, or the bytes of a file.
 fn write_head(
     alloc: Global,
-    pen: &mut Pen,
+    writer: &mut JsonWriter,
     files: &Files,
     kind: EntryKind,
     name: &Name,
 ) -> Result<(), NoMemory>
-    ensures { OnOk result (Wrote pen.old pen.new (head_text files.now name.now kind)) }
+    ensures { OnOk result (Wrote writer.old writer.new (head_text files.now name.now kind)) }
 {
     match kind {
-        EntryKind::File => write_bytes(alloc, pen, contents(files, name)),
-        EntryKind::Dir => raw(pen, b"{\"dir\":true"),
+        EntryKind::File => write_bytes(alloc, writer, contents(files, name)),
+        EntryKind::Dir => raw(writer, b"{\"dir\":true"),
     }
 }
 
 fn write_item(
     alloc: Global,
-    pen: &mut Pen,
+    writer: &mut JsonWriter,
     later: bool,
     names: &TagNames,
     files: &Files,
@@ -93,46 +93,46 @@ fn write_item(
     step: &Step,
 ) -> Result<(), NoMemory>
     requires { step.now.bytes ≡ capped (length (escape path.now)) }
-    ensures { OnOk result (Wrote pen.old pen.new (item_text later (item_data names.now files.now (record { path = path.now; target = record { kind = step.now.kind; name = step.now.name.now } })))) }
+    ensures { OnOk result (Wrote writer.old writer.new (item_text later (item_data names.now files.now (record { path = path.now; target = record { kind = step.now.kind; name = step.now.name.now } })))) }
 {
-    comma(pen, later)?;
-    write_head(alloc, pen, files, step.kind, step.name)?;
-    write_place(pen, names, step.name, path, step.bytes)
+    comma(writer, later)?;
+    write_head(alloc, writer, files, step.kind, step.name)?;
+    write_place(writer, names, step.name, path, step.bytes)
 }
 
 fn write_each(
     alloc: Global,
-    pen: &mut Pen,
+    writer: &mut JsonWriter,
     names: &TagNames,
     files: &Files,
     steps: &[Step],
 ) -> Result<(), NoMemory>
     requires { AreMeasured [] (map found steps.now) }
-    ensures { OnOk result (Wrote pen.old pen.new (items_left false (map (item_data names.now files.now) (items_from [] (map found steps.now))))) }
+    ensures { OnOk result (Wrote writer.old writer.new (items_left false (map (item_data names.now files.now) (items_from [] (map found steps.now))))) }
 {
-    let _count = pen.count;
+    let _count = writer.count;
     let mut path: Vec<u8> = Vec::new(alloc);
     let mut later = false;
     for step in steps {
         path.truncate(step.cut);
         lengthen(&mut path, step.entry)?;
-        write_item(alloc, pen, later, names, files, path.as_slice(), step)?;
+        write_item(alloc, writer, later, names, files, path.as_slice(), step)?;
         later = true;
     }
-    raw(pen, b"]")
+    raw(writer, b"]")
 }
 
 /// Writes the list of files and directories.
 pub fn write_tree(
     alloc: Global,
-    pen: &mut Pen,
+    writer: &mut JsonWriter,
     names: &TagNames,
     files: &Files,
     steps: &[Step],
 ) -> Result<(), NoMemory>
     requires { IsWalk files.now steps.now }
-    ensures { OnOk result (Wrote pen.old pen.new (list_text (map (item_data names.now files.now) (items_of files.now)))) }
+    ensures { OnOk result (Wrote writer.old writer.new (list_text (map (item_data names.now files.now) (items_of files.now)))) }
 {
-    raw(pen, b"[")?;
-    write_each(alloc, pen, names, files, steps)
+    raw(writer, b"[")?;
+    write_each(alloc, writer, names, files, steps)
 }

@@ -1,8 +1,8 @@
 use Rattle.std.proofs.Common.{map, string_bytes, ap}
 use Rattle.lam_main_words.specs.Words.{request_of}
 use Rattle.lam_main_plan.specs.Answer.{outside}
-use Rattle.lam_main_plan.specs.Plan.{IsPlan}
-use Rattle.lam_main_plan.proofs.AnswerLemmas.{answers_to, all_stay, status_of}
+use Rattle.lam_main_plan.specs.Plan.{IsPlan, written_by}
+use Rattle.lam_main_plan.proofs.AnswerLemmas.{answers_to, status_of}
 use Rattle.lam_main_plan.proofs.PlanLemmas.{plans_are_one}
 use Rattle.lam_main_plan.proofs.FormatLemmas.{steady_of}
 use Rattle.lam_main.proofs.EndLemmas.{planned_of, silent_memory, silent_shelf, shelf_failed_as, memory_ended_as, words_first}
@@ -19,10 +19,10 @@ returns-clause-answer g c = λ told none plan is.
     let files = g.H.Shelf.files c.args.shelf.now in
     let old = outside files (g.O.Sink.taken c.args.out.now) in
     let new = outside (g.H.Shelf.files c.answer_of-answer.new.shelf) (g.O.Sink.taken c.end_with.new.out) in
-    answers_to c.end_with.result (IsPlan ws files) old new plan (λ p given. plans_are_one ws files p plan none given is)
+    answers_to (written_by (request_of ws)) c.end_with.result (IsPlan ws files) old new plan (λ p given. plans_are_one ws files p plan none given is)
     (silent_memory c.end_with.result old.taken new.taken c.answer_of-answer.result c.end_with.ensures.ends)
     (silent_shelf c.end_with.result old.taken new.taken c.answer_of-answer.result c.end_with.ensures.ends)
-    (all_stay (request_of ws) files new.files none (c.answer_of-answer.ensures.kept told))
+    (c.answer_of-answer.ensures.kept told)
     (returns-clause-planned g c told)
 
 pub returns-clause-spared : goal.returns-clause-spared
@@ -33,7 +33,7 @@ pub returns-clause-no_fault : goal.returns-clause-no_fault
 returns-clause-no_fault g c = λ told none quiet_shelf quiet_sink some plan is.
     let old = outside (g.H.Shelf.files c.args.shelf.now) (g.O.Sink.taken c.args.out.now) in
     let new = outside (g.H.Shelf.files c.answer_of-answer.new.shelf) (g.O.Sink.taken c.end_with.new.out) in
-    status_of c.end_with.result plan old new some (λ e. quiet_shelf (shelf_failed_as c.end_with.result old.taken new.taken c.answer_of-answer.result c.end_with.ensures.ends c.answer_of-answer.ensures.failed e)) (λ e. quiet_sink (c.end_with.ensures.rose e))
+    status_of (written_by (request_of (map string_bytes c.args.words.now))) c.end_with.result plan old new some (λ e. quiet_shelf (shelf_failed_as c.end_with.result old.taken new.taken c.answer_of-answer.result c.end_with.ensures.ends c.answer_of-answer.ensures.failed e)) (λ e. quiet_sink (c.end_with.ensures.rose e))
     (returns-clause-answer g c told none plan is)
 
 pub returns-clause-steady : goal.returns-clause-steady
@@ -101,6 +101,9 @@ returns-clause-paired g c = c.pairs_are_told.ensures (map string_bytes c.args.wo
 
 pub returns-clause-saved : goal.returns-clause-saved
 returns-clause-saved g c = c.saves_are_told.ensures (map string_bytes c.args.words.now) (g.H.Shelf.files c.args.shelf.now)
+
+pub returns-clause-read_back : goal.returns-clause-read_back
+returns-clause-read_back g c = c.next_worlds_are_read.ensures (map string_bytes c.args.words.now) (g.H.Shelf.files c.args.shelf.now)
 
 pub returns-clause-walked : goal.returns-clause-walked
 returns-clause-walked g c = c.walks_are_told.ensures (map string_bytes c.args.words.now) (g.H.Shelf.files c.args.shelf.now)

@@ -3,7 +3,7 @@ use Rattle.std.proofs.lemmas.Result.{err_from_is_err_and}
 use Rattle.lam_syntax.proofs.Rows.{call_row, label_row, spawn_row}
 use Rattle.lam_syntax.specs.Tree.{ExprTree, ExprList, unary_expr, field_expr, new_array_expr, spawn_expr, expr_form, expr_tree, exprs_tree, type_tree, id_tree}
 use Rattle.lam_builtins.specs.Builtins.{Signature}
-use Rattle.lam_types_breaks.specs.Verdicts.{Fine}
+use Rattle.lam_types_kinds.specs.Verdicts.{Fine}
 use Rattle.lam_types_kinds.specs.Tables.{Names, Decls, find}
 use Rattle.lam_types_kinds.specs.Values.{Gives, decls, names, places, given, value_type, option_signature, answer}
 use Rattle.lam_types_kinds.specs.declared.types.Got.{Got}

@@ -1,5 +1,5 @@
 use Rattle.std.proofs.Common.{map, take}
-use Rattle.barrier_compiler_parts.specs.Views.{flat_view}
+use Rattle.barrier_compiler_ops.specs.Views.{flat_view}
 use Rattle.barrier_compiler_units.proofs.Numbers.{Numbers}
 use Rattle.barrier_compiler_units.proofs.pool.number_code.Given as goal
 

@@ -1,6 +1,6 @@
 use Rattle.std.proofs.Common.{ap, ◌∙◌, sym, map}
 use Rattle.lam_meaning.specs.Pieces.{is_in, with_constant, place_of}
-use Rattle.barrier_compiler_parts.specs.Views.{constant_value}
+use Rattle.barrier_compiler_ops.specs.Views.{constant_value}
 use Rattle.barrier_compiler_units.proofs.Keys.{own_eq, same, keys_view, key_found, key_place}
 use Rattle.barrier_compiler_units.proofs.pool.place_in.Goals as goal
 

@@ -1,5 +1,5 @@
 use Rattle.std.proofs.Common.{◌≡◌, ◌++◌, drop, map}
-use Rattle.barrier_compiler_parts.specs.Views.{constant_value}
+use Rattle.barrier_compiler_ops.specs.Views.{constant_value}
 use Rattle.barrier_compiler_units.proofs.pool.values_of.Given as goal
 
 abbrev pub invariant-loop-constant : goal.invariant-loop-constant

@@ -4,17 +4,17 @@ use Rattle.lam_main_plan.specs.Reading.{Never}
 use Rattle.lam_main_plan.specs.Replays.{read_by, ByReader}
 use Rattle.lam_main_files.specs.Halts.{Finds}
 use Rattle.lam_main_plan.specs.Threads.{IsOfThreads}
-use Rattle.lam_main_replay.specs.declared.eye.Viewer.{Viewer}
+use Rattle.lam_main_replay.specs.declared.viewer.NamedViewer.{NamedViewer}
 use Rattle.lam_main_replay.specs.Asked.{reader_of, lines_for}
 use Rattle.lam_main_threads.proofs.TakenLemmas.{reader_offers, no_reader_offers}
 use Rattle.lam_main_threads.proofs.showing.shown.Goals as goal
 
 pub returns-in_ok-viewed-in-Ok-clause-offers : goal.returns-in_ok-viewed-in-Ok-clause-offers
 returns-in_ok-viewed-in-Ok-clause-offers g c =
-    reader_offers (λ out shown. IsOfThreads c.args.code c.args.start out c.args.bounds.turns shown) (read_by (reader_of c.args.reader.now) c.args.start.names) (lines_for c.in-Ok.viewer.eye c.in-Ok.viewer.names) c.in_ok-viewed-in-Ok.field-0
+    reader_offers (λ out shown. IsOfThreads c.args.code c.args.start out c.args.bounds.turns shown) (read_by (reader_of c.args.reader.now) c.args.start.names) (lines_for c.in-Ok.viewer.who c.in-Ok.viewer.names) c.in_ok-viewed-in-Ok.field-0
     (sym (ap (λ (s : Stores). read_by (reader_of c.args.reader.now) s.names) c.stores.ensures) ∙ c.in-Ok.ensures.finds) c.in_ok-viewed-in-Ok.ensures
 
 pub returns-in-Err-clause-offers : goal.returns-in-Err-clause-offers
 returns-in-Err-clause-offers g c =
-    no_reader_offers (λ out shown. IsOfThreads c.args.code c.args.start out c.args.bounds.turns shown) (read_by (reader_of c.args.reader.now) c.args.start.names) (λ (viewer : Viewer). read_by (reader_of c.args.reader.now) c.stores.result.now.names ≡ Ok (lines_for viewer.eye viewer.names)) c.in-Err.halt
-    (subst (λ (s : Stores). Finds {X = Viewer} (Err c.in-Err.halt) (λ (viewer : Viewer). read_by (reader_of c.args.reader.now) c.stores.result.now.names ≡ Ok (lines_for viewer.eye viewer.names)) (ByReader Never (read_by (reader_of c.args.reader.now) s.names))) c.stores.ensures c.in-Err.ensures.finds)
+    no_reader_offers (λ out shown. IsOfThreads c.args.code c.args.start out c.args.bounds.turns shown) (read_by (reader_of c.args.reader.now) c.args.start.names) (λ (viewer : NamedViewer). read_by (reader_of c.args.reader.now) c.stores.result.now.names ≡ Ok (lines_for viewer.who viewer.names)) c.in-Err.halt
+    (subst (λ (s : Stores). Finds {X = NamedViewer} (Err c.in-Err.halt) (λ (viewer : NamedViewer). read_by (reader_of c.args.reader.now) c.stores.result.now.names ≡ Ok (lines_for viewer.who viewer.names)) (ByReader Never (read_by (reader_of c.args.reader.now) s.names))) c.stores.ensures c.in-Err.ensures.finds)

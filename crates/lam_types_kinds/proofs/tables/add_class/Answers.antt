@@ -3,7 +3,7 @@ use Rattle.std.proofs.lemmas.Result.{err_from_is_err_and}
 use Rattle.lam_builtins.specs.Limits.{most_classes}
 use Rattle.lam_syntax.specs.declared.Var.{Var}
 use Rattle.lam_syntax.specs.Tree.{class_tree, vars_tree}
-use Rattle.lam_types_breaks.specs.Verdicts.{Fine}
+use Rattle.lam_types_kinds.specs.Verdicts.{Fine}
 use Rattle.lam_types_kinds.specs.Tables.{Names, with_class, with_fields, fields_of}
 use Rattle.lam_types_kinds.specs.Values.{fields, class_entries}
 use Rattle.lam_types_kinds.proofs.Adding.{stops_seen, fine_seen, added, to_leaves}

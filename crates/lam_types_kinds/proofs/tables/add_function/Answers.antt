@@ -3,7 +3,7 @@ use Rattle.std.proofs.lemmas.Result.{err_from_is_err_and}
 use Rattle.lam_builtins.specs.Limits.{most_functions}
 use Rattle.lam_syntax.specs.Tree.{function_tree}
 use Rattle.lam_operators.specs.Words.{Word}
-use Rattle.lam_types_breaks.specs.Verdicts.{Fine, then_on}
+use Rattle.lam_types_kinds.specs.Verdicts.{Fine, then_on}
 use Rattle.lam_types_kinds.specs.Breaks.{Verdict}
 use Rattle.lam_types_kinds.specs.Tables.{with_function, function_name, signature_of, find}
 use Rattle.lam_types_kinds.specs.Values.{signature, function_entries, keyed}

@@ -1,7 +1,7 @@
 use Rattle.std.proofs.Common.{ap, ◌∙◌, ◌++◌, ◌∷◌, []}
 use Rattle.std.proofs.lemmas.Result.{err_from_is_err_and}
 use Rattle.lam_syntax.specs.Tree.{var_tree}
-use Rattle.lam_types_breaks.specs.Verdicts.{Fine, then_on}
+use Rattle.lam_types_kinds.specs.Verdicts.{Fine, then_on}
 use Rattle.lam_types_kinds.specs.Breaks.{Verdict}
 use Rattle.lam_types_kinds.specs.Tables.{with_var, type_known, typed_name}
 use Rattle.lam_types_kinds.specs.Values.{names, decls, value_type}

@@ -10,11 +10,11 @@ loop-line-smaller c = c.in-Some.ensures.1
 pub loop-line-preserved : goal.loop-line-preserved
 loop-line-preserved c = record {
   within = omega arith;
-  so_far = line_taken _ (play_of c.loop-line.script) (play_of c.take_line.new.script) c.loop-line.rest.now c.in-Some.line.now c.in-Some.after.now c.loop-line.number c.loop-line.invariant.so_far c.in-Some.ensures.0 c.if-number-gt65536.false c.in-Ok.ensures;
+  so_far = line_taken _ (play_of c.loop-line.script) (play_of c.take_line.new.script) c.loop-line.rest.now c.in-Some.line.now c.in-Some.after.now c.loop-line.number c.loop-line.invariant.so_far c.in-Some.ensures.0 c.if-number-gt-LINE_LIMIT.false c.in-Ok.ensures;
 }
 
-pub returns-then-number-gt65536-clause-gives : goal.returns-then-number-gt65536-clause-gives
-returns-then-number-gt65536-clause-gives c = line_past _ (play_of c.loop-line.script) c.loop-line.rest.now c.in-Some.line.now c.in-Some.after.now c.loop-line.number c.loop-line.invariant.so_far c.in-Some.ensures.0 c.if-number-gt65536.true
+pub returns-then-number-gt-LINE_LIMIT-clause-gives : goal.returns-then-number-gt-LINE_LIMIT-clause-gives
+returns-then-number-gt-LINE_LIMIT-clause-gives c = line_past _ (play_of c.loop-line.script) c.loop-line.rest.now c.in-Some.line.now c.in-Some.after.now c.loop-line.number c.loop-line.invariant.so_far c.in-Some.ensures.0 c.if-number-gt-LINE_LIMIT.true
 
 pub returns-in-Err-Broken-clause-gives : goal.returns-in-Err-Broken-clause-gives
 returns-in-Err-Broken-clause-gives c = line_broken _ (play_of c.loop-line.script) c.loop-line.rest.now c.in-Some.line.now c.in-Some.after.now c.loop-line.number c.loop-line.invariant.so_far c.in-Some.ensures.0 (rw c.in-Err-Broken.field-0-is at c.in-Err-Broken.ensures)

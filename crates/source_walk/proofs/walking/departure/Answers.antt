@@ -14,8 +14,8 @@ returns c =
       units = c.index.result.now;
       did = c.as_slice-2.result.now;
       began = subst (λ (l : List Beginning). slice_get (c.args.starts.now ++ l) c.args.thread ≡ Some c.beginning_at-begin.result.now) c.as_slice.ensures.value c.beginning_at-begin.ensures;
-      took = slice_get_read c.args.doings.now.turns.items (length c.args.doings.now.turns.items) c.args.thread c.index.result.now refl (let t = c.requires.turns in let l = c.requires.there in omega (arith, t, l)) c.index.ensures;
-      asked = asked_there c.args.doings.now.asked.items c.args.thread c.index-2.result.now c.as_slice-2.result.now
-          (slice_get_read c.args.doings.now.asked.items (length c.args.doings.now.asked.items) c.args.thread c.index-2.result.now refl c.requires.there c.index-2.ensures) c.as_slice-2.ensures.value;
+      took = slice_get_read c.args.histories.now.turns.items (length c.args.histories.now.turns.items) c.args.thread c.index.result.now refl (let t = c.requires.turns in let l = c.requires.there in omega (arith, t, l)) c.index.ensures;
+      asked = asked_there c.args.histories.now.asked.items c.args.thread c.index-2.result.now c.as_slice-2.result.now
+          (slice_get_read c.args.histories.now.asked.items (length c.args.histories.now.asked.items) c.args.thread c.index-2.result.now refl c.requires.there c.index-2.ensures) c.as_slice-2.ensures.value;
       met = h;
     }) c.meet.ensures

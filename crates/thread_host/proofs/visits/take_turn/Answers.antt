@@ -1,6 +1,6 @@
 use Rattle.std.proofs.Common.{length, ap, sym, subst, ◌∙◌}
 use Rattle.lam_machine_terms.specs.Worlds.{World}
-use Rattle.described_runs.specs.Worlds.{IsSound}
+use Rattle.guarded_code_runs.specs.Worlds.{IsSound}
 use Rattle.thread_host_run.specs.Courses.{Progress, TookTurn}
 use Rattle.thread_host_run.specs.ReadyLists.{ready_threads}
 use Rattle.thread_host_run.proofs.CourseLemmas.{course_sound, has_turn}

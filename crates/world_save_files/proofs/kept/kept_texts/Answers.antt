@@ -2,7 +2,7 @@ use Rattle.std.proofs.Common.{sym, subst}
 use Rattle.std.specs.Prelude.{IfOk}
 use Rattle.std.proofs.lemmas.Str.{IsUtf8-from_is_utf8}
 use Rattle.serde_json.specs.Data.{Data}
-use Rattle.world_save_values.specs.Compact.{IsCompact}
+use Rattle.world_save_terms.specs.Compact.{IsCompact}
 use Rattle.world_save_files.specs.Saved.{HasKept, CanBeKept}
 use Rattle.world_save_files.proofs.kept.kept_texts.Goals as goal
 

@@ -2,7 +2,7 @@ use Rattle.std.proofs.Common.{map}
 use Rattle.json.specs.Print.{escape_byte}
 use Rattle.world_save_terms.specs.Rows.{row_of}
 use Rattle.world_save_rows.specs.Seen.{home_seen}
-use Rattle.world_save_pen.proofs.Writings.{mapped, then}
+use Rattle.world_save_text.proofs.Writings.{mapped, then}
 use Rattle.world_save_text.proofs.document.write_by_homes.Goals as goal
 
 pub returns : goal.returns

@@ -1,7 +1,7 @@
 use Rattle.std.proofs.Common.{map}
 use Rattle.json.specs.Print.{escape_byte}
 use Rattle.world_save_rows.specs.Seen.{row_seen}
-use Rattle.world_save_pen.proofs.Writings.{mapped, then}
+use Rattle.world_save_text.proofs.Writings.{mapped, then}
 use Rattle.world_save_text.proofs.document.write_by_rows.Goals as goal
 
 pub returns : goal.returns

@@ -7,4 +7,4 @@ use Rattle.world_save_text.proofs.document.write_document.Goals as goal
 pub returns : goal.returns
 returns c = λ pipes threads.
     let text = text_with c.args.contents.now (map row_seen c.args.rows.now) pipes threads in
-    c.text_kept.ensures text (kept_text _ _ text c.writing-pen.ensures.text (c.in_ok-write_by_rows.ensures pipes threads))
+    c.text_kept.ensures text (kept_text _ _ text c.writing-writer.ensures.text (c.in_ok-write_by_rows.ensures pipes threads))

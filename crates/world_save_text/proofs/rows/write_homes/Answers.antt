@@ -1,4 +1,4 @@
-use Rattle.world_save_pen.proofs.Writings.{mapped, then}
+use Rattle.world_save_text.proofs.Writings.{mapped, then}
 use Rattle.world_save_text.proofs.rows.write_homes.Goals as goal
 
 pub returns : goal.returns

@@ -1,5 +1,5 @@
 use Rattle.json.specs.Print.{escape_byte}
-use Rattle.world_save_pen.proofs.Writings.{mapped, then}
+use Rattle.world_save_text.proofs.Writings.{mapped, then}
 use Rattle.world_save_text.proofs.Written.{as_quoted}
 use Rattle.world_save_text.proofs.rows.write_row.Goals as goal
 

@@ -1,6 +1,6 @@
 use Rattle.std.proofs.Common.{◌∙◌}
 use Rattle.json.specs.Print.{escape_byte}
-use Rattle.world_save_pen.proofs.Writings.{mapped, then}
+use Rattle.world_save_text.proofs.Writings.{mapped, then}
 use Rattle.world_save_text.proofs.Written.{as_quoted}
 use Rattle.world_save_text.proofs.tags.write_tag.Goals as goal
 

@@ -1,4 +1,4 @@
-use Rattle.world_save_pen.proofs.Writings.{mapped, then}
+use Rattle.world_save_text.proofs.Writings.{mapped, then}
 use Rattle.world_save_text.proofs.Written.{item_pieces}
 use Rattle.world_save_text.proofs.tree.write_item.Goals as goal
 

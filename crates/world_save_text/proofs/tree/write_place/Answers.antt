@@ -1,5 +1,5 @@
 use Rattle.json.specs.Print.{escape_byte}
-use Rattle.world_save_pen.proofs.Writings.{mapped, then}
+use Rattle.world_save_text.proofs.Writings.{mapped, then}
 use Rattle.world_save_text.proofs.Written.{as_label, as_number}
 use Rattle.world_save_text.proofs.tree.write_place.Goals as goal
 

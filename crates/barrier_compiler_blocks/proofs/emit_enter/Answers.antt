@@ -1,5 +1,0 @@
-use Rattle.barrier_compiler_parts.proofs.Joins.{joins}
-use Rattle.barrier_compiler_blocks.proofs.emit_enter.Goals as goal
-
-pub returns : goal.returns
-returns c = joins c.emit_expr.ensures (joins c.store.ensures (joins c.load.ensures c.push.ensures))

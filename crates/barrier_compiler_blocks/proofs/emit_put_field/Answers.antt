@@ -1,5 +1,0 @@
-use Rattle.barrier_compiler_parts.proofs.Joins.{joins}
-use Rattle.barrier_compiler_blocks.proofs.emit_put_field.Goals as goal
-
-pub returns : goal.returns
-returns c = joins c.emit_expr.ensures (joins c.emit_expr-2.ensures (joins c.push.ensures c.put_field.ensures))

@@ -1,5 +1,0 @@
-use Rattle.barrier_compiler_parts.proofs.Jumps.{when_emits}
-use Rattle.barrier_compiler_blocks.proofs.end_fork.Goals as goal
-
-pub returns : goal.returns
-returns c = record { by = λ a b ps t e g. when_emits t e g c.len-end.ensures c.point.ensures }

@@ -1,2 +1,0 @@
-pub mod ExprArms
-pub mod Labels

@@ -1,0 +1,5 @@
+use Rattle.barrier_compiler_ops.proofs.Joins.{joins}
+use Rattle.barrier_compiler_ops.proofs.blocks.emit_entry.Goals as goal
+
+pub returns : goal.returns
+returns c = joins c.emit_expr.ensures (joins c.emit_expr-2.ensures (joins c.emit_loads.ensures c.enter_region.ensures))

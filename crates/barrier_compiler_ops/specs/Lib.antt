@@ -1,0 +1,4 @@
+pub mod Emits
+pub mod Views
+pub mod Labels
+pub mod Forks

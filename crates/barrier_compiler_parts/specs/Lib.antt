@@ -1,2 +1,0 @@
-pub mod Emits
-pub mod Views

@@ -1,0 +1,20 @@
+//! Worked examples of tag sets, labels and their rules, capabilities, scripts, books, numbers, and files and outputs that fail.
+//!
+//! A contract leaves want of memory free; these tests run each call once with ample memory. The expected values come from the
+//! descriptions of the formats, never from the code. Each is short, since it is proved before it runs.
+#![tactic(auto)]
+
+#[cfg(test)]
+mod books;
+#[cfg(test)]
+mod caps;
+#[cfg(test)]
+mod io;
+#[cfg(test)]
+mod labels;
+#[cfg(test)]
+mod numbers;
+#[cfg(test)]
+mod scripts;
+#[cfg(test)]
+mod sets;

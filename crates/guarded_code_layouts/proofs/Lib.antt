@@ -1,4 +1,0 @@
-pub mod Surely
-pub mod OfKinds
-pub mod Fitting
-pub mod LaidOut

@@ -1,0 +1,42 @@
+//! Guarded code is sound in every run: whatever threads do and in whatever order, each access finds a reference that is
+//! not null and whose rule holds.
+//!
+//! Every turn of the machine keeps that all threads agree with the descriptions of their code, and a thread at a
+//! function's entry does. So nothing has to be tested a second time where a barrier has tested it.
+//!
+//! That a world is valid and its code guarded, and that its threads agree with the descriptions, is one condition: it is
+//! asked of the world from which a run starts, and holds in every world of the run.
+//!
+//! - `specs/Worlds`: worlds whose threads are described, those from which runs start, and those from which they are sound.
+//! - `specs/Laws`: the laws.
+#![tactic(auto)]
+
+ghost use Rattle.lam_bytecode.specs.Codes.{CodeTree};
+ghost use Rattle.guarded_code_runs.specs.Laws.{EntriesAreDescribed, TurnsKeep, RunsKeep, AccessesFindInRuns, NoSecondTestInRuns, EntriesAreSound, TurnsKeepSound, RunsKeepSound, SoundAccessesFind};
+
+/// In a world whose threads are at the entries of functions of guarded code, each thread agrees with the descriptions of
+/// the code. Every turn keeps that, for the acting thread, the others and one that is spawned; so it holds in every world
+/// of a run.
+pub fn runs_stay_described()
+    ensures entries { (code : CodeTree) → EntriesAreDescribed code }
+    ensures turns { (code : CodeTree) → TurnsKeep code }
+    ensures runs { (code : CodeTree) → RunsKeep code }
+{}
+
+/// In every run of guarded code from a world whose threads are at the entries of functions, an access finds a reference
+/// that is not null and whose rule holds from the acting label. So it asks there, or raises Index, with no test of its
+/// own.
+pub fn accesses_find_their_rule_in_runs()
+    ensures finds { (code : CodeTree) → AccessesFindInRuns code }
+    ensures tests { (code : CodeTree) → NoSecondTestInRuns code }
+{}
+
+/// A valid world whose threads are at the entries of functions of guarded code is one from which runs of the code are
+/// sound. The world that a turn leaves is one again, whatever thread takes it, and so is every world of a run. In each of
+/// them an access finds a reference that is not null and whose rule holds from the acting label.
+pub fn runs_stay_sound()
+    ensures entries { (code : CodeTree) → EntriesAreSound code }
+    ensures turns { (code : CodeTree) → TurnsKeepSound code }
+    ensures runs { (code : CodeTree) → RunsKeepSound code }
+    ensures finds { (code : CodeTree) → SoundAccessesFind code }
+{}

@@ -1,6 +1,0 @@
-use Rattle.lam_syntax.proofs.Lists.{copied_more}
-use Rattle.lam_syntax.proofs.Views.{vars-list}
-use Rattle.lam_copying.proofs.copy_vars.Goals as goal
-
-pub loop-x-preserved : goal.loop-x-preserved
-loop-x-preserved c = copied_more vars-list _ _ _ _ c.x-item.result c.in_ok-copy_var.field-0 c.loop-x-test.true c.x-item.is c.in_ok-copy_var.ensures c.in_ok-push.ensures.items c.loop-x.invariant

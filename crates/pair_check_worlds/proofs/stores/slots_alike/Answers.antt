@@ -1,5 +1,0 @@
-use Rattle.pair_check_worlds.proofs.StoreLemmas.{shown_by}
-use Rattle.pair_check_worlds.proofs.stores.slots_alike.Goals as goal
-
-pub returns : goal.returns
-returns c = shown_by c.args.observer.now c.same_seen.result c.args.a.now.slots c.args.b.now.slots c.same_seen.ensures

@@ -1,4 +1,0 @@
-pub mod Dids
-pub mod Places
-pub mod Nexts
-pub mod Answers

@@ -1,5 +1,0 @@
-use Rattle.world_doc_entries.proofs.Entering.{starts_entered, starts_sound}
-use Rattle.world_doc_entries.proofs.starts_are_entered.Goals as goal
-
-pub returns : goal.returns
-returns c = record { entered = starts_entered; sound = starts_sound }

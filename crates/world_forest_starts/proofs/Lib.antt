@@ -1,3 +1,0 @@
-pub mod Readings
-pub mod TreeLemmas
-pub mod StartLemmas

@@ -1,3 +1,0 @@
-pub mod SmallLemmas
-pub mod StartLemmas
-pub mod EndLemmas

@@ -1,0 +1,10 @@
+pub mod Plain
+pub mod Reached
+pub mod TreeLaws
+pub mod Next
+pub mod ListLaws
+pub mod EndLaws
+pub mod Agreeing
+pub mod Saved
+pub mod Runs
+pub mod Longest

@@ -1,0 +1,20 @@
+//! The files and directories at the end of a run from a document can be saved and made again, in proofs alone.
+//!
+//! That they are sound and a forest is said where worlds are valid and in `world_forest_laws`. Here is added what a document
+//! can say of them: no file has more bytes than a file may have, and no home that is counted has made nothing. So it is at
+//! every start from a document, and each turn keeps it (`specs/EndLaws`).
+
+ghost use Rattle.lam_bytecode.specs.Codes.{CodeTree};
+ghost use Rattle.world_save_laws.specs.EndLaws.{StartsAreSmall, EndsAreWhole};
+
+/// The files of a world that a text gives have no more bytes than files may have, and each home that is counted has made
+/// something.
+pub fn starts_are_small()
+    ensures { (code : CodeTree) → StartsAreSmall code }
+{}
+
+/// From a valid world with such files that are a forest, the files and directories at the end of every run are sound, a
+/// forest, and of that kind.
+pub fn ends_are_whole()
+    ensures { (code : CodeTree) → EndsAreWhole code }
+{}

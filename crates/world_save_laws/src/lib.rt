@@ -1,0 +1,24 @@
+//! Laws of saved worlds, in proofs alone: the document that `next` writes is read as the start of the next run.
+//!
+//! - `text_laws`: the text of a document is read as the document, member by member (`specs/Plain`).
+//! - `list_laws`: its lists say the tags, the counters and the items that were saved (`specs/ListLaws`).
+//! - `tree_laws`: the items make again the files and directories that the root reached (`specs/TreeLaws`).
+//! - `end_laws`: the end of every run from a document can be saved and made again (`specs/EndLaws`).
+//! - `read_laws`: these four as one law (`specs/Saved`), and the same of two runs (`specs/Runs`).
+//! - `run_laws`: runs that an observer cannot tell apart leave starts that it cannot tell apart, where each visible file and
+//!   directory is named in a visible directory (`specs/Agreeing`).
+#![tactic(auto)]
+
+mod end_laws;
+mod list_laws;
+mod read_laws;
+mod run_laws;
+mod text_laws;
+mod tree_laws;
+
+pub use end_laws::{ends_are_whole, starts_are_small};
+pub use list_laws::{saved_counters_are_said, saved_items_are_said, saved_tags_are_read};
+pub use read_laws::{next_worlds_are_read, saved_starts_agree, saved_texts_are_read};
+pub use run_laws::next_starts_agree;
+pub use text_laws::{spelled_documents_are_read, spelled_texts_are_bounded};
+pub use tree_laws::trees_are_made_again;

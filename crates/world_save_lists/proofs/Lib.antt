@@ -1,4 +1,0 @@
-pub mod PlainLemmas
-pub mod TagLemmas
-pub mod CountLemmas
-pub mod ItemLemmas

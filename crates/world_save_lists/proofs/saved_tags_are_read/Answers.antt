@@ -1,5 +1,0 @@
-use Rattle.world_save_lists.proofs.TagLemmas.{tags_read}
-use Rattle.world_save_lists.proofs.saved_tags_are_read.Goals as goal
-
-pub returns : goal.returns
-returns c = tags_read

@@ -1,5 +1,0 @@
-pub mod OldLemmas
-pub mod LiveLemmas
-pub mod ReadLemmas
-pub mod RunLemmas
-pub mod Utf8Lemmas

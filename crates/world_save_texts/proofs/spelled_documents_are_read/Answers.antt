@@ -1,5 +1,0 @@
-use Rattle.world_save_texts.proofs.TextLemmas.{text_read}
-use Rattle.world_save_texts.proofs.spelled_documents_are_read.Goals as goal
-
-pub returns : goal.returns
-returns c = text_read

@@ -1,3 +1,0 @@
-pub mod Reached
-pub mod Laws
-pub mod Next

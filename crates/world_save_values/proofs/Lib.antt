@@ -1,3 +1,0 @@
-pub mod PlainLemmas
-pub mod TokenLemmas
-pub mod TextLemmas
