@@ -6,6 +6,8 @@ import os
 import pty
 import sys
 
+from lam_source import last_catch
+
 
 def main():
     child, terminal = pty.fork()
@@ -26,4 +28,4 @@ def main():
 
 
 if __name__ == "__main__":
-    main()
+    last_catch.run(main)

@@ -1,11 +1,13 @@
 #!/usr/bin/env python3
-"""Proves and builds the program lam, and says how far it is. ./lam runs this on its first use and after a change.
+"""Proves and builds the program lam, and says how far it is. ./lam --prove runs this.
 
 Usage: tools/build.py
 
 The crates that lam stands on are copied to a temporary folder, without the crates of tests and without the edits that
 must fail, and `rt ci` proves them there, beside each other where their order allows it; LAM_JOBS=N keeps to N
-processors. Where the toolchain keeps what an earlier run on this machine has proved, that is not proved again. Each crate has a line when it is proved. All that the tools said is in build.log.
+processors. Where the toolchain keeps what an earlier run on this machine has proved, that is not proved again. Each crate
+has a line when it is proved. All that the tools said is in build.log. The program, crates/lam/out/lam, is given the time
+at which its sources were read, so that a source that changed meanwhile is newer.
 """
 import os
 import re
@@ -15,6 +17,10 @@ import sys
 import tempfile
 import threading
 import time
+
+import trial
+
+from lam_source import last_catch
 
 HERE = os.path.dirname(os.path.dirname(os.path.abspath(__file__)))
 PROGRAM = 'lam'
@@ -125,7 +131,7 @@ class Progress:
 def prove(folder, log):
     """Proves the crates and builds the program in a folder, and answers the lines of those that failed."""
     lines, processors = lines_below(PROGRAM), kept_to()
-    say(f'proving {len(lines)} crates, {len(processors)} at a time; LAM_TRIAL=1 does not wait for it')
+    say(f'proving {len(lines)} crates, {len(processors)} at a time; ./lam without --prove does not wait for it')
     copy_to(folder, lines)
     tool = subprocess.Popen(['rt', 'ci'], cwd=folder, stdin=subprocess.DEVNULL, stdout=subprocess.PIPE,
                             stderr=subprocess.STDOUT, text=True, errors='replace',
@@ -152,14 +158,21 @@ def prove(folder, log):
     return failed if not tool.wait() else failed or [f'rt ended with status {tool.returncode}']
 
 
+def put(made, place, moment):
+    """Copies the program to its place, so that nobody meets half of it, as old as this moment."""
+    os.makedirs(os.path.dirname(place), exist_ok=True)
+    shutil.copy(made, f'{place}.new')
+    os.utime(f'{place}.new', (moment, moment))
+    os.replace(f'{place}.new', place)
+
+
 def main():
-    start = time.monotonic()
+    start, moment = time.monotonic(), time.time()
     program = os.path.join('crates', PROGRAM, 'out', PROGRAM)
     with tempfile.TemporaryDirectory(prefix='lam-build-') as folder, open(LOG, 'w', encoding='utf-8') as log:
         failed = prove(folder, log)
         if not failed:
-            os.makedirs(os.path.dirname(os.path.join(HERE, program)), exist_ok=True)
-            shutil.copy(os.path.join(folder, program), os.path.join(HERE, program))
+            put(os.path.join(folder, program), os.path.join(HERE, program), moment)
     for line in failed:
         say(line)
     if not failed:
@@ -167,5 +180,16 @@ def main():
     return 1 if failed else 0
 
 
+def in_a_line():
+    """Builds, and says in a line what stopped it."""
+    try:
+        return main()
+    except KeyboardInterrupt:
+        return trial.stopped()
+    except OSError as fault:
+        say(f'not built: {fault}')
+        return 1
+
+
 if __name__ == '__main__':
-    sys.exit(main())
+    last_catch.run(in_a_line)

@@ -23,6 +23,8 @@ import subprocess
 import sys
 import tempfile
 
+from lam_source import last_catch
+
 HERE = os.path.dirname(os.path.dirname(os.path.abspath(__file__)))
 REFUSED = ': refused, as it must be'
 
@@ -127,4 +129,4 @@ def main(words):
 
 
 if __name__ == '__main__':
-    sys.exit(main(sys.argv[1:]))
+    last_catch.run(lambda: main(sys.argv[1:]))

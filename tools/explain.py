@@ -14,14 +14,17 @@ import os
 import re
 import sys
 
-from lam_source import faults, places, runs, world
+from lam_source import faults, last_catch, places, printable, runs, world
 
 DONE, NO_MEMORY, WORDS, PROGRAM, WORLD, BOOK, MISSING, SHELF, OUTPUT, BUDGET, WAITING = range(11)
 MANY = 200_000      # turns; of a longer book nothing is said where the program has refused nothing
 
 # What the words of the forms stand for.
 FILES = {'FILE': 'the script', 'P': 'the program', 'W': 'the world', 'BOOK': 'the book', 'BOOKOUT': 'the book to be written',
-         'W1': 'the first world', 'BOOK1': 'the first book', 'BOOK2': 'the second book'}
+         'W1': 'the first world', 'BOOK1': 'the first book', 'W2': 'the second world', 'BOOK2': 'the second book'}
+NEXT = 'the next world, to be written'      # W2 of `next`
+WRITTEN = (FILES['BOOKOUT'], NEXT)
+RUNS = (('W', 'BOOK'), ('W1', 'BOOK1'), ('W2', 'BOOK2'))        # the names of a run's world and book in a form
 MEANT = {'FILE': 'the name of a script', 'P': 'the name of a program', 'W': 'the name of a world document',
          'BOOK': 'the name of a book', 'OBS': "an observer's label, as '{}/{}'", 'BOOKOUT': 'a name for the book to be written',
          'W1': 'the name of the first world document', 'BOOK1': 'the name of the first book',
@@ -48,10 +51,16 @@ class Call:
 
     def files(self):
         """The file names among the words, each with what the file is."""
-        return [(self.words[at], FILES[name]) for at, name in enumerate(self.form[:len(self.words)]) if name in FILES]
+        roles = {**FILES, 'W2': NEXT} if self.form[:1] == ['next'] else FILES
+        return [(self.words[at], roles[name]) for at, name in enumerate(self.form[:len(self.words)]) if name in roles]
 
-    def run(self):
-        return runs.Run(self.program, self.word('P'), self.word('W'))
+    def runs(self):
+        """The world and the book of each run that the call has, in the order in which they are read."""
+        given = [(self.word(document), self.word(book)) for document, book in RUNS]
+        return [it for it in given if it[0] and (it[1] or self.form[:1] != ['next'])]
+
+    def run(self, document=None):
+        return runs.Run(self.program, self.word('P'), document or self.word('W'))
 
 
 # ---- words
@@ -105,10 +114,10 @@ def tags_of(call):
     try:
         if call.word('FILE'):
             return re.findall(r'^tag (\w+)', runs.text_of(call.word('FILE')), re.M)
-        document = world.parts_of(runs.text_of(call.word('W')))
+        document = world.parts_of(runs.text_of(call.runs()[0][0]))
         names = [it.get('name') if isinstance(it, dict) else it for it in document.value['tags']]
         return [it for it in names if isinstance(it, str)]
-    except (OSError, world.Wrong, KeyError, TypeError):
+    except (OSError, world.Wrong, KeyError, TypeError, IndexError):
         return []
 
 
@@ -122,7 +131,7 @@ def of_options(words):
             return f'{name} takes {RANGES[name]}'
     unknown = [word for word in words if word.startswith('-') and word not in ('--workers', '--turns')]
     if unknown:
-        return f'there is no option {unknown[0]}; `run` has --workers N and --turns N'
+        return f'there is no option {printable.name(unknown[0])}; `run` has --workers N and --turns N'
     if given:
         return 'the options stand last, after the book: .. BOOKOUT [--workers N] [--turns N], in this order'
     return None
@@ -157,7 +166,7 @@ def names_observer(call, index):
 
 def of_words(call, line):
     """Explains that the words are in no form, or that one of them names an unknown tag."""
-    index = int(re.fullmatch(r'lam: 2 word (\d+)', line)[1])
+    index = int(of_form(r'lam: 2 word (\d+)', line)[1])
     word = call.words[index] if index < len(call.words) else ''
     given = ['lam', *call.words]
     start = sum(len(word) + 1 for word in given[:index + 1])
@@ -169,6 +178,14 @@ def of_words(call, line):
     shown += [hint] if hint else []
     shown.append('the forms are:' if len(alike) > 1 else 'the form is:')
     return shown + [f'  lam {" ".join(form)}' for form in alike]
+
+
+def of_form(pattern, line):
+    """The parts of a line of the program."""
+    found = re.fullmatch(pattern, line, re.S)
+    if not found:
+        raise runs.NotToRun('the program refuses something else now')
+    return found
 
 
 # ---- programs and scripts
@@ -186,7 +203,8 @@ def of_program(call, line):
         lines = data.split(b'\n')
         number = int(script[1])
         text = lines[number - 1].decode(errors='replace') if number <= len(lines) else ''
-        return [f'{name}: line {number}', f'  {text}', of_script_line(lines[:number], number <= len(lines) - 1)]
+        return [f'{printable.name(name)}: line {number}', f'  {printable.name(text[:100])}',
+                of_script_line(lines[:number], number <= len(lines) - 1)]
     if line == 'lam: 3 NotUtf8':
         try:
             data.decode()
@@ -225,20 +243,26 @@ def of_script_line(lines, is_ended):
 # ---- worlds
 
 def of_world(call, line):
-    """Explains the refusal of a world document."""
-    name = call.word('W')
+    """Explains the refusal of a world document, the first of a call's that breaks."""
+    said = (of_document(call, document, line) for document, _ in call.runs())
+    return next((it for it in said if it is not None), [])
+
+
+def of_document(call, name, line):
+    """Explains the refusal of this document, or gives None where it is in order."""
     text = runs.text_of(name)
     odd = re.search(r'[\udc80-\udcff]', text)
     if odd:
         shown = places.Place(text, odd.start()).shown(name)
-        return [shown.encode(errors='replace').decode(), 'a world document is UTF-8, and this byte is not']
+        return [shown, 'a world document is UTF-8, and this byte is not']
     try:
         world.Start(text, world.functions_of(runs.codes.Code(runs.text_of(call.word('P')))))
     except world.Wrong as wrong:
         if f'lam: 4 {wrong.kind}' == line:
             place = places.Place(text, min(wrong.at, len(text))).shown(name)
             return [place, (f'{wrong.where}; ' if wrong.where else '') + f'wanted: {wrong.wanted}']
-    return []
+        return []
+    return None
 
 
 # ---- books
@@ -252,18 +276,28 @@ LINES = {
 
 
 def of_book(call, line):
-    """Explains the refusal of a book."""
-    name = call.word('BOOK')
-    broken = re.fullmatch(r'lam: 5 (\w+) line (\d+)', line)
-    if broken:
-        lines = runs.text_of(name).split('\n')
-        number = int(broken[2])
-        text = lines[number - 1] if number <= len(lines) else ''
-        return [f'{name}: line {number}', f'  {text[:100]}', LINES[broken[1]],
-                f'is {name} a book that `lam run` wrote?']
-    run = call.run().take_book(name)
-    if run.stopped is None:
-        return []
+    """Explains the refusal of a book, the first of a call's that breaks."""
+    for document, name in call.runs():
+        try:
+            turns = world.turns_of(runs.text_of(name))
+        except world.NoBook as broken:
+            return of_broken(name, broken) if line == f'lam: 5 {broken.kind} line {broken.line}' else []
+        run = call.run(document).take(turns)
+        if run.stopped is not None:
+            return of_stop(run, printable.name(name), 'this world' if call.word('W') else f'the world {printable.name(document)}')
+    return []
+
+
+def of_broken(name, broken):
+    """Explains where the text of a book is none."""
+    lines, name = runs.text_of(name).split('\n'), printable.name(name)
+    text = lines[broken.line - 1] if broken.line <= len(lines) else ''
+    return [f'{name}: line {broken.line}', f'  {printable.name(text[:100])}', LINES[broken.kind],
+            f'is {name} a book that `lam run` wrote?']
+
+
+def of_stop(run, name, its_world):
+    """Explains at which turn a book cannot go on."""
     number, threads = run.stopped, run.world.threads
     if number >= len(threads):
         why = f'there is no thread t{number} at that turn: threads are numbered from 0, and there are {len(threads)}'
@@ -271,7 +305,7 @@ def of_book(call, line):
         why = f't{number} ({run.called(number)}) has ended before that turn'
     else:
         why = f't{number} ({run.called(number)}) {run.waiting(number)}'
-    return [why, f'is {name} the book of this program and this world?']
+    return [why, f'is {name} the book of this program and {its_world}?']
 
 
 def of_short_book(call):
@@ -293,16 +327,16 @@ def counted(number):
 
 
 def of_missing(call, line):
-    kind, name = re.fullmatch(r'lam: 6 (\w+) (.*)', line, re.S).groups()
+    kind, name = of_form(r'lam: 6 (\w+) (.*)', line).groups()
     role = dict(reversed(call.files())).get(name, 'a file')
     if kind == 'TooLong':
         limit = '1,048,576' if role in ('the program', 'the script') else '16,777,216'
-        return [f'{name}, {role}, is longer than its limit of {limit} bytes']
+        return [f'{printable.name(name)}, {role}, is longer than its limit of {limit} bytes']
     folder, base = os.path.split(name)
     if folder and not os.path.isdir(folder):
-        return [f'{role} is not there: there is no folder {folder}']
+        return [f'{role} is not there: there is no folder {printable.name(folder)}']
     near = difflib.get_close_matches(base, os.listdir(folder or '.'), 1)
-    more = f'; did you mean {os.path.join(folder, near[0])}?' if near else ''
+    more = f'; did you mean {printable.name(os.path.join(folder, near[0]))}?' if near else ''
     return [f'{role} is not there{more}']
 
 
@@ -319,10 +353,11 @@ def not_written(name):
 def of_shelf(call):
     """Which file could not be read or written."""
     for name, role in call.files():
-        if role == 'the book to be written':
-            return [f'{name}, {role}, could not be written: {not_written(name)}']
+        shown = printable.name(name)
+        if role in WRITTEN:
+            return [f'{shown}, {role}, could not be written: {not_written(name)}']
         if os.path.isdir(name) or not os.access(name, os.R_OK):
-            return [f'{name}, {role}, could not be read: {"it is a folder" if os.path.isdir(name) else "it may not be read"}']
+            return [f'{shown}, {role}, could not be read: {"it is a folder" if os.path.isdir(name) else "it may not be read"}']
     return ['a file could not be read or written']
 
 
@@ -374,6 +409,8 @@ def last_turns(turns):
 def of_unended(call, status):
     if not call.word('P'):
         return ['all 1,000,000 turns are used up' if status == BUDGET else 'no thread that lives can go on']
+    if not os.path.isfile(call.word('BOOKOUT')):
+        return ['all turns are used up' if status == BUDGET else 'no thread that lives can go on']
     turns = world.turns_of(runs.text_of(call.word('BOOKOUT')))
     if len(turns) > MANY:
         head = f'all {len(turns)} turns are used up' if status == BUDGET else 'no thread that lives can go on'
@@ -386,11 +423,19 @@ def of_unended(call, status):
     return [f'{head}; --turns N gives more, up to 1000000', SEES_ALL, *lines, last_turns(turns)]
 
 
+def read_once(call):
+    """The first input of a call that cannot be read a second time: a pipe, or another thing that is no file."""
+    return next((name for name, role in call.files() if role not in WRITTEN and os.path.exists(name)
+                 and not os.path.isfile(name) and not os.path.isdir(name)), None)
+
+
 REFUSALS = {WORDS: of_words, PROGRAM: of_program, WORLD: of_world, BOOK: of_book, MISSING: of_missing}
 
 
 def explained(program, status, words):
     call = Call(program, words)
+    if read_once(call):
+        return [] if status == DONE else [f'{printable.name(read_once(call))} can be read only once, so there is no more to say']
     if status in REFUSALS:
         return REFUSALS[status](call, runs.printed(program, *words).rstrip('\n'))
     if status in (BUDGET, WAITING):
@@ -404,14 +449,17 @@ def explained(program, status, words):
 
 
 def main():
+    if len(sys.argv) < 3 or not sys.argv[2].isdigit():
+        return __doc__
     program, status, *words = sys.argv[1:]
     try:
         said = explained(program, int(status), words)
-    except (OSError, runs.NotToRun, IndexError, TypeError, KeyError, ValueError, RecursionError):
-        return      # there is nothing more to say
+    except (OSError, runs.NotToRun, ValueError, RecursionError):
+        return 0        # there is nothing more to say
     if said:
-        print('\n'.join(said), file=sys.stderr)
+        last_catch.say('\n'.join(said))
+    return 0
 
 
 if __name__ == '__main__':
-    main()
+    last_catch.run(main)

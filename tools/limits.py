@@ -13,6 +13,8 @@ import subprocess
 import sys
 import tempfile
 
+from lam_source import last_catch
+
 HERE = os.path.dirname(os.path.abspath(__file__))
 LAM = os.path.abspath(os.environ.get('LAM') or os.path.join(HERE, '..', 'crates', 'lam', 'out', 'lam'))
 MILLION = '1000000'
@@ -153,4 +155,4 @@ def main():
 
 
 if __name__ == '__main__':
-    main()
+    last_catch.run(main)

@@ -2,14 +2,18 @@
 """Draws the map of docs/ARCHITECTURE.md: every crate of crates.txt with the first sentence of its head.
 
 Usage: tools/map.py            writes the map into the page
-       tools/map.py --check    says whether the page has it, and changes nothing
+       tools/map.py --check    says whether the page has it, and whether docs/PROOFS.md names just these crates; changes
+                               nothing
 
-A floor is a section of crates.txt, the highest first. A room stands under the door that its name begins with.
+A floor is a section of crates.txt, the highest first. A room stands under the door that its name begins with. PROOFS has
+each crate somewhere, and its part 'Crate by crate' names no other in the first column.
 """
 import os
 import re
 import sys
 import textwrap
+
+from lam_source import last_catch
 
 HERE = os.path.dirname(os.path.dirname(os.path.abspath(__file__)))
 PAGE = os.path.join(HERE, 'docs', 'ARCHITECTURE.md')
@@ -76,6 +80,18 @@ def drawn():
     return '\n'.join(out[1:])
 
 
+def crate_faults():
+    """What docs/PROOFS.md has of crates that is not so: those that it leaves out, and rows of those that are gone."""
+    page = read('docs', 'PROOFS.md')
+    crates = {crate for _, names in sections() for crate in names}
+    rows_of_crates = re.findall(r'^\| (`[^|]*) \|', page.split('## Crate by crate\n', 1)[1], re.MULTILINE)
+    named = set(re.findall(r'`([a-z_]+)`', ' '.join(rows_of_crates)))
+    for crate in sorted(crates - set(re.findall(r'`([a-z_]+)`', page))):
+        yield f'docs/PROOFS.md does not name the crate {crate}'
+    for crate in sorted(named - crates):
+        yield f'docs/PROOFS.md has a row of {crate}, and crates.txt has no such crate'
+
+
 def main():
     page = read('docs', 'ARCHITECTURE.md')
     before, rest = page.split('## The map\n', 1)
@@ -84,7 +100,10 @@ def main():
     if sys.argv[1:] == ['--check']:
         if new != page:
             sys.exit('docs/ARCHITECTURE.md has another map: run tools/map.py')
-        print('same     the map of docs/ARCHITECTURE.md')
+        faults = list(crate_faults())
+        if faults:
+            sys.exit('\n'.join(faults))
+        print('same     the map of docs/ARCHITECTURE.md, and the crates of docs/PROOFS.md')
     elif len(sys.argv) > 1:
         sys.exit(__doc__)
     else:
@@ -93,4 +112,4 @@ def main():
 
 
 if __name__ == '__main__':
-    main()
+    last_catch.run(main)

@@ -2,6 +2,7 @@
 """Times the proved program on inputs at and below its limits, and prints a table for docs/MEASURED.md.
 
 Usage: tools/measure.py [play|format|check ..]      (all of them where none is named)
+       LAM_PROGRAM=FILE tools/measure.py ..         (another program than crates/lam/out/lam, which ./lam --prove leaves)
 Each input is made anew in a temporary folder; each time is the best of five runs on one core, in seconds.
 """
 import os
@@ -10,8 +11,10 @@ import sys
 import tempfile
 import time
 
+from lam_source import last_catch
+
 HERE = os.path.dirname(os.path.abspath(__file__))
-LAM = os.path.join(HERE, '..', 'crates', 'lam', 'out', 'lam')
+LAM = os.environ.get('LAM_PROGRAM') or os.path.join(HERE, '..', 'crates', 'lam', 'out', 'lam')
 RUNS = 5
 
 
@@ -129,4 +132,4 @@ def main():
 
 
 if __name__ == '__main__':
-    main()
+    last_catch.run(main)

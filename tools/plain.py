@@ -13,6 +13,8 @@ import subprocess
 import sys
 import tempfile
 
+from lam_source import last_catch
+
 HERE = os.path.dirname(os.path.dirname(os.path.abspath(__file__)))
 CRATES = ['want_of_memory', 'lam_operators', 'lam_syntax', 'lam_lexer', 'lam_grammar', 'lam_parser_tokens',
           'lam_parser_parts', 'lam_parser_exprs', 'lam_parser_stmts', 'lam_parser', 'lam_print']
@@ -102,4 +104,4 @@ def main():
 
 
 if __name__ == '__main__':
-    main()
+    last_catch.run(main)

@@ -5,6 +5,7 @@ Usage: tools/world.py make SHORT            prints the world document of a short
        tools/world.py short WORLD           prints the short text of a world document
        tools/world.py check WORLD PROGRAM   says `ok`, or what is wrong, with the line of each fault
        tools/world.py --help                prints this
+Each takes `--set NAME=VALUE`, again and again, and `--json`.
 
 WORLD is a document or a short text: a document begins with `{`. A short text has a line for each thing:
 
@@ -24,7 +25,18 @@ or the name of a tag or a pipe; where a tag and a pipe have one name it is writt
 without capabilities may leave out `+{}-{}`. Empty lines, and what follows `#` at a line's beginning, are left out.
 
 `check` looks at the form of the world, at the names of tags, directories and pipes, and at each thread: that its function
-is there, gives an int, and takes arguments of these kinds. `lam check` says whether the program itself is in order."""
+is there, gives an int, and takes arguments of these kinds. `lam check` says whether the program itself is in order.
+
+A text may be a template. A line `hole NAME` of a short text, or `hole NAME VALUE`, declares a hole, and `${NAME}` stands
+where its value goes, between `"` and `"` or outside. `--set NAME=VALUE` gives the value in place of the one of the line:
+
+    hole alice 0110
+    file cal/alice {a}/{} "${alice}"
+
+So two worlds differ in a secret by one word of the call. In a document the holes are those that `--set` names.
+
+With `--json`, faults are printed as `{"ok": false, "faults": [{"line": 3, "text": ".."}]}`, `check` prints `{"ok": true,
+"faults": []}`, and `short` the tags, items, pipes and threads, each with its line."""
 import collections
 import difflib
 import json
@@ -32,12 +44,16 @@ import os
 import re
 import sys
 
+from lam_source import holes, last_catch, printable
+
 NAME = re.compile(r'[A-Za-z][A-Za-z0-9_]{0,31}')
 LABEL = re.compile(r'\{([^{}]*)\}/\{([^{}]*)\}')
 CAPS = re.compile(r'\+\{([^{}]*)\}-\{([^{}]*)\}')
 KINDS = {'int': 'int', 'bool': 'bool', 'bytes': 'text', 'tag': 'tag', 'pipe': 'pipe'}    # of an argument, by its type
 PLAINLY = {'int': 'a number', 'bool': 'true or false', 'text': 'a text', 'tag': 'a tag', 'pipe': 'a pipe'}
 TEXT_LIMIT, ARGUMENT_LIMIT = 1048576, 65536
+WHOLE = re.compile(r'-?(0|[1-9][0-9]*)')
+HALF = re.compile('[\ud800-\udfff]')
 
 TAG_KINDS = ('read', 'export', 'integrity')
 
@@ -86,6 +102,9 @@ def take_text(world, line, rest):
         value = json.loads(rest)
     except ValueError:
         value = None
+    if isinstance(value, str) and HALF.search(value):
+        world.fault(line, r'in this text escapes from \ud800 to \udfff do not come in pairs')
+        return ''
     if not isinstance(value, str):
         world.fault(line, f'a text stands between `"` and `"`, as in JSON, or comes from a file by `< FILE`; here is `{rest}`')
         return ''
@@ -105,12 +124,17 @@ def split_arguments(text):
     return [part.strip() for part in re.findall(r'\s*((?:"(?:\\.|[^"\\])*"|[^,"])+)', text)]
 
 
+def small(digits):
+    """A whole number, where it has 64 bits, and else one that has more."""
+    return int(digits) if len(digits) < 40 else 10 ** 40
+
+
 def short_argument(world, line, word):
     kind, colon, name = word.partition(':')
     if colon and kind in ('tag', 'pipe') and NAME.fullmatch(name):
         return Argument(line, kind, name)
-    if re.fullmatch(r'-?(0|[1-9][0-9]*)', word) and word != '-0':
-        return Argument(line, 'int', int(word))
+    if WHOLE.fullmatch(word) and word != '-0':
+        return Argument(line, 'int', small(word))
     if word in ('true', 'false'):
         return Argument(line, 'bool', word == 'true')
     if word.startswith('"'):
@@ -174,7 +198,7 @@ class Reader:
 
     def __init__(self, text):
         self.text, self.at, self.line, self.counted = text, 0, 1, 0
-        self.decoder = json.JSONDecoder(parse_constant=no_constant)
+        self.decoder = json.JSONDecoder(parse_constant=no_constant, parse_int=small)
 
     def skip(self):
         """Goes past white space, and gives the line."""
@@ -205,6 +229,8 @@ class Reader:
             value, self.at = self.decoder.raw_decode(self.text, self.at)
         except ValueError as error:
             raise Broken(line, f'this is no JSON: {error}') from error
+        if isinstance(value, str) and HALF.search(value):
+            raise Broken(line, r'this is no JSON: escapes from \ud800 to \udfff do not come in pairs')
         return value
 
     def listed(self, end, one):
@@ -439,7 +465,7 @@ def settled(world, argument, tags, pipes):
     elif kind == 'pipe' and value not in pipes:
         world.fault(line, f'there is no pipe `{value}`{like(value, pipes)}')
     elif kind == 'int' and not -2**63 <= value < 2**63:
-        world.fault(line, f'{value} has more than 64 bits')
+        world.fault(line, 'this number has more than 64 bits')
     elif kind == 'text' and len(value.encode('utf-8', 'surrogatepass')) > ARGUMENT_LIMIT:
         world.fault(line, 'a text as an argument has at most 65,536 bytes')
     elif kind == 'name' and value in tags and value in pipes:
@@ -518,10 +544,15 @@ def label_text(label):
     return f'{{{",".join(label.secrecy)}}}/{{{",".join(label.integrity)}}}'
 
 
+def json_of(value):
+    """A value as JSON, in which no character steers a terminal."""
+    return printable.ODD.sub(lambda found: f'\\u{ord(found[0]):04x}', json.dumps(value, ensure_ascii=False))
+
+
 def listed(name, items):
     if not items:
         return f'  "{name}": []'
-    lines = ',\n'.join(f'    {json.dumps(item, ensure_ascii=False)}' for item in items)
+    lines = ',\n'.join(f'    {json_of(item)}' for item in items)
     return f'  "{name}": [\n{lines}\n  ]'
 
 
@@ -554,11 +585,11 @@ def short_of(world):
         if it.kind in ('tag', 'pipe'):
             plain = it.value not in both and NAME.fullmatch(it.value) and it.value not in ('true', 'false')
             return it.value if plain else f'{it.kind}:{it.value}'
-        return json.dumps(it.value, ensure_ascii=False)
+        return json_of(it.value)
     lines = [f'tag {tag.name}' + ('' if tag.kind == 'read' else f' {tag.kind}') for tag in world.tags]
     for it in world.items:
         lines.append(f'dir {it.path} {label_text(it.label)}' if it.text is None else
-                     f'file {it.path} {label_text(it.label)} {json.dumps(it.text, ensure_ascii=False)}')
+                     f'file {it.path} {label_text(it.label)} {json_of(it.text)}')
     lines += [f'pipe {it.name} {label_text(it.label)}' for it in world.pipes]
     for it in world.threads:
         caps = f' +{{{",".join(it.plus)}}}-{{{",".join(it.minus)}}}' if it.plus or it.minus else ''
@@ -566,7 +597,25 @@ def short_of(world):
     return '\n'.join(lines)
 
 
-def read_world(path):
+def without_lines(things):
+    """Things of a world without the lines in which they stand."""
+    return [it._replace(line=0, **({'arguments': without_lines(it.arguments)} if isinstance(it, Thread) else {})) for it in things]
+
+
+def look_at_short(world):
+    """Finds what no short text can hold, by reading one: a name with a blank in it, or with a mark that ends it."""
+    again = read_short(world.path, short_of(world))
+    look_at(again)
+    for kind, mine, read in (('tag', world.tags, again.tags), ('path', world.items, again.items),
+                             ('pipe', world.pipes, again.pipes), ('thread', world.threads, again.threads)):
+        if without_lines(mine) != without_lines(read):
+            pairs = zip(mine, without_lines(mine), without_lines(read) + [None] * len(mine))
+            line = next((it.line for it, one, other in pairs if one != other), 1)
+            world.fault(line, f'a short text cannot hold this {kind}: a name has a blank, or a mark that ends it')
+            return
+
+
+def read_world(path, values):
     with open(path, 'rb') as content:
         content = content.read()
     try:
@@ -575,9 +624,46 @@ def read_world(path):
         world = World(path)
         world.fault(content.count(b'\n', 0, error.start) + 1, f'this is no UTF-8, from byte {error.start} on')
         return world
+    if text.startswith('\ufeff'):
+        world = World(path)
+        world.fault(1, 'a byte order mark stands before the text: save it without one')
+        return world
+    template = holes.Template(text, values)
+    text = template.whole()
     world = (read_document if text.lstrip().startswith('{') else read_short)(path, text)
+    world.faults += template.faults
     look_at(world)
     return world
+
+
+def faults_as_data(world):
+    faults = [{'line': line, 'text': text} for line, text in sorted(world.faults, key=lambda fault: fault[0])]
+    return json.dumps({'ok': not faults, 'faults': faults}, ensure_ascii=False)
+
+
+def things_as_data(world):
+    """What a world has, each thing with its line."""
+    def plain(it):
+        if hasattr(it, '_asdict'):
+            return {name: plain(value) for name, value in it._asdict().items()}
+        return [plain(each) for each in it] if isinstance(it, list) else it
+    return json.dumps({'tags': plain(world.tags), 'items': plain(world.items), 'pipes': plain(world.pipes),
+                       'threads': plain(world.threads)}, ensure_ascii=False, indent=1)
+
+
+def tell_faults(path, world, is_check, as_data):
+    """Prints what is wrong: of `check`, and as data, to the output."""
+    if as_data:
+        print(faults_as_data(world))
+        return
+    for line, text in sorted(world.faults, key=lambda fault: fault[0]):
+        print(printable.name(f'{path}:{line}: {text}'), file=sys.stdout if is_check else sys.stderr)
+
+
+WORDS = 'world.py: the forms are `make SHORT`, `short WORLD` and `check WORLD PROGRAM`, with `--set NAME=VALUE` and `--json`; ' \
+        '--help says more'
+MAKING = {'make': document_of, 'short': short_of, 'check': lambda _: 'ok'}
+MAKING_DATA = {'make': document_of, 'short': things_as_data, 'check': faults_as_data}
 
 
 def main():
@@ -585,23 +671,30 @@ def main():
     if not words or words[0] in ('--help', '-h', 'help'):
         print(__doc__)
         return 0
-    if (words[0], len(words)) not in (('make', 2), ('short', 2), ('check', 3)):
-        print('world.py: the forms are `make SHORT`, `short WORLD` and `check WORLD PROGRAM`; --help says more', file=sys.stderr)
+    try:
+        words, values = holes.settings_of(words)
+    except ValueError as error:
+        last_catch.say(f'world.py: {error}')
+        return 2
+    as_data, words = '--json' in words, [word for word in words if word != '--json']
+    if (words[:1], len(words)) not in ((['make'], 2), (['short'], 2), (['check'], 3)):
+        print(WORDS, file=sys.stderr)
         return 2
     try:
-        world = read_world(words[1])
+        world = read_world(words[1], values)
         if words[0] == 'check':
             look_with(world, words[2])
+        elif words[0] == 'short' and not as_data and not world.faults:
+            look_at_short(world)
     except (OSError, UnicodeError) as error:
-        print(f'world.py: {error}', file=sys.stderr)
+        last_catch.say(f'world.py: {printable.name(str(error))}')
         return 2
-    for line, text in sorted(world.faults, key=lambda fault: fault[0]):
-        print(f'{words[1]}:{line}: {text}', file=sys.stdout if words[0] == 'check' else sys.stderr)
     if world.faults:
+        tell_faults(words[1], world, words[0] == 'check', as_data)
         return 1
-    print({'make': document_of, 'short': short_of, 'check': lambda _: 'ok'}[words[0]](world))
+    print((MAKING_DATA if as_data else MAKING)[words[0]](world))
     return 0
 
 
 if __name__ == '__main__':
-    sys.exit(main())
+    last_catch.run(main)

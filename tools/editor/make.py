@@ -4,17 +4,25 @@
 Usage: make.py [--check]
 
 It reads the reserved words and the marks of the lexer, the types of the parser and the names of the built-in calls, and
-writes lam.tmLanguage.json, package.json and language-configuration.json for VS Code and its likes, and syntax/lam.vim
-and ftdetect/lam.vim for Vim. With --check it writes nothing: it says which file is not as it would be made, and colours
-each program of the examples by the TextMate file, in which each word, number, text, mark and comment is to be coloured
-by exactly one rule, and a name by none. The status is 1 where something is wrong.
+writes lam.tmLanguage.json, lam-world.tmLanguage.json, package.json and language-configuration.json for VS Code and its
+likes, syntax/lam.vim, syntax/lamworld.vim and ftdetect/lam.vim for Vim and Neovim, and lam-mode.el for Emacs. With
+--check it writes nothing: it says which file is not as it would be made, looks at the files that start the language
+server, and colours each program of the examples by the TextMate file, in which each word, number, text, mark and comment
+is to be coloured by exactly one rule, and a name by none. The status is 1 where something is wrong.
 """
 import json
 import pathlib
 import re
 import sys
 
+try:
+    import tomllib
+except ImportError:     # before Python 3.11 the file for Helix is not read
+    tomllib = None
+
 HERE = pathlib.Path(__file__).resolve().parent
+sys.path.insert(0, str(HERE.parent))
+from lam_source import last_catch
 TOP = HERE.parent.parent
 BROKEN = TOP / "examples" / "terminal"      # its programs are full of mistakes
 
@@ -174,16 +182,29 @@ def package(_words):
     return {
         "name": "lam",
         "displayName": "lam",
-        "description": "Colours for the language of lam",
-        "version": "1.0.0",
-        "engines": {"vscode": "^1.0.0"},
+        "description": "Colours and a language server for lam",
+        "version": "1.1.0",
+        "engines": {"vscode": "^1.40.0"},
+        "main": "./extension.js",
+        "activationEvents": ["onLanguage:lam", "onLanguage:lam-world", "onLanguage:lam-short"],
         "contributes": {
             "languages": [
-                {"id": "lam", "extensions": [".lam"], "configuration": "./language-configuration.json"}
+                {"id": "lam", "extensions": [".lam"], "configuration": "./language-configuration.json"},
+                {"id": "lam-world", "extensions": [".world"]},
+                {"id": "lam-short", "extensions": [".short"]},
             ],
-            "grammars": [{"language": "lam", "scopeName": "source.lam", "path": "./lam.tmLanguage.json"}],
+            "grammars": [
+                {"language": "lam", "scopeName": "source.lam", "path": "./lam.tmLanguage.json"},
+                {"language": "lam-world", "scopeName": "source.lam-world", "path": "./lam-world.tmLanguage.json"},
+            ],
         },
     }
+
+
+def world_grammar(_words):
+    """Returns the TextMate file of world documents, which are JSON."""
+    return {"name": "lam world", "scopeName": "source.lam-world", "fileTypes": ["world"],
+            "patterns": [{"include": "source.json"}]}
 
 
 def configuration(words):
@@ -240,7 +261,90 @@ def vim_syntax(words):
 
 def vim_detect(_words):
     """Returns the file by which Vim knows a program by its name."""
-    return "autocmd BufRead,BufNewFile *.lam setfiletype lam | setlocal commentstring=//\\ %s\n"
+    return ("autocmd BufRead,BufNewFile *.lam setfiletype lam | setlocal commentstring=//\\ %s\n"
+            "autocmd BufRead,BufNewFile *.world setfiletype lamworld\n"
+            "autocmd BufRead,BufNewFile *.short setfiletype lamshort | setlocal commentstring=#\\ %s\n")
+
+
+def vim_world(_words):
+    """Returns Vim's syntax file of world documents, which are JSON."""
+    return '" Colours for world documents of lam. Made by tools/editor/make.py.\nruntime! syntax/json.vim\n'
+
+
+# ---- Emacs's form
+
+def lisp_list(words):
+    """Returns words as a list of Emacs."""
+    return "'(" + " ".join(f'"{word}"' for word in words) + ")"
+
+
+def emacs_mode(words):
+    """Returns the mode of Emacs, which also tells Eglot of the server."""
+    keywords = words["declaring"] + words["controlling"] + words["making"]
+    return EMACS.format(
+        keywords=lisp_list(keywords), types=lisp_list(words["types"]), constants=lisp_list(words["constants"]),
+        builtins=lisp_list(words["builtins"]))
+
+
+EMACS = r""";;; lam-mode.el --- Colours and a language server for lam  -*- lexical-binding: t; -*-
+;; Made by tools/editor/make.py.
+
+;;; Code:
+
+(defconst lam-folder (file-name-directory (file-truename (or load-file-name buffer-file-name)))
+  "The folder of this file, with which the server's is known.")
+
+(defvar lam-mode-syntax-table
+  (let ((table (make-syntax-table)))
+    (modify-syntax-entry ?_ "w" table)
+    (modify-syntax-entry ?/ ". 12" table)
+    (modify-syntax-entry ?\n ">" table)
+    (modify-syntax-entry ?\" "\"" table)
+    (modify-syntax-entry ?\\ "\\" table)
+    table))
+
+(defvar lam-font-lock-keywords
+  `((,(regexp-opt {keywords} 'words) . font-lock-keyword-face)
+    (,(regexp-opt {types} 'words) . font-lock-type-face)
+    (,(regexp-opt {constants} 'words) . font-lock-constant-face)
+    (,(concat (regexp-opt {builtins} 'words) "[ \t]*(") 1 font-lock-builtin-face)
+    ("\\_<fn[ \t]+\\(\\w+\\)" 1 font-lock-function-name-face)
+    ("\\_<class[ \t]+\\(\\w+\\)" 1 font-lock-type-face)))
+
+(defun lam-indent-line ()
+  "Indents a line by two blanks for each bracket that is open."
+  (interactive)
+  (let ((depth (save-excursion (back-to-indentation)
+                               (- (car (syntax-ppss)) (if (looking-at "[])}}]") 1 0)))))
+    (if (<= (current-column) (current-indentation))
+        (indent-line-to (* 2 (max depth 0)))
+      (save-excursion (indent-line-to (* 2 (max depth 0)))))))
+
+;;;###autoload
+(define-derived-mode lam-mode prog-mode "lam"
+  "A mode for programs of lam."
+  (setq-local comment-start "// ")
+  (setq-local comment-end "")
+  (setq-local indent-line-function #'lam-indent-line)
+  (setq-local font-lock-defaults '(lam-font-lock-keywords)))
+
+;;;###autoload
+(define-derived-mode lam-world-mode prog-mode "lam world"
+  "A mode for world documents of lam, and for their short texts.")
+
+;;;###autoload
+(progn
+  (add-to-list 'auto-mode-alist '("\\.lam\\'" . lam-mode))
+  (add-to-list 'auto-mode-alist '("\\.\\(world\\|short\\)\\'" . lam-world-mode)))
+
+(defvar eglot-server-programs)
+(with-eval-after-load 'eglot
+  (add-to-list 'eglot-server-programs
+               (list '(lam-mode lam-world-mode) (expand-file-name "../lam_server.py" lam-folder))))
+
+(provide 'lam-mode)
+;;; lam-mode.el ends here
+"""
 
 
 def as_json(value):
@@ -253,9 +357,12 @@ def made(words):
     return {
         "lam.tmLanguage.json": as_json(grammar(words)),
         "package.json": as_json(package(words)),
+        "lam-world.tmLanguage.json": as_json(world_grammar(words)),
         "language-configuration.json": as_json(configuration(words)),
         "syntax/lam.vim": vim_syntax(words),
+        "syntax/lamworld.vim": vim_world(words),
         "ftdetect/lam.vim": vim_detect(words),
+        "lam-mode.el": emacs_mode(words),
     }
 
 
@@ -365,12 +472,24 @@ def check_examples(words):
     return len(programs), count
 
 
+def check_servers():
+    """Checks that each editor's file that starts the server names it, and that it is there."""
+    if not (HERE.parent / "lam_server.py").exists():
+        raise Wrong("there is no tools/lam_server.py")
+    for name in ("extension.js", "ftplugin/lam.lua", "helix/languages.toml", "lam-mode.el"):
+        if "lam_server.py" not in (HERE / name).read_text(encoding="utf-8"):
+            raise Wrong(f"{name} does not start lam_server.py")
+    if tomllib:
+        tomllib.loads((HERE / "helix" / "languages.toml").read_text(encoding="utf-8"))
+
+
 def check(words):
     """Says whether the files are as made and colour the examples as they should."""
     for name, text in made(words).items():
         path = HERE / name
         if not path.exists() or path.read_text(encoding="utf-8") != text:
             raise Wrong(f"{name} is not as made: run tools/editor/make.py")
+    check_servers()
     programs, pieces = check_examples(words)
     print(f"as made; {programs} programs, {pieces} pieces, each coloured by one rule")
 
@@ -398,4 +517,4 @@ def main():
 
 
 if __name__ == "__main__":
-    sys.exit(main())
+    last_catch.run(main)

@@ -3,7 +3,7 @@
 `lam code P` prints the code that counts. This makes the same one from the tree, so that it is known where each operation
 comes from; who uses it compares the two.
 """
-from . import grammar, types
+from . import grammar, regions, types
 
 OPERATIONS = {'+': 'add', '-': 'sub', '*': 'mul', '/': 'div', '%': 'rem', '==': 'eq', '!=': 'ne', '<': 'lt', '<=': 'le',
               '>': 'gt', '>=': 'ge'}
@@ -287,6 +287,7 @@ class Code:
     def __init__(self, text, listing=None):
         items = grammar.read(text)
         types.typed(items)
+        regions.look(items)
         emitter = Emitter(items)
         self.text, self.units = text, emitter.units()
         self.classes, self.functions = emitter.classes, emitter.functions

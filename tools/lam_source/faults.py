@@ -26,6 +26,7 @@ OFTEN = {'print': 'say(..)', 'println': 'say(..)', 'echo': 'say(..)', 'puts': 's
          'void': 'no type: a function without a result has none', 'list': 'an array: [int]', 'array': 'an array: [int]',
          'declassify': 'a region with a lower label: region (label{;}, caps{}) [x] { .. } catch (e) { }',
          'open': 'open_file(..) or open_dir(..)', 'write': 'append(..)', 'exit': 'return, or throw with a number',
+         'for': 'while (i < n) { .. }', 'try': 'a region, which has a catch block',
          'thread_join': 'join(..)', 'lock': 'sync (x) { .. }', 'endorse': 'a region whose label has the integrity tag'}
 
 
@@ -58,16 +59,91 @@ def unexpected(text, at):
     return []
 
 
+# Words that begin a statement in other languages, and what is written here.
+BEGINNINGS = {
+    'for': 'there is no for: let i: int = 0; while (i < n) { .. i = i + 1; }',
+    'try': 'there is no try: a region catches faults: region (my_label(), my_caps()) [] { .. } catch (e) { }',
+    'var': 'a variable is declared by let, with its type: let n: int = ..;',
+}
+SETS = re.compile(r'\{([\w\s,]*)\}(?:\s*/\s*\{([\w\s,]*)\})?')
+
+
+def beginning(reader):
+    """The word with which the statement of the next token begins, where other languages have a statement of it."""
+    at = reader.at
+    while at > 0 and reader.tokens[at - 1].text not in (';', '{', '}'):
+        at -= 1
+    first, second = reader.tokens[at], reader.tokens[min(at + 1, len(reader.tokens) - 1)]
+    return first.text if at < reader.at and second.text not in ('=', '.', '[') else ''
+
+
+def opening(reader):
+    """The word before the `{` or `(` that is open where the next token stands."""
+    depth = 0
+    for at in range(reader.at - 1, 0, -1):
+        text = reader.tokens[at].text
+        depth += (text in ('}', ')')) - (text in ('{', '('))
+        if depth < 0:
+            return reader.tokens[at - 1].text
+    return ''
+
+
+def names_in(text):
+    return [it.strip() for it in text.split(',') if it.strip()]
+
+
+def label_meant(text, at):
+    """The label that sets between braces at a place seem to be meant as."""
+    found = SETS.match(text, at)
+    secrecy, integrity = (names_in(side or '') for side in found.groups()) if found else ([], [])
+    more = f' {", ".join(integrity)}' if integrity else ''
+    return f'label{{{", ".join(secrecy)};{more}}}' if secrecy or integrity else 'label{a; b}'
+
+
+def caps_meant(text, at):
+    """The capabilities of the tags that are named between braces at a place."""
+    names = list(dict.fromkeys(re.findall(r'\w+', text[at:text.find('}', at) + 1])))
+    return f'caps{{{", ".join(f"{it}+, {it}-" for it in names)}}}' if 1 <= len(names) <= 4 else 'caps{a+, b-}'
+
+
+def of_braces(reader, token, wanted):
+    """What was meant in a label or in capabilities that are not written as such."""
+    text, inside = reader.text, opening(reader)
+    start = text.rfind('{', 0, token.at)
+    if token.text == '{' and 'a number' in wanted:
+        if inside == 'region' and reader.before.text == ',':
+            return f'capabilities are written {caps_meant(text, token.at)}, a sign behind each tag'
+        return f'a label is written {label_meant(text, token.at)}: secrecy before the `;`, integrity behind it'
+    if token.text == '(' and reader.before.text in ('label', 'caps'):
+        return f'{reader.before.text} has braces: ' + ('label{a; b}' if reader.before.text == 'label' else 'caps{a+, b-}')
+    if inside == 'label' and token.text == '}':
+        return f'a label has a `;` between secrecy and integrity: {label_meant(text, start)}' if text[start + 1:token.at].strip() \
+            else 'the public label is label{;}, with secrecy before the `;` and integrity behind it'
+    if inside == 'caps' and token.text in ('}', ',', '+', '-', ';'):
+        return f'each tag of caps has a sign behind it, and a comma stands between two: {caps_meant(text, start)}'
+    return ''
+
+
+def is_comment(reader, token):
+    text = reader.text
+    return text.startswith('/*', token.at) or token.text == '*' and text.startswith('/*', token.at - 1)
+
+
 def hints(reader, token, wanted):
     """What often was meant where a token is unexpected."""
     before = [it.text for it in reader.tokens[max(0, reader.at - 4):reader.at]]
     last = before[-1] if before else ''
+    word, braces = beginning(reader), of_braces(reader, token, wanted)
     return [say for fits, say in (
+        (is_comment(reader, token), 'a comment begins with // and goes to the end of its line'),
         (last == 'else' and token.text == 'if', 'after else stands a block: else { if (..) { .. } }'),
-        ('for' in before[-2:], 'there is no for: let i: int = 0; while (i < n) { .. i = i + 1; }'),
+        (word in BEGINNINGS, BEGINNINGS.get(word)),
+        (braces, braces),
         (before[-2:-1] == ['let'] and token.text == '=', f'a let says its type: let {last}: int = ..;'),
         (token.text == '=' and last in '+-*/%' and last, f'there is no {last}=: x = x {last} ..;'),
         (token.text == '+' and last == '+', 'there is no ++: x = x + 1;'),
+        (token.text == ')' and ',' in wanted and opening(reader) == 'region',
+         'a region has a label and capabilities: region (label{a;}, my_caps()) [] { .. } catch (e) { }'),
         (wanted == ['['] and last == ')', 'a region lists the names that it copies, or none: '
                                           'region (label{;}, caps{}) [] { .. } catch (e) { }'),
         (wanted == ['catch'], 'a region ends with the block that gets the number of a fault: } catch (e) { }'),
@@ -89,6 +165,8 @@ def on_later_line(reader, token):
 
 
 def bad_char(text, at):
+    if text[at:at + 1] == '\ufeff':
+        return ['a byte order mark stands here: save the program without one']
     meant = {'&': 'and is `&&`', '|': 'or is `||`', "'": 'a text stands between two `"`', '?': 'a choice is an if with an else',
              '#': 'a comment begins with `//`', '`': 'a text stands between two `"`'}
     more = f': {meant[text[at]]}' if text[at:at + 1] in meant else ''
@@ -116,7 +194,37 @@ def kind_of(of):
     return {types.NULL: 'null', types.NOTHING: 'a call without a result', None: 'nothing'}.get(of, f'of type {types.shown(of)}')
 
 
-def mismatch(found):
+def parts_of(node):
+    """A part of a tree and all parts below it, each before its own."""
+    if isinstance(node, list):
+        for part in node:
+            yield from parts_of(part)
+    elif isinstance(node, grammar.Node):
+        yield node
+        for part in list(vars(node).values()):
+            if isinstance(part, (list, grammar.Node)):
+                yield from parts_of(part)
+
+
+def joined(text, node):
+    """A sum as the call of `cat` that is meant by it."""
+    if node.kind == 'binary' and node.op == '+':
+        return f'cat({joined(text, node.left)}, {joined(text, node.right)})'
+    source = text[slice(*getattr(node, 'outer', (node.at, node.end)))]
+    return f'text({source})' if node.kind == 'number' else source
+
+
+def of_sum(text, found, items):
+    """What is meant where bytes stand in a sum, or None."""
+    sums = (it for it in parts_of(items) if it.kind == 'binary' and it.op == '+' and found.at in (it.left.at, it.right.at))
+    whole = next(sums, None)
+    if found.got != types.BYTES or found.want != types.INT or not whole:
+        return None
+    meant = joined(text, whole)
+    return '`+` adds numbers; bytes are joined by ' + (meant if len(meant) < 70 and '\n' not in meant else 'cat(a, b)')
+
+
+def mismatch(text, found, typing):
     if found.want is None and found.got == types.NOTHING:
         return ['a call without a result stands here, and there is nothing to compare']
     if found.want is None:
@@ -137,7 +245,7 @@ def mismatch(found):
              (types.PIPE, types.BYTES): 'a pipe is an argument of the thread in the world document, or make_pipe(l)',
              (types.LABEL, types.TAG): 'a label of one secrecy tag is label{t;}',
              (types.CAPS, types.TAG): 'capabilities of a tag are caps{t+, t-}'}
-    more = turns.get((found.want, found.got))
+    more = of_sum(text, found, typing.items) or turns.get((found.want, found.got))
     if found.got == types.NULL and found.want in (types.INT, types.BOOL):
         more = 'an int begins as 0 and a bool as false'
     return said + ([more] if more else [])
@@ -147,6 +255,10 @@ def no_name(text, found, typing):
     name = found.name or re.match(r'\w*', text[found.at:])[0]
     called = re.match(r'\s*\(', text[found.at + len(name):])
     known = [local for scope in typing.scopes for local in scope]
+    takes = types.BUILTINS[name][0] if name in types.BUILTINS else \
+        typing.functions[name].parameters if name in typing.functions else None
+    if not called and takes is not None:
+        return [f'{name} is a function, and is called: {name}({".." if takes else ""})']
     known += [*typing.functions, *types.BUILTINS] if called else [*typing.classes, *grammar.TYPES]
     near = difflib.get_close_matches(name, known, 1)
     kind = 'function' if called else 'variable or type'
@@ -181,7 +293,7 @@ def of_types(kind, text, at):
     if not found:
         return []
     if kind == 'Mismatch':
-        return mismatch(found)
+        return mismatch(text, found, typing)
     if kind == 'NoName':
         return no_name(text, found, typing)
     if kind == 'Twice':

@@ -4,14 +4,16 @@ What a program is, the proved program says. This reads the same language, so tha
 what could stand there, and which part of the source an operation of the code comes from.
 """
 import re
+import sys
 
 RESERVED = set('class fn let if else while return throw sync region catch new spawn true false null int bool bytes tag '
                'label caps file dir pipe thread'.split())
 TYPES = ['int', 'bool', 'bytes', 'tag', 'label', 'caps', 'file', 'dir', 'pipe', 'thread']
-PIECES = re.compile(r'(?P<space>[ \t\r\n]+|//[^\n]*)|(?P<name>[^\W\d]\w*)|(?P<number>[0-9]+)'
+PIECES = re.compile(r'(?P<space>[ \t\r\n]+|//[^\n]*)|(?P<name>(?a:[A-Za-z_]\w*))|(?P<number>[0-9]+)'
                     r'|(?P<text>"(?:[^"\\\n]|\\.)*")|(?P<mark>==|!=|<=|>=|&&|\|\||[{}()\[\],;:.=<>+\-*/%!])')
 BINARY = [['||'], ['&&'], ['==', '!=', '<', '<=', '>', '>='], ['+', '-'], ['*', '/', '%']]
 COMPARING = 2
+DEEPEST = 128       # rules that are open in each other, with the operators that were read in them
 
 
 class Broken(Exception):
@@ -20,6 +22,10 @@ class Broken(Exception):
     def __init__(self, token, wanted):
         super().__init__(token.text)
         self.token, self.wanted = token, wanted
+
+
+class TooDeep(Broken):
+    """The first token at which too much is open."""
 
 
 class Token:
@@ -40,20 +46,29 @@ class Node:
         self.__dict__.update(parts)
 
 
+def end_of_name(text, at):
+    """Where the name that begins at a place ends, or the place itself where none begins."""
+    if not text[at].isidentifier():
+        return at
+    while at < len(text) and ('a' + text[at]).isidentifier():
+        at += 1
+    return at
+
+
 def tokens_of(text):
     """The tokens of a text, in order, up to the first piece that is none; the last one is the end."""
-    found, at = [], 0
+    found, at, plain = [], 0, text.isascii()
     while at < len(text):
         piece = PIECES.match(text, at)
-        if not piece:
-            found.append(Token('bad', text[at], at))
+        kind, end = (piece.lastgroup, piece.end()) if piece else ('bad', at + 1)
+        if not plain and kind in ('name', 'bad') and end_of_name(text, at) > at:
+            kind, end = 'name', end_of_name(text, at)
+        if kind != 'space':
+            word = text[at:end]
+            found.append(Token('word' if kind == 'name' and word in RESERVED else kind, word, at))
+        if kind == 'bad':
             break
-        if piece.lastgroup != 'space':
-            kind = piece.lastgroup
-            if kind == 'name' and piece.group() in RESERVED:
-                kind = 'word'
-            found.append(Token(kind, piece.group(), at))
-        at = piece.end()
+        at = end
     found.append(Token('end', '', len(text)))
     return found
 
@@ -68,11 +83,22 @@ def bytes_of(text):
     return b''.join(map(meant, re.findall(r'\\x[0-9A-Fa-f]{2}|\\.|[^\\]+', text[1:-1])))
 
 
+def opened(rule):
+    """A rule that counts while it is open, with the operators that were read in it."""
+    def within(self):
+        before = self.depth
+        self.depth += 1
+        found = rule(self)
+        self.depth = before
+        return found
+    return within
+
+
 class Reader:
     """Reads a program by the next token alone, and remembers what that could have been."""
 
     def __init__(self, text):
-        self.text, self.tokens, self.at = text, tokens_of(text), 0
+        self.text, self.tokens, self.at, self.depth = text, tokens_of(text), 0, 0
         self.wanted = []
 
     @property
@@ -97,6 +123,8 @@ class Reader:
 
     def go_on(self):
         token = self.next
+        if self.depth > DEEPEST:
+            raise TooDeep(token, self.wanted)
         self.at += 1
         self.wanted = []
         return token
@@ -156,6 +184,7 @@ class Reader:
             found.append(part())
         return found
 
+    @opened
     def type(self):
         if self.took('['):
             start = self.before
@@ -168,6 +197,7 @@ class Reader:
 
     # ---- statements
 
+    @opened
     def block(self):
         start, statements = self.take('{'), []
         while not self.sees('}'):
@@ -241,21 +271,29 @@ class Reader:
 
     # ---- expressions
 
-    def expr(self, level=0):
+    @opened
+    def expr(self):
+        return self.between(0)
+
+    def between(self, level):
+        """Operands with the operators of a level between them."""
         if level == len(BINARY):
             return self.unary()
-        left = self.expr(level + 1)
+        left = self.between(level + 1)
         while self.sees(*BINARY[level]):
             op = self.go_on()
-            right = self.expr(level + 1)
+            self.depth += 1
+            right = self.between(level + 1)
             left = Node('binary', left.at, right.end, op=op.text, op_at=op.at, left=left, right=right)
             if level == COMPARING:
                 break
         return left
 
+    @opened
     def unary(self):
         if self.sees('!', '-'):
             op = self.go_on()
+            self.depth += 1
             value = self.unary()
             return Node('unary', op.at, value.end, op=op.text, value=value)
         return self.postfix()
@@ -269,6 +307,7 @@ class Reader:
             else:
                 index = self.expr()
                 value = Node('element', value.at, self.take(']').end, of=value, index=index)
+            self.depth += 1
         return value
 
     def primary(self):
@@ -337,4 +376,5 @@ class Reader:
 
 def read(text):
     """The items of a program. Raises Broken at the first token that continues none."""
+    sys.setrecursionlimit(max(sys.getrecursionlimit(), 40 * DEEPEST))
     return Reader(text).program()

@@ -1,12 +1,19 @@
 """A program, a world and a book as one run, for the tools that tell of it."""
 import subprocess
 
-from . import code as codes, grammar, machine, thinning, types, world
+from . import code as codes, grammar, machine, printable, thinning, types, world
 from .places import Place
 
 
 class NotToRun(Exception):
     """The files are no run; the proved program says why."""
+
+
+def why_none(fault):
+    """Why files are no run: what the system says of one, or what is wrong in it."""
+    if isinstance(fault, OSError) and fault.strerror:
+        return printable.name(f'{fault.strerror}: {fault.filename}')
+    return printable.name(str(fault))
 
 
 def text_of(name):
@@ -24,8 +31,11 @@ class Run:
 
     def __init__(self, lam, program, document):
         self.program = program
+        listing = printed(lam, 'code', program)
+        if not listing.startswith('unit '):
+            raise NotToRun(listing.strip() or 'the program has no functions')
         try:
-            self.code = thinning.thin(codes.Code(text_of(program), printed(lam, 'code', program)))
+            self.code = thinning.thin(codes.Code(text_of(program), listing))
             self.start = world.Start(text_of(document), world.functions_of(self.code))
         except (grammar.Broken, types.Break, world.Wrong, RecursionError, StopIteration) as fault:
             raise NotToRun(str(fault)) from fault
@@ -48,8 +58,8 @@ class Run:
     def take_book(self, name):
         try:
             return self.take(world.turns_of(text_of(name)))
-        except ValueError as fault:
-            raise NotToRun('no book') from fault
+        except world.NoBook as fault:
+            raise NotToRun(str(fault)) from fault
 
     def called(self, thread):
         return self.world.threads[thread].unit.name
@@ -60,7 +70,7 @@ class Run:
 
     def line_of(self, unit, at):
         place = self.place_of(unit, at)
-        return f'{self.program} line {place.number}: {place.line.strip()}'
+        return printable.name(f'{self.program} line {place.number}: {place.line.strip()}')
 
     def now_at(self, thread):
         """Where a thread that lives stands."""

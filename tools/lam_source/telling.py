@@ -1,6 +1,6 @@
 """What an event says in the names of its program: of functions, classes, fields, variables, and the rule that refused it."""
 
-from . import machine
+from . import machine, paths
 
 RULES = {
     'ReadS': 'what is read is secret to {tag}, and the acting label is not',
@@ -22,6 +22,7 @@ class Telling:
 
     def __init__(self, run):
         self.run, self.texts, self.code = run, run.texts, run.code
+        self.paths, self.classes = paths.paths_of(run), paths.classes_of(run)
 
     # ---- names
 

@@ -21,6 +21,7 @@ BUILTINS = {
     'send': ([PIPE, BYTES], NOTHING), 'send_caps': ([PIPE, CAPS], NOTHING), 'receive': ([PIPE], BYTES),
     'receive_caps': ([PIPE], CAPS), 'join': ([THREAD], INT),
 }
+MOST = {'class': 1024, 'fn': 1024, 'field': 256, 'parameter': 64, 'region': 4096, 'local': 1024}
 SEVERAL = {'[]': 'an array', 'thing': 'an object or an array', 'labelled': 'something that has a label'}
 
 
@@ -37,6 +38,12 @@ class Local:
         self.name, self.type, self.at = name, of, at
 
 
+def room(kind, count, at):
+    """That there may be one more of a kind."""
+    if count >= MOST[kind]:
+        raise Break('TooMany', at)
+
+
 def is_array(of):
     return isinstance(of, tuple)
 
@@ -49,6 +56,7 @@ def shown(of):
 class Typing:
     def __init__(self, items):
         self.items, self.scopes, self.result = items, [], None
+        self.slots, self.regions = 0, 0     # of the unit, and of the program so far
         self.classes, self.functions = {}, {}
 
     # ---- names
@@ -59,6 +67,7 @@ class Typing:
                 if item.kind == kind:
                     if item.name in table or kind == 'fn' and item.name in BUILTINS:
                         raise Break('Twice', item.name_at, name=item.name)
+                    room(kind, len(table), item.name_at)
                     table[item.name] = item
 
     def local(self, name):
@@ -67,9 +76,17 @@ class Typing:
                 return scope[name]
         return None
 
-    def declare(self, name, of, at):
+    def new(self, name, at):
+        """That a name may be declared: it is new, and its unit has a slot for it."""
         if self.local(name):
             raise Break('Twice', at, name=name)
+        self.slot(at)
+
+    def slot(self, at):
+        room('local', self.slots, at)
+        self.slots += 1
+
+    def declare(self, name, of, at):
         self.scopes[-1][name] = Local(name, of, at)
         return self.scopes[-1][name]
 
@@ -101,22 +118,24 @@ class Typing:
         for field in item.fields:
             if field.name in known:
                 raise Break('Twice', field.at, name=field.name)
+            room('field', len(known), field.at)
             known.add(field.name)
             field.type = self.type_of(field.of)
 
     def of_function(self, item):
-        self.scopes = [{}]
+        if item.result and not self.ends(item.body):
+            raise Break('NoReturn', item.name_at, name=item.name)
+        self.scopes, self.slots = [{}], 0
         item.locals = []
         for parameter in item.parameters:
-            of = None
             if self.local(parameter.name):
                 raise Break('Twice', parameter.at, name=parameter.name)
+            room('parameter', self.slots, parameter.at)
+            self.slots += 1
             of = self.type_of(parameter.of)
             item.locals.append(self.declare(parameter.name, of, parameter.at))
         self.result = self.type_of(item.result) if item.result else NOTHING
         item.type = self.result
-        if item.result and not self.ends(item.body):
-            raise Break('NoReturn', item.name_at, name=item.name)
         self.statements(item.body)
 
     def ends(self, block):
@@ -135,8 +154,7 @@ class Typing:
         self.scopes.pop()
 
     def of_let(self, it):
-        if self.local(it.name):
-            raise Break('Twice', it.name_at, name=it.name)
+        self.new(it.name, it.name_at)
         of = self.type_of(it.of)
         self.wants(it.value, of)
         it.local = self.declare(it.name, of, it.name_at)
@@ -164,18 +182,31 @@ class Typing:
         self.wants(it.value, INT)
 
     def of_sync(self, it):
+        self.slot(it.at)
         self.wants(it.thing, 'thing')
         self.statements(it.body)
 
+    def captures(self, it):
+        """The locals that a region copies, each of which takes a slot of it."""
+        for name in it.captures:
+            yield self.named(name.text, name.at)
+            self.slot(name.at)
+
     def of_region(self, it):
+        room('region', self.regions, it.at)
+        self.regions += 1
+        outer = self.slots
         self.wants(it.label, LABEL)
         self.wants(it.caps, CAPS)
-        it.captured = [self.named(name.text, name.at) for name in it.captures]
+        self.slots = 0
+        it.captured = list(self.captures(it))
         self.statements(it.body)
         self.scopes.append({})
+        self.new(it.name, it.name_at)
         it.local = self.declare(it.name, INT, it.name_at)
         self.statements(it.catch)
         self.scopes.pop()
+        self.slots = outer
 
     def of_expr(self, it):
         self.of(it.value)

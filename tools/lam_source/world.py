@@ -5,12 +5,18 @@ same order, so that a refusal can be given its line, its column and what was wan
 """
 import contextlib
 import json
+import math
 import re
+
+from .printable import name as printable
 
 NAME = re.compile(r'[A-Za-z][A-Za-z0-9_]{0,31}')
 LABEL = re.compile(r'\{([^{}]*)\}/\{([^{}]*)\}')
 PIECES = re.compile(r'\s*("(?:[^"\\]|\\.)*"|-?[0-9][0-9.eE+-]*|true|false|null|[][{}:,])', re.S)
 TAG_KINDS = ['read', 'export', 'integrity']
+MOST_TURNS, MOST_THREADS = 1_000_000, 4096
+TURNS = re.compile(r'(0|[1-9][0-9]{0,3}) ([1-9][0-9]*)')
+HALF = re.compile('[\ud800-\udfff]')
 ORDER = ['version', 'tags', 'counts', 'tree', 'pipes', 'threads']     # `counts` in version 3 alone
 PUBLIC = (frozenset(), frozenset())
 
@@ -48,6 +54,9 @@ class Places:
 
     def piece(self):
         found = PIECES.match(self.text, self.at)
+        if not found:       # a word that Python takes for a number, and JSON has not
+            at = self.at + len(self.text[self.at:]) - len(self.text[self.at:].lstrip())
+            raise Wrong('NotJson', at, json_wanted('Expecting value'))
         self.at = found.end()
         return found[1], found.start(1)
 
@@ -58,13 +67,18 @@ class Places:
         if piece == '[':
             return self.of_list(at)
         whole = not re.match(r'-?[0-9]+[.eE]', piece)
-        return Part(json.loads(piece), at, whole=whole)
+        value = loaded(piece)
+        if isinstance(value, str) and HALF.search(value):
+            raise Wrong('NotJson', at, r'a text whose escapes from \ud800 to \udfff come in pairs')
+        if type(value) in (int, float) and math.isinf(float(piece)):
+            raise Wrong('NotJson', at, 'a number below 1e308')
+        return Part(value, at, whole=whole)
 
     def of_object(self, at):
         parts, value = {}, {}
         piece = self.piece()
         while piece[0] != '}':
-            name = json.loads(piece[0])
+            name = self.part(piece).value
             self.piece()
             parts[name] = self.part()
             value[name] = parts[name].value
@@ -84,9 +98,18 @@ class Places:
         return Part([it.value for it in parts.values()], at, parts)
 
 
+def small(digits):
+    """A whole number; one with more digits than any limit has is as wrong as the greatest here."""
+    return int(digits) if len(digits) < 40 else 10 ** 40 * (-1 if digits[0] == '-' else 1)
+
+
+def loaded(text):
+    return json.loads(text, parse_int=small)
+
+
 def parts_of(text):
     try:
-        json.loads(text)
+        loaded(text)
     except json.JSONDecodeError as broken:
         raise Wrong('NotJson', broken.pos, json_wanted(broken.msg)) from None
     except RecursionError:
@@ -101,6 +124,7 @@ def json_wanted(message):
              'Expecting property name': 'the name of a member between `"`; after the last member stands no `,`',
              'Expecting value': 'a value; after the last item of a list stands no `,`, and texts stand between `"`',
              'Illegal trailing comma': 'no `,` after the last item or member',
+             'Unexpected UTF-8 BOM': 'no byte order mark before the document',
              'Extra data': 'the end of the document', 'Unterminated string': 'a `"` at the end of this text',
              'Invalid \\escape': r'one of the escapes of JSON: \n \t \\ \" \uHHHH'}
     return next((wanted for head, wanted in wants.items() if message.startswith(head)), 'JSON')
@@ -166,6 +190,8 @@ class Start:
             raise Wrong('BadMember tags', part.at, 'at most 65,536 tags')
         for it in self.is_list(part, 'tags', 'a list of tags'):
             tag, member = it, 'tags'
+            if self.version == 1 and isinstance(it.value, dict):
+                raise Wrong('BadMember tags', it.at, 'the name of a tag, ".."; in "version": 2 a tag is an object with a kind')
             if self.version > 1:
                 self.is_object(it, 'tags')
                 tag, member = self.member(it, 'name'), 'name'
@@ -233,10 +259,10 @@ class Start:
         if bad or path.startswith('/'):
             raise Wrong(f'BadPath {index}', place, 'names joined by /, none of them empty, . or ..')
         if above not in made:
-            item = f'{{"path": "{above}", "label": .., "dir": true}}'
-            raise Wrong(f'BadPath {index}', place, f'a directory "{above}" earlier in the list: {item}')
+            item = f'{{"path": "{printable(above)}", "label": .., "dir": true}}'
+            raise Wrong(f'BadPath {index}', place, f'a directory "{printable(above)}" earlier in the list: {item}')
         if made[above][0] == 'file':
-            raise Wrong(f'BadPath {index}', place, f'a directory before the last /, and "{above}" is a file')
+            raise Wrong(f'BadPath {index}', place, f'a directory before the last /, and "{printable(above)}" is a file')
         if path in made:
             raise Wrong(f'PathTwice {index}', place, 'a path that no earlier item has')
         label = self.label(self.member(it, 'label'))
@@ -322,8 +348,18 @@ class Start:
         sets = []
         for name in ('plus', 'minus'):
             held = self.is_list(self.member(caps, name), name, 'a list of tag names')
-            sets.append(frozenset(self.tag(self.text(tag, name), tag) for tag in held))
+            sets.append(frozenset(self.held(tag, name) for tag in held))
         return Item(run=run.value, arguments=arguments, caps=tuple(sets), at=it.at)
+
+    def held(self, part, member):
+        """A tag of a list of capabilities."""
+        value = self.text(part, member)
+        if not NAME.fullmatch(value):
+            wanted = 'the name of a tag'
+            if NAME.fullmatch(value[:-1]) and value[-1] in '+-':
+                wanted += f' without its sign: "{value[:-1]}"; the tags of "{member}" are held with {"+" if member == "plus" else "-"}'
+            raise Wrong(f'BadMember {member}', part.at, wanted)
+        return self.tag(value, part)
 
     def arguments(self, part, takes, run):
         parts = list(self.is_list(part, 'args', f'a list of {len(takes)} objects'))
@@ -367,13 +403,13 @@ class Start:
             raise Wrong(f'BadMember {kind}', content.at, CONTENTS[kind])
 
 
-CONTENTS = {'int': 'a whole number without quotes', 'bool': 'true or false', 'text': 'a text of at most 65,536 bytes: ".."',
+CONTENTS = {'int': 'a whole number of 64 bits without quotes', 'bool': 'true or false', 'text': 'a text of at most 65,536 bytes: ".."',
             'tag': 'the name of a tag', 'pipe': 'the name of a pipe'}
 KINDS = {'bytes': 'text'}
 
 
 def listed(names):
-    return ', '.join(names) if names else 'none'
+    return ', '.join(map(printable, names)) if names else 'none'
 
 
 def functions_of(code):
@@ -383,10 +419,29 @@ def functions_of(code):
 
 # ---- books
 
+class NoBook(ValueError):
+    """The first break of a text that is no book: its kind and its line, as `lam` has them."""
+
+    def __init__(self, kind, line):
+        super().__init__(f'{kind} line {line}')
+        self.kind, self.line = kind, line
+
+
 def turns_of(text):
-    """The turns of a book, thread by thread."""
-    found = []
-    for line in text.splitlines()[1:]:
-        thread, count = line.split(' ')
-        found += [int(thread)] * int(count)
+    """The turns of a book, thread by thread. Raises NoBook where the text is none."""
+    found, last = [], None
+    head, *lines = text.split('\n')
+    if head != 'lam book 1' or not lines:
+        raise NoBook('BadHead', 1)
+    for number, line in enumerate(lines[:-1] + [it for it in lines[-1:] if it], 2):
+        stretch = TURNS.fullmatch(line)
+        if not stretch or int(stretch[1]) >= MOST_THREADS or number == len(lines) + 1:
+            raise NoBook('BadLine', number)
+        thread, count = small(stretch[1]), small(stretch[2])
+        if thread == last:
+            raise NoBook('SameThread', number)
+        if len(found) + count > MOST_TURNS:
+            raise NoBook('TooMany', number)
+        found += [thread] * count
+        last = thread
     return found

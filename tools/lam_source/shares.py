@@ -1,0 +1,64 @@
+"""The schedule of an embedding program that gives unseen work a fixed share of the turns.
+
+It goes in rounds. In each round each thread takes one visible turn, or up to its share of unseen turns. A thread that
+goes out of sight takes its next visible turn a fixed number of rounds later: earlier it waits, and where it is not back
+by then it has another such time. So no visible turn waits for an unseen one, and the order of visible turns tells of
+unseen work at most how often a thread was late. A caller of seats can do the same: it knows from each event of a
+thread whether the next turn is visible (docs/RECIPES.md).
+"""
+from . import courses
+
+
+class Shares:
+    """A course by rounds: how many unseen turns a thread takes in each, and after how many it may be back in sight."""
+
+    def __init__(self, course, share, rounds):
+        self.course, self.share, self.rounds = course, share, rounds
+        self.due, self.entries, self.late, self.round = {}, 0, 0, 0
+
+    def go(self, most):
+        """Takes rounds until no thread can go on, or the run has this many turns."""
+        idle = 0
+        while self.course.world.lives() and idle <= self.rounds and len(self.course.turns) < most:
+            before = len(self.course.turns)
+            for number in range(len(self.course.world.threads)):
+                self.serve(number)
+            self.round += 1
+            idle = 0 if len(self.course.turns) > before else idle + 1
+        return self
+
+    def serve(self, number):
+        """What a thread gets in a round."""
+        is_due = self.due.get(number, self.round) == self.round
+        if self.lives(number) and not self.course.is_seen(number):
+            if is_due:
+                self.late += 1
+                self.due[number] = self.round + self.rounds
+            self.unseen(number)
+        elif self.lives(number) and is_due:
+            self.due.pop(number, None)
+            self.visible(number)
+
+    def lives(self, number):
+        return self.course.lives(number)
+
+    def can_go(self, number):
+        return self.lives(number) and self.course.world.is_ready(number)
+
+    def unseen(self, number):
+        for _ in range(self.share):
+            if not self.can_go(number) or self.course.is_seen(number):
+                break
+            self.course.take(number)
+
+    def visible(self, number):
+        if self.can_go(number):
+            self.course.take(number)
+        if self.lives(number) and not self.course.is_seen(number):
+            self.entries += 1
+            self.due[number] = self.round + self.rounds
+
+
+def by_shares(world, observer, share, rounds):
+    """A run of a world to its end, by shares."""
+    return Shares(courses.Course(world, observer), share, rounds).go(courses.MANY)
