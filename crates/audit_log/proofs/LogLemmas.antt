@@ -9,8 +9,8 @@ use Rattle.capabilities.specs.declared.Caps.{Caps}
 use Rattle.lam_asks.specs.declared.answer.What.{What}
 use Rattle.lam_asks.specs.declared.answer.What.TheVariants.{Private, Asked}
 use Rattle.lam_asks.specs.declared.answer.Event.{Event}
-use Rattle.lam_machine_terms.specs.Turns.{Moment}
-use Rattle.lam_machine_terms.specs.Views.{Entry, event, release, is_release, used_by, trace}
+use Rattle.audit_log_notes.specs.Turns.{Moment}
+use Rattle.audit_log_notes.specs.Views.{Entry, event, release, is_release, used_by, trace}
 use Rattle.audit_log_texts.specs.Lines.{head_text, line_after}
 use Rattle.audit_log_notes.specs.Notes.{content_in, released, asked, shown, refusal_of, refused, noted_at, noted_from}
 use Rattle.audit_log_notes.specs.declared.Content.{Content}

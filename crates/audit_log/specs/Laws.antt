@@ -5,7 +5,7 @@ use Rattle.flow_labels.specs.TwoLists.{Text}
 use Rattle.flow_labels.specs.declared.Label.{Label}
 use Rattle.capabilities.specs.declared.Caps.{Caps}
 use Rattle.capabilities.specs.Changes.{Covers}
-use Rattle.lam_machine_terms.specs.Turns.{Moment}
+use Rattle.audit_log_notes.specs.Turns.{Moment}
 use Rattle.audit_log_notes.specs.Notes.{seen_by, noted_in}
 use Rattle.audit_log.specs.Log.{seen_lines, view_lines, are_public, noted_lines, audit_lines}
 

@@ -25,8 +25,8 @@ use Rattle.lam_asks.specs.declared.answer.What.{What}
 use Rattle.lam_asks.specs.declared.answer.What.TheVariants.{Asked}
 use Rattle.lam_asks.specs.declared.answer.Event.{Event}
 use Rattle.lam_asks.specs.declared.ask.Ask.TheVariants.{CopyTo, Mint, Enter, Barred}
-use Rattle.lam_machine_terms.specs.Turns.{Moment}
-use Rattle.lam_machine_terms.specs.Views.{Entry, event, release, is_release, used_by, trace}
+use Rattle.audit_log_notes.specs.Turns.{Moment}
+use Rattle.audit_log_notes.specs.Views.{Entry, event, release, is_release, used_by, trace}
 use Rattle.audit_log_texts.specs.Lines.{spaced, line, thread_text, head_text, group_text, denied_text, event_line}
 use Rattle.audit_log_notes.specs.Notes.{content_in, refusal_of}
 use Rattle.audit_log_notes.specs.declared.Content.{Content}

@@ -21,7 +21,8 @@ use audit_log_notes::{Noted, Seen};
 use capabilities::Caps;
 use flow_labels::{Label, TagNames};
 use lam_asks::{Event, let_go_event};
-use lam_machine_replay::{World, seen_of, taken};
+use lam_machine_replay::{seen_of, taken};
+pub use lam_machine_replay::{Keeps, RunFault, World, keep_turns};
 use std::alloc::Global;
 use want_of_memory::NoMemory;
 

@@ -6,7 +6,7 @@ use Rattle.thinned_code.specs.Thinned.{thinned}
 use Rattle.thinned_code.proofs.Thinned.{stays_guarded}
 use Rattle.lam_resolve_tree.specs.Tree.{ResolvedTree}
 use Rattle.lam_meaning.specs.Scheme.{scheme}
-use Rattle.lam_meaning_laws.specs.Acts.{ActsAs}
+use Rattle.thinned_code_acts.specs.Acts.{ActsAs}
 use Rattle.compiled_code_guarded.specs.Compiled.{SchemeIsGuarded}
 use Rattle.thinned_code_acts.specs.Laws.{ThinnedSchemeActs}
 use Rattle.barrier_thin.specs.Programs.{StandsForPrograms}

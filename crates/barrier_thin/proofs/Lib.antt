@@ -3,3 +3,4 @@ pub mod Thinned
 pub mod Moving
 pub mod Building
 pub mod Acting
+pub use Rattle.compiled_code_guarded.proofs.Units as CompiledCodeGuardedUnits

@@ -6,7 +6,7 @@ use Rattle.lam_resolve_tree.specs.Tree.{ResolvedTree}
 use Rattle.lam_resolve_tree.specs.Typing.{IsTypedTree}
 use Rattle.lam_resolve_tree.specs.Regions.{AreNumbered}
 use Rattle.lam_meaning.specs.Scheme.{scheme}
-use Rattle.lam_meaning_laws.specs.Acts.{ActsAs}
+use Rattle.thinned_code_acts.specs.Acts.{ActsAs}
 
 -- Where a code is the one that the scheme gives a typed program with its regions numbered, neither it nor what is made of it
 -- has a break, and what is made of it acts as the program.

@@ -21,6 +21,7 @@ ghost use Rattle.std.specs.Prelude.{◌≡◌, IsTrue, IsNone, ◌↔◌, IfOk};
 ghost use Rattle.flow_labels.specs.Failing.{first_failing};
 ghost use Rattle.capabilities.specs.Changes.{no_caps, with_both, joined, used, MayChange, Covers, change_test, covers_test};
 
+pub use flow_labels::same as flow_labels_same;
 use flow_labels::{Denied, Label, NoMemory, Rule, TagId, TagSet, denied_or};
 pub use kinds::{TagKind, kind_of, public_of};
 use std::alloc::Global;

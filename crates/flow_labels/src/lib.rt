@@ -29,6 +29,7 @@ ghost use Rattle.std.specs.FinSet as set;
 ghost use Rattle.flow_labels.specs.Flow.{flows, seen, public_label};
 ghost use Rattle.flow_labels.specs.Failing.{denied_or, first_failing, read_test, write_test, mint_test, same_test};
 
+pub use decimal_text::{push_int, push_number};
 pub use name_lists::same_names;
 pub use names::{NameFault, TagNames, is_letter, is_name, is_word};
 use std::alloc::Global;

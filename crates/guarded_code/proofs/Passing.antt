@@ -3,8 +3,8 @@ use Rattle.std.proofs.Common.{IsTrue, ◌≡◌, ℕ, zero, suc, ◌+◌, ◌≤
 use Rattle.std.specs.Prelude.{drop, nat_le, unwrap_or, option_map}
 use Rattle.std.proofs.lemmas.Bool.{false≢true}
 use Rattle.std.proofs.lemmas.List.{length-set, length-map}
-use Rattle.lam_bytecode.specs.Codes.{CodeTree}
-use Rattle.lam_bytecode.specs.declared.op.Op.{Op}
+use Rattle.thread_steps.specs.Codes.{CodeTree}
+use Rattle.thread_steps.specs.Op.{Op}
 use Rattle.guarded_code.specs.Rounds.{Sent, AllSay, AllLow, Laws}
 use Rattle.guarded_code.specs.Descriptions.{ValueKind, Number, Truth, Other, Unknown, Access, Reading, Writing, Known, Operand, Description, is_tested, tested, untested, fresh, meet}
 use Rattle.guarded_code.specs.Changes.{Change, Loads, Stores, Tests, Trades, Place, change, wanted, known_at, is_copy, loaded, forgotten, stored_from, stored, at_place, tested_operand, tested_copy, tested_local, copied_at, barred, put, traded, left, changed, goes, sent, passed, passes}

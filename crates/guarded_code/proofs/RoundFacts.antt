@@ -1,10 +1,10 @@
 -- What is proved of the rounds of a unit.
 use Rattle.std.proofs.Common.{IsTrue, ◌≡◌, ℕ, zero, suc, ◌+◌, ◌*◌, ◌<◌, ◌≤◌, List, [], ◌∷◌, Option, Some, None, length, slice_get, refl, sym, ap, ◌∙◌, subst, arith}
 use Rattle.std.specs.Prelude.{replicate}
-use Rattle.lam_bytecode.specs.Codes.{CodeTree, given}
-use Rattle.lam_bytecode.specs.declared.unit.CodeUnit.{CodeUnit}
-use Rattle.lam_bytecode.specs.declared.unit.UnitKind.{UnitKind}
-use Rattle.lam_bytecode.specs.declared.unit.UnitKind.TheVariants.{Function, Region}
+use Rattle.thread_steps.specs.Codes.{CodeTree, given}
+use Rattle.thread_steps.specs.CodeUnit.{CodeUnit}
+use Rattle.thread_steps.specs.UnitKind.{UnitKind}
+use Rattle.thread_steps.specs.UnitKind.TheVariants.{Function, Region}
 use Rattle.guarded_code.specs.Rounds.{Table, Found, Holds, Broke, OnFound, blank, round, after}
 use Rattle.guarded_code.specs.Descriptions.{Known, Description, untested, Unknown, meet, entry_locals, catch_starts, starts}
 use Rattle.guarded_code.specs.Changes.{passes, enough, descriptions}

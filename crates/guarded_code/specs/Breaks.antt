@@ -1,10 +1,10 @@
 -- The rules of guarded code, and the first break of one.
 use Rattle.std.specs.Prelude.{◌≡◌, ℕ, ◌+◌, nat_lt, Bool, true, false, not, ◌&&◌, ◌||◌, is_some, if◌then◌else◌, List, [], ◌∷◌, map, length, slice_get, Option, Some, None}
 use Rattle.std.specs.List.{list_all}
-use Rattle.lam_bytecode.specs.Codes.{CodeTree}
-use Rattle.lam_bytecode.specs.declared.unit.CodeUnit.{CodeUnit}
-use Rattle.lam_bytecode.specs.declared.op.Op.{Op}
-use Rattle.lam_bytecode.specs.declared.op.Op.TheVariants.{Const, Load, Store, Eq, Ne, Call, GetField, PutField, GetElement, PutElement, NewObject, EnterRegion, Spawn}
+use Rattle.thread_steps.specs.Codes.{CodeTree}
+use Rattle.thread_steps.specs.CodeUnit.{CodeUnit}
+use Rattle.thread_steps.specs.Op.{Op}
+use Rattle.thread_steps.specs.Op.TheVariants.{Const, Load, Store, Eq, Ne, Call, GetField, PutField, GetElement, PutElement, NewObject, EnterRegion, Spawn}
 use Rattle.thread_steps.specs.Ops.{function_takes, region_in}
 use Rattle.guarded_code.specs.Rounds.{Sent, Table, Found, Holds, Broke}
 use Rattle.guarded_code.specs.Descriptions.{ValueKind, Number, Truth, Other, Unknown, Access, Reading, Writing, Known, Operand, Description, is_tested, starts}

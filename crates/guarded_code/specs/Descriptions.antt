@@ -1,10 +1,10 @@
 -- What is known at an address of a unit's code: of each operand and local the kind of its value and the rules that it was
 -- tested by, and of each operand the local that it is a copy of.
 use Rattle.std.specs.Prelude.{ℕ, zero, suc, Bool, true, false, ◌&&◌, nat_eq, if◌then◌else◌, List, [], ◌∷◌, replicate, Option, Some, None}
-use Rattle.lam_bytecode.specs.Codes.{given}
-use Rattle.lam_bytecode.specs.declared.unit.CodeUnit.{CodeUnit}
-use Rattle.lam_bytecode.specs.declared.unit.UnitKind.{UnitKind}
-use Rattle.lam_bytecode.specs.declared.unit.UnitKind.TheVariants.{Function, Region}
+use Rattle.thread_steps.specs.Codes.{given}
+use Rattle.thread_steps.specs.CodeUnit.{CodeUnit}
+use Rattle.thread_steps.specs.UnitKind.{UnitKind}
+use Rattle.thread_steps.specs.UnitKind.TheVariants.{Function, Region}
 pub use Rattle.guarded_code.specs.declared.known.ValueKind.{ValueKind}
 pub use Rattle.guarded_code.specs.declared.known.ValueKind.TheVariants.{Number, Truth, Other, Unknown}
 pub use Rattle.guarded_code.specs.declared.known.Access.{Access}

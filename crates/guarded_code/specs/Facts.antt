@@ -1,7 +1,7 @@
 -- What is proved of the rounds, for every code and every unit.
 use Rattle.std.specs.Prelude.{◌≡◌, ◌↔◌, ℕ, List, Option, Some, None, length, slice_get}
-use Rattle.lam_bytecode.specs.Codes.{CodeTree}
-use Rattle.lam_bytecode.specs.declared.unit.CodeUnit.{CodeUnit}
+use Rattle.thread_steps.specs.Codes.{CodeTree}
+use Rattle.thread_steps.specs.CodeUnit.{CodeUnit}
 use Rattle.guarded_code.specs.Rounds.{Table, Holds, Broke, OnFound, round, after, Above}
 use Rattle.guarded_code.specs.Descriptions.{Description, meet, starts}
 use Rattle.guarded_code.specs.Changes.{passes, descriptions}

@@ -5,3 +5,4 @@ pub mod Breaks
 pub mod Says
 pub mod Facts
 pub mod Samples
+pub use Rattle.thread_steps.specs.Ops

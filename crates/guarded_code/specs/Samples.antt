@@ -1,12 +1,12 @@
 -- Codes by hand, and the first break of each.
 use Rattle.std.specs.Prelude.{◌≡◌, ℕ, pos, true, false, codes, List, [], ◌∷◌, Option, Some, None, refl}
-use Rattle.lam_value.specs.declared.values.Value.TheVariants.{Int, Bool as TruthValue}
-use Rattle.lam_bytecode.specs.Codes.{CodeTree}
-use Rattle.lam_bytecode.specs.declared.unit.ArgKind.TheVariants.{Other as OtherArgument}
-use Rattle.lam_bytecode.specs.declared.unit.CodeUnit.{CodeUnit}
-use Rattle.lam_bytecode.specs.declared.unit.UnitKind.TheVariants.{Function, Region}
-use Rattle.lam_bytecode.specs.declared.op.Op.{Op}
-use Rattle.lam_bytecode.specs.declared.op.Op.TheVariants.{Const, Load, Store, Pop, Add, Jump, JumpIfFalse, Call, Return, ReadBarrier, WriteBarrier, GetField, PutField, NewObject, LeaveRegion}
+use Rattle.thread_steps.specs.Value.TheVariants.{Int, Bool as TruthValue}
+use Rattle.thread_steps.specs.Codes.{CodeTree}
+use Rattle.thread_steps.specs.ArgKind.TheVariants.{Other as OtherArgument}
+use Rattle.thread_steps.specs.CodeUnit.{CodeUnit}
+use Rattle.thread_steps.specs.UnitKind.TheVariants.{Function, Region}
+use Rattle.thread_steps.specs.Op.{Op}
+use Rattle.thread_steps.specs.Op.TheVariants.{Const, Load, Store, Pop, Add, Jump, JumpIfFalse, Call, Return, ReadBarrier, WriteBarrier, GetField, PutField, NewObject, LeaveRegion}
 use Rattle.guarded_code.specs.Breaks.{Rule, BadTarget, Depth, Kind, Unguarded, CodeBreak, first_code_break}
 
 -- a function of one parameter with two locals

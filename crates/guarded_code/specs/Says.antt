@@ -1,8 +1,8 @@
 -- How much a description says, and when a table of descriptions meets the rules.
 use Rattle.std.specs.Prelude.{◌≡◌, ℕ, List, [], ◌∷◌, IsTrue, Option, Some, None, length, slice_get}
-use Rattle.lam_bytecode.specs.Codes.{CodeTree}
-use Rattle.lam_bytecode.specs.declared.unit.CodeUnit.{CodeUnit}
-use Rattle.lam_bytecode.specs.declared.op.Op.{Op}
+use Rattle.thread_steps.specs.Codes.{CodeTree}
+use Rattle.thread_steps.specs.CodeUnit.{CodeUnit}
+use Rattle.thread_steps.specs.Op.{Op}
 use Rattle.guarded_code.specs.Rounds.{Table, AllStand, AllSettled}
 use Rattle.guarded_code.specs.Descriptions.{ValueKind, Number, Truth, Other, Unknown, Access, Known, Operand, Description, is_tested, starts}
 use Rattle.guarded_code.specs.Changes.{passes}

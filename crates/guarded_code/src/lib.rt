@@ -21,8 +21,8 @@ ghost use Rattle.guarded_code.specs.Breaks.{IsGuarded};
 ghost use Rattle.guarded_code.specs.Facts.{MeetsRules, SaysMost, IsLast, EndsThere, BreaksThere, GuardedMeans};
 
 pub use known::{Access, Known, Operand, ValueKind};
-use lam_bytecode::Code;
 use std::marker::Model;
+use thread_steps::Code;
 
 /// What stands after the last round meets every rule on descriptions, and says at least as much as any other table that
 /// meets them. Where there is such a table no round breaks.
@@ -52,7 +52,7 @@ pub struct Verified {
 }
 
 impl Model for Verified {
-    ghost use Rattle.lam_bytecode.specs.Codes.{CodeTree, coded_code};
+    ghost use Rattle.thread_steps.specs.Codes.{CodeTree, coded_code};
     ghost use Rattle.guarded_code.specs.Breaks.{IsGuarded};
 
     ghost Value = { CodeTree };

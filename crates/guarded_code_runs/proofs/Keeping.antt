@@ -13,17 +13,17 @@ use Rattle.lam_value.specs.declared.values.Value.TheVariants as value
 use Rattle.lam_bytecode.specs.Codes.{CodeTree, IsCode}
 use Rattle.thread_steps.specs.Threads.{Context, Thread}
 use Rattle.thread_steps.specs.Next.{Next, goes, asks, stuck, next_of}
-use Rattle.lam_machine_terms.specs.Worlds.{World, thread_at, contexts_in}
-use Rattle.lam_machine_terms.specs.Serving.{serve}
-use Rattle.lam_machine_terms.specs.Turns.{is_ready, Moment, goes_on, served, turn_by, step, and_then, moments, left_by, replay}
-use Rattle.lam_machine_laws.specs.Own.{TurnsTo, IsSpawned, Touches}
-use Rattle.lam_machine_laws.specs.Laws.{IsActing}
-use Rattle.lam_machine_laws.proofs.ThreadLemmas.{some_inj}
-use Rattle.lam_machine_laws.proofs.TurnLemmas.{acts, only}
-use Rattle.lam_machine_laws.proofs.OwnLemmas.{touch}
+use Rattle.lam_machine_valid.specs.Worlds.{World, thread_at, contexts_in}
+use Rattle.lam_machine_valid.specs.Serving.{serve}
+use Rattle.lam_machine_valid.specs.Turns.{is_ready, Moment, goes_on, served, turn_by, step, and_then, moments, left_by, replay}
+use Rattle.lam_machine_valid.specs.Own.{TurnsTo, IsSpawned, Touches}
+use Rattle.lam_machine_valid.specs.LamMachineLawsLaws.{IsActing}
+use Rattle.lam_machine_valid.proofs.ThreadLemmas.{some_inj}
+use Rattle.lam_machine_valid.proofs.TurnLemmas.{acts, only}
+use Rattle.lam_machine_valid.proofs.OwnLemmas.{touch}
 use Rattle.lam_machine_valid.specs.Suiting.{Joined, with_value, forbidden, without_value, Suits}
 use Rattle.lam_machine_valid.proofs.SuitLemmas.{all_suit}
-use Rattle.guarded_code.specs.Breaks.{IsGuarded}
+use Rattle.guarded_code_threads.specs.Breaks.{IsGuarded}
 use Rattle.guarded_code_threads.specs.Described.{IsDescribedContext, IsDescribed}
 use Rattle.guarded_code_threads.specs.Answers.{Answers}
 use Rattle.guarded_code_threads.specs.Laws.{TakesAll}

@@ -4,12 +4,12 @@ use Rattle.std.specs.List.{AllByRecursion}
 use Rattle.lam_bytecode.specs.Codes.{CodeTree, IsCode}
 use Rattle.lam_bytecode.specs.declared.op.Op.{Op}
 use Rattle.thread_steps.specs.Threads.{Context}
-use Rattle.lam_machine_terms.specs.Worlds.{World}
-use Rattle.lam_machine_terms.specs.Turns.{Moment, step, and_then, moments, left_by, replay}
-use Rattle.lam_machine_terms.specs.Valid.{IsValid}
-use Rattle.lam_machine_laws.specs.Laws.{IsActing}
+use Rattle.lam_machine_valid.specs.Worlds.{World}
+use Rattle.lam_machine_valid.specs.Turns.{Moment, step, and_then, moments, left_by, replay}
+use Rattle.lam_machine_valid.specs.Valid.{IsValid}
+use Rattle.lam_machine_valid.specs.LamMachineLawsLaws.{IsActing}
 use Rattle.lam_machine_valid.proofs.WholeLemmas.{stay_valid}
-use Rattle.guarded_code.specs.Breaks.{IsGuarded}
+use Rattle.guarded_code_threads.specs.Breaks.{IsGuarded}
 use Rattle.guarded_code_threads.specs.Accesses.{StandsAt, Finds}
 use Rattle.guarded_code_threads.proofs.Accessing.{accesses_find}
 use Rattle.guarded_code_runs.specs.Worlds.{AreAtEntries, IsSound}

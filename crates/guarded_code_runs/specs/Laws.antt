@@ -5,11 +5,11 @@ use Rattle.lam_bytecode.specs.Codes.{CodeTree, IsCode}
 use Rattle.lam_bytecode.specs.declared.op.Op.{Op}
 use Rattle.thread_steps.specs.Threads.{Context}
 use Rattle.thread_steps.specs.Next.{next_by, next_of}
-use Rattle.lam_machine_terms.specs.Worlds.{World}
-use Rattle.lam_machine_terms.specs.Turns.{Moment, step, moments, replay}
-use Rattle.lam_machine_terms.specs.Valid.{IsValid}
-use Rattle.lam_machine_laws.specs.Laws.{IsActing}
-use Rattle.guarded_code.specs.Breaks.{IsGuarded}
+use Rattle.lam_machine_valid.specs.Worlds.{World}
+use Rattle.lam_machine_valid.specs.Turns.{Moment, step, moments, replay}
+use Rattle.lam_machine_valid.specs.Valid.{IsValid}
+use Rattle.lam_machine_valid.specs.LamMachineLawsLaws.{IsActing}
+use Rattle.guarded_code_threads.specs.Breaks.{IsGuarded}
 use Rattle.guarded_code_threads.specs.Accesses.{StandsAt, Finds, IsAccess, accessed}
 use Rattle.guarded_code_runs.specs.Worlds.{AreDescribed, AreAtEntries, IsSound}
 

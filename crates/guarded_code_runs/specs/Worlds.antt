@@ -6,9 +6,9 @@ use Rattle.lam_value.specs.declared.values.Value.{Value}
 use Rattle.lam_bytecode.specs.Codes.{CodeTree, IsCode}
 use Rattle.thread_steps.specs.Threads.{Thread}
 use Rattle.thread_steps.specs.Next.{started}
-use Rattle.lam_machine_terms.specs.Worlds.{World, thread_at}
-use Rattle.lam_machine_terms.specs.Valid.{IsValid}
-use Rattle.guarded_code.specs.Breaks.{IsGuarded}
+use Rattle.lam_machine_valid.specs.Worlds.{World, thread_at}
+use Rattle.lam_machine_valid.specs.Valid.{IsValid}
+use Rattle.guarded_code_threads.specs.Breaks.{IsGuarded}
 use Rattle.guarded_code_threads.specs.Described.{IsDescribed}
 use Rattle.guarded_code_threads.specs.Laws.{TakesAll}
 

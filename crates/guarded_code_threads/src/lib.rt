@@ -13,6 +13,8 @@
 ghost use Rattle.lam_bytecode.specs.Codes.{CodeTree};
 ghost use Rattle.guarded_code_threads.specs.Laws.{StartsDescribed, PrivateTurnsKeep, AnswersKeep, SpawnsAtEntries, AccessesFind, NoSecondTest};
 
+pub use guarded_code::Verified;
+
 /// A thread of guarded code agrees with its descriptions at the entry of a function, and every turn of its own keeps
 /// that: a private one, and an ask with any answer of its form. A thread that it spawns begins at a function's entry.
 pub fn threads_stay_described()

@@ -5,8 +5,8 @@ use Rattle.std.specs.FinMap as map
 use Rattle.std.specs.FinMap.{FinMap, get, insert}
 use Rattle.std.specs.Map.{lookup, keys_of}
 use Rattle.std.specs.List.{IsDistinct}
-use Rattle.flow_labels.specs.declared.Label.{Label}
-use Rattle.flow_labels.specs.Flow.{flows, public_label}
+use Rattle.lam_value.specs.Label.{Label}
+use Rattle.lam_value.specs.Flow.{flows, public_label}
 use Rattle.lam_value.specs.declared.names.Name.{Name}
 use Rattle.lam_value.specs.Names.{name_cmp, coded_name}
 use Rattle.lam_value.specs.Homes.{Home, Counts, coded_counts, home_of, name_of, count_in, counted as counted_more, raised, AreCounted, AreWithin}

@@ -2,7 +2,7 @@
 
 ghost use Rattle.std.specs.Prelude.{◌≡◌, IfOk, Ok};
 
-use flow_labels::NoMemory;
+use lam_value::NoMemory;
 
 /// Two values that were both made, or that memory was refused to one of them.
 ///

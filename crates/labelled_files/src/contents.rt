@@ -3,7 +3,7 @@
 ghost use Rattle.std.specs.Prelude.{◌≡◌, ◌≤◌, [], take, drop, length, IfOk, OnOk, OnErr};
 ghost use Rattle.labelled_files.specs.Trees.{appended, most_bytes};
 
-use flow_labels::NoMemory;
+use lam_value::NoMemory;
 use std::alloc::Global;
 
 /// The number of bytes that one file may have.

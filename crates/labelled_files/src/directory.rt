@@ -9,9 +9,8 @@ ghost use Rattle.labelled_files.specs.Entries as entries;
 ghost use Rattle.labelled_files.specs.Entries.{text_eq, without, vec_eq, entries_of, entry_of};
 ghost use Rattle.labelled_files.specs.Trees.{most_entries};
 
-use flow_labels::NoMemory;
 use indexmap::IndexMap;
-use lam_value::Name;
+use lam_value::{Name, NoMemory};
 use std::alloc::Global;
 
 /// The number of entries that one directory may have.

@@ -20,9 +20,8 @@ ghost use Rattle.labelled_files.specs.declared.files.FileFault.TheVariants.{NoMe
 use crate::both::both;
 use crate::contents::{Contents, first_bytes, last_bytes};
 use crate::directory::{Directory, ENTRY_LIMIT, EntryKind, Target, is_entry_name};
-use flow_labels::{Label, NoMemory};
 use indexmap::IndexMap;
-use lam_value::{Counters, HomeCounts, Name, Same, Whole, same_maps};
+use lam_value::{Counters, HomeCounts, Label, Name, NoMemory, Same, Whole, same_maps};
 use std::alloc::{AllocError, AllocFailed, Global};
 use std::marker::Model;
 

@@ -4,7 +4,7 @@ ghost use Rattle.std.specs.Prelude.{◌≡◌, ◌<◌, ◌≤◌, ◌++◌, ◌
 ghost use Rattle.std.specs.Option.{option_copied, option_map};
 ghost use Rattle.labelled_heap.specs.CellAt.{with_value, most_cells};
 
-use flow_labels::{Label, NoMemory};
+use lam_value::{Label, NoMemory};
 use std::alloc::Global;
 use std::marker::Model;
 
@@ -26,7 +26,7 @@ pub struct Cells {
 impl Model for Cells {
     ghost use Rattle.std.specs.Prelude.{List};
     ghost use Rattle.std.specs.Coded.{codes};
-    ghost use Rattle.flow_labels.specs.Tags.{coded_tags};
+    ghost use Rattle.lam_value.specs.Tags.{coded_tags};
     ghost use Rattle.labelled_heap.specs.declared.cells.Cell.{Cell};
 
     ghost Value = { List Cell };

@@ -21,10 +21,10 @@ ghost use Rattle.labelled_heap.specs.Things.{no_things, slots_at, with_slot, wit
 ghost use Rattle.labelled_heap.specs.Seen.{row_at, thing_at, slots_in, written_in, AreRows};
 ghost use Rattle.labelled_heap.specs.declared.heap.HeapFault.TheVariants.{NoMemory as no_memory};
 
-use flow_labels::{Label, NoMemory};
 use indexmap::IndexMap;
 use lam_value::{
-    Counters, Home, Kind, Name, Same, Shape, Value, Values, Whole, at_home, same_maps,
+    Counters, Home, Kind, Label, Name, NoMemory, Same, Shape, Value, Values, Whole, at_home,
+    same_maps,
 };
 use std::alloc::{AllocError, AllocFailed, Global};
 use std::marker::Model;

@@ -3,8 +3,8 @@ use Rattle.std.specs.Prelude.{◌≡◌, ℕ, IsTrue, List, [], Option, Some, No
 use Rattle.std.specs.Coded.{Coded, code_by, coded×, coded_list}
 use Rattle.std.specs.FinMap as map
 use Rattle.std.specs.FinMap.{FinMap, get, insert}
-use Rattle.flow_labels.specs.declared.Label.{Label}
-use Rattle.flow_labels.specs.Flow.{flows}
+use Rattle.lam_value.specs.Label.{Label}
+use Rattle.lam_value.specs.Flow.{flows}
 use Rattle.lam_value.specs.declared.names.Name.{Name}
 use Rattle.lam_value.specs.Names.{name_cmp, coded_name}
 use Rattle.lam_value.specs.Homes.{Home, Counts, coded_counts, name_of, count_in, counted as counted_more, AreCounted, AreWithin}

@@ -4,8 +4,7 @@ ghost use Rattle.std.specs.Prelude.{◌≡◌, ◌↔◌, IsTrue, IfOk};
 ghost use Rattle.labelled_pipes.specs.Messages.{kind_of};
 
 use capabilities::Caps;
-use flow_labels::NoMemory;
-use lam_value::ByteText;
+use lam_value::{ByteText, NoMemory};
 
 /// What is sent through a pipe.
 #[derive(Drop)]

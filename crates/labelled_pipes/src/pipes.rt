@@ -18,9 +18,8 @@ ghost use Rattle.labelled_pipes.specs.declared.pipes.PipeFault.TheVariants.{NoMe
 
 use crate::message::{Message, MessageKind};
 use crate::queue::Queue;
-use flow_labels::{Label, NoMemory};
 use indexmap::IndexMap;
-use lam_value::{Counters, Name, Same, Whole, same_maps};
+use lam_value::{Counters, Label, Name, NoMemory, Same, Whole, same_maps};
 use std::alloc::{AllocError, AllocFailed, Global};
 use std::marker::Model;
 

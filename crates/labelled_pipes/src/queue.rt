@@ -5,7 +5,7 @@ ghost use Rattle.std.specs.Option.{option_copied};
 ghost use Rattle.labelled_pipes.specs.Messages.{joined, front_of, rest_of};
 
 use crate::message::{Message, MessageKind};
-use flow_labels::NoMemory;
+use lam_value::NoMemory;
 use std::alloc::Global;
 use std::collections::VecDeque;
 use std::marker::Model;

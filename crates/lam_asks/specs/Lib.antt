@@ -2,3 +2,20 @@ pub mod Faults
 pub mod Groups
 pub mod Suits
 pub mod Families
+pub use Rattle.capabilities.specs.Changes
+pub use Rattle.capabilities.specs.Decimal
+pub use Rattle.capabilities.specs.Denied
+pub use Rattle.capabilities.specs.Failing
+pub use Rattle.capabilities.specs.declared.Caps
+pub use Rattle.lam_value.specs.Flow
+pub use Rattle.lam_value.specs.Homes
+pub use Rattle.lam_value.specs.Label
+pub use Rattle.lam_value.specs.NameParts
+pub use Rattle.lam_value.specs.Names
+pub use Rattle.lam_value.specs.Shapes
+pub use Rattle.lam_value.specs.Tags
+pub use Rattle.lam_value.specs.contracts.values.Value as ValueContracts
+pub use Rattle.lam_value.specs.declared.names.Name
+pub use Rattle.lam_value.specs.declared.shapes.Kind
+pub use Rattle.lam_value.specs.declared.shapes.Shape
+pub use Rattle.lam_value.specs.declared.values.Value

@@ -24,7 +24,9 @@ mod together;
 
 pub use answer::{Answer, Event, Outcome, What};
 pub use ask::Ask;
+pub use capabilities::{Caps, flow_labels_same as same};
 pub use events::{let_go_event, let_go_what};
 pub use families::let_go;
 pub use fault::Fault;
+pub use lam_value::{Label, Name, Value, Values, same_values};
 pub use together::both;

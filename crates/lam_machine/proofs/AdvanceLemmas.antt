@@ -10,10 +10,10 @@ use Rattle.lam_asks.specs.declared.answer.What.TheVariants.{Private}
 use Rattle.lam_bytecode.specs.Codes.{CodeTree}
 use Rattle.thread_steps.specs.Threads.{Context, Thread}
 use Rattle.thread_steps.specs.Next.{Next, goes, asks, stuck, next_of, with_inside}
-use Rattle.thread_core.specs.Turning as turning
-use Rattle.thread_core.specs.Turning.{turned, moved, turn_of, stepped_in, stepped}
-use Rattle.thread_core.specs.declared.turn.Turn.{Turn}
-use Rattle.thread_core.specs.declared.turn.Turn.TheVariants as turn
+use Rattle.thread_core_answers.specs.Turning as turning
+use Rattle.thread_core_answers.specs.Turning.{turned, moved, turn_of, stepped_in, stepped}
+use Rattle.thread_core_answers.specs.Turn.{Turn}
+use Rattle.thread_core_answers.specs.Turn.TheVariants as turn
 use Rattle.lam_machine_terms.specs.Worlds.{World, thread_at}
 use Rattle.lam_machine_terms.specs.Turns.{turn_on, turn_in, step}
 use Rattle.lam_machine_effects.specs.declared.stores.Stores.{Stores}

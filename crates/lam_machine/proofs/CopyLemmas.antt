@@ -14,8 +14,8 @@ use Rattle.lam_machine_terms.specs.Valid.{Lives, IsValid}
 use Rattle.lam_machine_laws.proofs.ThreadLemmas.{some_inj}
 use Rattle.lam_machine_laws.proofs.TurnLemmas.{acts, only}
 use Rattle.lam_machine_laws.specs.Sound.{ThingLives, CopiesLiving, FindsLiving}
-use Rattle.lam_machine_valid.specs.Living.{AskLives, NextLives}
-use Rattle.lam_machine_valid.proofs.PrivateLemmas.{name_what_lives}
+use Rattle.guarded_code_runs.specs.Living.{AskLives, NextLives}
+use Rattle.guarded_code_runs.proofs.PrivateLemmas.{name_what_lives}
 use Rattle.lam_machine.specs.Machine.{CopiesLive}
 
 thing_lives : (w : World) (r : Value) → Lives w r → ThingLives w r

@@ -4,3 +4,6 @@ pub mod SoundLemmas
 pub mod AskLemmas
 pub mod AdvanceLemmas
 pub mod PrivateLemmas
+pub use Rattle.guarded_code_runs.proofs.NextLemmas
+pub use Rattle.guarded_code_runs.proofs.Sound
+pub use Rattle.guarded_code_runs.proofs.StoreLemmas

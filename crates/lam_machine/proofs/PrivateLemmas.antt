@@ -6,12 +6,12 @@ use Rattle.lam_bytecode.specs.Codes.{CodeTree}
 use Rattle.thread_steps.specs.Threads.{Context, Thread}
 use Rattle.thread_steps.specs.Next as next
 use Rattle.thread_steps.specs.Next.{Next, goes, asks, stuck, next_of, stands}
-use Rattle.thread_core.specs.Turning.{turned, turn_of, stepped}
-use Rattle.thread_core.specs.Turning as turning
-use Rattle.thread_core.specs.Untested.{StandsAs}
-use Rattle.thread_core.proofs.Untested.{near_same}
-use Rattle.thread_core.specs.declared.turn.Turn.{Turn}
-use Rattle.thread_core.specs.declared.turn.Turn.TheVariants as turn
+use Rattle.thread_core_answers.specs.Turning.{turned, turn_of, stepped}
+use Rattle.thread_core_answers.specs.Turning as turning
+use Rattle.thread_core_answers.specs.Untested.{StandsAs}
+use Rattle.thread_core_answers.proofs.Untested.{near_same}
+use Rattle.thread_core_answers.specs.Turn.{Turn}
+use Rattle.thread_core_answers.specs.Turn.TheVariants as turn
 use Rattle.lam_machine_terms.specs.Worlds.{World, thread_at}
 use Rattle.lam_machine_effects.specs.declared.stores.Stores.{Stores}
 use Rattle.lam_machine_effects.specs.Parts.{world_of}

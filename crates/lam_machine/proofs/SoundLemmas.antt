@@ -5,7 +5,7 @@ use Rattle.thread_steps.specs.Threads.{Thread}
 use Rattle.lam_machine_terms.specs.Worlds.{World, thread_at, contexts_in}
 use Rattle.guarded_code_runs.specs.Worlds.{IsSound}
 use Rattle.guarded_code_runs.proofs.Sound.{sound_finds}
-use Rattle.thread_core.specs.Untested.{ThreadFinds}
+use Rattle.thread_core_answers.specs.Untested.{ThreadFinds}
 use Rattle.lam_machine.specs.Machine.{CopiesLive}
 use Rattle.lam_machine.proofs.CopyLemmas.{copies_live}
 

@@ -9,8 +9,8 @@ use Rattle.lam_asks.specs.declared.answer.Event.{Event}
 use Rattle.lam_bytecode.specs.Codes.{CodeTree}
 use Rattle.thread_steps.specs.Threads.{Inside, Context, Thread}
 use Rattle.thread_steps.specs.Next.{next_of, asks, takes}
-use Rattle.thread_core.specs.declared.turn.Turn.{Turn}
-use Rattle.thread_core.specs.declared.turn.Turn.TheVariants as turn
+use Rattle.thread_core_answers.specs.Turn.{Turn}
+use Rattle.thread_core_answers.specs.Turn.TheVariants as turn
 use Rattle.lam_machine_terms.specs.Worlds.{World, contexts_at}
 use Rattle.lam_machine_terms.specs.Serving.{serve}
 use Rattle.lam_machine_terms.specs.Turns.{is_ready, step}

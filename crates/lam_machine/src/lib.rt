@@ -10,6 +10,6 @@ mod asking;
 mod privately;
 mod stepping;
 
-pub use lam_machine_world::World;
+pub use lam_machine_world::{World, let_go_world};
 pub use privately::step_privately;
 pub use stepping::step;

@@ -3,12 +3,12 @@
 ghost use Rattle.std.specs.Prelude.{◌≡◌, length, IfOk, OnErr};
 ghost use Rattle.lam_machine_effects.specs.declared.stores.Stores.{Stores};
 ghost use Rattle.lam_machine_effects.specs.Parts.{world_of};
-ghost use Rattle.thread_core.specs.Turning.{standing_of};
+ghost use Rattle.thread_core_answers.specs.Turning.{standing_of};
 ghost use Rattle.lam_machine.specs.Privately.{IsPrivateStep, is_private_standing};
 
 use guarded_code::Verified;
 use lam_machine_world::World;
-use thread_core::{Standing, go_on};
+use thread_core_answers::{Standing, go_on};
 use thread_core_state::LamThread;
 use want_of_memory::NoMemory;
 

@@ -8,7 +8,7 @@ ghost use Rattle.lam_machine_terms.specs.Limits.{most_threads};
 ghost use Rattle.lam_machine_terms.specs.Worlds.{contexts_in};
 ghost use Rattle.lam_machine_effects.specs.Parts.{world_of};
 ghost use Rattle.guarded_code_runs.specs.Worlds.{IsSound};
-ghost use Rattle.thread_core.specs.Untested.{ThreadFinds};
+ghost use Rattle.thread_core_answers.specs.Untested.{ThreadFinds};
 ghost use Rattle.lam_machine.specs.Machine.{CopiesLive, IsStep};
 ghost use Rattle.lam_machine.specs.Asking.{top_label, label_at, asked_event, AsksNext, Advances};
 
@@ -19,7 +19,7 @@ use lam_asks::{Answer, Ask, Event, What, let_go};
 use lam_machine_effects::Stores;
 use lam_machine_world::World;
 use std::alloc::Global;
-use thread_core::{Turn, advance};
+use thread_core_answers::{Turn, advance};
 use thread_core_state::LamThread;
 use want_of_memory::NoMemory;
 

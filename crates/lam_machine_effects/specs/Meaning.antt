@@ -2,9 +2,9 @@
 use Rattle.std.specs.Prelude.{◌≡◌, ℕ, List}
 use Rattle.lam_value.specs.Homes.{home_of}
 use Rattle.lam_value.specs.Shapes.{slots_of}
-use Rattle.labelled_heap.specs.Things.{sort_of}
-use Rattle.lam_bytecode.specs.Codes.{CodeTree}
-use Rattle.thread_steps.specs.Threads.{Thread}
+use Rattle.lam_machine_terms.specs.Things.{sort_of}
+use Rattle.lam_machine_terms.specs.Codes.{CodeTree}
+use Rattle.lam_machine_terms.specs.Threads.{Thread}
 use Rattle.lam_machine_terms.specs.Serves as told
 use Rattle.lam_machine_terms.specs.Serves.{effect_of}
 use Rattle.lam_machine_effects.specs.declared.stores.Stores.{Stores}

@@ -1,10 +1,10 @@
 -- A world is its stores and its threads.
 use Rattle.std.specs.Prelude.{ℕ, List, length}
 use Rattle.std.specs.FinMap as map
-use Rattle.capabilities.specs.declared.Caps.{Caps}
-use Rattle.labelled_heap.specs.Things.{no_things}
-use Rattle.labelled_files.specs.Trees.{root_alone}
-use Rattle.labelled_pipes.specs.Queues.{no_pipes}
+use Rattle.lam_machine_terms.specs.Caps.{Caps}
+use Rattle.lam_machine_terms.specs.Things.{no_things}
+use Rattle.lam_machine_terms.specs.Trees.{root_alone}
+use Rattle.lam_machine_terms.specs.Queues.{no_pipes}
 use Rattle.lam_machine_effects.specs.declared.stores.Stores.{Stores}
 use Rattle.lam_machine_terms.specs.Threads.{Thread}
 use Rattle.lam_machine_terms.specs.Worlds.{World}

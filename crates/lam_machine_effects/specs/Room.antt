@@ -2,10 +2,10 @@
 use Rattle.std.specs.Prelude.{◌≡◌, ℕ, ◌<◌, IsTrue, None}
 use Rattle.std.specs.FinMap.{contains_key}
 use Rattle.lam_value.specs.Homes.{count_in}
-use Rattle.labelled_heap.specs.Things.{most_things}
-use Rattle.monitor_core.specs.Held.{most_takings, is_free, takings}
-use Rattle.labelled_files.specs.Trees.{first_fault}
-use Rattle.labelled_pipes.specs.Queues.{most_pipes}
+use Rattle.lam_machine_terms.specs.Things.{most_things}
+use Rattle.lam_machine_terms.specs.Held.{most_takings, is_free, takings}
+use Rattle.lam_machine_terms.specs.Trees.{first_fault}
+use Rattle.lam_machine_terms.specs.Queues.{most_pipes}
 use Rattle.lam_machine_terms.specs.Limits.{most_tags}
 use Rattle.lam_machine_terms.specs.Serves.{Effect, takes_tag, adds_thing, adds_copy, takes_monitor, adds_file, adds_dir, adds_pipe}
 use Rattle.lam_machine_effects.specs.declared.stores.Stores.{Stores}

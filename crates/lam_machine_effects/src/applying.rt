@@ -4,20 +4,17 @@ ghost use Rattle.std.specs.Prelude.{ℕ, ◌≡◌, ◌<◌, ◌+◌, IsTrue, No
 ghost use Rattle.std.specs.FinMap.{contains_key};
 ghost use Rattle.lam_value.specs.Homes.{home_of, count_in};
 ghost use Rattle.lam_value.specs.Shapes.{slots_of};
-ghost use Rattle.labelled_heap.specs.Things.{most_things, sort_of, with_thing, with_copy, with_slot};
-ghost use Rattle.labelled_files.specs.Trees.{first_fault, with_file, with_dir};
-ghost use Rattle.labelled_pipes.specs.Queues.{most_pipes, with_pipe, with_sent};
+ghost use Rattle.lam_machine_terms.specs.Things.{most_things, sort_of, with_thing, with_copy, with_slot};
+ghost use Rattle.lam_machine_terms.specs.Trees.{first_fault, with_file, with_dir};
+ghost use Rattle.lam_machine_terms.specs.Queues.{most_pipes, with_pipe, with_sent};
 ghost use Rattle.lam_machine_effects.specs.Groups.{is_read, is_of_files, is_of_monitors};
 ghost use Rattle.lam_machine_effects.specs.Meaning.{meaning, IsAfter};
 ghost use Rattle.lam_machine_effects.specs.Room.{HasRoom};
 
 use crate::effect::Effect;
 use crate::stores::Stores;
-use flow_labels::Label;
-use labelled_files::{FileFault, Files};
-use labelled_heap::{Heap, HeapFault};
-use labelled_pipes::{Message, PipeFault, Pipes};
-use lam_value::{ByteText, Name, Shape, Value};
+use lam_machine_terms::{FileFault, Files, Heap, HeapFault, Message, PipeFault, Pipes};
+use lam_value::{ByteText, Label, Name, Shape, Value};
 use want_of_memory::NoMemory;
 
 /// Changes the stores by an effect of a thread. That a thread is added changes no store.

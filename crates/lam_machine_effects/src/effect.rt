@@ -3,15 +3,13 @@
 ghost use Rattle.std.specs.Prelude.{◌≡◌, IfOk, reverse};
 ghost use Rattle.lam_value.specs.Homes.{home_of};
 ghost use Rattle.lam_value.specs.Shapes.{slots_of};
-ghost use Rattle.labelled_heap.specs.Things.{sort_of};
-ghost use Rattle.labelled_pipes.specs.declared.message.Message.TheVariants as Message;
+ghost use Rattle.lam_machine_terms.specs.Things.{sort_of};
+ghost use Rattle.lam_machine_terms.specs.Message.TheVariants as Message;
 ghost use Rattle.lam_machine_terms.specs.Serves as told;
 ghost use Rattle.lam_machine_effects.specs.Meaning.{meaning};
 
-use capabilities::Caps;
-use flow_labels::Label;
-use labelled_pipes::{Message, MessageKind};
-use lam_value::{ByteText, Name, Shape, Value, Values};
+use lam_machine_terms::{Caps, Message, MessageKind};
+use lam_value::{ByteText, Label, Name, Shape, Value, Values};
 use std::alloc::Global;
 use want_of_memory::NoMemory;
 

@@ -1,13 +1,12 @@
 //! Services.
 
 ghost use Rattle.std.specs.Prelude.{◌≡◌};
-ghost use Rattle.lam_asks.specs.declared.answer.Answer.TheVariants.{Done, Val, Refused, Failed};
+ghost use Rattle.lam_machine_terms.specs.Answer.TheVariants.{Done, Val, Refused, Failed};
 ghost use Rattle.lam_machine_effects.specs.declared.effect.Effect.TheVariants as Effect;
 
 use crate::effect::Effect;
-use flow_labels::Denied;
-use lam_asks::{Answer, Fault};
-use lam_value::Value;
+use lam_machine_terms::{Answer, Fault};
+use lam_value::{Denied, Value};
 
 /// What an ask is served by.
 #[derive(Drop)]

@@ -8,16 +8,11 @@
 //! Nothing here tests a label.
 
 ghost use Rattle.std.specs.Prelude.{◌≡◌, IfOk};
-ghost use Rattle.labelled_files.specs.Trees.{root_alone};
+ghost use Rattle.lam_machine_terms.specs.Trees.{root_alone};
 ghost use Rattle.lam_machine_effects.specs.Parts.{first_stores};
 
-use capabilities::Caps;
-use flow_labels::TagNames;
-use labelled_files::Files;
-use labelled_heap::Heap;
-use labelled_pipes::Pipes;
-use lam_asks::both;
-use monitor_core::Monitors;
+use lam_machine_terms::{Caps, Files, Heap, Monitors, Pipes, both};
+use lam_value::TagNames;
 use std::alloc::Global;
 use want_of_memory::NoMemory;
 

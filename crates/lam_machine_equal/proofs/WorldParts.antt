@@ -6,7 +6,7 @@ use Rattle.monitor_core.specs.Held.{Held}
 use Rattle.labelled_files.specs.Trees.{Tree}
 use Rattle.labelled_pipes.specs.Queues.{Queues}
 use Rattle.thread_steps.specs.Threads.{Thread}
-use Rattle.lam_machine_terms.specs.Worlds.{World}
+use Rattle.lam_machine_effects.specs.Worlds.{World}
 use Rattle.lam_machine_effects.specs.declared.stores.Stores.{Stores}
 use Rattle.lam_machine_effects.specs.Parts.{stores_of, world_of}
 

@@ -21,6 +21,7 @@ mod worlds;
 pub use comparing::same_code;
 pub use contexts::same_context;
 pub use copying::copy_code;
+pub use lam_machine_world::lives;
 pub use outcomes::same_result;
 pub use threads::same_thread;
 pub use worlds::same_world;

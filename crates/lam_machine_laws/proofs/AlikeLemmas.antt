@@ -9,13 +9,13 @@ use Rattle.lam_value.specs.declared.names.Name.{Name}
 use Rattle.lam_value.specs.Names.{name_cmp}
 use Rattle.lam_value.specs.Homes.{Home, Counts, count_in}
 use Rattle.lam_value.proofs.Keys.{name_total, name_exact}
-use Rattle.labelled_heap.specs.Things.{Things}
-use Rattle.monitor_core.specs.Held.{Held}
+use Rattle.lam_machine_effects.specs.Things.{Things}
+use Rattle.lam_machine_effects.specs.Held.{Held}
 use Rattle.labelled_files.specs.Trees.{Tree}
-use Rattle.labelled_pipes.specs.Queues.{Queues}
-use Rattle.thread_steps.specs.Threads.{Thread}
-use Rattle.lam_machine_terms.specs.Worlds.{World, contexts_in, result_in}
-use Rattle.lam_machine_terms.specs.Views.{shown_counts, is_seen, where_public, view}
+use Rattle.lam_machine_effects.specs.Queues.{Queues}
+use Rattle.lam_machine_effects.specs.Threads.{Thread}
+use Rattle.lam_machine_effects.specs.Worlds.{World, contexts_in, result_in}
+use Rattle.lam_machine_effects.specs.Views.{shown_counts, is_seen, where_public, view}
 use Rattle.lam_machine_laws.proofs.PointLemmas.{Same, cond_same, seen_get, seen_map}
 
 abbrev pub own_seen : Label → Name → Bool

@@ -8,21 +8,21 @@ use Rattle.flow_labels.specs.declared.Label.{Label}
 use Rattle.flow_labels.specs.declared.Rule.{Rule}
 use Rattle.flow_labels.specs.declared.Rule.TheVariants.{AddS, DropS, AddI, DropI, Caps as caps_rule}
 use Rattle.flow_labels.specs.Failing.{denied_or, first_failing, read_test}
-use Rattle.capabilities.specs.declared.Caps.{Caps}
-use Rattle.capabilities.specs.Changes.{MayChange, Covers, joined, used, change_test, covers_test}
+use Rattle.lam_machine_effects.specs.Caps.{Caps}
+use Rattle.lam_machine_effects.specs.Changes.{MayChange, Covers, joined, used, change_test, covers_test}
 use Rattle.lam_value.specs.declared.values.Value.{Value}
 use Rattle.lam_value.specs.Homes.{home_of, name_of, count_in}
-use Rattle.labelled_heap.specs.Things.{slots_at}
-use Rattle.lam_asks.specs.declared.ask.Ask.{Ask}
-use Rattle.lam_asks.specs.declared.ask.Ask.TheVariants.{CopyTo, Enter}
-use Rattle.lam_bytecode.specs.Codes.{CodeTree}
-use Rattle.thread_steps.specs.Threads.{Context, Thread}
-use Rattle.thread_steps.specs.Next.{Next, goes, asks, stuck, next_of}
-use Rattle.lam_machine_terms.specs.Worlds.{World, contexts_in}
-use Rattle.lam_machine_terms.specs.Serves.{Made, a_region, a_thing, made_label, Served}
-use Rattle.lam_machine_terms.specs.Serving.{renamed, served_by, publicly, serve}
-use Rattle.lam_machine_terms.specs.Turns.{is_ready, Moment, served, turn_by}
-use Rattle.lam_machine_terms.specs.Views.{goes_down, is_release, used_by}
+use Rattle.lam_machine_effects.specs.Things.{slots_at}
+use Rattle.lam_machine_effects.specs.Ask.{Ask}
+use Rattle.lam_machine_effects.specs.Ask.TheVariants.{CopyTo, Enter}
+use Rattle.lam_machine_effects.specs.Codes.{CodeTree}
+use Rattle.lam_machine_effects.specs.Threads.{Context, Thread}
+use Rattle.lam_machine_effects.specs.Next.{Next, goes, asks, stuck, next_of}
+use Rattle.lam_machine_effects.specs.Worlds.{World, contexts_in}
+use Rattle.lam_machine_effects.specs.Serves.{Made, a_region, a_thing, made_label, Served}
+use Rattle.lam_machine_effects.specs.Serving.{renamed, served_by, publicly, serve}
+use Rattle.lam_machine_effects.specs.Turns.{is_ready, Moment, served, turn_by}
+use Rattle.lam_machine_effects.specs.Views.{goes_down, is_release, used_by}
 use Rattle.lam_machine_laws.proofs.FlowLemmas.{each_passes}
 use Rattle.lam_machine_laws.proofs.ThreadLemmas.{some_inj}
 use Rattle.lam_machine_laws.proofs.RowLemmas.{under_by, unless_by, on_thing_by, served_proper}

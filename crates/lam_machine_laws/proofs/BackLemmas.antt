@@ -1,13 +1,13 @@
 -- The contexts below the acting one stay.
 use Rattle.std.proofs.Common.{◌≡◌, ℕ, zero, suc, true, List, [], ◌∷◌, ◌++◌, Option, Some, None, refl, sym, ap, ◌∙◌, subst, append_assoc, inl, inr}
 use Rattle.std.specs.Prelude.{is_some, slice_get, slice_set}
-use Rattle.lam_asks.specs.declared.fault.Fault.{Fault}
-use Rattle.lam_bytecode.specs.Codes.{CodeTree}
-use Rattle.thread_steps.specs.Threads.{Inside, Phase, Bottom, Body, Catch, Context, Thread}
-use Rattle.thread_steps.specs.Next.{asks, raised, next_in, next_of, started}
-use Rattle.lam_machine_terms.specs.Worlds.{World, thread_at, contexts_in, with_thread}
-use Rattle.lam_machine_terms.specs.Serves.{Effect, nothing, takes_tag, sets_slot, adds_thing, adds_copy, takes_monitor, gives_back, drops, adds_file, adds_dir, removes, appends, cuts, adds_pipe, sends, receives, adds_thread, effect_of}
-use Rattle.lam_machine_terms.specs.Turns.{Moment, step, and_then, moments}
+use Rattle.lam_machine_effects.specs.Fault.{Fault}
+use Rattle.lam_machine_effects.specs.Codes.{CodeTree}
+use Rattle.lam_machine_effects.specs.Threads.{Inside, Phase, Bottom, Body, Catch, Context, Thread}
+use Rattle.lam_machine_effects.specs.Next.{asks, raised, next_in, next_of, started}
+use Rattle.lam_machine_effects.specs.Worlds.{World, thread_at, contexts_in, with_thread}
+use Rattle.lam_machine_effects.specs.Serves.{Effect, nothing, takes_tag, sets_slot, adds_thing, adds_copy, takes_monitor, gives_back, drops, adds_file, adds_dir, removes, appends, cuts, adds_pipe, sends, receives, adds_thread, effect_of}
+use Rattle.lam_machine_effects.specs.Turns.{Moment, step, and_then, moments}
 use Rattle.lam_machine_laws.proofs.TurnLemmas.{acts, turned}
 use Rattle.lam_machine_laws.specs.Laws.{StandsAbove, ComesBack, ContextsComeBack, handling}
 

@@ -5,22 +5,22 @@ use Rattle.std.specs.List.{AllByRecursion}
 use Rattle.flow_labels.specs.Flow.{public_label}
 use Rattle.flow_labels.specs.declared.Denied.{Denied}
 use Rattle.flow_labels.specs.Failing.{first_failing, same_test}
-use Rattle.capabilities.specs.declared.Caps.{Caps}
-use Rattle.capabilities.specs.Changes.{Covers, joined, change_test, covers_test}
+use Rattle.lam_machine_effects.specs.Caps.{Caps}
+use Rattle.lam_machine_effects.specs.Changes.{Covers, joined, change_test, covers_test}
 use Rattle.lam_value.specs.declared.values.Value.{Value}
 use Rattle.lam_value.specs.declared.values.Value.TheVariants.{Tag, CapV}
-use Rattle.lam_asks.specs.declared.fault.Fault.{Fault}
-use Rattle.lam_asks.specs.declared.answer.Answer.{Answer}
-use Rattle.lam_asks.specs.declared.answer.Answer.TheVariants.{Done, Entered, Val, Refused, Failed}
-use Rattle.lam_asks.specs.declared.ask.Ask.{Ask}
-use Rattle.lam_asks.specs.declared.ask.Ask.TheVariants as ask
-use Rattle.lam_bytecode.specs.Codes.{CodeTree}
-use Rattle.thread_steps.specs.Threads.{Inside, Context, Thread}
-use Rattle.thread_steps.specs.Next.{Next, goes, asks, stuck, next_of, with_inside, given, gains, done, entered, started, takes}
-use Rattle.lam_machine_terms.specs.Worlds.{World, thread_at, contexts_in, contexts_at, with_thread}
-use Rattle.lam_machine_terms.specs.Serves.{Effect, nothing, adds_thread, effect_of, Served, answers}
-use Rattle.lam_machine_terms.specs.Serving.{served_by, publicly, serve}
-use Rattle.lam_machine_terms.specs.Turns.{is_ready, Moment, goes_on, served, turn_by}
+use Rattle.lam_machine_effects.specs.Fault.{Fault}
+use Rattle.lam_machine_effects.specs.Answer.{Answer}
+use Rattle.lam_machine_effects.specs.Answer.TheVariants.{Done, Entered, Val, Refused, Failed}
+use Rattle.lam_machine_effects.specs.Ask.{Ask}
+use Rattle.lam_machine_effects.specs.Ask.TheVariants as ask
+use Rattle.lam_machine_effects.specs.Codes.{CodeTree}
+use Rattle.lam_machine_effects.specs.Threads.{Inside, Context, Thread}
+use Rattle.lam_machine_effects.specs.Next.{Next, goes, asks, stuck, next_of, with_inside, given, gains, done, entered, started, takes}
+use Rattle.lam_machine_effects.specs.Worlds.{World, thread_at, contexts_in, contexts_at, with_thread}
+use Rattle.lam_machine_effects.specs.Serves.{Effect, nothing, adds_thread, effect_of, Served, answers}
+use Rattle.lam_machine_effects.specs.Serving.{served_by, publicly, serve}
+use Rattle.lam_machine_effects.specs.Turns.{is_ready, Moment, goes_on, served, turn_by}
 use Rattle.lam_machine_laws.proofs.FlowLemmas.{each_passes}
 use Rattle.lam_machine_laws.proofs.ThreadLemmas.{some_inj, there, front, answered_front}
 use Rattle.lam_machine_laws.proofs.TurnLemmas.{acts, only}

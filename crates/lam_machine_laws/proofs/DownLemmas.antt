@@ -4,18 +4,18 @@ use Rattle.std.specs.Prelude.{not}
 use Rattle.std.proofs.Math.Bool.{true≢false}
 use Rattle.flow_labels.specs.declared.Label.{Label}
 use Rattle.flow_labels.specs.Flow.{flows}
-use Rattle.lam_asks.specs.declared.answer.Answer.{Answer}
-use Rattle.lam_asks.specs.declared.answer.What.TheVariants.{Asked}
-use Rattle.lam_asks.specs.declared.ask.Ask.{Ask}
-use Rattle.lam_asks.specs.declared.ask.Ask.TheVariants.{CopyTo, Enter}
-use Rattle.lam_bytecode.specs.Codes.{CodeTree}
-use Rattle.thread_steps.specs.Threads.{Context, Thread}
-use Rattle.thread_steps.specs.Next.{Next, goes, asks, stuck, next_of}
-use Rattle.lam_machine_terms.specs.Worlds.{World}
-use Rattle.lam_machine_terms.specs.Serves.{Made, made_label}
-use Rattle.lam_machine_terms.specs.Serving.{serve}
-use Rattle.lam_machine_terms.specs.Turns.{is_ready, Moment, served, turn_by}
-use Rattle.lam_machine_terms.specs.Views.{goes_down, is_release, shows}
+use Rattle.lam_machine_effects.specs.Answer.{Answer}
+use Rattle.lam_machine_effects.specs.What.TheVariants.{Asked}
+use Rattle.lam_machine_effects.specs.Ask.{Ask}
+use Rattle.lam_machine_effects.specs.Ask.TheVariants.{CopyTo, Enter}
+use Rattle.lam_machine_effects.specs.Codes.{CodeTree}
+use Rattle.lam_machine_effects.specs.Threads.{Context, Thread}
+use Rattle.lam_machine_effects.specs.Next.{Next, goes, asks, stuck, next_of}
+use Rattle.lam_machine_effects.specs.Worlds.{World}
+use Rattle.lam_machine_effects.specs.Serves.{Made, made_label}
+use Rattle.lam_machine_effects.specs.Serving.{serve}
+use Rattle.lam_machine_effects.specs.Turns.{is_ready, Moment, served, turn_by}
+use Rattle.lam_machine_effects.specs.Views.{goes_down, is_release, shows}
 use Rattle.lam_machine_laws.specs.Isolation.{IsEntryOrCopy, TwoAsksRelease}
 use Rattle.lam_machine_laws.proofs.FlowLemmas.{both_true, flows_trans}
 use Rattle.lam_machine_laws.proofs.ThreadLemmas.{some_inj}

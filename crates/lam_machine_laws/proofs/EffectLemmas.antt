@@ -13,24 +13,24 @@ use Rattle.lam_value.specs.declared.values.Value.{Value}
 use Rattle.lam_value.specs.Names.{name_cmp}
 use Rattle.lam_value.specs.Homes.{Home, home_cmp, Counts, name_of, count_in, counted}
 use Rattle.lam_value.proofs.Keys.{name_total, name_exact, home_total, home_exact}
-use Rattle.labelled_heap.specs.declared.heap.Sort.{Sort}
-use Rattle.labelled_heap.specs.Things as heap
-use Rattle.labelled_heap.specs.Things.{Things, slots_at, with_slot, with_thing, with_copy}
-use Rattle.monitor_core.specs.declared.Holder.{Holder}
-use Rattle.monitor_core.specs.Held.{Held, once_more, entered, one_less, held_by, left, dropped}
+use Rattle.lam_machine_effects.specs.Sort.{Sort}
+use Rattle.lam_machine_effects.specs.Things as heap
+use Rattle.lam_machine_effects.specs.Things.{Things, slots_at, with_slot, with_thing, with_copy}
+use Rattle.lam_machine_effects.specs.Holder.{Holder}
+use Rattle.lam_machine_effects.specs.Held.{Held, once_more, entered, one_less, held_by, left, dropped}
 use Rattle.labelled_files.specs.Entries.{without}
 use Rattle.labelled_files.specs.declared.directory.EntryKind.TheVariants as kind
 use Rattle.labelled_files.specs.Trees as tree
 use Rattle.labelled_files.specs.Trees.{Tree, with_file, with_dir, next_name, joined}
-use Rattle.labelled_pipes.specs.declared.message.Message.{Message}
-use Rattle.labelled_pipes.specs.Queues as queue
-use Rattle.labelled_pipes.specs.Queues.{Queues, with_pipe}
-use Rattle.lam_bytecode.specs.Codes.{CodeTree}
-use Rattle.thread_steps.specs.Threads.{Context, Thread}
-use Rattle.thread_steps.specs.Next.{started, first_context}
-use Rattle.lam_machine_terms.specs.Worlds.{World}
-use Rattle.lam_machine_terms.specs.Serves.{Effect, nothing, takes_tag, sets_slot, adds_thing, adds_copy, takes_monitor, gives_back, drops, adds_file, adds_dir, removes, appends, cuts, adds_pipe, sends, receives, adds_thread, effect_of, Made, a_region, a_thing, a_file, a_dir, a_pipe, a_thread}
-use Rattle.lam_machine_terms.specs.Views.{is_seen, shows}
+use Rattle.lam_machine_effects.specs.Message.{Message}
+use Rattle.lam_machine_effects.specs.Queues as queue
+use Rattle.lam_machine_effects.specs.Queues.{Queues, with_pipe}
+use Rattle.lam_machine_effects.specs.Codes.{CodeTree}
+use Rattle.lam_machine_effects.specs.Threads.{Context, Thread}
+use Rattle.lam_machine_effects.specs.Next.{started, first_context}
+use Rattle.lam_machine_effects.specs.Worlds.{World}
+use Rattle.lam_machine_effects.specs.Serves.{Effect, nothing, takes_tag, sets_slot, adds_thing, adds_copy, takes_monitor, gives_back, drops, adds_file, adds_dir, removes, appends, cuts, adds_pipe, sends, receives, adds_thread, effect_of, Made, a_region, a_thing, a_file, a_dir, a_pipe, a_thread}
+use Rattle.lam_machine_effects.specs.Views.{is_seen, shows}
 use Rattle.lam_machine_laws.proofs.FlowLemmas.{not_both}
 use Rattle.lam_machine_laws.proofs.PointLemmas.{IsPoint, insert_point, remove_point, same_point, point_kept, point_same, same_trans}
 use Rattle.lam_machine_laws.proofs.AlikeLemmas.{own_seen, maker_seen, SameNames, SameHomes, AlikeHeaps, AlikeTrees, AlikeQueues, SameStacks, SameResults, AlikeThreads, Alike, alike_refl, alike_sym, with_heaps, with_monitors, with_trees, with_queues, with_threads, with_tags}

@@ -2,18 +2,18 @@
 use Rattle.std.proofs.Common.{◌≡◌, ℕ, Bool, true, false, cond, List, [], ◌∷◌, Option, Some, None, refl, sym, ap, subst, ◌∙◌}
 use Rattle.std.specs.Prelude.{nat_eq, filter}
 use Rattle.flow_labels.specs.declared.Denied.{Denied}
-use Rattle.lam_asks.specs.declared.fault.Fault.{Fault}
-use Rattle.lam_asks.specs.declared.fault.Fault.TheVariants as fault
-use Rattle.lam_asks.specs.declared.answer.Answer.TheVariants.{Done, Refused, Failed}
-use Rattle.lam_asks.specs.declared.answer.What.{What}
-use Rattle.lam_asks.specs.declared.answer.What.TheVariants.{Asked}
-use Rattle.lam_asks.specs.declared.ask.Ask.{Ask}
-use Rattle.lam_bytecode.specs.Codes.{CodeTree}
-use Rattle.thread_steps.specs.Threads.{Phase, Bottom, Body, Catch, Context, Thread}
-use Rattle.thread_steps.specs.Next.{asks, next_of, with_inside, faulted}
-use Rattle.lam_machine_terms.specs.Worlds.{World, thread_at, contexts_in, contexts_at}
-use Rattle.lam_machine_terms.specs.Serving.{serve}
-use Rattle.lam_machine_terms.specs.Turns.{Moment, is_ready, served, turn_by, step, and_then, moments}
+use Rattle.lam_machine_effects.specs.Fault.{Fault}
+use Rattle.lam_machine_effects.specs.Fault.TheVariants as fault
+use Rattle.lam_machine_effects.specs.Answer.TheVariants.{Done, Refused, Failed}
+use Rattle.lam_machine_effects.specs.What.{What}
+use Rattle.lam_machine_effects.specs.What.TheVariants.{Asked}
+use Rattle.lam_machine_effects.specs.Ask.{Ask}
+use Rattle.lam_machine_effects.specs.Codes.{CodeTree}
+use Rattle.lam_machine_effects.specs.Threads.{Phase, Bottom, Body, Catch, Context, Thread}
+use Rattle.lam_machine_effects.specs.Next.{asks, next_of, with_inside, faulted}
+use Rattle.lam_machine_effects.specs.Worlds.{World, thread_at, contexts_in, contexts_at}
+use Rattle.lam_machine_effects.specs.Serving.{serve}
+use Rattle.lam_machine_effects.specs.Turns.{Moment, is_ready, served, turn_by, step, and_then, moments}
 use Rattle.lam_machine_laws.proofs.ThreadLemmas.{some_inj}
 use Rattle.lam_machine_laws.proofs.TurnLemmas.{acts, only, turn_thread, first_two}
 use Rattle.lam_machine_laws.proofs.BackLemmas.{fault_next}

@@ -3,9 +3,9 @@ use Rattle.std.proofs.Common.{◌≡◌, ℕ, ◌<◌, Bool, true, false, cond, 
 use Rattle.std.specs.Prelude.{nat_lt}
 use Rattle.std.proofs.lemmas.Bool.Decides.{nat_tests}
 use Rattle.labelled_files.specs.declared.files.FileFault.{FileFault}
-use Rattle.lam_asks.specs.declared.fault.Fault.{Fault}
-use Rattle.lam_machine_terms.specs.Serves.{full}
-use Rattle.lam_machine_terms.specs.Serving.{file_faults}
+use Rattle.lam_machine_effects.specs.Fault.{Fault}
+use Rattle.lam_machine_effects.specs.Serves.{full}
+use Rattle.lam_machine_effects.specs.Serving.{file_faults}
 
 pub lt_true : (a b : ℕ) → nat_lt a b ≡ true → a < b
 lt_true a b e = grind (arith, nat_tests)

@@ -9,17 +9,17 @@ use Rattle.lam_value.specs.declared.values.Value.TheVariants.{Obj, Arr, File, Di
 use Rattle.labelled_files.specs.declared.directory.EntryKind.TheVariants as kind
 use Rattle.labelled_files.specs.Entries.{name_of_kind}
 use Rattle.labelled_files.specs.Trees.{target_at}
-use Rattle.lam_asks.specs.declared.fault.Fault.{Fault}
-use Rattle.lam_asks.specs.declared.fault.Fault.TheVariants.{NoEntry}
-use Rattle.lam_asks.specs.declared.answer.Outcome.{Outcome}
-use Rattle.lam_asks.specs.declared.answer.Outcome.TheVariants as outcome
-use Rattle.lam_asks.specs.declared.answer.Answer.TheVariants.{Val, Refused, Failed}
-use Rattle.lam_asks.specs.declared.ask.Ask.{Ask}
-use Rattle.lam_asks.specs.declared.ask.Ask.TheVariants.{Read, Write, CopyTo, MonEnter, MonLeave, OpenFile, OpenDir, Join}
-use Rattle.thread_steps.specs.Threads.{Context}
-use Rattle.lam_machine_terms.specs.Worlds.{World, result_at}
-use Rattle.lam_machine_terms.specs.Serves.{Served, answers, unless_denied, under, unless, on_thing}
-use Rattle.lam_machine_terms.specs.Serving.{opened, ended_with, served_by}
+use Rattle.lam_machine_effects.specs.Fault.{Fault}
+use Rattle.lam_machine_effects.specs.Fault.TheVariants.{NoEntry}
+use Rattle.lam_machine_effects.specs.Outcome.{Outcome}
+use Rattle.lam_machine_effects.specs.Outcome.TheVariants as outcome
+use Rattle.lam_machine_effects.specs.Answer.TheVariants.{Val, Refused, Failed}
+use Rattle.lam_machine_effects.specs.Ask.{Ask}
+use Rattle.lam_machine_effects.specs.Ask.TheVariants.{Read, Write, CopyTo, MonEnter, MonLeave, OpenFile, OpenDir, Join}
+use Rattle.lam_machine_effects.specs.Threads.{Context}
+use Rattle.lam_machine_effects.specs.Worlds.{World, result_at}
+use Rattle.lam_machine_effects.specs.Serves.{Served, answers, unless_denied, under, unless, on_thing}
+use Rattle.lam_machine_effects.specs.Serving.{opened, ended_with, served_by}
 use Rattle.lam_machine_laws.specs.Tests.{of_thing, tests_of}
 use Rattle.lam_machine_laws.specs.Judged.{at_thing, where_none, child_fault, fault_by, judged, name_in, found, value_of_end, deed_by, AsksAreJudged}
 use Rattle.lam_machine_laws.proofs.RowLemmas.{RefersTo}

@@ -3,19 +3,19 @@ use Rattle.std.proofs.Common.{◌≡◌, ℕ, zero, suc, Bool, true, false, cond
 use Rattle.std.specs.Prelude.{nat_eq, map, filter, slice_get, slice_set}
 use Rattle.std.proofs.lemmas.Bool.Decides.{nat_tests}
 use Rattle.lam_value.specs.declared.values.Value.TheVariants as value
-use Rattle.lam_asks.specs.declared.answer.Answer.{Answer}
-use Rattle.lam_asks.specs.declared.answer.Answer.TheVariants.{Val}
-use Rattle.lam_asks.specs.declared.answer.What.{What}
-use Rattle.lam_asks.specs.declared.answer.What.TheVariants.{Asked}
-use Rattle.lam_asks.specs.declared.ask.Ask.{Ask}
-use Rattle.lam_asks.specs.declared.ask.Ask.TheVariants as ask
-use Rattle.lam_bytecode.specs.Codes.{CodeTree}
-use Rattle.thread_steps.specs.Threads.{Inside, Context, Thread}
-use Rattle.thread_steps.specs.Next.{Next, goes, asks, stuck, next_of, with_inside, takes, started}
-use Rattle.lam_machine_terms.specs.Worlds.{World, thread_at, with_thread}
-use Rattle.lam_machine_terms.specs.Serves.{Effect, adds_thread, effect_of, Served}
-use Rattle.lam_machine_terms.specs.Serving.{served_by, publicly, serve}
-use Rattle.lam_machine_terms.specs.Turns.{is_ready, Moment, goes_on, served, turn_by, step, and_then, moments, left_by, replay}
+use Rattle.lam_machine_effects.specs.Answer.{Answer}
+use Rattle.lam_machine_effects.specs.Answer.TheVariants.{Val}
+use Rattle.lam_machine_effects.specs.What.{What}
+use Rattle.lam_machine_effects.specs.What.TheVariants.{Asked}
+use Rattle.lam_machine_effects.specs.Ask.{Ask}
+use Rattle.lam_machine_effects.specs.Ask.TheVariants as ask
+use Rattle.lam_machine_effects.specs.Codes.{CodeTree}
+use Rattle.lam_machine_effects.specs.Threads.{Inside, Context, Thread}
+use Rattle.lam_machine_effects.specs.Next.{Next, goes, asks, stuck, next_of, with_inside, takes, started}
+use Rattle.lam_machine_effects.specs.Worlds.{World, thread_at, with_thread}
+use Rattle.lam_machine_effects.specs.Serves.{Effect, adds_thread, effect_of, Served}
+use Rattle.lam_machine_effects.specs.Serving.{served_by, publicly, serve}
+use Rattle.lam_machine_effects.specs.Turns.{is_ready, Moment, goes_on, served, turn_by, step, and_then, moments, left_by, replay}
 use Rattle.lam_machine_laws.proofs.ThreadLemmas.{some_inj, length-set}
 use Rattle.lam_machine_laws.proofs.TurnLemmas.{acts, only, turn_thread}
 use Rattle.lam_machine_laws.proofs.JudgedLemmas.{judged_by}

@@ -1,16 +1,16 @@
 -- The step of a thread, and the world after an effect, by their parts.
 use Rattle.std.proofs.Common.{◌≡◌, ℕ, true, List, ◌++◌, Some, None, refl, sym, ap, ◌∙◌, append-nil}
 use Rattle.std.specs.Prelude.{slice_set, if◌then◌else◌}
-use Rattle.lam_asks.specs.declared.ask.Ask.{Ask}
-use Rattle.lam_asks.specs.declared.answer.Answer.{Answer}
-use Rattle.lam_asks.specs.declared.answer.What.TheVariants.{Private, Asked}
-use Rattle.lam_bytecode.specs.Codes.{CodeTree}
-use Rattle.thread_steps.specs.Threads.{Inside, Context, Thread}
-use Rattle.thread_steps.specs.Next.{Next, next_of, goes, asks, takes}
-use Rattle.lam_machine_terms.specs.Worlds.{World, with_thread}
-use Rattle.lam_machine_terms.specs.Serves.{effect_of}
-use Rattle.lam_machine_terms.specs.Serving.{serve}
-use Rattle.lam_machine_terms.specs.Turns.{Moment, is_ready, served, turn_by, turn_on, turn_in, step}
+use Rattle.lam_machine_effects.specs.Ask.{Ask}
+use Rattle.lam_machine_effects.specs.Answer.{Answer}
+use Rattle.lam_machine_effects.specs.What.TheVariants.{Private, Asked}
+use Rattle.lam_machine_effects.specs.Codes.{CodeTree}
+use Rattle.lam_machine_effects.specs.Threads.{Inside, Context, Thread}
+use Rattle.lam_machine_effects.specs.Next.{Next, next_of, goes, asks, takes}
+use Rattle.lam_machine_effects.specs.Worlds.{World, with_thread}
+use Rattle.lam_machine_effects.specs.Serves.{effect_of}
+use Rattle.lam_machine_effects.specs.Serving.{serve}
+use Rattle.lam_machine_effects.specs.Turns.{Moment, is_ready, served, turn_by, turn_on, turn_in, step}
 use Rattle.lam_machine_effects.specs.declared.stores.Stores.{Stores}
 use Rattle.lam_machine_effects.specs.Parts.{stores_of, world_of}
 use Rattle.lam_machine_effects.specs.declared.effect.Effect.{Effect}

@@ -8,16 +8,16 @@ use Rattle.lam_value.specs.Homes.{home_of, count_in}
 use Rattle.lam_value.specs.declared.names.Name.{Name}
 use Rattle.lam_value.specs.declared.values.Value.{Value}
 use Rattle.lam_value.specs.declared.values.Value.TheVariants.{Obj, Arr}
-use Rattle.labelled_heap.specs.Things.{most_things}
-use Rattle.monitor_core.specs.Held.{Held, most_takings, is_free, takings}
-use Rattle.lam_asks.specs.declared.ask.Ask.{Ask}
-use Rattle.lam_asks.specs.declared.ask.Ask.TheVariants as ask
-use Rattle.lam_asks.specs.declared.fault.Fault.TheVariants.{Deep, HomeFull}
-use Rattle.thread_steps.specs.Threads.{Context}
-use Rattle.lam_machine_terms.specs.Worlds.{World}
-use Rattle.lam_machine_terms.specs.Serves.{Served, full}
-use Rattle.lam_machine_terms.specs.Serving.{publicly, serve}
-use Rattle.lam_machine_terms.specs.Turns.{is_taken, is_ready}
+use Rattle.lam_machine_effects.specs.Things.{most_things}
+use Rattle.lam_machine_effects.specs.Held.{Held, most_takings, is_free, takings}
+use Rattle.lam_machine_effects.specs.Ask.{Ask}
+use Rattle.lam_machine_effects.specs.Ask.TheVariants as ask
+use Rattle.lam_machine_effects.specs.Fault.TheVariants.{Deep, HomeFull}
+use Rattle.lam_machine_effects.specs.Threads.{Context}
+use Rattle.lam_machine_effects.specs.Worlds.{World}
+use Rattle.lam_machine_effects.specs.Serves.{Served, full}
+use Rattle.lam_machine_effects.specs.Serving.{publicly, serve}
+use Rattle.lam_machine_effects.specs.Turns.{is_taken, is_ready}
 use Rattle.lam_machine_laws.proofs.Full.{not_full, no_fault}
 use Rattle.lam_machine_laws.proofs.JudgedLemmas.{judged_by, refers, followed, tested}
 use Rattle.lam_machine_laws.proofs.RowLemmas.{RefersTo}

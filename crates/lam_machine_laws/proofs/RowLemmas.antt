@@ -7,30 +7,30 @@ use Rattle.flow_labels.specs.declared.Label.{Label}
 use Rattle.flow_labels.specs.declared.Denied.{Denied}
 use Rattle.flow_labels.specs.Flow.{flows, public_label}
 use Rattle.flow_labels.specs.Failing.{Test, first_failing, read_test, write_test, same_test}
-use Rattle.capabilities.specs.declared.Caps.{Caps}
-use Rattle.capabilities.specs.Changes.{joined, change_test, covers_test}
+use Rattle.lam_machine_effects.specs.Caps.{Caps}
+use Rattle.lam_machine_effects.specs.Changes.{joined, change_test, covers_test}
 use Rattle.lam_value.specs.declared.names.Name.{Name}
 use Rattle.lam_value.specs.declared.values.Value.{Value}
 use Rattle.lam_value.specs.declared.values.Value.TheVariants.{Obj, Arr}
 use Rattle.lam_value.specs.Homes.{Home, home_of, name_of, count_in}
 use Rattle.lam_value.specs.Shapes.{slots_of}
-use Rattle.labelled_heap.specs.Things.{slots_at, sort_of}
+use Rattle.lam_machine_effects.specs.Things.{slots_at, sort_of}
 use Rattle.labelled_files.specs.Trees.{next_name}
-use Rattle.labelled_pipes.specs.declared.message.Message.TheVariants as message
-use Rattle.labelled_pipes.specs.declared.message.MessageKind.TheVariants as sort_of_message
-use Rattle.lam_asks.specs.declared.fault.Fault.{Fault}
-use Rattle.lam_asks.specs.declared.fault.Fault.TheVariants.{Null, Child}
-use Rattle.lam_asks.specs.declared.answer.Outcome.{Outcome}
-use Rattle.lam_asks.specs.declared.answer.Outcome.TheVariants as outcome
-use Rattle.lam_asks.specs.declared.answer.Answer.TheVariants.{Done, Val, Refused, Failed}
-use Rattle.lam_asks.specs.declared.ask.Ask.{Ask}
-use Rattle.lam_asks.specs.declared.ask.Ask.TheVariants.{Read, Write, New, CopyTo, Mint, Enter, Leave, Barred, Caught, Suppressed, MonEnter, MonLeave, MakeFile, MakeDir, OpenFile, OpenDir, Remove, FileRead, FileLength, Append, Cut, MakePipe, Send, SendCaps, Receive, ReceiveCaps, Spawn, Join, Say, End}
-use Rattle.thread_steps.specs.Threads.{Context}
-use Rattle.lam_machine_terms.specs.Worlds.{World}
-use Rattle.lam_machine_terms.specs.Serves.{Effect, takes_tag, sets_slot, adds_thing, adds_copy, takes_monitor, gives_back, drops, adds_file, adds_dir, removes, appends, cuts, sends, receives, Made, a_thing, a_file, a_dir, made_label, Served, answers, does, gives, makes, unless_denied, under, unless, on_thing}
-use Rattle.lam_machine_terms.specs.Serving.{reference, renamed, opened, ended_with, creates, serve}
-use Rattle.lam_machine_terms.specs.Turns.{may_ask, lists}
-use Rattle.lam_machine_terms.specs.Views.{goes_down}
+use Rattle.lam_machine_effects.specs.Message.TheVariants as message
+use Rattle.lam_machine_effects.specs.MessageKind.TheVariants as sort_of_message
+use Rattle.lam_machine_effects.specs.Fault.{Fault}
+use Rattle.lam_machine_effects.specs.Fault.TheVariants.{Null, Child}
+use Rattle.lam_machine_effects.specs.Outcome.{Outcome}
+use Rattle.lam_machine_effects.specs.Outcome.TheVariants as outcome
+use Rattle.lam_machine_effects.specs.Answer.TheVariants.{Done, Val, Refused, Failed}
+use Rattle.lam_machine_effects.specs.Ask.{Ask}
+use Rattle.lam_machine_effects.specs.Ask.TheVariants.{Read, Write, New, CopyTo, Mint, Enter, Leave, Barred, Caught, Suppressed, MonEnter, MonLeave, MakeFile, MakeDir, OpenFile, OpenDir, Remove, FileRead, FileLength, Append, Cut, MakePipe, Send, SendCaps, Receive, ReceiveCaps, Spawn, Join, Say, End}
+use Rattle.lam_machine_effects.specs.Threads.{Context}
+use Rattle.lam_machine_effects.specs.Worlds.{World}
+use Rattle.lam_machine_effects.specs.Serves.{Effect, takes_tag, sets_slot, adds_thing, adds_copy, takes_monitor, gives_back, drops, adds_file, adds_dir, removes, appends, cuts, sends, receives, Made, a_thing, a_file, a_dir, made_label, Served, answers, does, gives, makes, unless_denied, under, unless, on_thing}
+use Rattle.lam_machine_effects.specs.Serving.{reference, renamed, opened, ended_with, creates, serve}
+use Rattle.lam_machine_effects.specs.Turns.{may_ask, lists}
+use Rattle.lam_machine_effects.specs.Views.{goes_down}
 use Rattle.lam_machine_laws.proofs.FlowLemmas.{flows_refl, flows_trans, hidden_up, each_passes, read_passes, write_passes, same_passes, mint_passes}
 use Rattle.lam_machine_laws.proofs.EffectLemmas.{IsHidden, IsOpen}
 use Rattle.lam_machine_laws.specs.Isolation.{IsWellLabelled}

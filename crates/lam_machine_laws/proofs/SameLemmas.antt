@@ -6,33 +6,33 @@ use Rattle.flow_labels.specs.declared.Label.{Label}
 use Rattle.flow_labels.specs.declared.Denied.{Denied}
 use Rattle.flow_labels.specs.Flow.{flows, public_label}
 use Rattle.flow_labels.specs.Failing.{Test, first_failing, read_test, write_test, same_test}
-use Rattle.capabilities.specs.Changes.{change_test, covers_test}
+use Rattle.lam_machine_effects.specs.Changes.{change_test, covers_test}
 use Rattle.lam_value.specs.declared.names.Name.{Name}
 use Rattle.lam_value.specs.declared.values.Value.{Value}
 use Rattle.lam_value.specs.declared.values.Value.TheVariants.{Int, Bytes, Nothing, Obj, Arr, File, Dir, Pipe, Thread, Tag}
 use Rattle.lam_value.specs.Shapes.{slots_of}
 use Rattle.lam_value.specs.Homes.{Home, home_of, name_of}
-use Rattle.labelled_heap.specs.Things.{most_things, sort_of}
-use Rattle.monitor_core.specs.declared.Holder.{Holder}
-use Rattle.monitor_core.specs.Held.{most_takings, count_of}
+use Rattle.lam_machine_effects.specs.Things.{most_things, sort_of}
+use Rattle.lam_machine_effects.specs.Holder.{Holder}
+use Rattle.lam_machine_effects.specs.Held.{most_takings, count_of}
 use Rattle.labelled_files.specs.declared.directory.EntryKind.TheVariants as kind
 use Rattle.labelled_files.specs.declared.files.FileFault.{FileFault}
 use Rattle.labelled_files.specs.declared.files.FileFault.TheVariants as file_fault
 use Rattle.labelled_files.specs.Entries.{Entries, text_eq, is_entry_name, name_of_kind}
 use Rattle.labelled_files.specs.Trees.{most_entries, most_files}
-use Rattle.labelled_pipes.specs.declared.message.Message.{Message}
-use Rattle.labelled_pipes.specs.declared.message.MessageKind.TheVariants as sort_of_message
-use Rattle.labelled_pipes.specs.Messages.{front_of}
-use Rattle.labelled_pipes.specs.Queues.{most_pipes}
-use Rattle.lam_asks.specs.declared.fault.Fault.TheVariants.{Deep, HomeFull}
-use Rattle.lam_asks.specs.declared.answer.Answer.TheVariants.{Val}
-use Rattle.lam_asks.specs.declared.ask.Ask.{Ask}
-use Rattle.lam_asks.specs.declared.ask.Ask.TheVariants.{Read, Write, New, CopyTo, Mint, Enter, Leave, Barred, Caught, Suppressed, MonEnter, MonLeave, MakeFile, MakeDir, OpenFile, OpenDir, Remove, FileRead, FileLength, Append, Cut, MakePipe, Send, SendCaps, Receive, ReceiveCaps, Spawn, Join, Say, End}
-use Rattle.thread_steps.specs.Threads.{Context}
-use Rattle.lam_machine_terms.specs.Limits.{most_tags, most_threads}
-use Rattle.lam_machine_terms.specs.Worlds.{World}
-use Rattle.lam_machine_terms.specs.Serves.{Effect, takes_tag, takes_monitor, adds_thing, adds_copy, adds_file, adds_dir, adds_pipe, adds_thread, removes, receives, a_thing, a_file, a_dir, a_pipe, a_thread, Served, answers, does, gives, makes, unless_denied, under, unless, full, on_thing}
-use Rattle.lam_machine_terms.specs.Serving.{reference, renamed, file_faults, opened, absent, received, ended_with, served_by, publicly, serve}
+use Rattle.lam_machine_effects.specs.Message.{Message}
+use Rattle.lam_machine_effects.specs.MessageKind.TheVariants as sort_of_message
+use Rattle.lam_machine_effects.specs.Messages.{front_of}
+use Rattle.lam_machine_effects.specs.Queues.{most_pipes}
+use Rattle.lam_machine_effects.specs.Fault.TheVariants.{Deep, HomeFull}
+use Rattle.lam_machine_effects.specs.Answer.TheVariants.{Val}
+use Rattle.lam_machine_effects.specs.Ask.{Ask}
+use Rattle.lam_machine_effects.specs.Ask.TheVariants.{Read, Write, New, CopyTo, Mint, Enter, Leave, Barred, Caught, Suppressed, MonEnter, MonLeave, MakeFile, MakeDir, OpenFile, OpenDir, Remove, FileRead, FileLength, Append, Cut, MakePipe, Send, SendCaps, Receive, ReceiveCaps, Spawn, Join, Say, End}
+use Rattle.lam_machine_effects.specs.Threads.{Context}
+use Rattle.lam_machine_effects.specs.Limits.{most_tags, most_threads}
+use Rattle.lam_machine_effects.specs.Worlds.{World}
+use Rattle.lam_machine_effects.specs.Serves.{Effect, takes_tag, takes_monitor, adds_thing, adds_copy, adds_file, adds_dir, adds_pipe, adds_thread, removes, receives, a_thing, a_file, a_dir, a_pipe, a_thread, Served, answers, does, gives, makes, unless_denied, under, unless, full, on_thing}
+use Rattle.lam_machine_effects.specs.Serving.{reference, renamed, file_faults, opened, absent, received, ended_with, served_by, publicly, serve}
 use Rattle.lam_machine_laws.proofs.FlowLemmas.{flows_trans, each_passes, read_passes, same_passes, mint_passes}
 use Rattle.lam_machine_laws.proofs.AlikeLemmas.{Alike}
 use Rattle.lam_machine_laws.proofs.EffectLemmas.{count_same}

@@ -6,31 +6,31 @@ use Rattle.lam_value.specs.declared.names.Name.{Name}
 use Rattle.lam_value.specs.declared.values.Value.{Value}
 use Rattle.lam_value.specs.declared.values.Value.TheVariants.{Obj, Arr}
 use Rattle.lam_value.specs.Homes.{Home, home_of, name_of, count_in, counted}
-use Rattle.labelled_heap.specs.declared.heap.Sort.{Sort}
-use Rattle.labelled_heap.specs.Things as heap
-use Rattle.labelled_heap.specs.Things.{Things, most_things, sorted_as, with_copy}
-use Rattle.labelled_heap.proofs.ThingLemmas.{sound_thing, sound_slot}
-use Rattle.monitor_core.specs.Held as monitors
-use Rattle.monitor_core.specs.Held.{Held, most_takings, takings, left, dropped}
-use Rattle.monitor_core.proofs.HeldLemmas.{entered_sound, left_sound}
+use Rattle.lam_machine_effects.specs.Sort.{Sort}
+use Rattle.lam_machine_effects.specs.Things as heap
+use Rattle.lam_machine_effects.specs.Things.{Things, most_things, sorted_as, with_copy}
+use Rattle.lam_machine_effects.proofs.ThingLemmas.{sound_thing, sound_slot}
+use Rattle.lam_machine_effects.specs.Held as monitors
+use Rattle.lam_machine_effects.specs.Held.{Held, most_takings, takings, left, dropped}
+use Rattle.lam_machine_effects.proofs.HeldLemmas.{entered_sound, left_sound}
 use Rattle.labelled_files.specs.Trees as files
 use Rattle.labelled_files.specs.Trees.{Tree, first_fault, root_alone}
 use Rattle.labelled_files.proofs.MakeLemmas.{fine, new, room, free}
 use Rattle.labelled_files.proofs.SoundLemmas.{sound_file, sound_dir, sound_bytes, sound_without}
-use Rattle.labelled_pipes.specs.Queues as pipes
-use Rattle.labelled_pipes.specs.Queues.{Queues, most_pipes}
-use Rattle.labelled_pipes.proofs.QueueLemmas.{sound_pipe, sound_changed}
-use Rattle.lam_asks.specs.declared.fault.Fault.TheVariants.{Deep, HomeFull}
-use Rattle.lam_asks.specs.declared.ask.Ask.{Ask}
-use Rattle.lam_asks.specs.declared.ask.Ask.TheVariants as ask
-use Rattle.lam_bytecode.specs.Codes.{CodeTree}
-use Rattle.thread_steps.specs.Threads.{Context, Thread}
-use Rattle.thread_steps.specs.Next.{Next, goes, asks, stuck, next_of, started, takes}
-use Rattle.lam_machine_terms.specs.Limits.{most_tags, most_threads}
-use Rattle.lam_machine_terms.specs.Worlds.{World, with_thread}
-use Rattle.lam_machine_terms.specs.Serves.{Effect, nothing, takes_tag, sets_slot, adds_thing, adds_copy, takes_monitor, gives_back, drops, adds_file, adds_dir, removes, appends, cuts, adds_pipe, sends, receives, adds_thread, effect_of, Served, full}
-use Rattle.lam_machine_terms.specs.Serving.{served_by, publicly, serve}
-use Rattle.lam_machine_terms.specs.Turns.{is_ready, Moment, goes_on, served, turn_by}
+use Rattle.lam_machine_effects.specs.Queues as pipes
+use Rattle.lam_machine_effects.specs.Queues.{Queues, most_pipes}
+use Rattle.lam_machine_effects.proofs.QueueLemmas.{sound_pipe, sound_changed}
+use Rattle.lam_machine_effects.specs.Fault.TheVariants.{Deep, HomeFull}
+use Rattle.lam_machine_effects.specs.Ask.{Ask}
+use Rattle.lam_machine_effects.specs.Ask.TheVariants as ask
+use Rattle.lam_machine_effects.specs.Codes.{CodeTree}
+use Rattle.lam_machine_effects.specs.Threads.{Context, Thread}
+use Rattle.lam_machine_effects.specs.Next.{Next, goes, asks, stuck, next_of, started, takes}
+use Rattle.lam_machine_effects.specs.Limits.{most_tags, most_threads}
+use Rattle.lam_machine_effects.specs.Worlds.{World, with_thread}
+use Rattle.lam_machine_effects.specs.Serves.{Effect, nothing, takes_tag, sets_slot, adds_thing, adds_copy, takes_monitor, gives_back, drops, adds_file, adds_dir, removes, appends, cuts, adds_pipe, sends, receives, adds_thread, effect_of, Served, full}
+use Rattle.lam_machine_effects.specs.Serving.{served_by, publicly, serve}
+use Rattle.lam_machine_effects.specs.Turns.{is_ready, Moment, goes_on, served, turn_by}
 use Rattle.lam_machine_laws.proofs.ThreadLemmas.{some_inj, length-set}
 use Rattle.lam_machine_laws.proofs.RowLemmas.{RefersTo}
 use Rattle.lam_machine_laws.proofs.TurnLemmas.{acts, only}

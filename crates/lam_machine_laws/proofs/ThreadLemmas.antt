@@ -6,27 +6,27 @@ use Rattle.std.specs.List.{AllByRecursion}
 use Rattle.std.specs.Cmp.{Equal-is}
 use Rattle.flow_labels.specs.declared.Label.{Label}
 use Rattle.flow_labels.specs.Flow.{flows, public_label}
-use Rattle.capabilities.specs.declared.Caps.{Caps}
+use Rattle.lam_machine_effects.specs.Caps.{Caps}
 use Rattle.lam_value.specs.declared.names.Name.{Name}
 use Rattle.lam_value.specs.Names.{name_cmp}
 use Rattle.lam_value.specs.declared.values.Value.{Value}
 use Rattle.lam_value.specs.declared.values.Value.TheVariants.{Obj, Arr, Tag, CapV}
 use Rattle.lam_value.proofs.Keys.{name_exact}
-use Rattle.lam_asks.specs.declared.fault.Fault.{Fault}
-use Rattle.lam_asks.specs.declared.fault.Fault.TheVariants.{Denied}
-use Rattle.lam_asks.specs.declared.answer.Outcome.{Outcome}
-use Rattle.lam_asks.specs.declared.answer.Answer.{Answer}
-use Rattle.lam_asks.specs.declared.answer.Answer.TheVariants.{Done, Entered, Val, Refused, Failed}
-use Rattle.lam_asks.specs.declared.ask.Ask.{Ask}
-use Rattle.lam_asks.specs.declared.ask.Ask.TheVariants as ask
-use Rattle.lam_bytecode.specs.Codes.{CodeTree}
-use Rattle.thread_steps.specs.Equal.{same_names}
-use Rattle.thread_steps.specs.Threads.{Inside, Phase, Bottom, Body, Catch, Context, Thread}
-use Rattle.thread_steps.specs.Ops.{is_held, region_in}
-use Rattle.thread_steps.specs.Next.{entry, faulted, with_inside, with_held, given, without, held_by, catch_place, unit_number, catching, gains, done, entered, answered, result_after}
-use Rattle.lam_machine_terms.specs.Serves.{Made, a_region, a_thing, a_file, a_dir, a_pipe, a_thread}
-use Rattle.lam_machine_terms.specs.Turns.{is_bottom, may_ask}
-use Rattle.lam_machine_terms.specs.Views.{is_seen}
+use Rattle.lam_machine_effects.specs.Fault.{Fault}
+use Rattle.lam_machine_effects.specs.Fault.TheVariants.{Denied}
+use Rattle.lam_machine_effects.specs.Outcome.{Outcome}
+use Rattle.lam_machine_effects.specs.Answer.{Answer}
+use Rattle.lam_machine_effects.specs.Answer.TheVariants.{Done, Entered, Val, Refused, Failed}
+use Rattle.lam_machine_effects.specs.Ask.{Ask}
+use Rattle.lam_machine_effects.specs.Ask.TheVariants as ask
+use Rattle.lam_machine_effects.specs.Codes.{CodeTree}
+use Rattle.lam_machine_effects.specs.Equal.{same_names}
+use Rattle.lam_machine_effects.specs.Threads.{Inside, Phase, Bottom, Body, Catch, Context, Thread}
+use Rattle.lam_machine_effects.specs.Ops.{is_held, region_in}
+use Rattle.lam_machine_effects.specs.Next.{entry, faulted, with_inside, with_held, given, without, held_by, catch_place, unit_number, catching, gains, done, entered, answered, result_after}
+use Rattle.lam_machine_effects.specs.Serves.{Made, a_region, a_thing, a_file, a_dir, a_pipe, a_thread}
+use Rattle.lam_machine_effects.specs.Turns.{is_bottom, may_ask}
+use Rattle.lam_machine_effects.specs.Views.{is_seen}
 use Rattle.lam_machine_laws.specs.Isolation.{IsWellLabelled}
 use Rattle.lam_machine_laws.proofs.FlowLemmas.{not_both}
 use Rattle.lam_machine_laws.proofs.AlikeLemmas.{SameStacks, SameResults, AlikeThreads}

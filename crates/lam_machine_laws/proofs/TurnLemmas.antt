@@ -5,16 +5,16 @@ use Rattle.std.specs.List.{AllByRecursion}
 use Rattle.flow_labels.specs.declared.Label.{Label}
 use Rattle.flow_labels.specs.Flow.{flows, public_label}
 use Rattle.lam_value.specs.declared.names.Name.{Name}
-use Rattle.lam_asks.specs.declared.ask.Ask.{Ask}
-use Rattle.lam_bytecode.specs.Codes.{CodeTree}
-use Rattle.thread_steps.specs.Threads.{Inside, Bottom, Context, Thread}
-use Rattle.thread_steps.specs.Next.{Next, goes, asks, stuck, next_of, with_inside, started, result_after, takes}
-use Rattle.lam_machine_terms.specs.Worlds.{World, thread_at, contexts_in, contexts_at, result_in, with_thread}
-use Rattle.lam_machine_terms.specs.Serves.{Effect, nothing, takes_tag, sets_slot, adds_thing, adds_copy, takes_monitor, gives_back, drops, adds_file, adds_dir, removes, appends, cuts, adds_pipe, sends, receives, adds_thread, effect_of, Made, a_region, a_thing, a_file, a_dir, a_pipe, a_thread}
-use Rattle.lam_machine_terms.specs.Serving.{serve}
-use Rattle.lam_machine_terms.specs.Turns.{is_bottom, may_ask, waits, is_ready, Moment, goes_on, served, turn_by, turn_on, turn_in, step}
-use Rattle.lam_machine_terms.specs.Views.{is_seen, shows, is_noted}
-use Rattle.lam_machine_terms.specs.Valid.{IsListed, ContextLives, StandsOn, AreStacked, IsValid}
+use Rattle.lam_machine_effects.specs.Ask.{Ask}
+use Rattle.lam_machine_effects.specs.Codes.{CodeTree}
+use Rattle.lam_machine_effects.specs.Threads.{Inside, Bottom, Context, Thread}
+use Rattle.lam_machine_effects.specs.Next.{Next, goes, asks, stuck, next_of, with_inside, started, result_after, takes}
+use Rattle.lam_machine_effects.specs.Worlds.{World, thread_at, contexts_in, contexts_at, result_in, with_thread}
+use Rattle.lam_machine_effects.specs.Serves.{Effect, nothing, takes_tag, sets_slot, adds_thing, adds_copy, takes_monitor, gives_back, drops, adds_file, adds_dir, removes, appends, cuts, adds_pipe, sends, receives, adds_thread, effect_of, Made, a_region, a_thing, a_file, a_dir, a_pipe, a_thread}
+use Rattle.lam_machine_effects.specs.Serving.{serve}
+use Rattle.lam_machine_effects.specs.Turns.{is_bottom, may_ask, waits, is_ready, Moment, goes_on, served, turn_by, turn_on, turn_in, step}
+use Rattle.lam_machine_effects.specs.Views.{is_seen, shows, is_noted}
+use Rattle.lam_machine_effects.specs.Valid.{IsListed, ContextLives, StandsOn, AreStacked, IsValid}
 use Rattle.lam_machine_laws.proofs.FlowLemmas.{both_true}
 use Rattle.lam_machine_laws.proofs.AlikeLemmas.{AlikeThreads, Alike, alike_refl, alike_sym, alike_trans, with_threads}
 use Rattle.lam_machine_laws.proofs.EffectLemmas.{IsHidden, hidden_shown, shown, shown_same, shown_kept, effect_same}

@@ -3,10 +3,10 @@ use Rattle.std.proofs.Common.{◌≡◌, ℕ, zero, suc, ◌≤◌, Bool, true, 
 use Rattle.std.specs.Prelude.{cond, map, slice_get}
 use Rattle.flow_labels.specs.declared.Label.{Label}
 use Rattle.flow_labels.specs.Flow.{flows}
-use Rattle.lam_bytecode.specs.Codes.{CodeTree}
-use Rattle.lam_machine_terms.specs.Worlds.{World}
-use Rattle.lam_machine_terms.specs.Turns.{Moment, step, and_then, moments, left_by}
-use Rattle.lam_machine_terms.specs.Views.{View, view, is_noted, Release, release_of, Item, turn, past, event, release, item_of, entry_of, noted}
+use Rattle.lam_machine_effects.specs.Codes.{CodeTree}
+use Rattle.lam_machine_effects.specs.Worlds.{World}
+use Rattle.lam_machine_effects.specs.Turns.{Moment, step, and_then, moments, left_by}
+use Rattle.lam_machine_effects.specs.Views.{View, view, is_noted, Release, release_of, Item, turn, past, event, release, item_of, entry_of, noted}
 use Rattle.lam_machine_laws.specs.Isolation.{AreWellLabelled, IsIsolated, IsSteady}
 use Rattle.lam_machine_laws.proofs.AlikeLemmas.{Alike, alike_by_view, view_by_alike, alike_refl, alike_sym, alike_trans}
 use Rattle.lam_machine_laws.proofs.TurnLemmas.{step_safe, unseen_turn, release_pair, seen_pair, turn_thread}

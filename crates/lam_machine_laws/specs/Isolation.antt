@@ -4,15 +4,15 @@ use Rattle.std.specs.List.{AllByRecursion}
 use Rattle.flow_labels.specs.declared.Label.{Label}
 use Rattle.flow_labels.specs.Flow.{public_label}
 use Rattle.lam_value.specs.declared.names.Name.{Name}
-use Rattle.lam_asks.specs.declared.answer.What.{What}
-use Rattle.lam_asks.specs.declared.answer.What.TheVariants.{Asked}
-use Rattle.lam_asks.specs.declared.ask.Ask.TheVariants.{CopyTo, Enter}
-use Rattle.lam_bytecode.specs.Codes.{CodeTree}
-use Rattle.thread_steps.specs.Threads.{Bottom, Context}
-use Rattle.lam_machine_terms.specs.Worlds.{World, contexts_at}
-use Rattle.lam_machine_terms.specs.Turns.{Moment, step, moments, left_by, IsRun}
-use Rattle.lam_machine_terms.specs.Views.{view, Agree, is_release, is_past, agenda, trace, views}
-use Rattle.lam_machine_terms.specs.Valid.{IsValid}
+use Rattle.lam_machine_effects.specs.What.{What}
+use Rattle.lam_machine_effects.specs.What.TheVariants.{Asked}
+use Rattle.lam_machine_effects.specs.Ask.TheVariants.{CopyTo, Enter}
+use Rattle.lam_machine_effects.specs.Codes.{CodeTree}
+use Rattle.lam_machine_effects.specs.Threads.{Bottom, Context}
+use Rattle.lam_machine_effects.specs.Worlds.{World, contexts_at}
+use Rattle.lam_machine_effects.specs.Turns.{Moment, step, moments, left_by, IsRun}
+use Rattle.lam_machine_effects.specs.Views.{view, Agree, is_release, is_past, agenda, trace, views}
+use Rattle.lam_machine_effects.specs.Valid.{IsValid}
 
 -- the first n entries of both traces are equal, and so is what is seen just after the n-th of them
 pub record LookSame (n : ℕ) (o : Label) (s : World) (ms : List Moment) (s' : World) (ms' : List Moment) : Type 0 where

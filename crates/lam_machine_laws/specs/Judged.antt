@@ -4,32 +4,32 @@ use Rattle.flow_labels.specs.Flow.{public_label}
 use Rattle.labelled_files.specs.Entries.{name_of_kind}
 use Rattle.labelled_files.specs.Trees.{bytes_at, first_fault, next_name, target_at}
 use Rattle.labelled_files.specs.declared.directory.EntryKind.TheVariants as kind
-use Rattle.labelled_heap.specs.Things.{most_things, slots_at, sort_of}
-use Rattle.labelled_pipes.specs.Messages.{front_of}
-use Rattle.labelled_pipes.specs.Queues.{most_pipes, waiting_at}
-use Rattle.labelled_pipes.specs.declared.message.Message.TheVariants as message
-use Rattle.labelled_pipes.specs.declared.message.MessageKind.TheVariants as sort_of_message
-use Rattle.lam_asks.specs.declared.answer.Answer.TheVariants.{Done, Entered, Val}
-use Rattle.lam_asks.specs.declared.answer.Outcome.TheVariants as outcome
-use Rattle.lam_asks.specs.declared.answer.Outcome.{Outcome}
-use Rattle.lam_asks.specs.declared.ask.Ask.TheVariants.{Append, Barred, Caught, CopyTo, Cut, End, Enter, FileLength, FileRead, Join, Leave, MakeDir, MakeFile, MakePipe, Mint, MonEnter, MonLeave, New, OpenDir, OpenFile, Read, Receive, ReceiveCaps, Remove, Say, Send, SendCaps, Spawn, Suppressed, Write}
-use Rattle.lam_asks.specs.declared.ask.Ask.{Ask}
-use Rattle.lam_asks.specs.declared.fault.Fault.TheVariants.{Child, Deep, HomeFull, NoEntry, Null}
-use Rattle.lam_asks.specs.declared.fault.Fault.{Fault}
+use Rattle.lam_machine_effects.specs.Things.{most_things, slots_at, sort_of}
+use Rattle.lam_machine_effects.specs.Messages.{front_of}
+use Rattle.lam_machine_effects.specs.Queues.{most_pipes, waiting_at}
+use Rattle.lam_machine_effects.specs.Message.TheVariants as message
+use Rattle.lam_machine_effects.specs.MessageKind.TheVariants as sort_of_message
+use Rattle.lam_machine_effects.specs.Answer.TheVariants.{Done, Entered, Val}
+use Rattle.lam_machine_effects.specs.Outcome.TheVariants as outcome
+use Rattle.lam_machine_effects.specs.Outcome.{Outcome}
+use Rattle.lam_machine_effects.specs.Ask.TheVariants.{Append, Barred, Caught, CopyTo, Cut, End, Enter, FileLength, FileRead, Join, Leave, MakeDir, MakeFile, MakePipe, Mint, MonEnter, MonLeave, New, OpenDir, OpenFile, Read, Receive, ReceiveCaps, Remove, Say, Send, SendCaps, Spawn, Suppressed, Write}
+use Rattle.lam_machine_effects.specs.Ask.{Ask}
+use Rattle.lam_machine_effects.specs.Fault.TheVariants.{Child, Deep, HomeFull, NoEntry, Null}
+use Rattle.lam_machine_effects.specs.Fault.{Fault}
 use Rattle.lam_machine_laws.specs.Tests.{tests_of}
-use Rattle.lam_machine_terms.specs.Serves.{Served, Effect, a_dir, a_file, a_pipe, a_region, a_thing, a_thread, adds_copy, adds_dir, adds_file, adds_pipe, adds_thing, adds_thread, answers, appends, cuts, does, drops, full, gives, gives_back, makes, nothing, receives, removes, sends, sets_slot, takes_monitor, takes_tag, under, unless}
-use Rattle.lam_machine_terms.specs.Limits.{most_tags, most_threads}
-use Rattle.lam_machine_terms.specs.Serving.{absent, file_faults, received, reference, renamed, served_by, slot_at}
-use Rattle.lam_machine_terms.specs.Worlds.{World, result_at}
+use Rattle.lam_machine_effects.specs.Serves.{Served, Effect, a_dir, a_file, a_pipe, a_region, a_thing, a_thread, adds_copy, adds_dir, adds_file, adds_pipe, adds_thing, adds_thread, answers, appends, cuts, does, drops, full, gives, gives_back, makes, nothing, receives, removes, sends, sets_slot, takes_monitor, takes_tag, under, unless}
+use Rattle.lam_machine_effects.specs.Limits.{most_tags, most_threads}
+use Rattle.lam_machine_effects.specs.Serving.{absent, file_faults, received, reference, renamed, served_by, slot_at}
+use Rattle.lam_machine_effects.specs.Worlds.{World, result_at}
 use Rattle.lam_value.specs.Homes.{Home, count_in, home_of, name_of}
 use Rattle.lam_value.specs.Shapes.{slots_of}
 use Rattle.lam_value.specs.declared.names.Name.{Name}
 use Rattle.lam_value.specs.declared.values.Value.TheVariants.{Arr, Bytes, Dir, File, Int, Nothing, Obj, Pipe, Tag, Thread}
 use Rattle.lam_value.specs.declared.values.Value.{Value}
-use Rattle.monitor_core.specs.Held.{most_takings, takings}
+use Rattle.lam_machine_effects.specs.Held.{most_takings, takings}
 use Rattle.std.specs.Prelude.{◌≡◌, pos, ◌+◌, List, drop, length, take, Option, None, Some}
-use Rattle.thread_steps.specs.Limits.{depth_limit}
-use Rattle.thread_steps.specs.Threads.{Context}
+use Rattle.lam_machine_effects.specs.ThreadStepsLimits.{depth_limit}
+use Rattle.lam_machine_effects.specs.Threads.{Context}
 
 -- ---- faults
 

@@ -2,26 +2,26 @@
 use Rattle.std.specs.Prelude.{◌≡◌, ◌⊎◌, ℕ, true, List, [], ◌∷◌, ◌++◌, map, Some, None, is_some}
 use Rattle.std.specs.List.{AllByRecursion}
 use Rattle.flow_labels.specs.declared.Denied.{Denied}
-use Rattle.capabilities.specs.declared.Caps.{Caps}
-use Rattle.capabilities.specs.Changes.{MayChange, Covers, used, with_both, joined}
+use Rattle.lam_machine_effects.specs.Caps.{Caps}
+use Rattle.lam_machine_effects.specs.Changes.{MayChange, Covers, used, with_both, joined}
 use Rattle.lam_value.specs.declared.values.Value.{Value}
 use Rattle.lam_value.specs.declared.values.Value.TheVariants.{Tag, CapV}
-use Rattle.lam_asks.specs.declared.fault.Fault.{Fault}
-use Rattle.lam_asks.specs.declared.fault.Fault.TheVariants as fault
-use Rattle.lam_asks.specs.declared.answer.Outcome.TheVariants as outcome
-use Rattle.lam_asks.specs.declared.answer.Answer.{Answer}
-use Rattle.lam_asks.specs.declared.answer.Answer.TheVariants.{Done, Entered, Val, Refused, Failed}
-use Rattle.lam_asks.specs.declared.answer.What.{What}
-use Rattle.lam_asks.specs.declared.answer.What.TheVariants.{Private, Asked}
-use Rattle.lam_asks.specs.declared.ask.Ask.{Ask}
-use Rattle.lam_asks.specs.declared.ask.Ask.TheVariants as ask
-use Rattle.lam_bytecode.specs.Codes.{CodeTree}
-use Rattle.thread_steps.specs.Threads.{Phase, Bottom, Body, Catch, Context}
-use Rattle.thread_steps.specs.Next.{asks, next_of}
-use Rattle.lam_machine_terms.specs.Worlds.{World, thread_at, contexts_at}
-use Rattle.lam_machine_terms.specs.Serves.{Made, made_label}
-use Rattle.lam_machine_terms.specs.Turns.{Moment, step, moments}
-use Rattle.lam_machine_terms.specs.Views.{is_release, release_of}
+use Rattle.lam_machine_effects.specs.Fault.{Fault}
+use Rattle.lam_machine_effects.specs.Fault.TheVariants as fault
+use Rattle.lam_machine_effects.specs.Outcome.TheVariants as outcome
+use Rattle.lam_machine_effects.specs.Answer.{Answer}
+use Rattle.lam_machine_effects.specs.Answer.TheVariants.{Done, Entered, Val, Refused, Failed}
+use Rattle.lam_machine_effects.specs.What.{What}
+use Rattle.lam_machine_effects.specs.What.TheVariants.{Private, Asked}
+use Rattle.lam_machine_effects.specs.Ask.{Ask}
+use Rattle.lam_machine_effects.specs.Ask.TheVariants as ask
+use Rattle.lam_machine_effects.specs.Codes.{CodeTree}
+use Rattle.lam_machine_effects.specs.Threads.{Phase, Bottom, Body, Catch, Context}
+use Rattle.lam_machine_effects.specs.Next.{asks, next_of}
+use Rattle.lam_machine_effects.specs.Worlds.{World, thread_at, contexts_at}
+use Rattle.lam_machine_effects.specs.Serves.{Made, made_label}
+use Rattle.lam_machine_effects.specs.Turns.{Moment, step, moments}
+use Rattle.lam_machine_effects.specs.Views.{is_release, release_of}
 use Rattle.lam_machine_laws.specs.Own.{done_by}
 
 -- the acting context of a thread

@@ -6,3 +6,9 @@ pub mod Judged
 pub mod Own
 pub mod Turned
 pub mod Ready
+pub use Rattle.lam_machine_effects.specs.Limits
+pub use Rattle.lam_machine_effects.specs.Serves
+pub use Rattle.lam_machine_effects.specs.Serving
+pub use Rattle.lam_machine_effects.specs.Turns
+pub use Rattle.lam_machine_effects.specs.Valid
+pub use Rattle.lam_machine_effects.specs.Worlds

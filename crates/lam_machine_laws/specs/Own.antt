@@ -1,17 +1,17 @@
 -- What its own turns make of a thread.
 use Rattle.std.specs.Prelude.{◌≡◌, ℕ, nat_eq, List, [], ◌∷◌, ◌++◌, map, filter, Some, None}
-use Rattle.capabilities.specs.declared.Caps.{Caps}
+use Rattle.lam_machine_effects.specs.Caps.{Caps}
 use Rattle.lam_value.specs.declared.values.Value.{Value}
 use Rattle.lam_value.specs.declared.values.Value.TheVariants as value
-use Rattle.lam_asks.specs.declared.answer.Answer.TheVariants.{Val}
-use Rattle.lam_asks.specs.declared.answer.What.{What}
-use Rattle.lam_asks.specs.declared.answer.What.TheVariants.{Private, Asked}
-use Rattle.lam_asks.specs.declared.ask.Ask.TheVariants as ask
-use Rattle.lam_bytecode.specs.Codes.{CodeTree}
-use Rattle.thread_steps.specs.Threads.{Inside, Context, Thread}
-use Rattle.thread_steps.specs.Next.{goes, asks, next_of, with_inside, takes, started}
-use Rattle.lam_machine_terms.specs.Worlds.{World, thread_at}
-use Rattle.lam_machine_terms.specs.Turns.{Moment, step, moments, replay}
+use Rattle.lam_machine_effects.specs.Answer.TheVariants.{Val}
+use Rattle.lam_machine_effects.specs.What.{What}
+use Rattle.lam_machine_effects.specs.What.TheVariants.{Private, Asked}
+use Rattle.lam_machine_effects.specs.Ask.TheVariants as ask
+use Rattle.lam_machine_effects.specs.Codes.{CodeTree}
+use Rattle.lam_machine_effects.specs.Threads.{Inside, Context, Thread}
+use Rattle.lam_machine_effects.specs.Next.{goes, asks, next_of, with_inside, takes, started}
+use Rattle.lam_machine_effects.specs.Worlds.{World, thread_at}
+use Rattle.lam_machine_effects.specs.Turns.{Moment, step, moments, replay}
 
 -- ---- one turn
 

@@ -1,10 +1,10 @@
 -- That a service of the monitor can be applied.
 use Rattle.std.specs.Prelude.{◌≡◌, ℕ, true}
-use Rattle.lam_asks.specs.declared.ask.Ask.{Ask}
-use Rattle.thread_steps.specs.Threads.{Context}
-use Rattle.lam_machine_terms.specs.Worlds.{World}
-use Rattle.lam_machine_terms.specs.Serving.{serve}
-use Rattle.lam_machine_terms.specs.Turns.{is_ready}
+use Rattle.lam_machine_effects.specs.Ask.{Ask}
+use Rattle.lam_machine_effects.specs.Threads.{Context}
+use Rattle.lam_machine_effects.specs.Worlds.{World}
+use Rattle.lam_machine_effects.specs.Serving.{serve}
+use Rattle.lam_machine_effects.specs.Turns.{is_ready}
 use Rattle.lam_machine_effects.specs.Parts.{stores_of}
 use Rattle.lam_machine_effects.specs.Room.{HasRoom}
 use Rattle.lam_machine_laws.specs.Sound.{CopiesLiving}

@@ -3,15 +3,15 @@ use Rattle.std.specs.Prelude.{◌≡◌, ℕ, ◌≤◌, IsTrue, length, Some}
 use Rattle.std.specs.FinMap.{contains_key}
 use Rattle.lam_value.specs.declared.values.Value.{Value}
 use Rattle.lam_value.specs.declared.values.Value.TheVariants.{Obj, Arr}
-use Rattle.lam_asks.specs.declared.answer.What.{What}
-use Rattle.lam_asks.specs.declared.answer.What.TheVariants.{Private, Asked}
-use Rattle.lam_asks.specs.declared.ask.Ask.{Ask}
-use Rattle.lam_asks.specs.declared.ask.Ask.TheVariants.{CopyTo}
-use Rattle.lam_bytecode.specs.Codes.{CodeTree}
-use Rattle.lam_machine_terms.specs.Limits.{most_tags, most_threads}
-use Rattle.lam_machine_terms.specs.Worlds.{World}
-use Rattle.lam_machine_terms.specs.Turns.{Moment, step}
-use Rattle.lam_machine_terms.specs.Valid.{AreSoundStores}
+use Rattle.lam_machine_effects.specs.What.{What}
+use Rattle.lam_machine_effects.specs.What.TheVariants.{Private, Asked}
+use Rattle.lam_machine_effects.specs.Ask.{Ask}
+use Rattle.lam_machine_effects.specs.Ask.TheVariants.{CopyTo}
+use Rattle.lam_machine_effects.specs.Codes.{CodeTree}
+use Rattle.lam_machine_effects.specs.Limits.{most_tags, most_threads}
+use Rattle.lam_machine_effects.specs.Worlds.{World}
+use Rattle.lam_machine_effects.specs.Turns.{Moment, step}
+use Rattle.lam_machine_effects.specs.Valid.{AreSoundStores}
 
 -- each store is sound, and there are no more tags and threads than there may be
 pub record IsSoundWorld (w : World) : Type 0 where

@@ -3,22 +3,22 @@ use Rattle.std.specs.Prelude.{◌≡◌, ◌↔◌, ℕ, List, [], ◌∷◌, �
 use Rattle.flow_labels.specs.declared.Denied.{Denied}
 use Rattle.flow_labels.specs.Flow.{public_label}
 use Rattle.flow_labels.specs.Failing.{Test, first_failing, read_test, write_test, mint_test, same_test}
-use Rattle.capabilities.specs.Changes.{change_test, covers_test}
+use Rattle.lam_machine_effects.specs.Changes.{change_test, covers_test}
 use Rattle.lam_value.specs.declared.names.Name.{Name}
 use Rattle.lam_value.specs.declared.values.Value.{Value}
 use Rattle.lam_value.specs.declared.values.Value.TheVariants.{Obj, Arr}
-use Rattle.lam_asks.specs.declared.fault.Fault.{Fault}
-use Rattle.lam_asks.specs.declared.fault.Fault.TheVariants as fault
-use Rattle.lam_asks.specs.declared.answer.Answer.TheVariants.{Refused, Failed}
-use Rattle.lam_asks.specs.declared.answer.What.TheVariants.{Asked}
-use Rattle.lam_asks.specs.declared.ask.Ask.{Ask}
-use Rattle.lam_asks.specs.declared.ask.Ask.TheVariants.{Read, Write, CopyTo, Mint, Enter, MonEnter, MakeFile, MakeDir, OpenFile, OpenDir, Remove, FileRead, FileLength, Append, Cut, MakePipe, Send, SendCaps, Receive, ReceiveCaps, Spawn, Join}
-use Rattle.lam_bytecode.specs.Codes.{CodeTree}
-use Rattle.thread_steps.specs.Threads.{Context, Thread}
-use Rattle.thread_steps.specs.Next.{with_inside, faulted}
-use Rattle.lam_machine_terms.specs.Worlds.{World, thread_at, with_thread}
-use Rattle.lam_machine_terms.specs.Serving.{publicly, serve}
-use Rattle.lam_machine_terms.specs.Turns.{Moment, step}
+use Rattle.lam_machine_effects.specs.Fault.{Fault}
+use Rattle.lam_machine_effects.specs.Fault.TheVariants as fault
+use Rattle.lam_machine_effects.specs.Answer.TheVariants.{Refused, Failed}
+use Rattle.lam_machine_effects.specs.What.TheVariants.{Asked}
+use Rattle.lam_machine_effects.specs.Ask.{Ask}
+use Rattle.lam_machine_effects.specs.Ask.TheVariants.{Read, Write, CopyTo, Mint, Enter, MonEnter, MakeFile, MakeDir, OpenFile, OpenDir, Remove, FileRead, FileLength, Append, Cut, MakePipe, Send, SendCaps, Receive, ReceiveCaps, Spawn, Join}
+use Rattle.lam_machine_effects.specs.Codes.{CodeTree}
+use Rattle.lam_machine_effects.specs.Threads.{Context, Thread}
+use Rattle.lam_machine_effects.specs.Next.{with_inside, faulted}
+use Rattle.lam_machine_effects.specs.Worlds.{World, thread_at, with_thread}
+use Rattle.lam_machine_effects.specs.Serving.{publicly, serve}
+use Rattle.lam_machine_effects.specs.Turns.{Moment, step}
 
 -- a test of the thing that a reference leads to
 abbrev pub of_thing : Value → (Name → Test) → Test

@@ -1,15 +1,15 @@
 -- A turn by its parts: what the acting thread takes, and what the effect does to the stores and the threads.
 use Rattle.std.specs.Prelude.{◌≡◌, ℕ, true, List, [], ◌∷◌, ◌++◌, Option, Some, slice_set}
-use Rattle.lam_asks.specs.declared.ask.Ask.{Ask}
-use Rattle.lam_asks.specs.declared.answer.What.TheVariants.{Private, Asked}
-use Rattle.lam_asks.specs.declared.answer.Event.{Event}
-use Rattle.lam_bytecode.specs.Codes.{CodeTree}
-use Rattle.thread_steps.specs.Threads.{Inside, Context, Thread}
-use Rattle.thread_steps.specs.Next.{next_of, goes, asks, with_inside, started, takes}
-use Rattle.lam_machine_terms.specs.Worlds.{World, thread_at, with_thread}
-use Rattle.lam_machine_terms.specs.Serves.{Made}
-use Rattle.lam_machine_terms.specs.Serving.{serve}
-use Rattle.lam_machine_terms.specs.Turns.{is_ready, step}
+use Rattle.lam_machine_effects.specs.Ask.{Ask}
+use Rattle.lam_machine_effects.specs.What.TheVariants.{Private, Asked}
+use Rattle.lam_machine_effects.specs.Event.{Event}
+use Rattle.lam_machine_effects.specs.Codes.{CodeTree}
+use Rattle.lam_machine_effects.specs.Threads.{Inside, Context, Thread}
+use Rattle.lam_machine_effects.specs.Next.{next_of, goes, asks, with_inside, started, takes}
+use Rattle.lam_machine_effects.specs.Worlds.{World, thread_at, with_thread}
+use Rattle.lam_machine_effects.specs.Serves.{Made}
+use Rattle.lam_machine_effects.specs.Serving.{serve}
+use Rattle.lam_machine_effects.specs.Turns.{is_ready, step}
 use Rattle.lam_machine_effects.specs.declared.stores.Stores.{Stores}
 use Rattle.lam_machine_effects.specs.Parts.{stores_of, world_of}
 use Rattle.lam_machine_effects.specs.declared.effect.Effect.{Effect}

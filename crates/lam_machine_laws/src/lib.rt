@@ -17,7 +17,7 @@
 mod turn_parts;
 
 ghost use Rattle.flow_labels.specs.declared.Label.{Label};
-ghost use Rattle.lam_bytecode.specs.Codes.{CodeTree};
+ghost use Rattle.lam_machine_effects.specs.Codes.{CodeTree};
 ghost use Rattle.lam_machine_laws.specs.Isolation.{ValidAreWellLabelled, StaysWellLabelled, IsIsolated, IsSteady, TwoAsksRelease};
 ghost use Rattle.lam_machine_laws.specs.Sound.{StaysSound};
 ghost use Rattle.lam_machine_laws.specs.Tests.{RefusalsNameTheFirst, RefusalsChangeNothing};

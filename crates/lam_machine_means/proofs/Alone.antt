@@ -9,7 +9,7 @@ use Rattle.lam_bytecode.specs.Codes.{CodeTree}
 use Rattle.thread_steps.specs.Threads.{Context, Thread}
 use Rattle.thread_steps.specs.Next.{next_of}
 use Rattle.lam_meaning_laws.specs.Lone.{runs, waits, work_of, done, turn_of, turn, turns}
-use Rattle.lam_machine_laws.specs.Own.{OwnTurn, OwnTurns}
+use Rattle.lam_machine_valid.specs.Own.{OwnTurn, OwnTurns}
 use Rattle.lam_machine_means.specs.Runs.{asked_in, answers_in}
 
 pub even : (did : List What) → length (asked_in did) ≡ length (answers_in did)

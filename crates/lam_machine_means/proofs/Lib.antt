@@ -11,3 +11,7 @@ pub mod Following
 pub mod Typed
 pub mod Steps
 pub mod Whole
+pub use Rattle.lam_machine_valid.proofs.GrowLemmas
+pub use Rattle.lam_machine_valid.proofs.StartLemmas
+pub use Rattle.lam_machine_valid.proofs.StoreLemmas
+pub use Rattle.lam_machine_valid.proofs.TagLemmas

@@ -16,8 +16,8 @@ use Rattle.lam_meaning_laws.specs.Lone.{runs, turn, turn_of, turns, asks_in, wor
 use Rattle.lam_meaning_laws.proofs.Turns.{turns_add}
 use Rattle.lam_meaning_laws.specs.Acts.{AreFirst, lone_in, ActsWith, ActsAs}
 use Rattle.lam_meaning_laws.proofs.Grows.{turns_grow, stays}
-use Rattle.lam_machine_terms.specs.Turns.{moments}
-use Rattle.lam_machine_laws.specs.Own.{OwnTurns, done_by}
+use Rattle.lam_machine_valid.specs.Turns.{moments}
+use Rattle.lam_machine_valid.specs.Own.{OwnTurns, done_by}
 use Rattle.lam_machine_means.specs.Runs.{asked_in, answers_in}
 use Rattle.lam_machine_means.proofs.Alone.{own_turns}
 use Rattle.lam_machine_means.proofs.Whole.{suit_in_runs}

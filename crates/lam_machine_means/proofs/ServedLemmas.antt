@@ -28,14 +28,14 @@ use Rattle.lam_asks.specs.declared.ask.Ask.TheVariants as ask
 use Rattle.lam_bytecode.specs.Codes.{CodeTree}
 use Rattle.thread_steps.specs.Threads.{Inside, Context, Thread}
 use Rattle.thread_steps.specs.Next.{Next, goes, asks, stuck, next_of, with_inside, started, result_after, takes}
-use Rattle.lam_machine_terms.specs.Worlds.{World, thread_at, result_in, result_at, with_thread}
-use Rattle.lam_machine_terms.specs.Serves.{Effect, sets_slot, adds_thing, adds_copy, adds_thread, effect_of, Served, answers, under, unless, on_thing}
-use Rattle.lam_machine_terms.specs.Serving.{slot_at, renamed, opened, received, ended_with, serve}
-use Rattle.lam_machine_terms.specs.Turns.{is_ready, Moment, goes_on, served, turn_by}
-use Rattle.lam_machine_terms.specs.Valid.{AreSoundStores}
-use Rattle.lam_machine_laws.proofs.ThreadLemmas.{some_inj}
-use Rattle.lam_machine_laws.proofs.RowLemmas.{under_by, unless_by, on_thing_by}
-use Rattle.lam_machine_laws.proofs.TurnLemmas.{acts, only}
+use Rattle.lam_machine_valid.specs.Worlds.{World, thread_at, result_in, result_at, with_thread}
+use Rattle.lam_machine_runs.specs.Serves.{Effect, sets_slot, adds_thing, adds_copy, adds_thread, effect_of, Served, answers, under, unless, on_thing}
+use Rattle.lam_machine_valid.specs.Serving.{slot_at, renamed, opened, received, ended_with, serve}
+use Rattle.lam_machine_valid.specs.Turns.{is_ready, Moment, goes_on, served, turn_by}
+use Rattle.lam_machine_valid.specs.Valid.{AreSoundStores}
+use Rattle.lam_machine_valid.proofs.ThreadLemmas.{some_inj}
+use Rattle.lam_machine_valid.proofs.LamMachineLawsRowLemmas.{under_by, unless_by, on_thing_by}
+use Rattle.lam_machine_valid.proofs.TurnLemmas.{acts, only}
 use Rattle.lam_machine_valid.specs.Laws.{LeadsTo}
 use Rattle.lam_machine_valid.proofs.NextLemmas.{followed}
 use Rattle.lam_machine_means.specs.Typing.{Thing, an_object, an_array, Typing, Extends, Classes, fields_in, slot_types, Is, Are, AreSlots}

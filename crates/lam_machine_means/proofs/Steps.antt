@@ -28,10 +28,10 @@ use Rattle.lam_meaning_laws.specs.Lone.{runs, turn, turns, asks_in, work_done, a
 use Rattle.lam_meaning_laws.proofs.Turns.{turns_add}
 use Rattle.lam_meaning_laws.specs.Acts.{AreFirst, lone_in, ActsWith, ActsAs}
 use Rattle.lam_meaning_laws.proofs.Grows.{turns_grow}
-use Rattle.lam_machine_terms.specs.Worlds.{World}
-use Rattle.lam_machine_terms.specs.Turns.{Moment, step}
-use Rattle.lam_machine_terms.specs.Valid.{AreSoundStores}
-use Rattle.lam_machine_laws.specs.Own.{OwnTurn, IsSpawned, OwnTurns}
+use Rattle.lam_machine_valid.specs.Worlds.{World}
+use Rattle.lam_machine_valid.specs.Turns.{Moment, step}
+use Rattle.lam_machine_valid.specs.Valid.{AreSoundStores}
+use Rattle.lam_machine_valid.specs.Own.{OwnTurn, IsSpawned, OwnTurns}
 use Rattle.lam_machine_means.specs.Typing.{Typing, Extends}
 use Rattle.lam_machine_means.specs.Served.{IsAsk, given_type, IsAnswer, AsksTyped, AnsweredTyped, IsTypedWorld}
 use Rattle.lam_machine_means.proofs.ServedLemmas.{typed_turns}

@@ -3,8 +3,8 @@ use Rattle.std.proofs.Common.{◌≡◌, ℕ, List, [], ◌∷◌, ◌++◌, Opt
 use Rattle.std.specs.List.{AllByRecursion}
 use Rattle.lam_bytecode.specs.Codes.{CodeTree}
 use Rattle.lam_resolve_tree.specs.Tree.{ResolvedTree}
-use Rattle.lam_machine_terms.specs.Worlds.{World}
-use Rattle.lam_machine_terms.specs.Turns.{Moment, step, and_then, moments, replay, IsRun}
+use Rattle.lam_machine_valid.specs.Worlds.{World}
+use Rattle.lam_machine_valid.specs.Turns.{Moment, step, and_then, moments, replay, IsRun}
 use Rattle.lam_machine_runs.proofs.RunLemmas.{joined_runs}
 use Rattle.lam_machine_means.specs.Meant.{NoneStuck, NoRunSticks}
 use Rattle.lam_machine_means.proofs.Meaning.{runs_mean}

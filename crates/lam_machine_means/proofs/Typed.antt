@@ -15,11 +15,11 @@ use Rattle.lam_resolve_tree.specs.Tree.{ResolvedType, ResolvedTree}
 use Rattle.lam_meaning.specs.Trees as trees
 use Rattle.lam_meaning.specs.Trees.{Tree, ends, spent, broken}
 use Rattle.lam_meaning.specs.Means.{sort_of}
-use Rattle.lam_machine_terms.specs.Worlds.{World}
-use Rattle.lam_machine_terms.specs.Turns.{is_ready, Moment, goes_on, served, turn_by, step}
-use Rattle.lam_machine_terms.specs.Serving.{serve}
-use Rattle.lam_machine_laws.proofs.ThreadLemmas.{some_inj}
-use Rattle.lam_machine_laws.proofs.TurnLemmas.{acts, only}
+use Rattle.lam_machine_valid.specs.Worlds.{World}
+use Rattle.lam_machine_valid.specs.Turns.{is_ready, Moment, goes_on, served, turn_by, step}
+use Rattle.lam_machine_valid.specs.Serving.{serve}
+use Rattle.lam_machine_valid.proofs.ThreadLemmas.{some_inj}
+use Rattle.lam_machine_valid.proofs.TurnLemmas.{acts, only}
 use Rattle.lam_machine_valid.specs.Suiting.{Joined, with_value, forbidden, without_value, Suits}
 use Rattle.lam_machine_valid.proofs.SuitLemmas.{all_suit}
 use Rattle.lam_machine_means.specs.Typing.{Typing, Extends, Classes}

@@ -14,14 +14,14 @@ use Rattle.thread_steps.specs.Next.{started}
 use Rattle.lam_resolve_tree.specs.Tree.{ResolvedTree}
 use Rattle.lam_resolve_tree.specs.Typing.{IsTypedTree}
 use Rattle.lam_meaning_laws.specs.Acts.{ActsAs}
-use Rattle.lam_machine_terms.specs.Worlds.{World, thread_at, result_in}
-use Rattle.lam_machine_terms.specs.Turns.{Moment, step, and_then, moments, left_by}
-use Rattle.lam_machine_terms.specs.Valid.{IsValid}
-use Rattle.lam_machine_laws.proofs.ThreadLemmas.{some_inj}
-use Rattle.lam_machine_laws.proofs.TurnLemmas.{turn_thread}
+use Rattle.lam_machine_valid.specs.Worlds.{World, thread_at, result_in}
+use Rattle.lam_machine_valid.specs.Turns.{Moment, step, and_then, moments, left_by}
+use Rattle.lam_machine_valid.specs.Valid.{IsValid}
+use Rattle.lam_machine_valid.proofs.ThreadLemmas.{some_inj}
+use Rattle.lam_machine_valid.proofs.TurnLemmas.{turn_thread}
 use Rattle.lam_machine_valid.proofs.WholeLemmas.{stay_valid}
-use Rattle.lam_machine_laws.specs.Own.{IsSpawned, Touches, done_by}
-use Rattle.lam_machine_laws.proofs.OwnLemmas.{touch}
+use Rattle.lam_machine_valid.specs.Own.{IsSpawned, Touches, done_by}
+use Rattle.lam_machine_valid.proofs.OwnLemmas.{touch}
 use Rattle.lam_machine_means.specs.Typing.{Typing}
 use Rattle.lam_machine_means.specs.Served.{IsNumber, IsTypedWorld}
 use Rattle.lam_machine_means.specs.Runs.{nothing_known, ThreadsStart, Began, AnswersSuitInRuns}

@@ -3,3 +3,9 @@ pub mod Typing
 pub mod Served
 pub mod Asks
 pub mod Runs
+pub use Rattle.lam_machine_valid.specs.Own
+pub use Rattle.lam_machine_valid.specs.Steps
+pub use Rattle.lam_machine_valid.specs.Turns
+pub use Rattle.lam_machine_valid.specs.Worlds
+pub use Rattle.lam_meaning_laws.specs.Acts
+pub use Rattle.lam_meaning_typed.specs.Kinds

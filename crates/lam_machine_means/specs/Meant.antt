@@ -14,10 +14,10 @@ use Rattle.lam_meaning.specs.Plays.{asks_made}
 use Rattle.lam_meaning_typed.specs.Kinds.{AreOf}
 use Rattle.lam_meaning_laws.specs.Lone.{bound}
 use Rattle.lam_meaning_laws.specs.Acts.{AreFirst, ActsAs}
-use Rattle.lam_machine_terms.specs.Worlds.{World, thread_at}
-use Rattle.lam_machine_terms.specs.Turns.{Moment, moments, replay}
-use Rattle.lam_machine_terms.specs.Valid.{IsValid}
-use Rattle.lam_machine_laws.specs.Own.{done_by}
+use Rattle.lam_machine_valid.specs.Worlds.{World, thread_at}
+use Rattle.lam_machine_valid.specs.Turns.{Moment, moments, replay}
+use Rattle.lam_machine_valid.specs.Valid.{IsValid}
+use Rattle.lam_machine_valid.specs.Own.{done_by}
 use Rattle.lam_machine_means.specs.Runs.{asked_in, answers_in, ThreadsStart, Began}
 
 -- A thread made so many turns that it has made all asks of its source with n units, or it has ended. The bound is the

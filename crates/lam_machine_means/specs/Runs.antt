@@ -19,10 +19,10 @@ use Rattle.lam_meaning.specs.Means.{means}
 use Rattle.lam_meaning.specs.Plays.{asks_of, AllFit}
 use Rattle.lam_meaning_typed.specs.Kinds.{AreOf}
 use Rattle.lam_meaning_laws.specs.Acts.{ActsAs}
-use Rattle.lam_machine_terms.specs.Worlds.{World, thread_at}
-use Rattle.lam_machine_terms.specs.Turns.{Moment, moments, replay}
-use Rattle.lam_machine_terms.specs.Valid.{IsValid}
-use Rattle.lam_machine_laws.specs.Own.{done_by, OwnTurns}
+use Rattle.lam_machine_valid.specs.Worlds.{World, thread_at}
+use Rattle.lam_machine_valid.specs.Turns.{Moment, moments, replay}
+use Rattle.lam_machine_valid.specs.Valid.{IsValid}
+use Rattle.lam_machine_valid.specs.Own.{done_by, OwnTurns}
 use Rattle.lam_machine_means.specs.Typing.{Typing}
 use Rattle.lam_machine_means.specs.Asks.{IsStart}
 

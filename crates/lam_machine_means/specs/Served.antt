@@ -18,9 +18,9 @@ use Rattle.lam_asks.specs.declared.answer.What.TheVariants.{Private, Asked}
 use Rattle.lam_asks.specs.declared.ask.Ask.{Ask}
 use Rattle.lam_asks.specs.declared.ask.Ask.TheVariants.{Read, Write, New, CopyTo, Mint, End, MakeFile, MakeDir, OpenFile, OpenDir, FileRead, FileLength, MakePipe, Receive, ReceiveCaps, Spawn}
 use Rattle.lam_bytecode.specs.Codes.{CodeTree}
-use Rattle.lam_machine_terms.specs.Worlds.{World, result_at}
-use Rattle.lam_machine_terms.specs.Turns.{Moment, step}
-use Rattle.lam_machine_terms.specs.Valid.{AreSoundStores}
+use Rattle.lam_machine_valid.specs.Worlds.{World, result_at}
+use Rattle.lam_machine_valid.specs.Turns.{Moment, step}
+use Rattle.lam_machine_valid.specs.Valid.{AreSoundStores}
 use Rattle.lam_machine_valid.specs.Laws.{LeadsTo}
 use Rattle.lam_machine_means.specs.Typing.{Thing, Typing, Extends, Classes, fields_in, slot_types, Is, AreSlots}
 

@@ -10,8 +10,8 @@ use Rattle.lam_machine_terms.specs.Worlds.{World}
 use Rattle.lam_machine_terms.specs.Turns.{Moment, step, and_then, moments, replay, IsRun}
 use Rattle.lam_machine_runs.specs.Stops.{stopped_at}
 use Rattle.lam_machine_runs.proofs.RunLemmas.{joined_runs, stopped_runs}
-use Rattle.guarded_code_runs.specs.Worlds.{IsSound}
-use Rattle.guarded_code_runs.proofs.Sound.{sound_step}
+use Rattle.lam_machine.specs.Worlds.{IsSound}
+use Rattle.lam_machine.proofs.Sound.{sound_step}
 use Rattle.lam_machine_replay.specs.Keeping.{KeptOfSoMany, TakesTurn}
 
 -- so many turns are a run, which leaves this world, and this is kept of its moments

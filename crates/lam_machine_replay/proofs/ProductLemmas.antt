@@ -24,7 +24,7 @@ use Rattle.lam_machine_terms.specs.Turns.{is_ready, Moment, served, turn_by}
 use Rattle.lam_machine_laws.proofs.ThreadLemmas.{some_inj}
 use Rattle.lam_machine_laws.proofs.RowLemmas.{under_by, unless_by, RefersTo, on_thing_by, may_release, served_proper}
 use Rattle.lam_machine_laws.proofs.TurnLemmas.{acts, only}
-use Rattle.lam_machine_valid.proofs.StoreLemmas.{there_now}
+use Rattle.lam_machine.proofs.StoreLemmas.{there_now}
 use Rattle.audit_log_notes.specs.declared.Content.TheVariants as content
 use Rattle.lam_machine_replay.specs.Told.{label_by, product_label, depth_in, depth_at, slots_under, IsToldBy, ProductsAreTold}
 

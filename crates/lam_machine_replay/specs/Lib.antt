@@ -8,3 +8,5 @@ pub mod Counted
 pub use Rattle.lam_machine.specs.Machine
 pub use Rattle.lam_machine.specs.Privately
 pub use Rattle.lam_machine.specs.Turned
+pub use Rattle.lam_machine.specs.Asking
+pub use Rattle.lam_machine.specs.Worlds

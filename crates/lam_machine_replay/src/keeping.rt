@@ -2,7 +2,7 @@
 
 ghost use Rattle.std.specs.Prelude.{◌≡◌, ◌-◌, ◌^◌, ◌<◌, List, [], None, IfOk, OnOk, IfErr};
 ghost use Rattle.lam_machine_terms.specs.Turns.{Moment, moments};
-ghost use Rattle.guarded_code_runs.specs.Worlds.{IsSound};
+ghost use Rattle.lam_machine.specs.Worlds.{IsSound};
 ghost use Rattle.lam_machine_runs.specs.Stops.{stopped_at};
 ghost use Rattle.lam_machine_replay.specs.Stops.{IsStop};
 ghost use Rattle.lam_machine_replay.specs.Keeping.{KeptOfSoMany, KeepsEvent, LeavesPrivate, TakesTurn};
@@ -10,8 +10,7 @@ ghost use Rattle.lam_machine_replay.specs.Keeping.{KeptOfSoMany, KeepsEvent, Lea
 use crate::fault::RunFault;
 use guarded_code::Verified;
 use lam_asks::Event;
-use lam_machine::{World, step, step_privately};
-use lam_machine_world::let_go_world;
+use lam_machine::{World, let_go_world, step, step_privately};
 use std::alloc::Global;
 use want_of_memory::NoMemory;
 

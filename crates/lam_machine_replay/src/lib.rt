@@ -31,7 +31,7 @@ pub use auditing::{Auditor, noted_in, taken};
 pub use counting::Counter;
 pub use fault::RunFault;
 pub use keeping::{Keeps, keep_turns};
-pub use lam_machine::World;
+pub use lam_machine::{World, step, step_privately};
 use lam_machine_laws::public_stay;
 pub use telling::{product, product_label};
 pub use viewing::{seen_by, seen_of};

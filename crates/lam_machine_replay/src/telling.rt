@@ -13,7 +13,7 @@ use capabilities::Caps;
 use flow_labels::Label;
 use labelled_heap::Heap;
 use lam_asks::{Answer, Ask, What};
-use lam_machine_world::World;
+use lam_machine::World;
 use lam_value::{Value, Values};
 use std::alloc::Global;
 use thread_core_state::listed;

@@ -10,9 +10,9 @@ use Rattle.lam_value.specs.declared.names.Name.{Name}
 use Rattle.lam_asks.specs.declared.ask.Ask.{Ask}
 use Rattle.lam_asks.specs.declared.ask.Ask.TheVariants.{Join}
 use Rattle.thread_steps.specs.Threads.{Context}
-use Rattle.lam_machine_terms.specs.Worlds.{World, result_at}
-use Rattle.lam_machine_terms.specs.Serves.{drops, does}
-use Rattle.lam_machine_terms.specs.Serving.{publicly, served_by, serve}
+use Rattle.lam_machine_effects.specs.Worlds.{World, result_at}
+use Rattle.lam_machine_effects.specs.Serves.{drops, does}
+use Rattle.lam_machine_effects.specs.Serving.{publicly, served_by, serve}
 use Rattle.lam_machine_effects.specs.declared.stores.Stores.{Stores}
 use Rattle.lam_machine_effects.specs.declared.served.Served.{Served}
 use Rattle.lam_machine_effects.specs.Meaning.{DoesAs}

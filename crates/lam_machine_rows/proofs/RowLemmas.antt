@@ -11,9 +11,9 @@ use Rattle.lam_asks.specs.declared.fault.Fault.TheVariants.{Null}
 use Rattle.lam_asks.specs.declared.answer.Answer.{Answer}
 use Rattle.lam_asks.specs.declared.answer.Answer.TheVariants.{Done, Val, Refused, Failed}
 use Rattle.thread_steps.specs.Threads.{Context}
-use Rattle.lam_machine_terms.specs.Worlds.{World}
-use Rattle.lam_machine_terms.specs.Serves as told
-use Rattle.lam_machine_terms.specs.Serves.{answers, does, gives, makes, unless_denied, under, unless, on_thing, Made}
+use Rattle.lam_machine_effects.specs.Worlds.{World}
+use Rattle.lam_machine_effects.specs.Serves as told
+use Rattle.lam_machine_effects.specs.Serves.{answers, does, gives, makes, unless_denied, under, unless, on_thing, Made}
 use Rattle.lam_machine_effects.specs.declared.served.Served.{Served}
 use Rattle.lam_machine_effects.specs.declared.effect.Effect.{Effect}
 use Rattle.lam_machine_effects.specs.declared.effect.Effect.TheVariants.{Nothing}

@@ -4,7 +4,7 @@ use Rattle.flow_labels.specs.declared.Label.{Label}
 use Rattle.capabilities.specs.declared.Caps.{Caps}
 use Rattle.lam_value.specs.declared.names.Name.{Name}
 use Rattle.thread_steps.specs.Threads.{Context}
-use Rattle.lam_machine_terms.specs.Turns.{is_bottom}
+use Rattle.lam_machine_effects.specs.Turns.{is_bottom}
 
 pub record Acting : Type 0 where
   pub label : Label

@@ -2,3 +2,12 @@ pub mod Acting
 pub mod Rows
 pub mod Serves
 pub mod Waits
+pub use Rattle.labelled_pipes.specs.Queues
+pub use Rattle.lam_machine_effects.specs.Limits
+pub use Rattle.lam_machine_effects.specs.Meaning
+pub use Rattle.lam_machine_effects.specs.Parts
+pub use Rattle.lam_machine_effects.specs.Serving
+pub use Rattle.lam_machine_effects.specs.Turns
+pub use Rattle.lam_machine_effects.specs.Worlds
+pub use Rattle.lam_machine_effects.specs.declared.served.Served
+pub use Rattle.lam_machine_effects.specs.declared.stores.Stores

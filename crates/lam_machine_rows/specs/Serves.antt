@@ -4,7 +4,7 @@ use Rattle.lam_asks.specs.declared.answer.Outcome.{Outcome}
 use Rattle.lam_asks.specs.declared.ask.Ask.{Ask}
 use Rattle.lam_asks.specs.declared.ask.Ask.TheVariants.{Join}
 use Rattle.thread_steps.specs.Threads.{Context}
-use Rattle.lam_machine_terms.specs.Worlds.{World, result_at}
+use Rattle.lam_machine_effects.specs.Worlds.{World, result_at}
 use Rattle.lam_machine_effects.specs.declared.stores.Stores.{Stores}
 use Rattle.lam_machine_effects.specs.Parts.{stores_of}
 use Rattle.lam_machine_rows.specs.Acting.{Acting, acting_of}

@@ -4,8 +4,8 @@ use Rattle.monitor_core.specs.Held.{Held}
 use Rattle.lam_asks.specs.declared.ask.Ask.{Ask}
 use Rattle.lam_asks.specs.declared.ask.Ask.TheVariants.{Join}
 use Rattle.thread_steps.specs.Threads.{Context}
-use Rattle.lam_machine_terms.specs.Worlds.{World, thread_at}
-use Rattle.lam_machine_terms.specs.Turns.{is_living, is_ready}
+use Rattle.lam_machine_effects.specs.Worlds.{World, thread_at}
+use Rattle.lam_machine_effects.specs.Turns.{is_living, is_ready}
 use Rattle.lam_machine_rows.specs.Acting.{Acting, acting_of}
 
 -- whether the thread lives that an ask joins

@@ -6,7 +6,7 @@ ghost use Rattle.capabilities.specs.Changes.{joined};
 ghost use Rattle.labelled_files.specs.Trees as tree;
 ghost use Rattle.labelled_files.specs.Trees.{target_at, next_name};
 ghost use Rattle.lam_asks.specs.declared.ask.Ask.TheVariants as Ask;
-ghost use Rattle.lam_machine_terms.specs.Serving.{fault_of, file_faults, absent};
+ghost use Rattle.lam_machine_effects.specs.Serving.{fault_of, file_faults, absent};
 ghost use Rattle.lam_machine_rows.specs.Rows.{Serves, any_world, at_label, acting_by, with_files};
 
 use crate::rules::{entry_rule, remove_rule};

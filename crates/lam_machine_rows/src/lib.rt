@@ -25,5 +25,6 @@ mod things;
 mod waiting;
 
 pub use acting::Acting;
+pub use lam_machine_effects::{Served, Stores};
 pub use rows::serve;
 pub use waiting::is_ready;

@@ -4,7 +4,7 @@ ghost use Rattle.std.specs.Prelude.{◌≡◌, IfOk};
 ghost use Rattle.std.specs.Option.{option_copied};
 ghost use Rattle.capabilities.specs.Changes.{joined};
 ghost use Rattle.lam_asks.specs.declared.ask.Ask.TheVariants as Ask;
-ghost use Rattle.lam_machine_terms.specs.Serving.{received};
+ghost use Rattle.lam_machine_effects.specs.Serving.{received};
 ghost use Rattle.lam_machine_rows.specs.Rows.{Serves, any_world, at_label, acting_by, with_pipes};
 
 use crate::rules::{full, make_rule, send_rule};

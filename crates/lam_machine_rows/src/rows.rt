@@ -3,8 +3,8 @@
 ghost use Rattle.std.specs.Prelude.{IfOk};
 ghost use Rattle.std.specs.Option.{option_copied};
 ghost use Rattle.thread_steps.specs.Threads.{Context};
-ghost use Rattle.lam_machine_terms.specs.Worlds.{World};
-ghost use Rattle.lam_machine_terms.specs.Serving.{serve};
+ghost use Rattle.lam_machine_effects.specs.Worlds.{World};
+ghost use Rattle.lam_machine_effects.specs.Serving.{serve};
 ghost use Rattle.lam_machine_effects.specs.Meaning.{DoesAs};
 ghost use Rattle.lam_machine_rows.specs.Serves.{ReadsWorld};
 

@@ -7,7 +7,7 @@ ghost use Rattle.std.specs.Option.{option_copied};
 ghost use Rattle.flow_labels.specs.Flow.{public_label};
 ghost use Rattle.flow_labels.specs.Failing.{first_failing, read_test, write_test, same_test};
 ghost use Rattle.capabilities.specs.Changes.{joined, change_test, covers_test};
-ghost use Rattle.lam_machine_terms.specs.Serves.{full};
+ghost use Rattle.lam_machine_effects.specs.Serves.{full};
 ghost use Rattle.lam_machine_rows.specs.Rows.{thing_of};
 
 use capabilities::Caps;

@@ -3,7 +3,7 @@
 //! A row moves its effect here, so that it has nothing left to let go of where there was no memory.
 
 ghost use Rattle.std.specs.Prelude.{◌≡◌, IfOk};
-ghost use Rattle.lam_machine_terms.specs.Serves as told;
+ghost use Rattle.lam_machine_effects.specs.Serves as told;
 ghost use Rattle.lam_machine_effects.specs.Meaning.{meaning, DoesAs};
 
 use lam_machine_effects::{Effect, Served};

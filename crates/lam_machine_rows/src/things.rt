@@ -3,7 +3,7 @@
 ghost use Rattle.std.specs.Prelude.{◌≡◌, IfOk};
 ghost use Rattle.capabilities.specs.Changes.{joined};
 ghost use Rattle.lam_asks.specs.declared.ask.Ask.TheVariants as Ask;
-ghost use Rattle.lam_machine_terms.specs.Serving.{slot_at, reference, renamed};
+ghost use Rattle.lam_machine_effects.specs.Serving.{slot_at, reference, renamed};
 ghost use Rattle.lam_machine_rows.specs.Rows.{Serves, any_world, any_context, at_label, acting_by, with_heap, with_monitors};
 
 use crate::rules::{copy_rule, full, thing_of};

@@ -2,8 +2,8 @@
 
 ghost use Rattle.std.specs.Prelude.{◌≡◌};
 ghost use Rattle.thread_steps.specs.Threads.{Context};
-ghost use Rattle.lam_machine_terms.specs.Worlds.{World};
-ghost use Rattle.lam_machine_terms.specs.Turns as turns;
+ghost use Rattle.lam_machine_effects.specs.Worlds.{World};
+ghost use Rattle.lam_machine_effects.specs.Turns as turns;
 ghost use Rattle.thread_steps.specs.Ops as ops;
 ghost use Rattle.lam_machine_rows.specs.Acting.{acting_of};
 ghost use Rattle.lam_machine_rows.specs.Rows.{with_monitors, at_label};

@@ -1,9 +1,9 @@
 -- No run of a valid start ends in two ways.
 use Rattle.std.proofs.Common.{◌≡◌, ℕ, Bool, true, false, List, [], ◌∷◌, Option, Some, None, refl, sym, ap, ◌∙◌}
 use Rattle.std.specs.Prelude.{is_none, is_some}
-use Rattle.lam_asks.specs.declared.answer.Outcome.{Outcome}
-use Rattle.lam_bytecode.specs.Codes.{CodeTree}
-use Rattle.thread_steps.specs.Threads.{Context, Thread}
+use Rattle.lam_machine_terms.specs.Outcome.{Outcome}
+use Rattle.lam_machine_terms.specs.Codes.{CodeTree}
+use Rattle.lam_machine_terms.specs.Threads.{Context, Thread}
 use Rattle.lam_machine_terms.specs.Worlds.{World, thread_at}
 use Rattle.lam_machine_terms.specs.Turns.{Moment, is_living, turn_on, turn_in, step, ready, IsDone, AllWait}
 use Rattle.lam_machine_terms.specs.Valid.{has_contexts, IsValid}

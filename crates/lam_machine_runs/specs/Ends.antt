@@ -1,6 +1,6 @@
 -- How runs end.
 use Rattle.std.specs.Prelude.{◌≡◌, ◌≤◌, ℕ, true, false, List, length}
-use Rattle.lam_bytecode.specs.Codes.{CodeTree}
+use Rattle.lam_machine_terms.specs.Codes.{CodeTree}
 use Rattle.lam_machine_terms.specs.Worlds.{World}
 use Rattle.lam_machine_terms.specs.Turns as turns
 use Rattle.lam_machine_terms.specs.Valid.{IsValid}

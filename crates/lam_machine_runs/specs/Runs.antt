@@ -1,6 +1,6 @@
 -- Runs turn by turn.
 use Rattle.std.specs.Prelude.{◌≡◌, ◌⊎◌, ◌↔◌, ℕ, false, List, [], ◌∷◌, ◌++◌, length, take, Some, slice_get}
-use Rattle.lam_bytecode.specs.Codes.{CodeTree}
+use Rattle.lam_machine_terms.specs.Codes.{CodeTree}
 use Rattle.lam_machine_terms.specs.Worlds.{World}
 use Rattle.lam_machine_terms.specs.Turns.{Moment, step, ready, moments, replay, IsRun}
 

@@ -1,7 +1,7 @@
 -- Where turns stop to be a run.
 use Rattle.std.specs.Prelude.{ℕ, List, length, Option, slice_get}
 use Rattle.std.specs.Option.{option_map}
-use Rattle.lam_bytecode.specs.Codes.{CodeTree}
+use Rattle.lam_machine_terms.specs.Codes.{CodeTree}
 use Rattle.lam_machine_terms.specs.Worlds.{World}
 use Rattle.lam_machine_terms.specs.Turns.{moments}
 

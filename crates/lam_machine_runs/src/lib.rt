@@ -5,7 +5,7 @@
 //! or a budget of turns is used up: the workers that take the turns (`thread_host`) and the plan of a call speak of that.
 #![tactic(auto)]
 
-ghost use Rattle.lam_bytecode.specs.Codes.{CodeTree};
+ghost use Rattle.lam_machine_terms.specs.Codes.{CodeTree};
 ghost use Rattle.lam_machine_runs.specs.Ends.{EndsAreOne};
 ghost use Rattle.lam_machine_runs.specs.Runs.{RunsJoin, RunsStop};
 

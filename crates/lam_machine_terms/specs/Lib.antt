@@ -6,3 +6,25 @@ pub mod Turns
 pub mod Views
 pub mod Valid
 pub use Rattle.thread_steps.specs.Threads
+pub use Rattle.labelled_files.specs.Trees
+pub use Rattle.labelled_heap.specs.Things
+pub use Rattle.labelled_heap.specs.declared.heap.Sort
+pub use Rattle.labelled_pipes.specs.Caps
+pub use Rattle.labelled_pipes.specs.Changes
+pub use Rattle.labelled_pipes.specs.Messages
+pub use Rattle.labelled_pipes.specs.Queues
+pub use Rattle.labelled_pipes.specs.declared.message.Message
+pub use Rattle.labelled_pipes.specs.declared.message.MessageKind
+pub use Rattle.monitor_core.specs.Held
+pub use Rattle.monitor_core.specs.declared.Holder
+pub use Rattle.thread_steps.specs.Answer
+pub use Rattle.thread_steps.specs.Ask
+pub use Rattle.thread_steps.specs.Codes
+pub use Rattle.thread_steps.specs.Equal
+pub use Rattle.thread_steps.specs.Event
+pub use Rattle.thread_steps.specs.Fault
+pub use Rattle.thread_steps.specs.Limits as ThreadStepsLimits
+pub use Rattle.thread_steps.specs.Next
+pub use Rattle.thread_steps.specs.Ops
+pub use Rattle.thread_steps.specs.Outcome
+pub use Rattle.thread_steps.specs.What

@@ -1,14 +1,14 @@
 -- What an ask is served by: an answer, what happens to one store, and what is made.
 use Rattle.std.specs.Prelude.{ℕ, ◌+◌, List, [], ◌∷◌, ◌++◌, Option, Some, None, nat_lt, if◌then◌else◌}
-use Rattle.flow_labels.specs.declared.Label.{Label}
-use Rattle.flow_labels.specs.declared.Denied.{Denied}
-use Rattle.flow_labels.specs.Flow.{public_label}
-use Rattle.flow_labels.specs.Failing.{Test, first_failing}
-use Rattle.capabilities.specs.declared.Caps.{Caps}
-use Rattle.lam_value.specs.declared.names.Name.{Name}
-use Rattle.lam_value.specs.declared.values.Value.{Value}
-use Rattle.lam_value.specs.declared.values.Value.TheVariants.{Obj, Arr}
-use Rattle.lam_value.specs.Homes.{Home}
+use Rattle.labelled_heap.specs.Label.{Label}
+use Rattle.labelled_pipes.specs.Denied.{Denied}
+use Rattle.labelled_heap.specs.Flow.{public_label}
+use Rattle.labelled_pipes.specs.Failing.{Test, first_failing}
+use Rattle.labelled_pipes.specs.Caps.{Caps}
+use Rattle.labelled_files.specs.Name.{Name}
+use Rattle.thread_steps.specs.Value.{Value}
+use Rattle.thread_steps.specs.Value.TheVariants.{Obj, Arr}
+use Rattle.labelled_files.specs.Homes.{Home}
 use Rattle.labelled_heap.specs.declared.heap.Sort.{Sort}
 use Rattle.labelled_heap.specs.Things.{with_slot, with_thing, with_copy}
 use Rattle.monitor_core.specs.Held.{entered, left, dropped}
@@ -16,10 +16,10 @@ use Rattle.labelled_files.specs.Trees.{with_file, with_dir, without_entry, with_
 use Rattle.labelled_pipes.specs.declared.message.Message.{Message}
 use Rattle.labelled_pipes.specs.declared.message.MessageKind.{MessageKind}
 use Rattle.labelled_pipes.specs.Queues.{with_pipe, with_sent, with_received}
-use Rattle.lam_asks.specs.declared.fault.Fault.{Fault}
-use Rattle.lam_asks.specs.declared.fault.Fault.TheVariants.{Null}
-use Rattle.lam_asks.specs.declared.answer.Answer.{Answer}
-use Rattle.lam_asks.specs.declared.answer.Answer.TheVariants.{Done, Val, Refused, Failed}
+use Rattle.thread_steps.specs.Fault.{Fault}
+use Rattle.thread_steps.specs.Fault.TheVariants.{Null}
+use Rattle.thread_steps.specs.Answer.{Answer}
+use Rattle.thread_steps.specs.Answer.TheVariants.{Done, Val, Refused, Failed}
 use Rattle.thread_steps.specs.Codes.{CodeTree}
 use Rattle.thread_steps.specs.Next.{started}
 use Rattle.lam_machine_terms.specs.Worlds.{World}

@@ -1,16 +1,16 @@
 -- What each ask does, one clause for each: its tests in their order, its fault, its effect and its answer.
 use Rattle.std.specs.Prelude.{ℕ, pos, ◌+◌, ◌++◌, List, length, take, drop, Option, Some, None, unwrap_or, slice_get}
-use Rattle.flow_labels.specs.Flow.{public_label}
-use Rattle.flow_labels.specs.Failing.{read_test, write_test, mint_test, same_test}
-use Rattle.capabilities.specs.declared.Caps.{Caps}
-use Rattle.capabilities.specs.Changes.{joined, change_test, covers_test}
-use Rattle.lam_value.specs.declared.names.Name.{Name}
-use Rattle.lam_value.specs.declared.values.Value.{Value}
-use Rattle.lam_value.specs.declared.values.Value.TheVariants.{Int, Bytes, Nothing, Obj, Arr, File, Dir, Pipe, Thread, Tag, CapV}
-use Rattle.lam_value.specs.declared.shapes.Shape.{Shape}
-use Rattle.lam_value.specs.declared.shapes.Shape.TheVariants.{Class, Array}
-use Rattle.lam_value.specs.Shapes.{slots_of}
-use Rattle.lam_value.specs.Homes.{Home, home_of, name_of, count_in}
+use Rattle.labelled_heap.specs.Flow.{public_label}
+use Rattle.labelled_pipes.specs.Failing.{read_test, write_test, mint_test, same_test}
+use Rattle.labelled_pipes.specs.Caps.{Caps}
+use Rattle.labelled_pipes.specs.Changes.{joined, change_test, covers_test}
+use Rattle.labelled_files.specs.Name.{Name}
+use Rattle.thread_steps.specs.Value.{Value}
+use Rattle.thread_steps.specs.Value.TheVariants.{Int, Bytes, Nothing, Obj, Arr, File, Dir, Pipe, Thread, Tag, CapV}
+use Rattle.labelled_heap.specs.Shape.{Shape}
+use Rattle.labelled_heap.specs.Shape.TheVariants.{Class, Array}
+use Rattle.labelled_heap.specs.Shapes.{slots_of}
+use Rattle.labelled_files.specs.Homes.{Home, home_of, name_of, count_in}
 use Rattle.labelled_heap.specs.Things.{Things, most_things, slots_at, sort_of}
 use Rattle.monitor_core.specs.Held.{takings, most_takings}
 use Rattle.labelled_files.specs.declared.directory.Target.{Target}
@@ -24,14 +24,14 @@ use Rattle.labelled_pipes.specs.declared.message.Message.TheVariants as message
 use Rattle.labelled_pipes.specs.declared.message.MessageKind.TheVariants as sort_of_message
 use Rattle.labelled_pipes.specs.Messages.{front_of}
 use Rattle.labelled_pipes.specs.Queues.{most_pipes, waiting_at}
-use Rattle.lam_asks.specs.declared.fault.Fault.{Fault}
-use Rattle.lam_asks.specs.declared.fault.Fault.TheVariants.{Deep, HomeFull, Exists, NoEntry, DirFull, BadName, Child}
-use Rattle.lam_asks.specs.declared.answer.Outcome.{Outcome}
-use Rattle.lam_asks.specs.declared.answer.Outcome.TheVariants as outcome
-use Rattle.lam_asks.specs.declared.answer.Answer.{Answer}
-use Rattle.lam_asks.specs.declared.answer.Answer.TheVariants.{Done, Entered, Val, Failed}
-use Rattle.lam_asks.specs.declared.ask.Ask.{Ask}
-use Rattle.lam_asks.specs.declared.ask.Ask.TheVariants.{Read, Write, New, CopyTo, Mint, Enter, Leave, Barred, Caught, Suppressed, MonEnter, MonLeave, MakeFile, MakeDir, OpenFile, OpenDir, Remove, FileRead, FileLength, Append, Cut, MakePipe, Send, SendCaps, Receive, ReceiveCaps, Spawn, Join, Say, End}
+use Rattle.thread_steps.specs.Fault.{Fault}
+use Rattle.thread_steps.specs.Fault.TheVariants.{Deep, HomeFull, Exists, NoEntry, DirFull, BadName, Child}
+use Rattle.thread_steps.specs.Outcome.{Outcome}
+use Rattle.thread_steps.specs.Outcome.TheVariants as outcome
+use Rattle.thread_steps.specs.Answer.{Answer}
+use Rattle.thread_steps.specs.Answer.TheVariants.{Done, Entered, Val, Failed}
+use Rattle.thread_steps.specs.Ask.{Ask}
+use Rattle.thread_steps.specs.Ask.TheVariants.{Read, Write, New, CopyTo, Mint, Enter, Leave, Barred, Caught, Suppressed, MonEnter, MonLeave, MakeFile, MakeDir, OpenFile, OpenDir, Remove, FileRead, FileLength, Append, Cut, MakePipe, Send, SendCaps, Receive, ReceiveCaps, Spawn, Join, Say, End}
 use Rattle.thread_steps.specs.Limits.{depth_limit}
 use Rattle.thread_steps.specs.Threads.{Context}
 use Rattle.lam_machine_terms.specs.Limits.{most_tags, most_threads}

@@ -1,17 +1,17 @@
 -- One turn of a thread, runs, and their replay.
 use Rattle.std.specs.Prelude.{◌≡◌, ℕ, Bool, true, false, not, ◌&&◌, List, [], ◌∷◌, Option, Some, None, is_none, is_some, if◌then◌else◌}
-use Rattle.flow_labels.specs.declared.Label.{Label}
-use Rattle.flow_labels.specs.Flow.{public_label}
-use Rattle.flow_labels.specs.Failing.{first_failing, read_test, same_test}
-use Rattle.lam_value.specs.declared.names.Name.{Name}
-use Rattle.lam_value.specs.declared.values.Value.{Value}
-use Rattle.lam_value.specs.declared.values.Value.TheVariants.{Obj, Arr}
+use Rattle.labelled_heap.specs.Label.{Label}
+use Rattle.labelled_heap.specs.Flow.{public_label}
+use Rattle.labelled_pipes.specs.Failing.{first_failing, read_test, same_test}
+use Rattle.labelled_files.specs.Name.{Name}
+use Rattle.thread_steps.specs.Value.{Value}
+use Rattle.thread_steps.specs.Value.TheVariants.{Obj, Arr}
 use Rattle.monitor_core.specs.Held.{is_free}
-use Rattle.lam_asks.specs.declared.ask.Ask.{Ask}
-use Rattle.lam_asks.specs.declared.ask.Ask.TheVariants.{Leave, MonEnter, MonLeave, Join, End}
-use Rattle.lam_asks.specs.declared.answer.What.{What}
-use Rattle.lam_asks.specs.declared.answer.What.TheVariants.{Private, Asked}
-use Rattle.lam_asks.specs.declared.answer.Event.{Event}
+use Rattle.thread_steps.specs.Ask.{Ask}
+use Rattle.thread_steps.specs.Ask.TheVariants.{Leave, MonEnter, MonLeave, Join, End}
+use Rattle.thread_steps.specs.What.{What}
+use Rattle.thread_steps.specs.What.TheVariants.{Private, Asked}
+use Rattle.thread_steps.specs.Event.{Event}
 use Rattle.thread_steps.specs.Codes.{CodeTree}
 use Rattle.thread_steps.specs.Threads.{Inside, Phase, Bottom, Body, Catch, Context, Thread}
 use Rattle.thread_steps.specs.Ops.{is_held}

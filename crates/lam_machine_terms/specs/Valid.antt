@@ -4,15 +4,15 @@ use Rattle.std.specs.Prelude.{◌≡◌, ℕ, ◌+◌, ◌<◌, ◌≤◌, IsTru
 use Rattle.std.specs.List.{AllByRecursion}
 use Rattle.std.specs.FinMap.{FinMap, get, contains_key}
 use Rattle.std.specs.FinSet.{contains}
-use Rattle.flow_labels.specs.Tags.{Tags}
-use Rattle.flow_labels.specs.declared.Label.{Label}
-use Rattle.flow_labels.specs.Flow.{public_label}
-use Rattle.capabilities.specs.declared.Caps.{Caps}
-use Rattle.lam_value.specs.declared.names.Name.{Name}
-use Rattle.lam_value.specs.Names.{name_cmp}
-use Rattle.lam_value.specs.Homes.{Home, Counts}
-use Rattle.lam_value.specs.declared.values.Value.{Value}
-use Rattle.lam_value.specs.declared.values.Value.TheVariants.{Int, Bool as Truth, Bytes, Nothing, Obj, Arr, File, Dir, Pipe, Thread, Tag, Lab, CapV}
+use Rattle.labelled_heap.specs.Tags.{Tags}
+use Rattle.labelled_heap.specs.Label.{Label}
+use Rattle.labelled_heap.specs.Flow.{public_label}
+use Rattle.labelled_pipes.specs.Caps.{Caps}
+use Rattle.labelled_files.specs.Name.{Name}
+use Rattle.labelled_heap.specs.Names.{name_cmp}
+use Rattle.labelled_files.specs.Homes.{Home, Counts}
+use Rattle.thread_steps.specs.Value.{Value}
+use Rattle.thread_steps.specs.Value.TheVariants.{Int, Bool as Truth, Bytes, Nothing, Obj, Arr, File, Dir, Pipe, Thread, Tag, Lab, CapV}
 use Rattle.labelled_heap.specs.Things as heap
 use Rattle.labelled_heap.specs.Things.{slots_at}
 use Rattle.monitor_core.specs.Held as monitors
@@ -25,8 +25,8 @@ use Rattle.labelled_files.specs.declared.directory.EntryKind.TheVariants as kind
 use Rattle.labelled_pipes.specs.declared.message.Message.{Message}
 use Rattle.labelled_pipes.specs.declared.message.Message.TheVariants as message
 use Rattle.labelled_pipes.specs.Queues as pipes
-use Rattle.lam_asks.specs.declared.answer.Outcome.{Outcome}
-use Rattle.lam_asks.specs.declared.answer.Outcome.TheVariants as outcome
+use Rattle.thread_steps.specs.Outcome.{Outcome}
+use Rattle.thread_steps.specs.Outcome.TheVariants as outcome
 use Rattle.thread_steps.specs.Threads.{Frame, Bottom, Context}
 use Rattle.thread_steps.specs.Threads as threads
 use Rattle.lam_machine_terms.specs.Limits.{most_tags, most_threads}

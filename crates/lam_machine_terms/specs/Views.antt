@@ -1,19 +1,19 @@
 -- What an observer sees of a world and of a run.
 use Rattle.std.specs.Prelude.{◌≡◌, ℕ, Bool, false, cond, not, ◌&&◌, ◌||◌, List, ◌∷◌, map, length, filter, Option, Some, None}
 use Rattle.std.specs.FinMap.{FinMap, retain_keys}
-use Rattle.flow_labels.specs.declared.Label.{Label}
-use Rattle.flow_labels.specs.Flow.{flows, seen, public_label}
-use Rattle.capabilities.specs.declared.Caps.{Caps}
-use Rattle.capabilities.specs.Changes.{used}
-use Rattle.lam_value.specs.declared.values.Value.{Value}
-use Rattle.lam_value.specs.declared.names.Name.{Name}
-use Rattle.lam_value.specs.Names.{name_cmp}
-use Rattle.lam_value.specs.Homes.{Home, Counts, count_in}
+use Rattle.labelled_heap.specs.Label.{Label}
+use Rattle.labelled_heap.specs.Flow.{flows, seen, public_label}
+use Rattle.labelled_pipes.specs.Caps.{Caps}
+use Rattle.labelled_pipes.specs.Changes.{used}
+use Rattle.thread_steps.specs.Value.{Value}
+use Rattle.labelled_files.specs.Name.{Name}
+use Rattle.labelled_heap.specs.Names.{name_cmp}
+use Rattle.labelled_files.specs.Homes.{Home, Counts, count_in}
 use Rattle.monitor_core.specs.Held.{Held}
 use Rattle.labelled_files.specs.Entries.{Entries}
 use Rattle.labelled_pipes.specs.declared.message.Message.{Message}
-use Rattle.lam_asks.specs.declared.answer.Outcome.{Outcome}
-use Rattle.lam_asks.specs.declared.answer.Event.{Event}
+use Rattle.thread_steps.specs.Outcome.{Outcome}
+use Rattle.thread_steps.specs.Event.{Event}
 use Rattle.thread_steps.specs.Threads.{Context}
 use Rattle.lam_machine_terms.specs.Worlds.{World, contexts_at, result_at}
 use Rattle.lam_machine_terms.specs.Serves.{Made, made_label}

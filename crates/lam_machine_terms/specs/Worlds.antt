@@ -1,11 +1,11 @@
 -- Worlds: what the stores are seen as, and the threads.
 use Rattle.std.specs.Prelude.{ℕ, List, [], Option, Some, None, slice_get, slice_set}
-use Rattle.capabilities.specs.declared.Caps.{Caps}
+use Rattle.labelled_pipes.specs.Caps.{Caps}
 use Rattle.labelled_heap.specs.Things.{Things}
 use Rattle.monitor_core.specs.Held.{Held}
 use Rattle.labelled_files.specs.Trees.{Tree}
 use Rattle.labelled_pipes.specs.Queues.{Queues}
-use Rattle.lam_asks.specs.declared.answer.Outcome.{Outcome}
+use Rattle.thread_steps.specs.Outcome.{Outcome}
 use Rattle.thread_steps.specs.Threads.{Context, Thread}
 
 pub record World : Type 0 where

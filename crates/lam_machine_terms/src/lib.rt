@@ -7,3 +7,9 @@
 //!
 //! What an answer does to the acting thread is by definition what `thread_steps` says that it does.
 #![tactic(auto)]
+
+pub use labelled_files::{FileFault, Files};
+pub use labelled_heap::{Heap, HeapFault};
+pub use labelled_pipes::{Message, MessageKind, PipeFault, Pipes};
+pub use monitor_core::Monitors;
+pub use thread_steps::{Answer, Caps, Fault, both};

@@ -7,9 +7,9 @@ use Rattle.lam_asks.specs.declared.fault.Fault.{Fault}
 use Rattle.lam_asks.specs.declared.ask.Ask.{Ask}
 use Rattle.lam_asks.specs.declared.ask.Ask.TheVariants as ask
 use Rattle.thread_steps.specs.Threads.{Context}
-use Rattle.lam_machine_terms.specs.Worlds.{World}
-use Rattle.lam_machine_terms.specs.Serves.{Served, unless_denied, under, unless}
-use Rattle.lam_machine_terms.specs.Serving.{publicly, serve}
+use Rattle.lam_machine_laws.specs.Worlds.{World}
+use Rattle.lam_machine_laws.specs.Serves.{Served, unless_denied, under, unless}
+use Rattle.lam_machine_laws.specs.Serving.{publicly, serve}
 use Rattle.lam_machine_laws.specs.Tests.{tests_of}
 use Rattle.lam_machine_laws.specs.Judged.{fault_by, judged, deed_by}
 use Rattle.lam_machine_laws.proofs.JudgedLemmas.{are_judged}

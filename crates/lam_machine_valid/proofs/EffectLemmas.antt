@@ -25,7 +25,7 @@ use Rattle.thread_steps.specs.Builtins as builtins
 use Rattle.thread_steps.specs.Builtins.{Calls, now, asks, acts, byte_now, byte_at, slice_at, number_in, own_label, copied, read_from, cut_to, builtin}
 use Rattle.thread_steps.specs.Ops.{Did, calls, fails, wants, on_any, on_int, on_truth, on_many, on_thing, on_caps, on_label, operated, between, before, unless_denied, barrier, may_read, may_write, within, gets_field, puts_field, gets_element, puts_element, new_object, new_array, on_known, called, is_held, monitor_of, on_constant, at_address, Around, effect}
 use Rattle.thread_steps.specs.Limits.{frames_limit}
-use Rattle.lam_machine_terms.specs.Turns.{lists}
+use Rattle.lam_machine_laws.specs.Turns.{lists}
 use Rattle.lam_machine_valid.specs.Laws.{IsTop, IsBarred, LeadsTo, IsRead, IsWritten}
 
 abbrev pub IsThing : Value → Type 0

@@ -15,9 +15,9 @@ use Rattle.lam_asks.specs.declared.ask.Ask.TheVariants as ask
 use Rattle.lam_bytecode.specs.Codes.{CodeTree}
 use Rattle.thread_steps.specs.Threads.{Inside, Context, Thread}
 use Rattle.thread_steps.specs.Next.{asks, past, next_of}
-use Rattle.lam_machine_terms.specs.Worlds.{World, thread_at, contexts_in, contexts_at}
-use Rattle.lam_machine_terms.specs.Serving.{publicly, serve}
-use Rattle.lam_machine_terms.specs.Turns.{may_ask, is_taken, is_living, waits, served, turn_by, turn_on, turn_in, step}
+use Rattle.lam_machine_laws.specs.Worlds.{World, thread_at, contexts_in, contexts_at}
+use Rattle.lam_machine_laws.specs.Serving.{publicly, serve}
+use Rattle.lam_machine_laws.specs.Turns.{may_ask, is_taken, is_living, waits, served, turn_by, turn_on, turn_in, step}
 use Rattle.lam_machine_valid.proofs.NextLemmas.{what_it_may, barred_at}
 use Rattle.lam_machine_laws.specs.Tests.{tests_of}
 use Rattle.lam_machine_laws.specs.Judged.{fault_by}

@@ -4,10 +4,10 @@ use Rattle.std.specs.Prelude.{is_some, is_none, not}
 use Rattle.thread_steps.specs.Threads.{Phase, Bottom, Body, Catch, Context, Thread}
 use Rattle.thread_core_state.specs.Stacked as in_code
 use Rattle.thread_core_state.specs.Stacked.{IsThread}
-use Rattle.lam_machine_terms.specs.Worlds.{World, thread_at}
-use Rattle.lam_machine_terms.specs.Turns as in_turns
-use Rattle.lam_machine_terms.specs.Valid as in_worlds
-use Rattle.lam_machine_terms.specs.Valid.{IsValid}
+use Rattle.lam_machine_laws.specs.Worlds.{World, thread_at}
+use Rattle.lam_machine_laws.specs.Turns as in_turns
+use Rattle.lam_machine_laws.specs.Valid as in_worlds
+use Rattle.lam_machine_laws.specs.Valid.{IsValid}
 use Rattle.lam_machine_valid.specs.Threads.{ValidThreadsAreThreads}
 
 same_bottom : (p : Phase) → in_turns.is_bottom p ≡ in_code.is_bottom p

@@ -26,11 +26,11 @@ use Rattle.lam_bytecode.specs.Codes.{CodeTree}
 use Rattle.thread_steps.specs.Threads.{Context}
 use Rattle.thread_steps.specs.Threads as threads
 use Rattle.thread_steps.specs.Next.{Next, goes, asks, stuck, next_of, started, takes}
-use Rattle.lam_machine_terms.specs.Worlds.{World, with_thread}
-use Rattle.lam_machine_terms.specs.Serves.{Effect, nothing, takes_tag, sets_slot, adds_thing, adds_copy, takes_monitor, gives_back, drops, adds_file, adds_dir, removes, appends, cuts, adds_pipe, sends, receives, adds_thread, effect_of}
-use Rattle.lam_machine_terms.specs.Serving.{serve}
-use Rattle.lam_machine_terms.specs.Turns.{is_ready, Moment, goes_on, served, turn_by}
-use Rattle.lam_machine_terms.specs.Valid.{AreBelow, IsKnown, IsKnownName, Lives, AreSoundStores}
+use Rattle.lam_machine_laws.specs.Worlds.{World, with_thread}
+use Rattle.lam_machine_laws.specs.Serves.{Effect, nothing, takes_tag, sets_slot, adds_thing, adds_copy, takes_monitor, gives_back, drops, adds_file, adds_dir, removes, appends, cuts, adds_pipe, sends, receives, adds_thread, effect_of}
+use Rattle.lam_machine_laws.specs.Serving.{serve}
+use Rattle.lam_machine_laws.specs.Turns.{is_ready, Moment, goes_on, served, turn_by}
+use Rattle.lam_machine_laws.specs.Valid.{AreBelow, IsKnown, IsKnownName, Lives, AreSoundStores}
 use Rattle.lam_machine_laws.proofs.ThreadLemmas.{some_inj}
 use Rattle.lam_machine_laws.proofs.TurnLemmas.{acts, only}
 use Rattle.lam_machine_valid.specs.Living.{LivingGoOn}

@@ -15,9 +15,9 @@ use Rattle.monitor_core.specs.Held.{Held, held_by, is_free_of, is_free, count_of
 use Rattle.thread_steps.specs.Threads.{Context}
 use Rattle.thread_steps.specs.Ops.{is_held}
 use Rattle.thread_steps.specs.Next.{without}
-use Rattle.lam_machine_terms.specs.Worlds.{World}
-use Rattle.lam_machine_terms.specs.Serves.{Effect, nothing, takes_tag, sets_slot, adds_thing, adds_copy, takes_monitor, gives_back, drops, adds_file, adds_dir, removes, appends, cuts, adds_pipe, sends, receives, adds_thread}
-use Rattle.lam_machine_terms.specs.Valid.{IsKnown, AreKnown, Lives, IsListed, ContextLives, all_listings}
+use Rattle.lam_machine_laws.specs.Worlds.{World}
+use Rattle.lam_machine_laws.specs.Serves.{Effect, nothing, takes_tag, sets_slot, adds_thing, adds_copy, takes_monitor, gives_back, drops, adds_file, adds_dir, removes, appends, cuts, adds_pipe, sends, receives, adds_thread}
+use Rattle.lam_machine_laws.specs.Valid.{IsKnown, AreKnown, Lives, IsListed, ContextLives, all_listings}
 use Rattle.lam_machine_valid.specs.Living.{InsideLives}
 
 same_name : (q r : Name) → eq_by_cmp name_cmp q r ≡ true → q ≡ r

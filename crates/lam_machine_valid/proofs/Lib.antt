@@ -14,3 +14,7 @@ pub mod EventLemmas
 pub mod ReadyLemmas
 pub mod SuitLemmas
 pub mod FormLemmas
+pub use Rattle.lam_machine_laws.proofs.OwnLemmas
+pub use Rattle.lam_machine_laws.proofs.RowLemmas as LamMachineLawsRowLemmas
+pub use Rattle.lam_machine_laws.proofs.ThreadLemmas
+pub use Rattle.lam_machine_laws.proofs.TurnLemmas

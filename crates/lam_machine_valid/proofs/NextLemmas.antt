@@ -18,9 +18,9 @@ use Rattle.thread_steps.specs.Threads.{Frame, Inside, Phase, Bottom, Body, Catch
 use Rattle.thread_steps.specs.Ops as ops
 use Rattle.thread_steps.specs.Ops.{Did, gives, sets, jumps, calls, returns, fails, wants, leaves, breaks, barrier, may_read, may_write, effect}
 use Rattle.thread_steps.specs.Next.{Next, goes, asks, past, returned, leaving, next_by, raised, around, next_op, next_in, next_of}
-use Rattle.lam_machine_terms.specs.Serves.{Served, sets_slot, answers, does, unless_denied, under, on_thing}
-use Rattle.lam_machine_terms.specs.Serving.{slot_at}
-use Rattle.lam_machine_terms.specs.Turns.{is_bottom, lists, may_ask}
+use Rattle.lam_machine_laws.specs.Serves.{Served, sets_slot, answers, does, unless_denied, under, on_thing}
+use Rattle.lam_machine_laws.specs.Serving.{slot_at}
+use Rattle.lam_machine_laws.specs.Turns.{is_bottom, lists, may_ask}
 use Rattle.lam_machine_valid.specs.Laws.{IsTop, IsBarred, IsPassed, op_at, StandsAt, LeadsTo, IsRead, IsWritten, GivesSlot, SetsSlot, AsksWhatItMay, BarriersTest, AccessesPass}
 use Rattle.lam_machine_valid.proofs.EffectLemmas.{IsThing, AskOf, Proper, effect_is}
 

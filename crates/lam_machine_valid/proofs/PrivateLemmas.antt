@@ -38,8 +38,8 @@ use Rattle.thread_steps.specs.Ops.{Did, gives, sets, jumps, calls, returns, fail
 use Rattle.thread_steps.specs.Limits.{frames_limit}
 use Rattle.thread_steps.specs.Next as next
 use Rattle.thread_steps.specs.Next.{next_of, next_by, next_in, next_op, entry, returned, ending, leaving, raised, around}
-use Rattle.lam_machine_terms.specs.Worlds.{World}
-use Rattle.lam_machine_terms.specs.Valid.{IsKnown, AreKnown, Lives, AllLive, FrameLives, ContextLives, IsValid}
+use Rattle.lam_machine_laws.specs.Worlds.{World}
+use Rattle.lam_machine_laws.specs.Valid.{IsKnown, AreKnown, Lives, AllLive, FrameLives, ContextLives, IsValid}
 use Rattle.lam_machine_valid.specs.Living.{InsideLives, AskLives, NextLives, NamesWhatLives}
 use Rattle.lam_machine_valid.proofs.TagLemmas.{below_empty, public_known, below_insert, below_list}
 

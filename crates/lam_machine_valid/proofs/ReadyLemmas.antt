@@ -6,10 +6,10 @@ use Rattle.lam_asks.specs.declared.answer.Outcome.{Outcome}
 use Rattle.lam_bytecode.specs.Codes.{CodeTree}
 use Rattle.thread_steps.specs.Threads.{Context, Thread}
 use Rattle.thread_steps.specs.Next.{Next, goes, asks, stuck, next_of}
-use Rattle.lam_machine_terms.specs.Worlds.{World, thread_at, contexts_in}
-use Rattle.lam_machine_terms.specs.Serving.{serve}
-use Rattle.lam_machine_terms.specs.Turns.{waits, is_ready, Moment, served, turn_by, turn_on, turn_in, step, ready, IsDone, AllWait, is_living}
-use Rattle.lam_machine_terms.specs.Valid.{has_contexts, IsValid}
+use Rattle.lam_machine_laws.specs.Worlds.{World, thread_at, contexts_in}
+use Rattle.lam_machine_laws.specs.Serving.{serve}
+use Rattle.lam_machine_laws.specs.Turns.{waits, is_ready, Moment, served, turn_by, turn_on, turn_in, step, ready, IsDone, AllWait, is_living}
+use Rattle.lam_machine_laws.specs.Valid.{has_contexts, IsValid}
 use Rattle.lam_machine_laws.proofs.ThreadLemmas.{some_inj}
 use Rattle.lam_machine_valid.proofs.NextLemmas.{what_it_may}
 use Rattle.lam_machine_valid.specs.Ready.{goes_now, can_go, ReadyThreadsCanGo, EndedAreNotReady, StandsOneWay}

@@ -42,11 +42,11 @@ use Rattle.lam_bytecode.specs.Codes.{CodeTree}
 use Rattle.thread_steps.specs.Threads.{Inside, Context}
 use Rattle.thread_steps.specs.Threads as threads
 use Rattle.thread_steps.specs.Next.{gains, given, started}
-use Rattle.lam_machine_terms.specs.Worlds.{World, thread_at, result_in, result_at}
-use Rattle.lam_machine_terms.specs.Serves.{adds_thing, adds_copy, takes_monitor, gives_back, drops, receives, effect_of, Served, answers, does, under, unless, on_thing}
-use Rattle.lam_machine_terms.specs.Serving.{slot_at, reference, renamed, opened, received, ended_with, serve}
-use Rattle.lam_machine_terms.specs.Turns.{lists, may_ask, is_taken, waits}
-use Rattle.lam_machine_terms.specs.Valid.{IsKnown, IsKnownName, Lives, EntryLives, MessageLives, OutcomeLives, IsValid, all_listings}
+use Rattle.lam_machine_laws.specs.Worlds.{World, thread_at, result_in, result_at}
+use Rattle.lam_machine_laws.specs.Serves.{adds_thing, adds_copy, takes_monitor, gives_back, drops, receives, effect_of, Served, answers, does, under, unless, on_thing}
+use Rattle.lam_machine_laws.specs.Serving.{slot_at, reference, renamed, opened, received, ended_with, serve}
+use Rattle.lam_machine_laws.specs.Turns.{lists, may_ask, is_taken, waits}
+use Rattle.lam_machine_laws.specs.Valid.{IsKnown, IsKnownName, Lives, EntryLives, MessageLives, OutcomeLives, IsValid, all_listings}
 use Rattle.lam_machine_laws.proofs.RowLemmas.{RefersTo, under_by, unless_by, on_thing_by}
 use Rattle.lam_machine_laws.proofs.ThreadLemmas.{front}
 use Rattle.lam_machine_valid.specs.Living.{AskLives}

@@ -18,9 +18,9 @@ use Rattle.lam_bytecode.specs.Codes.{CodeTree}
 use Rattle.thread_steps.specs.Threads.{Frame, Inside, Context}
 use Rattle.thread_steps.specs.Equal.{same_names}
 use Rattle.thread_steps.specs.Next.{with_inside, with_caps, with_held, faulted, given, without, held_by, outermost, catching, region_context, gains, done, entered, answered, result_after}
-use Rattle.lam_machine_terms.specs.Worlds.{World}
-use Rattle.lam_machine_terms.specs.Turns.{is_bottom}
-use Rattle.lam_machine_terms.specs.Valid.{IsKnown, AreKnown, Lives, AllLive, OutcomeLives, FrameLives, IsFirst, AreStacked, has_contexts}
+use Rattle.lam_machine_laws.specs.Worlds.{World}
+use Rattle.lam_machine_laws.specs.Turns.{is_bottom}
+use Rattle.lam_machine_laws.specs.Valid.{IsKnown, AreKnown, Lives, AllLive, OutcomeLives, FrameLives, IsFirst, AreStacked, has_contexts}
 use Rattle.lam_machine_laws.proofs.ThreadLemmas.{IsOwn, KeepsOwn, front}
 use Rattle.lam_machine_valid.specs.Living.{InsideLives, AskLives}
 use Rattle.lam_machine_valid.proofs.TagLemmas.{below_insert, below_union}

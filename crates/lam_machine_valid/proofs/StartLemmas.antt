@@ -18,9 +18,9 @@ use Rattle.labelled_files.proofs.SoundLemmas.{sound_root}
 use Rattle.labelled_pipes.proofs.QueueLemmas as queue
 use Rattle.lam_bytecode.specs.Codes.{CodeTree}
 use Rattle.thread_steps.specs.Threads.{Thread}
-use Rattle.lam_machine_terms.specs.Limits.{most_tags, most_threads}
-use Rattle.lam_machine_terms.specs.Worlds.{World, thread_at}
-use Rattle.lam_machine_terms.specs.Valid.{IsKnown, AreKnown, AreKnownNames, AreKnownHomes, EntryLives, all_listings, AreSoundStores, StoresLive, IsValidThread, IsValid}
+use Rattle.lam_machine_laws.specs.Limits.{most_tags, most_threads}
+use Rattle.lam_machine_laws.specs.Worlds.{World, thread_at}
+use Rattle.lam_machine_laws.specs.Valid.{IsKnown, AreKnown, AreKnownNames, AreKnownHomes, EntryLives, all_listings, AreSoundStores, StoresLive, IsValidThread, IsValid}
 use Rattle.lam_machine_laws.proofs.ThreadLemmas.{some_inj}
 use Rattle.lam_machine_valid.proofs.TagLemmas.{public_known}
 use Rattle.lam_machine_valid.specs.Steps.{MonitorsExclude, IsStart, bare, StartsAreValid}

@@ -27,9 +27,9 @@ use Rattle.labelled_pipes.specs.Messages.{is_of, rest_of}
 use Rattle.labelled_pipes.specs.Queues as queue
 use Rattle.labelled_pipes.specs.Queues.{Queues}
 use Rattle.lam_bytecode.specs.Codes.{CodeTree}
-use Rattle.lam_machine_terms.specs.Worlds.{World}
-use Rattle.lam_machine_terms.specs.Serves.{Effect, nothing, takes_tag, sets_slot, adds_thing, adds_copy, takes_monitor, gives_back, drops, adds_file, adds_dir, removes, appends, cuts, adds_pipe, sends, receives, adds_thread, effect_of}
-use Rattle.lam_machine_terms.specs.Valid.{IsKnown, AreKnown, IsKnownName, AreKnownNames, AreKnownHomes, Lives, AllLive, EntryLives, MessageLives, AreSoundStores, StoresLive}
+use Rattle.lam_machine_laws.specs.Worlds.{World}
+use Rattle.lam_machine_laws.specs.Serves.{Effect, nothing, takes_tag, sets_slot, adds_thing, adds_copy, takes_monitor, gives_back, drops, adds_file, adds_dir, removes, appends, cuts, adds_pipe, sends, receives, adds_thread, effect_of}
+use Rattle.lam_machine_laws.specs.Valid.{IsKnown, AreKnown, IsKnownName, AreKnownNames, AreKnownHomes, Lives, AllLive, EntryLives, MessageLives, AreSoundStores, StoresLive}
 use Rattle.lam_machine_valid.proofs.GrowLemmas.{Grows, known_on, below_on, name_on, lives_on, effect_grows}
 use Rattle.lam_machine_valid.proofs.PrivateLemmas.{set_live}
 use Rattle.lam_machine_valid.proofs.HoldLemmas.{held_at}

@@ -29,11 +29,11 @@ use Rattle.lam_asks.specs.Suits.{Sort, Want, is_of, made_as, copied_as, want_of,
 use Rattle.lam_bytecode.specs.Codes.{CodeTree}
 use Rattle.thread_steps.specs.Limits.{depth_limit}
 use Rattle.thread_steps.specs.Threads.{Context}
-use Rattle.lam_machine_terms.specs.Limits.{most_tags, most_threads}
-use Rattle.lam_machine_terms.specs.Worlds.{World, result_at}
-use Rattle.lam_machine_terms.specs.Serves.{Served, answers, does, gives_back, unless_denied, under, unless, full, on_thing}
-use Rattle.lam_machine_terms.specs.Serving.{reference, renamed, file_faults, opened, absent, received, ended_with, serve}
-use Rattle.lam_machine_terms.specs.Turns.{lists}
+use Rattle.lam_machine_laws.specs.Limits.{most_tags, most_threads}
+use Rattle.lam_machine_laws.specs.Worlds.{World, result_at}
+use Rattle.lam_machine_laws.specs.Serves.{Served, answers, does, gives_back, unless_denied, under, unless, full, on_thing}
+use Rattle.lam_machine_laws.specs.Serving.{reference, renamed, file_faults, opened, absent, received, ended_with, serve}
+use Rattle.lam_machine_laws.specs.Turns.{lists}
 use Rattle.lam_machine_valid.specs.Laws.{LeadsTo}
 use Rattle.lam_machine_valid.proofs.EffectLemmas.{IsThing}
 use Rattle.lam_machine_valid.proofs.NextLemmas.{AskIs, ask_is, followed, gives_slot, sets_it}

@@ -10,8 +10,8 @@ use Rattle.std.specs.FinSet as set
 use Rattle.std.proofs.lemmas.Cmp.{nat_cmp_total}
 use Rattle.flow_labels.specs.Tags.{Tags}
 use Rattle.flow_labels.specs.Flow.{public_label}
-use Rattle.lam_machine_terms.specs.Worlds.{World}
-use Rattle.lam_machine_terms.specs.Valid.{AreBelow, IsKnown}
+use Rattle.lam_machine_laws.specs.Worlds.{World}
+use Rattle.lam_machine_laws.specs.Valid.{AreBelow, IsKnown}
 
 pub below_empty : (n : ℕ) → AreBelow n empty
 below_empty n t e = let f = contains-empty nat_cmp t in cc

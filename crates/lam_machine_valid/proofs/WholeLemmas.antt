@@ -18,11 +18,11 @@ use Rattle.lam_bytecode.specs.Codes.{CodeTree}
 use Rattle.thread_steps.specs.Threads.{Frame, Inside, Context}
 use Rattle.thread_steps.specs.Threads as threads
 use Rattle.thread_steps.specs.Next.{Next, goes, asks, stuck, next_of, with_inside, takes, started}
-use Rattle.lam_machine_terms.specs.Worlds.{World, thread_at, with_thread}
-use Rattle.lam_machine_terms.specs.Serves.{Effect, nothing, takes_tag, sets_slot, adds_thing, adds_copy, takes_monitor, gives_back, drops, adds_file, adds_dir, removes, appends, cuts, adds_pipe, sends, receives, adds_thread, effect_of, Served}
-use Rattle.lam_machine_terms.specs.Serving.{serve}
-use Rattle.lam_machine_terms.specs.Turns.{may_ask, waits, is_ready, Moment, goes_on, served, turn_by, step, and_then, moments, left_by}
-use Rattle.lam_machine_terms.specs.Valid.{AreKnown, Lives, AllLive, OutcomeLives, FrameLives, ContextLives, AreStacked, has_contexts, all_listings, StoresLive, IsValidThread, IsValid}
+use Rattle.lam_machine_laws.specs.Worlds.{World, thread_at, with_thread}
+use Rattle.lam_machine_laws.specs.Serves.{Effect, nothing, takes_tag, sets_slot, adds_thing, adds_copy, takes_monitor, gives_back, drops, adds_file, adds_dir, removes, appends, cuts, adds_pipe, sends, receives, adds_thread, effect_of, Served}
+use Rattle.lam_machine_laws.specs.Serving.{serve}
+use Rattle.lam_machine_laws.specs.Turns.{may_ask, waits, is_ready, Moment, goes_on, served, turn_by, step, and_then, moments, left_by}
+use Rattle.lam_machine_laws.specs.Valid.{AreKnown, Lives, AllLive, OutcomeLives, FrameLives, ContextLives, AreStacked, has_contexts, all_listings, StoresLive, IsValidThread, IsValid}
 use Rattle.lam_machine_laws.proofs.FlowLemmas.{both_true}
 use Rattle.lam_machine_laws.proofs.ThreadLemmas.{some_inj, length-set, front, answered_front}
 use Rattle.lam_machine_laws.proofs.RowLemmas.{served_proper}

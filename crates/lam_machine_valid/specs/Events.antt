@@ -12,9 +12,9 @@ use Rattle.lam_bytecode.specs.Codes.{CodeTree}
 use Rattle.lam_bytecode.specs.declared.op.Op.{Op}
 use Rattle.thread_steps.specs.Threads.{Inside, Context}
 use Rattle.thread_steps.specs.Next.{asks, next_of}
-use Rattle.lam_machine_terms.specs.Worlds.{World, contexts_at}
-use Rattle.lam_machine_terms.specs.Serving.{publicly}
-use Rattle.lam_machine_terms.specs.Turns.{Moment, step}
+use Rattle.lam_machine_laws.specs.Worlds.{World, contexts_at}
+use Rattle.lam_machine_laws.specs.Serving.{publicly}
+use Rattle.lam_machine_laws.specs.Turns.{Moment, step}
 use Rattle.lam_machine_valid.specs.Laws.{IsBarred, StandsAt}
 use Rattle.lam_machine_laws.specs.Tests.{tests_of, OnlyFaults}
 

@@ -7,10 +7,10 @@ use Rattle.lam_asks.specs.declared.answer.Answer.{Answer}
 use Rattle.lam_asks.specs.declared.answer.Answer.TheVariants.{Done, Entered, Val, Refused, Failed}
 use Rattle.lam_asks.specs.declared.ask.Ask.{Ask}
 use Rattle.thread_steps.specs.Threads.{Context}
-use Rattle.lam_machine_terms.specs.Worlds.{World}
+use Rattle.lam_machine_laws.specs.Worlds.{World}
 use Rattle.lam_machine_laws.specs.Tests.{tests_of}
 use Rattle.lam_machine_laws.specs.Judged.{fault_by}
-use Rattle.lam_machine_terms.specs.Serving.{publicly, serve}
+use Rattle.lam_machine_laws.specs.Serving.{publicly, serve}
 
 -- neither refused nor failed
 abbrev pub IsDone : Answer → Type 0

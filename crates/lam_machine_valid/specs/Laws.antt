@@ -14,10 +14,10 @@ use Rattle.lam_bytecode.specs.declared.op.Op.{Op}
 use Rattle.lam_bytecode.specs.declared.op.Op.TheVariants.{ReadBarrier, WriteBarrier}
 use Rattle.thread_steps.specs.Threads.{Inside, Context}
 use Rattle.thread_steps.specs.Next.{goes, asks, past, next_of, ops_of}
-use Rattle.lam_machine_terms.specs.Worlds.{World}
-use Rattle.lam_machine_terms.specs.Serves.{sets_slot, answers, does}
-use Rattle.lam_machine_terms.specs.Serving.{slot_at, serve}
-use Rattle.lam_machine_terms.specs.Turns.{may_ask}
+use Rattle.lam_machine_laws.specs.Worlds.{World}
+use Rattle.lam_machine_laws.specs.Serves.{sets_slot, answers, does}
+use Rattle.lam_machine_laws.specs.Serving.{slot_at, serve}
+use Rattle.lam_machine_laws.specs.Turns.{may_ask}
 
 -- a context asks only what it may ask
 abbrev pub AsksWhatItMay : CodeTree → Type 0

@@ -10,9 +10,9 @@ use Rattle.lam_bytecode.specs.Codes.{CodeTree, IsCode}
 use Rattle.thread_steps.specs.Threads.{Inside, Context}
 use Rattle.thread_steps.specs.Threads as threads
 use Rattle.thread_steps.specs.Next.{Next, goes, asks, stuck, next_of}
-use Rattle.lam_machine_terms.specs.Worlds.{World, thread_at}
-use Rattle.lam_machine_terms.specs.Turns.{Moment, step}
-use Rattle.lam_machine_terms.specs.Valid.{IsKnown, AreKnown, Lives, AllLive, OutcomeLives, FrameLives, AreSoundStores, IsValid}
+use Rattle.lam_machine_laws.specs.Worlds.{World, thread_at}
+use Rattle.lam_machine_laws.specs.Turns.{Moment, step}
+use Rattle.lam_machine_laws.specs.Valid.{IsKnown, AreKnown, Lives, AllLive, OutcomeLives, FrameLives, AreSoundStores, IsValid}
 
 pub record InsideLives (w : World) (i : Inside) : Type 0 where
   pub frame : FrameLives w i.frame

@@ -3,9 +3,9 @@ use Rattle.std.specs.Prelude.{◌≡◌, ◌⊎◌, ℕ, Bool, true, false, not,
 use Rattle.lam_bytecode.specs.Codes.{CodeTree}
 use Rattle.thread_steps.specs.Threads.{Context, Thread}
 use Rattle.thread_steps.specs.Next.{Next, goes, asks, stuck, next_of}
-use Rattle.lam_machine_terms.specs.Worlds.{World, thread_at, contexts_at}
-use Rattle.lam_machine_terms.specs.Turns.{waits, ready, IsDone, AllWait}
-use Rattle.lam_machine_terms.specs.Valid.{IsValid}
+use Rattle.lam_machine_laws.specs.Worlds.{World, thread_at, contexts_at}
+use Rattle.lam_machine_laws.specs.Turns.{waits, ready, IsDone, AllWait}
+use Rattle.lam_machine_laws.specs.Valid.{IsValid}
 
 -- a private turn, or an ask that does not wait
 abbrev pub goes_now : World → ℕ → Context → Next → Bool

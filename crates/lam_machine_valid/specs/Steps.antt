@@ -11,10 +11,10 @@ use Rattle.labelled_pipes.specs.Queues.{no_pipes}
 use Rattle.lam_bytecode.specs.Codes.{CodeTree, IsCode}
 use Rattle.thread_steps.specs.Threads.{Thread}
 use Rattle.thread_steps.specs.Next.{started}
-use Rattle.lam_machine_terms.specs.Limits.{most_tags, most_threads}
-use Rattle.lam_machine_terms.specs.Worlds.{World, thread_at}
-use Rattle.lam_machine_terms.specs.Turns.{Moment, step, moments, replay}
-use Rattle.lam_machine_terms.specs.Valid.{AreKnown, AllLive, all_listings, AreSoundStores, StoresLive, IsValid}
+use Rattle.lam_machine_laws.specs.Limits.{most_tags, most_threads}
+use Rattle.lam_machine_laws.specs.Worlds.{World, thread_at}
+use Rattle.lam_machine_laws.specs.Turns.{Moment, step, moments, replay}
+use Rattle.lam_machine_laws.specs.Valid.{AreKnown, AllLive, all_listings, AreSoundStores, StoresLive, IsValid}
 
 abbrev pub StaysValid : CodeTree → Type 0
 StaysValid code = IsCode code → (w : World) (t : ℕ) (m : Moment) → IsValid w → step code w t ≡ Some m → IsValid m.world

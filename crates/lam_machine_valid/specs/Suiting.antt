@@ -11,8 +11,8 @@ use Rattle.lam_asks.specs.Suits.{Sort, suits}
 use Rattle.lam_bytecode.specs.Codes.{CodeTree}
 use Rattle.thread_steps.specs.Threads.{Inside, Context}
 use Rattle.thread_steps.specs.Next.{asks, next_of}
-use Rattle.lam_machine_terms.specs.Worlds.{World}
-use Rattle.lam_machine_terms.specs.Serving.{serve}
+use Rattle.lam_machine_laws.specs.Worlds.{World}
+use Rattle.lam_machine_laws.specs.Serving.{serve}
 
 -- what a join is answered, where nothing is known of how threads end
 pub data Joined : Answer → Type 0 where

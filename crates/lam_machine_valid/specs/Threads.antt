@@ -3,9 +3,9 @@ use Rattle.std.specs.Prelude.{◌≡◌, ℕ, Some}
 use Rattle.thread_steps.specs.Threads.{Phase, Thread}
 use Rattle.thread_core_state.specs.Stacked as in_code
 use Rattle.thread_core_state.specs.Stacked.{IsThread}
-use Rattle.lam_machine_terms.specs.Worlds.{World, thread_at}
-use Rattle.lam_machine_terms.specs.Turns as in_turns
-use Rattle.lam_machine_terms.specs.Valid.{IsValid}
+use Rattle.lam_machine_laws.specs.Worlds.{World, thread_at}
+use Rattle.lam_machine_laws.specs.Turns as in_turns
+use Rattle.lam_machine_laws.specs.Valid.{IsValid}
 
 pub record ValidThreadsAreThreads : Type 0 where
   -- each keeps what every thread in code keeps

@@ -3,12 +3,12 @@ use Rattle.std.proofs.Common.{ℕ, Option, Result, Ok, Err, IfOk}
 use Rattle.want_of_memory.specs.declared.NoMemory.{NoMemory}
 use Rattle.lam_asks.specs.declared.answer.Outcome.{Outcome}
 use Rattle.lam_asks.specs.declared.ask.Ask.{Ask}
-use Rattle.thread_steps.specs.Threads.{Context}
-use Rattle.lam_machine_terms.specs.Worlds.{World}
-use Rattle.lam_machine_terms.specs.Serving.{serve}
-use Rattle.lam_machine_effects.specs.declared.stores.Stores.{Stores}
-use Rattle.lam_machine_effects.specs.declared.served.Served.{Served}
-use Rattle.lam_machine_effects.specs.Meaning.{DoesAs}
+use Rattle.thread_core_state.specs.Threads.{Context}
+use Rattle.lam_machine_rows.specs.Worlds.{World}
+use Rattle.lam_machine_rows.specs.Serving.{serve}
+use Rattle.lam_machine_rows.specs.Stores.{Stores}
+use Rattle.lam_machine_rows.specs.Served.{Served}
+use Rattle.lam_machine_rows.specs.Meaning.{DoesAs}
 use Rattle.lam_machine_rows.specs.Acting.{Acting}
 use Rattle.lam_machine_rows.specs.Serves.{ReadsWorld}
 

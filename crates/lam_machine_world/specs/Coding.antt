@@ -5,10 +5,10 @@ use Rattle.capabilities.specs.declared.Caps.{Caps}
 use Rattle.labelled_heap.specs.Things.{Things, coded_things}
 use Rattle.monitor_core.specs.Held.{Held, coded_held}
 use Rattle.labelled_files.specs.Trees.{Tree, coded_tree}
-use Rattle.labelled_pipes.specs.Queues.{Queues, coded_queues}
-use Rattle.thread_steps.specs.Threads.{Thread}
+use Rattle.lam_machine_rows.specs.Queues.{Queues, coded_queues}
+use Rattle.thread_core_state.specs.Threads.{Thread}
 use Rattle.thread_core_state.specs.Coding.{coded_caps, coded_thread}
-use Rattle.lam_machine_terms.specs.Worlds.{World}
+use Rattle.lam_machine_rows.specs.Worlds.{World}
 
 abbrev pub coded_world : Coded World
 coded_world =

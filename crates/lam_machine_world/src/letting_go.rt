@@ -6,7 +6,7 @@
 
 use crate::world::World;
 use lam_bytecode::Code;
-use lam_machine_effects::Stores;
+use lam_machine_rows::Stores;
 
 /// Lets a world go.
 pub fn let_go_world(world: World) {

@@ -3,20 +3,19 @@
 ghost use Rattle.std.specs.Prelude.{◌≡◌, ◌≤◌, length, slice_get, IfOk};
 ghost use Rattle.std.specs.Option.{option_copied};
 ghost use Rattle.thread_core_state.specs.Seen.{phase_of};
-ghost use Rattle.lam_machine_terms.specs.Limits.{most_threads};
-ghost use Rattle.lam_machine_terms.specs.Worlds.{World, result_in};
-ghost use Rattle.lam_machine_terms.specs.Serving.{serve};
-ghost use Rattle.lam_machine_terms.specs.Turns as turns;
-ghost use Rattle.lam_machine_terms.specs.Turns.{is_bottom, is_living};
-ghost use Rattle.lam_machine_effects.specs.Parts.{world_of};
-ghost use Rattle.lam_machine_effects.specs.Meaning.{DoesAs};
+ghost use Rattle.lam_machine_rows.specs.Limits.{most_threads};
+ghost use Rattle.lam_machine_rows.specs.Worlds.{World, result_in};
+ghost use Rattle.lam_machine_rows.specs.Serving.{serve};
+ghost use Rattle.lam_machine_rows.specs.Turns as turns;
+ghost use Rattle.lam_machine_rows.specs.Turns.{is_bottom, is_living};
+ghost use Rattle.lam_machine_rows.specs.Parts.{world_of};
+ghost use Rattle.lam_machine_rows.specs.Meaning.{DoesAs};
 ghost use Rattle.lam_machine_rows.specs.Acting.{acting_of};
 ghost use Rattle.lam_machine_rows.specs.Serves.{Joins};
 ghost use Rattle.lam_machine_rows.specs.Waits.{JoinsLiving};
 
 use lam_asks::{Ask, Outcome};
-use lam_machine_effects::{Served, Stores};
-use lam_machine_rows::{Acting, serve};
+use lam_machine_rows::{Acting, Served, Stores, serve};
 use thread_core_state::{Context, LamThread, Phase};
 use want_of_memory::NoMemory;
 

@@ -1,10 +1,10 @@
 //! Worlds.
 
 ghost use Rattle.std.specs.Prelude.{◌≡◌, ◌≤◌, length, IfOk};
-ghost use Rattle.lam_machine_terms.specs.Limits.{most_threads};
-ghost use Rattle.lam_machine_effects.specs.Parts.{stores_of, world_of};
+ghost use Rattle.lam_machine_rows.specs.Limits.{most_threads};
+ghost use Rattle.lam_machine_rows.specs.Parts.{stores_of, world_of};
 
-use lam_machine_effects::Stores;
+use lam_machine_rows::Stores;
 use std::alloc::Global;
 use std::marker::Model;
 use thread_core_state::LamThread;
@@ -18,7 +18,7 @@ pub struct World {
 }
 
 impl Model for World {
-    ghost use Rattle.lam_machine_terms.specs.Worlds.{World as Plain};
+    ghost use Rattle.lam_machine_rows.specs.Worlds.{World as Plain};
     ghost use Rattle.lam_machine_world.specs.Coding.{coded_world};
 
     ghost Value = { Plain };
@@ -26,8 +26,8 @@ impl Model for World {
     ghost coded = { coded_world };
 
     ghost use Rattle.std.specs.Prelude.{◌≤◌, length};
-    ghost use Rattle.lam_machine_terms.specs.Limits.{most_threads};
-    ghost use Rattle.lam_machine_effects.specs.Parts.{world_of};
+    ghost use Rattle.lam_machine_rows.specs.Limits.{most_threads};
+    ghost use Rattle.lam_machine_rows.specs.Parts.{world_of};
 
     ghost view = { λ w. world_of w.stores w.threads.items };
 

@@ -12,8 +12,8 @@ use Rattle.lam_resolve_laws.specs.Resolved.{resolved}
 use Rattle.lam_resolve_laws.proofs.Laws.{resolves_typed, resolves_regions}
 use Rattle.lam_bytecode.specs.Codes.{CodeTree}
 use Rattle.guarded_code.specs.Breaks.{IsGuarded}
-use Rattle.compiled_code_guarded.proofs.Units.{compiled_guarded}
-use Rattle.barrier_compiler.specs.Compiled.{IsCompiledTo}
+use Rattle.barrier_thin.proofs.CompiledCodeGuardedUnits.{compiled_guarded}
+use Rattle.lam_main_plan.specs.Compiled.{IsCompiledTo}
 use Rattle.lam_main_words.specs.Words.{Text}
 use Rattle.lam_main_plan.specs.Reading.{IsCompiled}
 

@@ -9,8 +9,8 @@ use Rattle.lam_front.specs.Programs.{IsMisspelt, IsFine, IsBroken}
 use Rattle.lam_syntax.specs.Tree.{ProgramTree}
 use Rattle.lam_bytecode.specs.Codes.{CodeTree}
 use Rattle.lam_main_plan.specs.Compiled.{IsCompiledTo}
-use Rattle.barrier_compiler.specs.declared.emitting.CompileFault.{CompileFault}
-use Rattle.barrier_compiler.specs.declared.emitting.CompileFault.TheVariants.{CodeTooLong as too_long_code, NoMemory as no_memory_for_code}
+use Rattle.lam_main_plan.specs.CompileFault.{CompileFault}
+use Rattle.lam_main_plan.specs.CompileFault.TheVariants.{CodeTooLong as too_long_code, NoMemory as no_memory_for_code}
 use Rattle.lam_main_words.specs.Words.{Text}
 use Rattle.lam_main_plan.specs.Refusals.{Plan, prints}
 use Rattle.lam_main_plan.specs.Reading.{HasFile, WithFile, of_file, Never, program_limit, IsCompiled, Compiles, fine, broken}

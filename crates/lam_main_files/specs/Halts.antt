@@ -4,8 +4,8 @@ use Rattle.std.specs.declared.alloc.Global.{Global}
 use Rattle.lam_io.specs.Outside.{Files, AllStay}
 use Rattle.lam_front.specs.declared.fault.ProgramFault.{ProgramFault}
 use Rattle.lam_front.specs.declared.fault.ProgramFault.TheVariants.{NotUtf8 as no_utf8, At, NoMemory as no_memory_of_it}
-use Rattle.barrier_compiler.specs.declared.emitting.CompileFault.{CompileFault}
-use Rattle.barrier_compiler.specs.declared.emitting.CompileFault.TheVariants.{CodeTooLong as too_long_code, NoMemory as no_memory_for_code}
+use Rattle.lam_main_plan.specs.CompileFault.{CompileFault}
+use Rattle.lam_main_plan.specs.CompileFault.TheVariants.{CodeTooLong as too_long_code, NoMemory as no_memory_for_code}
 use Rattle.world_doc_terms.specs.Breaks.{break_seen}
 use Rattle.turn_book.specs.declared.BookFault.TheVariants as book
 use Rattle.lam_main_words.specs.Words.{Text}

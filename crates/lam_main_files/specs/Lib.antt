@@ -1,1 +1,10 @@
 pub mod Halts
+pub use Rattle.lam_main_plan.specs.Answer
+pub use Rattle.lam_main_plan.specs.Books
+pub use Rattle.lam_main_plan.specs.Pairs
+pub use Rattle.lam_main_plan.specs.Reading
+pub use Rattle.lam_main_plan.specs.Refusals
+pub use Rattle.lam_main_plan.specs.Replays
+pub use Rattle.lam_main_plan.specs.Saves
+pub use Rattle.lam_main_plan.specs.Threads
+pub use Rattle.lam_main_plan.specs.declared.Status

@@ -11,6 +11,7 @@ mod program;
 mod report;
 mod script;
 
+pub use barrier_thin::thin_verified;
 pub use files::read_file;
 pub use halt::{BookBreak, Halt, Refusal};
 pub use program::{PROGRAM_LIMIT, check, code, compiled, format, read_code, run_code_of};

@@ -11,7 +11,7 @@ use Rattle.audit_log.specs.Log.{view_lines}
 use Rattle.lam_machine_runs.specs.Ends.{Runs}
 use Rattle.lam_machine_runs.specs.declared.How.{How}
 use Rattle.world_doc_terms.specs.Start.{start_of}
-use Rattle.world_doc_laws.specs.Starts.{TextsStart}
+use Rattle.world_save_laws.specs.Starts.{TextsStart}
 use Rattle.lam_make.specs.Made.{program_text, world_text}
 use Rattle.audit_log_notes.specs.Sums.{summary_lines}
 use Rattle.lam_main_words.specs.Words.{Text, Request, run, request_of}

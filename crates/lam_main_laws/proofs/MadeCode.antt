@@ -18,7 +18,7 @@ use Rattle.lam_meaning.specs.Long.{first_long_unit, unless_long}
 use Rattle.thinned_code.specs.Thinned.{thinned}
 use Rattle.lam_main_plan.specs.Reading.{IsCompiled, IsRunCode}
 use Rattle.world_doc_terms.specs.Entries.{Entry, entry_named}
-use Rattle.world_doc_laws.specs.Entries.{ThinnedStarts}
+use Rattle.world_save_laws.specs.Entries.{ThinnedStarts}
 use Rattle.lam_main_laws.proofs.Program.{made_tokens, made_program, made_utf8, made_lexed, made_spelt}
 
 typed : first_type_break made_program ≡ None

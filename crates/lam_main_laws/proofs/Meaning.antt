@@ -22,8 +22,8 @@ use Rattle.compiled_code_guarded.specs.Compiled.{SchemeIsGuarded}
 use Rattle.thinned_code.specs.Thinned.{thinned}
 use Rattle.thinned_code.specs.Facts.{StaysCode}
 use Rattle.thinned_code_acts.specs.Laws.{ThinnedSchemeActs}
-use Rattle.world_doc_laws.specs.Documents.{DocumentsRunAsMeant}
-use Rattle.world_doc_laws.specs.Entries.{EntriesAreFunctions, SchemeEntries, ThinnedEntries}
+use Rattle.world_save_laws.specs.Documents.{DocumentsRunAsMeant}
+use Rattle.world_save_laws.specs.Entries.{EntriesAreFunctions, SchemeEntries, ThinnedEntries}
 use Rattle.lam_main_laws.specs.Meant.{CallsRunAsMeant, MeansEverywhere, SourcesRunAsMeant}
 use Rattle.barrier_compiler.specs.Compiled.{IsCompiledTo}
 use Rattle.lam_main_plan.specs.Reading.{IsRunCode}

@@ -13,7 +13,7 @@ use Rattle.pair_check_terms.specs.Laws.{PairsLookSame}
 use Rattle.turn_book.specs.Reading.{turns_of}
 use Rattle.turn_book.specs.declared.BookFault.{BookFault}
 use Rattle.world_doc_terms.specs.Start.{start_of}
-use Rattle.world_doc_laws.specs.Starts.{TextsStart}
+use Rattle.world_save_laws.specs.Starts.{TextsStart}
 use Rattle.lam_main_words.specs.Words.{Text, Request, pair}
 use Rattle.lam_main_plan.specs.Refusals.{Plan}
 use Rattle.lam_main_plan.specs.Reading.{HasFile, IsRunCode, program_limit, world_limit, book_limit}

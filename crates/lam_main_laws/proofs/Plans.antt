@@ -4,7 +4,7 @@ use Rattle.lam_io.specs.Outside.{Files}
 use Rattle.lam_bytecode.specs.Codes.{CodeTree}
 use Rattle.lam_machine_terms.specs.Worlds.{World}
 use Rattle.world_doc_terms.specs.Start.{start_of}
-use Rattle.world_doc_laws.specs.Entries.{ThinnedStarts}
+use Rattle.world_save_laws.specs.Entries.{ThinnedStarts}
 use Rattle.lam_make.specs.Made.{program_text, world_text}
 use Rattle.audit_log_notes.specs.Sums.{summary_lines}
 use Rattle.lam_main_words.specs.Words.{Text, Request}

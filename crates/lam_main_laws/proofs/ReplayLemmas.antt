@@ -18,7 +18,7 @@ use Rattle.audit_log.specs.Log.{entry_line, view_lines, audit_lines, lines_from,
 use Rattle.lam_main_laws.specs.Whole.{AuditsAreWhole}
 use Rattle.turn_book.specs.Reading.{turns_of}
 use Rattle.lam_machine_runs.specs.Stops.{NotReady, stopped_at}
-use Rattle.world_doc_laws.specs.Starts.{TextsStart}
+use Rattle.world_save_laws.specs.Starts.{TextsStart}
 use Rattle.lam_main_words.specs.Words.{Text, Request}
 use Rattle.lam_main_plan.specs.Refusals.{prints}
 use Rattle.lam_main_plan.specs.Reading.{WithFile, of_file, program_limit}

@@ -15,7 +15,7 @@ use Rattle.lam_main_plan.specs.Replays.{RunFiles, ByWorld}
 use Rattle.lam_main_plan.specs.Books.{WithRun}
 use Rattle.lam_main_plan.specs.Saves.{saved, unnamed, untold, too_long, IsOfEnd, SavesRun, Saves}
 use Rattle.lam_main_plan.specs.Plan.{IsPlan, IsPlanOf}
-use Rattle.world_save_files.specs.Saved.{IsSavedText}
+use Rattle.lam_main_plan.specs.Saved.{IsSavedText}
 use Rattle.world_save_laws.specs.Runs.{IsSavedRun}
 use Rattle.world_save_laws.proofs.ReadLemmas.{next_read}
 use Rattle.world_save_laws.proofs.RunLemmas.{starts_agree}

@@ -8,3 +8,4 @@ pub mod Fronts
 pub mod Pairs
 pub mod Walks
 pub mod Saves
+pub use Rattle.world_save_laws.specs.Documents

@@ -10,7 +10,7 @@ use Rattle.thinned_code.specs.Thinned.{thinned}
 use Rattle.barrier_compiler.specs.Compiled.{IsCompiledTo}
 use Rattle.lam_machine_terms.specs.Worlds.{World}
 use Rattle.world_doc_terms.specs.Start.{start_of}
-use Rattle.world_doc_laws.specs.Documents.{RunMeans}
+use Rattle.world_save_laws.specs.Documents.{RunMeans}
 use Rattle.lam_main_words.specs.Words.{Text, replay, audit, run, request_of}
 use Rattle.lam_main_plan.specs.Reading.{HasFile, IsRunCode, program_limit, world_limit}
 use Rattle.lam_main_plan.specs.Walks.{IsSource}

@@ -8,7 +8,7 @@ use Rattle.lam_machine_terms.specs.Turns.{moments, replay}
 use Rattle.lam_machine_terms.specs.Views.{Agree, agenda}
 use Rattle.world_doc_terms.specs.Start.{start_of}
 use Rattle.world_save_terms.specs.Document.{most_document}
-use Rattle.world_save_files.specs.Saved.{HaveText, IsTextOf}
+use Rattle.lam_main_plan.specs.Saved.{HaveText, IsTextOf}
 use Rattle.world_save_laws.specs.Next.{GoesOn}
 use Rattle.world_save_laws.specs.Agreeing.{AreNamedInSeen}
 use Rattle.lam_main_words.specs.Words.{Text, next, request_of}

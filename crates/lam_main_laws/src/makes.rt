@@ -19,7 +19,7 @@ ghost use Rattle.lam_main_laws.specs.Headline.{MakesBreakOff};
 ghost use Rattle.lam_main_laws.specs.Complete.{MakesAreComplete};
 ghost use Rattle.lam_main_laws.specs.Orderly.{MakesEnd};
 
-use world_doc_laws::entries_are_functions;
+use world_save_laws::entries_are_functions;
 
 /// A law: where words are those of `make`, the made program has a code, the made document has a start of it, and nothing
 /// but a run of them is planned.

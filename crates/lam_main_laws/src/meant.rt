@@ -16,7 +16,7 @@ ghost use Rattle.lam_main_laws.specs.Meant.{CallsRunAsMeant, SourcesRunAsMeant};
 use compiled_code_guarded::compiled_code_is_guarded;
 use thinned_code::thinned_code_keeps_units;
 use thinned_code_acts::thinned_scheme_acts;
-use world_doc_laws::{entries_are_functions, runs_of_documents_mean};
+use world_save_laws::{entries_are_functions, runs_of_documents_mean};
 
 /// A law: where words ask for runs of a program from a document's start, the program has its names resolved, and every
 /// run from there of the code that is run of it means what that source means. This speaks of every list of turns: of those of a book up to

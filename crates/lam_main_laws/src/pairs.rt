@@ -10,7 +10,7 @@ ghost use Rattle.lam_main_laws.specs.Pairs.{PairsAreTold};
 
 use lam_machine_runs::runs_stop;
 use pair_check_terms::pairs_look_same;
-use world_doc_laws::texts_start;
+use world_save_laws::texts_start;
 
 /// A law: what a call of `pair` prints is the line of the one answer of its runs, and up to the number of the answer they
 /// look the same to the observer.

@@ -13,7 +13,7 @@ ghost use Rattle.lam_main_laws.specs.Calls.{ReplaysAreIsolated, AuditsArePrinted
 use crate::audits::audits_are_whole;
 use lam_machine_laws::{runs_are_isolated, two_asks_release, worlds_stay_well_labelled};
 use lam_machine_runs::runs_stop;
-use world_doc_laws::texts_start;
+use world_save_laws::texts_start;
 
 /// A law: what two calls of `replay` with one program print for an observer begins with the same lines, as far as their
 /// runs have the same agenda, where it cannot tell their starts apart.

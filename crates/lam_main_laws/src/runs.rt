@@ -18,7 +18,7 @@ ghost use Rattle.lam_main_laws.specs.Headline.{Headline, BreaksOff, EndsInOrder,
 ghost use Rattle.lam_main_laws.specs.Orderly.{OrderlyRunsEnd};
 
 use lam_machine_laws::{runs_are_isolated, worlds_stay_well_labelled};
-use world_doc_laws::texts_start;
+use world_save_laws::texts_start;
 
 /// A law: where words, files and label are in order, and a call ends as a run ends (`Done`, `Budget` or `AllWait`), the
 /// file of the book holds the turns of a run of the program's code from the start of the world's document, no other file

@@ -8,8 +8,8 @@ use Rattle.lam_bytecode.specs.Codes.{CodeTree}
 use Rattle.lam_machine_terms.specs.Worlds.{World}
 use Rattle.lam_machine_runs.specs.Stops.{NotReady, stopped_at}
 use Rattle.lam_machine_runs.specs.declared.How.TheVariants.{Done as all_ended}
-use Rattle.thread_host_run.specs.Runs.{Ran}
-use Rattle.thread_host_run.specs.Books.{IsRunBy}
+use Rattle.world_save.specs.Runs.{Ran}
+use Rattle.world_save.specs.Books.{IsRunBy}
 use Rattle.turn_book.specs.Reading.{turns_of}
 use Rattle.world_doc_terms.specs.Breaks.{Reading}
 use Rattle.world_doc_terms.specs.Start.{start_of}
@@ -19,21 +19,21 @@ use Rattle.world_save_files.specs.declared.saving.SaveFault.{SaveFault}
 use Rattle.world_save_files.specs.declared.saving.SaveFault.TheVariants as fault
 use Rattle.world_save_files.specs.declared.saving.Saved.{Saved}
 use Rattle.lam_main_words.specs.Words.{Text}
-use Rattle.lam_main_plan.specs.declared.Status.TheVariants.{Done}
-use Rattle.lam_main_plan.specs.Refusals.{Plan, no_turn}
-use Rattle.lam_main_plan.specs.Answer.{OthersKept}
-use Rattle.lam_main_plan.specs.Reading.{HasFile, WithFile, unread, of_file, Never, Compiles, IsRunCode, program_limit, world_limit, book_limit}
-use Rattle.lam_main_plan.specs.Replays.{RunFiles, ByWorld}
-use Rattle.lam_main_plan.specs.Books.{WithRun, NoTurns, WhereReady}
-use Rattle.lam_main_plan.specs.Saves.{saved_line, IsOfFiles, saved, unnamed, untold, too_long, IsOfEnd, SavesRun, Saves}
-use Rattle.lam_main_plan.proofs.ReadLemmas.{same_files, thin_program_then, no_thin_program_then, by_no_world, by_this_world}
-use Rattle.lam_main_plan.proofs.BookLemmas.{run_then, no_turns_then, ready_then, stop_then}
-use Rattle.lam_main_files.specs.declared.report.Report.{Report}
-use Rattle.lam_main_files.specs.declared.halt.Refusal.TheVariants.{NotReady as not_ready_at}
-use Rattle.lam_main_files.specs.declared.halt.Halt.{Halt}
-use Rattle.lam_main_files.specs.declared.halt.Halt.TheVariants.{Refused, NoMemory, ShelfFailed}
-use Rattle.lam_main_files.specs.Halts.{refuses, Finds, Reports, IsRead}
-use Rattle.lam_main_files.proofs.ReportLemmas.{reports_map, reports_later, not_reported}
+use Rattle.lam_main_replay.specs.Status.TheVariants.{Done}
+use Rattle.lam_main_replay.specs.Refusals.{Plan, no_turn}
+use Rattle.lam_main_replay.specs.Answer.{OthersKept}
+use Rattle.lam_main_replay.specs.Reading.{HasFile, WithFile, unread, of_file, Never, Compiles, IsRunCode, program_limit, world_limit, book_limit}
+use Rattle.lam_main_replay.specs.Replays.{RunFiles, ByWorld}
+use Rattle.lam_main_replay.specs.Books.{WithRun, NoTurns, WhereReady}
+use Rattle.lam_main_replay.specs.Saves.{saved_line, IsOfFiles, saved, unnamed, untold, too_long, IsOfEnd, SavesRun, Saves}
+use Rattle.lam_main_replay.proofs.ReadLemmas.{same_files, thin_program_then, no_thin_program_then, by_no_world, by_this_world}
+use Rattle.lam_main_replay.proofs.BookLemmas.{run_then, no_turns_then, ready_then, stop_then}
+use Rattle.lam_main_replay.specs.Report.{Report}
+use Rattle.lam_main_replay.specs.Refusal.TheVariants.{NotReady as not_ready_at}
+use Rattle.lam_main_replay.specs.Halt.{Halt}
+use Rattle.lam_main_replay.specs.Halt.TheVariants.{Refused, NoMemory, ShelfFailed}
+use Rattle.lam_main_replay.specs.Halts.{refuses, Finds, Reports, IsRead}
+use Rattle.lam_main_replay.proofs.ReportLemmas.{reports_map, reports_later, not_reported}
 use Rattle.lam_main_next.specs.declared.ending.Ending.{Ending}
 use Rattle.lam_main_next.specs.Endings.{planned, Offers, IsToldOf, halt_of_save}
 

@@ -4,13 +4,13 @@ use Rattle.world_save_files.specs.declared.saving.SaveFault.{SaveFault}
 use Rattle.world_save_files.specs.declared.saving.SaveFault.TheVariants as fault
 use Rattle.world_save_files.specs.declared.saving.Saved.{Saved}
 use Rattle.lam_main_words.specs.Words.{Text}
-use Rattle.lam_main_plan.specs.declared.Status.TheVariants.{Done}
-use Rattle.lam_main_plan.specs.Refusals.{Plan}
-use Rattle.lam_main_plan.specs.Saves.{saved_line}
-use Rattle.lam_main_files.specs.declared.halt.Refusal.TheVariants.{Unnamed, BadText, TooBig}
-use Rattle.lam_main_files.specs.declared.halt.Halt.{Halt}
-use Rattle.lam_main_files.specs.declared.halt.Halt.TheVariants.{Refused, NoMemory, ShelfFailed}
-use Rattle.lam_main_files.specs.Halts.{refuses}
+use Rattle.lam_main_replay.specs.Status.TheVariants.{Done}
+use Rattle.lam_main_replay.specs.Refusals.{Plan}
+use Rattle.lam_main_replay.specs.Saves.{saved_line}
+use Rattle.lam_main_replay.specs.Refusal.TheVariants.{Unnamed, BadText, TooBig}
+use Rattle.lam_main_replay.specs.Halt.{Halt}
+use Rattle.lam_main_replay.specs.Halt.TheVariants.{Refused, NoMemory, ShelfFailed}
+use Rattle.lam_main_replay.specs.Halts.{refuses}
 use Rattle.lam_main_next.specs.declared.ending.Ending.{Ending}
 
 -- the line is printed, and the document is written to the file of a name

@@ -5,20 +5,19 @@ ghost use Rattle.guarded_code_runs.specs.Worlds.{IsSound};
 ghost use Rattle.lam_machine_runs.specs.Stops.{stopped_at};
 ghost use Rattle.world_doc_terms.specs.Start.{start_of};
 ghost use Rattle.world_forest.specs.Forest.{IsForest};
-ghost use Rattle.lam_main_plan.specs.Books.{WhereReady};
-ghost use Rattle.lam_main_plan.specs.Saves.{saved_line, IsOfFiles, IsOfEnd};
+ghost use Rattle.lam_main_replay.specs.Books.{WhereReady};
+ghost use Rattle.lam_main_replay.specs.Saves.{saved_line, IsOfFiles, IsOfEnd};
 ghost use Rattle.lam_main_next.specs.Endings.{Offers, IsToldOf, halt_of_save};
 ghost use Rattle.turn_book.specs.Limits.{most_turns};
 
 use decimal_text::push_number;
 use guarded_code::Verified;
 use lam_machine_world::World;
-use lam_main_files::{Halt, Refusal};
+use lam_main_replay::{Halt, Refusal};
 use std::alloc::Global;
-use thread_host_run::{Run, RunOf, let_go_run, run_of};
 use want_of_memory::NoMemory;
 use world_forest_laws::texts_begin_as_forests;
-use world_save::{SaveFault, Saved, save};
+use world_save::{Run, RunOf, SaveFault, Saved, let_go_run, run_of, save};
 
 /// The line that is printed, and the document that is written.
 #[derive(Drop)]

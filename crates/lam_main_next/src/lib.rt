@@ -15,13 +15,13 @@ ghost use Rattle.lam_io.specs.Outside.{Rose, AllStay};
 ghost use Rattle.lam_bytecode.specs.Codes.{IsCode};
 ghost use Rattle.guarded_code_runs.specs.Worlds.{IsSound};
 ghost use Rattle.world_doc_terms.specs.Start.{start_of};
-ghost use Rattle.lam_main_plan.specs.Answer.{OthersKept};
-ghost use Rattle.lam_main_plan.specs.Reading.{WithFile, program_limit};
-ghost use Rattle.lam_main_plan.specs.Replays.{ByWorld};
+ghost use Rattle.lam_main_replay.specs.Answer.{OthersKept};
+ghost use Rattle.lam_main_replay.specs.Reading.{WithFile, program_limit};
+ghost use Rattle.lam_main_replay.specs.Replays.{ByWorld};
 ghost use Rattle.lam_machine_runs.specs.Stops.{stopped_at};
-ghost use Rattle.lam_main_plan.specs.Books.{WhereReady, WithRun};
-ghost use Rattle.lam_main_plan.specs.Saves.{IsOfEnd, SavesRun, Saves};
-ghost use Rattle.lam_main_files.specs.Halts.{Reports};
+ghost use Rattle.lam_main_replay.specs.Books.{WhereReady, WithRun};
+ghost use Rattle.lam_main_replay.specs.Saves.{IsOfEnd, SavesRun, Saves};
+ghost use Rattle.lam_main_replay.specs.Halts.{Reports};
 ghost use Rattle.lam_main_replay.specs.Asked.{files_of};
 ghost use Rattle.turn_book.specs.Limits.{most_turns};
 
@@ -30,8 +30,9 @@ use crate::writing::written;
 use guarded_code::Verified;
 use lam_io::Shelf;
 use lam_machine_world::{World, let_go_world};
-use lam_main_files::{Halt, Report, read_code, read_file};
-use lam_main_replay::{RunFiles, WORLD_LIMIT, read_turns, start_in};
+use lam_main_replay::{
+    Halt, Report, RunFiles, WORLD_LIMIT, read_code, read_file, read_turns, start_in,
+};
 use std::alloc::Global;
 
 /// The document of the next run's world is written to a file, and how many items it has is reported: of the files and

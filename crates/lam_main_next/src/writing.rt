@@ -2,14 +2,14 @@
 
 ghost use Rattle.std.specs.Prelude.{◌≡◌, Some, IsTrue, IfErr, string_bytes};
 ghost use Rattle.lam_io.specs.Outside.{Rose, AllStay};
-ghost use Rattle.lam_main_plan.specs.Answer.{OthersKept};
-ghost use Rattle.lam_main_files.specs.Halts.{Reports};
+ghost use Rattle.lam_main_replay.specs.Answer.{OthersKept};
+ghost use Rattle.lam_main_replay.specs.Halts.{Reports};
 ghost use Rattle.lam_main_next.specs.Endings.{planned};
 
 use crate::ending::Ending;
 use lam_io::{Shelf, ShelfFault};
 use lam_machine_runs::How;
-use lam_main_files::{Halt, Report};
+use lam_main_replay::{Halt, Report};
 
 /// Writes the document of the next run's world to a file. Both texts were made before, so nothing is refused from here on.
 pub(crate) fn written<H: Shelf>(

@@ -9,25 +9,25 @@ use Rattle.lam_machine_terms.specs.Worlds.{World}
 use Rattle.lam_machine_terms.specs.Turns.{moments}
 use Rattle.lam_machine_terms.specs.Views.{Item, agenda}
 use Rattle.lam_machine_runs.specs.Stops.{NotReady, stopped_at}
-use Rattle.lam_machine_replay.specs.Stops.{IsStop}
-use Rattle.lam_machine_replay.specs.declared.fault.RunFault.{RunFault}
-use Rattle.lam_machine_replay.specs.declared.fault.RunFault.TheVariants.{NotReady as not_ready, NoMemory as no_memory_of_run}
+use Rattle.lam_main_replay.specs.Stops.{IsStop}
+use Rattle.lam_main_replay.specs.RunFault.{RunFault}
+use Rattle.lam_main_replay.specs.RunFault.TheVariants.{NotReady as not_ready, NoMemory as no_memory_of_run}
 use Rattle.pair_check_terms.specs.Pairs.{IsPairedBy, IsPaired}
 use Rattle.pair_check_terms.specs.declared.answer.PairAnswer.{PairAnswer}
 use Rattle.turn_book.specs.Reading.{turns_of}
 use Rattle.world_doc_terms.specs.Start.{start_of}
 use Rattle.lam_main_words.specs.Words.{Text}
-use Rattle.lam_main_plan.specs.Refusals.{Plan, prints, no_turn}
-use Rattle.lam_main_plan.specs.Reading.{HasFile, WithFile, Never, Compiles, IsRunCode, program_limit, world_limit, book_limit}
-use Rattle.lam_main_plan.specs.Replays.{RunFiles, NoStart}
-use Rattle.lam_main_plan.specs.Books.{WithStart, WithRun, ByLabel, NoTurns, WhereReady}
-use Rattle.lam_main_plan.specs.Pairs.{pair_line, IsOfPair, PairsWith, PairsRuns, Pairs}
-use Rattle.lam_main_plan.proofs.ReadLemmas.{same_files, file_map, thin_program_then, no_thin_program_then}
-use Rattle.lam_main_plan.proofs.BookLemmas.{start_then, no_start_then, label_then, no_label_then, ready_then, run_then, no_turns_then, run_map}
-use Rattle.lam_main_files.specs.declared.halt.Halt.{Halt}
-use Rattle.lam_main_files.specs.declared.halt.Halt.TheVariants.{Refused, NoMemory, ShelfFailed}
-use Rattle.lam_main_files.specs.Halts.{refuses, Finds, Says, Gives}
-use Rattle.lam_main_files.proofs.FileLemmas.{says_map, not_found, gives_of}
+use Rattle.lam_main_replay.specs.Refusals.{Plan, prints, no_turn}
+use Rattle.lam_main_replay.specs.Reading.{HasFile, WithFile, Never, Compiles, IsRunCode, program_limit, world_limit, book_limit}
+use Rattle.lam_main_replay.specs.Replays.{RunFiles, NoStart}
+use Rattle.lam_main_replay.specs.Books.{WithStart, WithRun, ByLabel, NoTurns, WhereReady}
+use Rattle.lam_main_replay.specs.Pairs.{pair_line, IsOfPair, PairsWith, PairsRuns, Pairs}
+use Rattle.lam_main_replay.proofs.ReadLemmas.{same_files, file_map, thin_program_then, no_thin_program_then}
+use Rattle.lam_main_replay.proofs.BookLemmas.{start_then, no_start_then, label_then, no_label_then, ready_then, run_then, no_turns_then, run_map}
+use Rattle.lam_main_replay.specs.Halt.{Halt}
+use Rattle.lam_main_replay.specs.Halt.TheVariants.{Refused, NoMemory, ShelfFailed}
+use Rattle.lam_main_replay.specs.Halts.{refuses, Finds, Says, Gives}
+use Rattle.lam_main_replay.proofs.FileLemmas.{says_map, not_found, gives_of}
 use Rattle.lam_main_replay.specs.Asked.{halt_of_run}
 use Rattle.lam_main_pair.specs.declared.half.Half.{Half}
 use Rattle.lam_main_pair.specs.Halves.{NoRun, IsNoted, IsHalfOf, OfFirst, OfSecond, OfBoth, IsAnswered}

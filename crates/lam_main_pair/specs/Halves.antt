@@ -13,13 +13,13 @@ use Rattle.turn_book.specs.Reading.{turns_of}
 use Rattle.pair_check_terms.specs.Pairs.{IsPairedBy}
 use Rattle.pair_check_terms.specs.declared.answer.PairAnswer.{PairAnswer}
 use Rattle.lam_main_words.specs.Words.{Text}
-use Rattle.lam_main_plan.specs.Refusals.{Plan}
-use Rattle.lam_main_plan.specs.Reading.{HasFile, book_limit}
-use Rattle.lam_main_plan.specs.Replays.{RunFiles}
-use Rattle.lam_main_plan.specs.Books.{ByLabel, WithRun}
-use Rattle.lam_main_plan.specs.Pairs.{pair_line, IsOfPair, PairsWith}
-use Rattle.lam_main_files.specs.declared.halt.Halt.{Halt}
-use Rattle.lam_main_files.specs.Halts.{Says}
+use Rattle.lam_main_replay.specs.Refusals.{Plan}
+use Rattle.lam_main_replay.specs.Reading.{HasFile, book_limit}
+use Rattle.lam_main_replay.specs.Replays.{RunFiles}
+use Rattle.lam_main_replay.specs.Books.{ByLabel, WithRun}
+use Rattle.lam_main_replay.specs.Pairs.{pair_line, IsOfPair, PairsWith}
+use Rattle.lam_main_replay.specs.Halt.{Halt}
+use Rattle.lam_main_replay.specs.Halts.{Says}
 use Rattle.lam_main_pair.specs.declared.half.Half.{Half}
 
 -- no plan of turns: only what comes before has one

@@ -4,16 +4,15 @@ ghost use Rattle.std.specs.Prelude.{◌≡◌, ◌≢◌, ◌≤◌, IsTrue, IfE
 ghost use Rattle.lam_io.specs.Outside.{Rose, AllStay};
 ghost use Rattle.guarded_code_runs.specs.Worlds.{IsSound};
 ghost use Rattle.lam_machine_runs.specs.Stops.{stopped_at};
-ghost use Rattle.lam_main_plan.specs.Books.{WhereReady, WithRun};
-ghost use Rattle.lam_main_files.specs.Halts.{Finds};
+ghost use Rattle.lam_main_replay.specs.Books.{WhereReady, WithRun};
+ghost use Rattle.lam_main_replay.specs.Halts.{Finds};
 ghost use Rattle.lam_main_pair.specs.Halves.{NoRun, IsNoted, IsHalfOf};
 
 use flow_labels::Label;
 use guarded_code::Verified;
 use lam_io::Shelf;
 use lam_machine_world::{World, let_go_world};
-use lam_main_files::Halt;
-use lam_main_replay::{read_turns, run_halt};
+use lam_main_replay::{Halt, read_turns, run_halt};
 use pair_check::{Agenda, agenda_of};
 use std::alloc::Global;
 

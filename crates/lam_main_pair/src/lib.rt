@@ -15,10 +15,10 @@ ghost use Rattle.flow_labels.specs.LabelText.{label_of};
 ghost use Rattle.lam_io.specs.Outside.{Rose, AllStay};
 ghost use Rattle.lam_bytecode.specs.Codes.{IsCode};
 ghost use Rattle.guarded_code_runs.specs.Worlds.{IsSound};
-ghost use Rattle.lam_main_plan.specs.Reading.{WithFile, program_limit};
-ghost use Rattle.lam_main_plan.specs.Books.{ByLabel, WithStart, WithRun};
-ghost use Rattle.lam_main_plan.specs.Pairs.{PairsWith, PairsRuns, Pairs};
-ghost use Rattle.lam_main_files.specs.Halts.{Says, Gives};
+ghost use Rattle.lam_main_replay.specs.Reading.{WithFile, program_limit};
+ghost use Rattle.lam_main_replay.specs.Books.{ByLabel, WithStart, WithRun};
+ghost use Rattle.lam_main_replay.specs.Pairs.{PairsWith, PairsRuns, Pairs};
+ghost use Rattle.lam_main_replay.specs.Halts.{Says, Gives};
 ghost use Rattle.lam_main_replay.specs.Asked.{files_of};
 ghost use Rattle.lam_main_pair.specs.Halves.{OfFirst, OfSecond, OfBoth};
 
@@ -28,8 +28,7 @@ use flow_labels::Label;
 use guarded_code::Verified;
 use lam_io::Shelf;
 use lam_machine_world::{World, let_go_world};
-use lam_main_files::{Halt, read_code};
-use lam_main_replay::{RunFiles, read_label, read_start};
+use lam_main_replay::{Halt, RunFiles, read_code, read_label, read_start};
 use std::alloc::Global;
 
 /// The line of the answer to two runs of a program, by the worlds that they start from and by their books, for the observer

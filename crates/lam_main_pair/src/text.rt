@@ -1,14 +1,14 @@
 //! The line of an answer.
 
 ghost use Rattle.std.specs.Prelude.{◌≡◌, ◌∷◌, [], IfOk, IfErr, decimal, string_bytes};
-ghost use Rattle.lam_main_plan.specs.Refusals.{line};
-ghost use Rattle.lam_main_plan.specs.Pairs.{part_name, pair_line};
+ghost use Rattle.lam_main_replay.specs.Refusals.{line};
+ghost use Rattle.lam_main_replay.specs.Pairs.{part_name, pair_line};
 ghost use Rattle.lam_main_pair.specs.Halves.{IsAnswered};
 
 use crate::half::{Half, let_go_half};
 use decimal_text::push_number;
 use flow_labels::Label;
-use lam_main_files::Halt;
+use lam_main_replay::Halt;
 use pair_check::{PairAnswer, Part, answer_of_starts};
 use std::alloc::Global;
 use want_of_memory::NoMemory;

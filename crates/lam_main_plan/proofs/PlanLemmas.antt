@@ -14,7 +14,7 @@ use Rattle.lam_machine_terms.specs.Turns.{Moment}
 use Rattle.lam_machine_runs.specs.declared.How.{How}
 use Rattle.lam_machine_runs.specs.declared.How.TheVariants as how
 use Rattle.lam_make.specs.Made.{program_text, world_text}
-use Rattle.audit_log_notes.specs.Sums.{summary_lines}
+use Rattle.audit_log.specs.Sums.{summary_lines}
 use Rattle.world_doc_terms.specs.Breaks.{Reading}
 use Rattle.world_doc_terms.specs.Start.{start_of}
 use Rattle.lam_front.specs.Programs.{IsFine}

@@ -10,3 +10,5 @@ pub mod Saves
 pub mod Plan
 pub mod Answer
 pub use Rattle.barrier_compiler.specs.Compiled
+pub use Rattle.barrier_compiler.specs.declared.emitting.CompileFault
+pub use Rattle.world_save_files.specs.Saved

@@ -11,7 +11,7 @@ use Rattle.lam_machine_runs.specs.declared.How.TheVariants as how
 use Rattle.world_doc_terms.specs.Start.{start_of}
 use Rattle.turn_book.specs.Book.{book}
 use Rattle.lam_make.specs.Made.{program_text, world_text}
-use Rattle.audit_log_notes.specs.Sums.{summary_lines}
+use Rattle.audit_log.specs.Sums.{summary_lines}
 use Rattle.lam_main_words.specs.Words.{Text}
 use Rattle.lam_main_plan.specs.declared.Status.{Status}
 use Rattle.lam_main_plan.specs.declared.Status.TheVariants.{Done, Budget, AllWait}

@@ -3,7 +3,7 @@ use Rattle.std.proofs.Common.{◌≡◌, List, String, string_bytes}
 use Rattle.std.specs.declared.alloc.Global.{Global}
 use Rattle.flow_labels.specs.declared.Label.{Label}
 use Rattle.lam_machine_terms.specs.Turns.{Moment}
-use Rattle.lam_machine_replay.specs.Keeping.{LeavesPrivate}
+use Rattle.audit_log_lines.specs.Keeping.{LeavesPrivate}
 use Rattle.audit_log_lines.specs.Kept.{IsView, IsAudit}
 use Rattle.lam_main_words.specs.Words.{Text}
 use Rattle.lam_main_replay.specs.declared.viewer.Viewer.{Viewer}

@@ -19,15 +19,15 @@ use Rattle.world_doc_stores.specs.Meaning as document_reading
 use Rattle.world_doc_stores.specs.declared.fault.WorldFault.{WorldFault}
 use Rattle.world_doc_stores.specs.declared.fault.WorldFault.TheVariants.{Broken, NoMemory as no_memory_of_world}
 use Rattle.lam_machine_runs.specs.Stops.{NotReady, stopped_at}
-use Rattle.lam_machine_replay.specs.Stops.{IsStop}
-use Rattle.lam_machine_replay.specs.declared.fault.RunFault.{RunFault}
-use Rattle.lam_machine_replay.specs.declared.fault.RunFault.TheVariants.{NotReady as not_ready, NoMemory as no_memory_of_run}
+use Rattle.audit_log_lines.specs.Stops.{IsStop}
+use Rattle.audit_log_lines.specs.RunFault.{RunFault}
+use Rattle.audit_log_lines.specs.RunFault.TheVariants.{NotReady as not_ready, NoMemory as no_memory_of_run}
 use Rattle.lam_main_words.specs.Words.{Text}
-use Rattle.lam_main_plan.specs.Refusals.{Plan, prints, no_world, no_book}
-use Rattle.lam_main_plan.specs.Reading.{HasFile, WithFile, Never, Compiles, IsRunCode, program_limit, world_limit, book_limit, of_file}
-use Rattle.lam_main_plan.specs.Replays.{Reader, an_observer, RunFiles, view_by, read_by, by_turns, by_book, IsOfTurns, IsOfBook, ByReader, ByWorld, NoStart, Replays, Starts, Runs}
-use Rattle.lam_main_plan.specs.Books.{ByLabel, ByTurns, NoTurns}
-use Rattle.lam_main_plan.proofs.ReadLemmas.{file_map, same_files, thin_program_then, no_thin_program_then, start_then, no_start_then, reader_then, no_reader_then}
+use Rattle.lam_main_files.specs.Refusals.{Plan, prints, no_world, no_book}
+use Rattle.lam_main_files.specs.Reading.{HasFile, WithFile, Never, Compiles, IsRunCode, program_limit, world_limit, book_limit, of_file}
+use Rattle.lam_main_files.specs.Replays.{Reader, an_observer, RunFiles, view_by, read_by, by_turns, by_book, IsOfTurns, IsOfBook, ByReader, ByWorld, NoStart, Replays, Starts, Runs}
+use Rattle.lam_main_files.specs.Books.{ByLabel, ByTurns, NoTurns}
+use Rattle.lam_main_files.proofs.ReadLemmas.{file_map, same_files, thin_program_then, no_thin_program_then, start_then, no_start_then, reader_then, no_reader_then}
 use Rattle.lam_main_files.specs.declared.halt.Refusal.TheVariants.{NotReady as not_ready_at}
 use Rattle.lam_main_files.specs.declared.halt.Halt.{Halt}
 use Rattle.lam_main_files.specs.declared.halt.Halt.TheVariants.{Refused, NoMemory, ShelfFailed}

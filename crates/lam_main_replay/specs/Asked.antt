@@ -3,17 +3,17 @@ use Rattle.std.specs.Prelude.{◌≡◌, List, Option, Some, Ok, string_bytes}
 use Rattle.lam_bytecode.specs.Codes.{CodeTree}
 use Rattle.lam_machine_terms.specs.Worlds.{World}
 use Rattle.lam_machine_terms.specs.Turns.{Moment}
-use Rattle.audit_log.specs.Log.{view_lines, audit_lines}
+use Rattle.audit_log_lines.specs.Log.{view_lines, audit_lines}
 use Rattle.turn_book.specs.declared.BookFault.{BookFault}
 use Rattle.turn_book.specs.declared.BookFault.TheVariants as book
 use Rattle.world_doc_terms.specs.Start.{start_of}
 use Rattle.world_doc_stores.specs.declared.fault.WorldFault.{WorldFault}
 use Rattle.world_doc_stores.specs.declared.fault.WorldFault.TheVariants as document
 use Rattle.lam_machine_runs.specs.Stops.{NotReady as NotReadyAt}
-use Rattle.lam_machine_replay.specs.declared.fault.RunFault.{RunFault}
-use Rattle.lam_machine_replay.specs.declared.fault.RunFault.TheVariants as run
+use Rattle.audit_log_lines.specs.RunFault.{RunFault}
+use Rattle.audit_log_lines.specs.RunFault.TheVariants as run
 use Rattle.lam_main_words.specs.Words.{Text}
-use Rattle.lam_main_plan.specs.Replays.{Reader as Plain, an_observer, an_auditor, RunFiles as PlainFiles}
+use Rattle.lam_main_files.specs.Replays.{Reader as Plain, an_observer, an_auditor, RunFiles as PlainFiles}
 use Rattle.lam_main_files.specs.declared.halt.BookBreak.TheVariants.{Head, Line, SameThread, TooMany}
 use Rattle.lam_main_files.specs.declared.halt.Refusal.TheVariants.{World as OfWorld, Book, NotReady}
 use Rattle.lam_main_files.specs.declared.halt.Halt.{Halt}

@@ -1,1 +1,16 @@
 pub mod Asked
+pub use Rattle.audit_log_lines.specs.RunFault
+pub use Rattle.audit_log_lines.specs.Stops
+pub use Rattle.lam_main_files.specs.Answer
+pub use Rattle.lam_main_files.specs.Books
+pub use Rattle.lam_main_files.specs.Halts
+pub use Rattle.lam_main_files.specs.Pairs
+pub use Rattle.lam_main_files.specs.Reading
+pub use Rattle.lam_main_files.specs.Refusals
+pub use Rattle.lam_main_files.specs.Replays
+pub use Rattle.lam_main_files.specs.Saves
+pub use Rattle.lam_main_files.specs.Status
+pub use Rattle.lam_main_files.specs.Threads
+pub use Rattle.lam_main_files.specs.declared.halt.Halt
+pub use Rattle.lam_main_files.specs.declared.halt.Refusal
+pub use Rattle.lam_main_files.specs.declared.report.Report

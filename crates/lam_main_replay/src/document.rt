@@ -4,16 +4,16 @@
 ghost use Rattle.std.specs.Prelude.{◌≡◌, ◌≢◌, ◌≤◌, Ok, IsTrue, IfOk, IfErr, string_bytes};
 ghost use Rattle.lam_io.specs.Outside.{Rose, AllStay};
 ghost use Rattle.lam_bytecode.specs.Codes.{IsCode};
-ghost use Rattle.guarded_code_runs.specs.Worlds.{IsSound};
+ghost use Rattle.world_doc_laws.specs.Worlds.{IsSound};
 ghost use Rattle.world_doc_terms.specs.Start.{start_of};
-ghost use Rattle.lam_main_plan.specs.Reading.{HasFile, WithFile, world_limit};
-ghost use Rattle.lam_main_plan.specs.Replays.{NoStart};
+ghost use Rattle.lam_main_files.specs.Reading.{HasFile, WithFile, world_limit};
+ghost use Rattle.lam_main_files.specs.Replays.{NoStart};
 ghost use Rattle.lam_main_files.specs.Halts.{Finds};
 ghost use Rattle.lam_main_replay.specs.Asked.{IsStartOf, halt_of_world};
 
+use audit_log_lines::World;
 use guarded_code::Verified;
 use lam_io::Shelf;
-use lam_machine_replay::World;
 use lam_main_files::{Halt, Refusal, read_file};
 use std::alloc::Global;
 use world_doc::start;

@@ -4,9 +4,10 @@ ghost use Rattle.std.specs.Prelude.{◌≡◌, string_bytes};
 ghost use Rattle.lam_main_replay.specs.Asked.{lines_for};
 
 use crate::viewer::{NamedViewer, Viewer};
-use audit_log_lines::{audits_leave_private, push_audit, push_view, views_leave_private};
+use audit_log_lines::{
+    Keeps, World, audits_leave_private, push_audit, push_view, views_leave_private,
+};
 use lam_asks::Event;
-use lam_machine_replay::{Keeps, World};
 use std::alloc::Global;
 use want_of_memory::NoMemory;
 

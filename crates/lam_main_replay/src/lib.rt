@@ -16,9 +16,9 @@ mod viewer;
 ghost use Rattle.std.specs.Prelude.{◌≡◌, IsTrue, IfErr, string_bytes};
 ghost use Rattle.lam_io.specs.Outside.{Rose, AllStay};
 ghost use Rattle.lam_bytecode.specs.Codes.{IsCode};
-ghost use Rattle.guarded_code_runs.specs.Worlds.{IsSound};
-ghost use Rattle.lam_main_plan.specs.Reading.{WithFile, program_limit, book_limit};
-ghost use Rattle.lam_main_plan.specs.Replays.{IsOfBook, Replays, Starts, Runs};
+ghost use Rattle.world_doc_laws.specs.Worlds.{IsSound};
+ghost use Rattle.lam_main_files.specs.Reading.{WithFile, program_limit, book_limit};
+ghost use Rattle.lam_main_files.specs.Replays.{IsOfBook, Replays, Starts, Runs};
 ghost use Rattle.lam_main_files.specs.Halts.{Says, Gives};
 ghost use Rattle.lam_main_replay.specs.Asked.{files_of, reader_of, lines_for};
 
@@ -26,12 +26,14 @@ pub use crate::document::{WORLD_LIMIT, read_start, start_in};
 pub use crate::run_text::shown_turns;
 pub use crate::turns::{read_label, read_turns, run_halt};
 pub use crate::viewer::{NamedViewer, Viewer, viewer_of};
+use audit_log_lines::World;
 use guarded_code::Verified;
 use lam_io::Shelf;
-use lam_machine_replay::World;
-pub use lam_machine_world::let_go_world;
-use lam_main_files::{Halt, read_code};
+pub use lam_main_files::{
+    Halt, PROGRAM_LIMIT, Refusal, Report, read_code, read_file, run_code_of, thin_verified,
+};
 use std::alloc::Global;
+pub use world_doc::let_go_world;
 
 /// Who reads of a run.
 #[derive(Drop)]

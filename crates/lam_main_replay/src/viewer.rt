@@ -1,8 +1,8 @@
 //! Who reads of a run, with the observer's label read by the names of the start.
 
 ghost use Rattle.std.specs.Prelude.{◌≡◌, ◌≢◌, Ok, IfOk, IfErr};
-ghost use Rattle.lam_main_plan.specs.Reading.{Never};
-ghost use Rattle.lam_main_plan.specs.Replays.{an_observer, ByReader, read_by};
+ghost use Rattle.lam_main_files.specs.Reading.{Never};
+ghost use Rattle.lam_main_files.specs.Replays.{an_observer, ByReader, read_by};
 ghost use Rattle.lam_main_files.specs.Halts.{Finds};
 ghost use Rattle.lam_main_replay.specs.Asked.{reader_of, lines_for};
 

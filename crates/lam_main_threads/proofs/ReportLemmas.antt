@@ -6,16 +6,16 @@ use Rattle.lam_bytecode.specs.Codes.{CodeTree}
 use Rattle.lam_machine_terms.specs.Worlds.{World}
 use Rattle.world_doc_terms.specs.Start.{start_of}
 use Rattle.lam_main_words.specs.Words.{Text}
-use Rattle.lam_main_plan.specs.Refusals.{Plan}
-use Rattle.lam_main_plan.specs.Reading.{HasFile, WithFile, of_file, Never, Compiles, IsRunCode, program_limit, world_limit}
-use Rattle.lam_main_plan.specs.Replays.{Reader, ByWorld, NoStart}
-use Rattle.lam_main_plan.specs.Threads.{ThreadFiles, TakesTurns, StartsThreads, RunsThreads}
-use Rattle.lam_main_plan.proofs.ReadLemmas.{same_files, file_map, thin_program_then, no_thin_program_then, by_no_world, by_this_world}
-use Rattle.lam_main_files.specs.declared.report.Report.{Report}
-use Rattle.lam_main_files.specs.declared.halt.Halt.{Halt}
-use Rattle.lam_main_files.specs.declared.halt.Halt.TheVariants.{Refused, NoMemory, ShelfFailed}
-use Rattle.lam_main_files.specs.Halts.{Finds, Reports}
-use Rattle.lam_main_files.proofs.ReportLemmas.{reports_map, reports_later, not_reported}
+use Rattle.lam_main_replay.specs.Refusals.{Plan}
+use Rattle.lam_main_replay.specs.Reading.{HasFile, WithFile, of_file, Never, Compiles, IsRunCode, program_limit, world_limit}
+use Rattle.lam_main_replay.specs.Replays.{Reader, ByWorld, NoStart}
+use Rattle.lam_main_replay.specs.Threads.{ThreadFiles, TakesTurns, StartsThreads, RunsThreads}
+use Rattle.lam_main_replay.proofs.ReadLemmas.{same_files, file_map, thin_program_then, no_thin_program_then, by_no_world, by_this_world}
+use Rattle.lam_main_replay.specs.Report.{Report}
+use Rattle.lam_main_replay.specs.Halt.{Halt}
+use Rattle.lam_main_replay.specs.Halt.TheVariants.{Refused, NoMemory, ShelfFailed}
+use Rattle.lam_main_replay.specs.Halts.{Finds, Reports}
+use Rattle.lam_main_replay.proofs.ReportLemmas.{reports_map, reports_later, not_reported}
 use Rattle.lam_main_threads.specs.declared.showing.Taken.{Taken}
 use Rattle.lam_main_threads.specs.Taken.{planned, Offers}
 use Rattle.lam_main_threads.proofs.TakenLemmas.{same_plan}

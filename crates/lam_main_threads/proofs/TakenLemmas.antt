@@ -16,17 +16,17 @@ use Rattle.thread_host.specs.declared.Finished.{Finished}
 use Rattle.lam_make.specs.Made.{program_text, world_text}
 use Rattle.audit_log_notes.specs.Sums.{summary_lines}
 use Rattle.lam_main_words.specs.Words.{Text}
-use Rattle.lam_main_plan.specs.Refusals.{Plan, prints}
-use Rattle.lam_main_plan.specs.Reading.{Never, Compiles, IsRunCode}
-use Rattle.lam_main_plan.specs.Replays.{by_turns, IsOfTurns, ByReader, ByWorld}
-use Rattle.lam_main_plan.specs.Threads.{status_of, IsOfThreads, made_budget, Makes}
-use Rattle.lam_main_plan.proofs.ReadLemmas.{thin_then, no_thin_then, by_no_world, by_this_world, by_no_reader, by_this_reader}
+use Rattle.lam_main_replay.specs.Refusals.{Plan, prints}
+use Rattle.lam_main_replay.specs.Reading.{Never, Compiles, IsRunCode}
+use Rattle.lam_main_replay.specs.Replays.{by_turns, IsOfTurns, ByReader, ByWorld}
+use Rattle.lam_main_replay.specs.Threads.{status_of, IsOfThreads, made_budget, Makes}
+use Rattle.lam_main_replay.proofs.ReadLemmas.{thin_then, no_thin_then, by_no_world, by_this_world, by_no_reader, by_this_reader}
 use Rattle.world_doc_terms.specs.declared.breaks.WorldBreak.TheVariants.{NotJson, NoMember, BadMember, NoTag, BadPath, PathTwice}
-use Rattle.lam_main_files.specs.declared.halt.Refusal.{Refusal}
-use Rattle.lam_main_files.specs.declared.halt.Refusal.TheVariants.{Word, Script, NotUtf8, Flawed, CodeTooLong, World as OfWorld, Unnamed, BadText, TooBig, Book, NotReady as NotReadyAt, Absent, TooLong}
-use Rattle.lam_main_files.specs.declared.halt.Halt.{Halt}
-use Rattle.lam_main_files.specs.declared.halt.Halt.TheVariants.{Refused, NoMemory, ShelfFailed}
-use Rattle.lam_main_files.specs.Halts.{refuses, Finds, Says}
+use Rattle.lam_main_replay.specs.Refusal.{Refusal}
+use Rattle.lam_main_replay.specs.Refusal.TheVariants.{Word, Script, NotUtf8, Flawed, CodeTooLong, World as OfWorld, Unnamed, BadText, TooBig, Book, NotReady as NotReadyAt, Absent, TooLong}
+use Rattle.lam_main_replay.specs.Halt.{Halt}
+use Rattle.lam_main_replay.specs.Halt.TheVariants.{Refused, NoMemory, ShelfFailed}
+use Rattle.lam_main_replay.specs.Halts.{refuses, Finds, Says}
 use Rattle.lam_main_replay.specs.declared.viewer.Viewer.{Viewer}
 use Rattle.lam_main_replay.specs.declared.viewer.Viewer.TheVariants.{Observer, Auditor}
 use Rattle.lam_main_replay.specs.Asked.{lines_for}

@@ -1,6 +1,6 @@
 -- What is asked of a run whose turns threads take.
 use Rattle.std.specs.Prelude.{string_bytes}
-use Rattle.lam_main_plan.specs.Threads.{ThreadFiles as PlainFiles}
+use Rattle.lam_main_replay.specs.Threads.{ThreadFiles as PlainFiles}
 pub use Rattle.lam_main_replay.specs.Asked.{reader_of}
 use Rattle.lam_main_threads.specs.declared.ThreadFiles.{ThreadFiles}
 

@@ -7,11 +7,11 @@ use Rattle.lam_machine_runs.specs.Ends.{Runs}
 use Rattle.thread_host.specs.Runs.{IsWhole}
 use Rattle.thread_host.specs.declared.Finished.{Finished}
 use Rattle.lam_main_words.specs.Words.{Text}
-use Rattle.lam_main_plan.specs.Refusals.{Plan}
-use Rattle.lam_main_plan.specs.Threads.{status_of}
-use Rattle.lam_main_files.specs.declared.halt.Halt.{Halt}
-use Rattle.lam_main_files.specs.declared.halt.Halt.TheVariants.{Refused, NoMemory, ShelfFailed}
-use Rattle.lam_main_files.specs.Halts.{refuses}
+use Rattle.lam_main_replay.specs.Refusals.{Plan}
+use Rattle.lam_main_replay.specs.Threads.{status_of}
+use Rattle.lam_main_replay.specs.Halt.{Halt}
+use Rattle.lam_main_replay.specs.Halt.TheVariants.{Refused, NoMemory, ShelfFailed}
+use Rattle.lam_main_replay.specs.Halts.{refuses}
 use Rattle.lam_main_threads.specs.declared.taking.Ended.{Ended}
 use Rattle.lam_main_threads.specs.declared.showing.Taken.{Taken}
 

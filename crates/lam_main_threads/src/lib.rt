@@ -16,10 +16,10 @@ ghost use Rattle.std.specs.Prelude.{◌≡◌, ◌<◌, ◌≤◌, Some, IsTrue,
 ghost use Rattle.lam_io.specs.Outside.{Rose, AllStay};
 ghost use Rattle.lam_bytecode.specs.Codes.{IsCode};
 ghost use Rattle.guarded_code_runs.specs.Worlds.{IsSound};
-ghost use Rattle.lam_main_plan.specs.Answer.{OthersKept};
-ghost use Rattle.lam_main_plan.specs.Reading.{WithFile, program_limit};
-ghost use Rattle.lam_main_plan.specs.Threads.{TakesTurns, StartsThreads, RunsThreads};
-ghost use Rattle.lam_main_files.specs.Halts.{Reports};
+ghost use Rattle.lam_main_replay.specs.Answer.{OthersKept};
+ghost use Rattle.lam_main_replay.specs.Reading.{WithFile, program_limit};
+ghost use Rattle.lam_main_replay.specs.Threads.{TakesTurns, StartsThreads, RunsThreads};
+ghost use Rattle.lam_main_replay.specs.Halts.{Reports};
 ghost use Rattle.lam_main_replay.specs.Asked.{reader_of};
 ghost use Rattle.lam_main_threads.specs.Asked.{files_of};
 ghost use Rattle.turn_book.specs.Limits.{most_turns, most_workers};
@@ -29,13 +29,12 @@ use crate::showing::shown;
 use crate::writing::written;
 use guarded_code::Verified;
 use lam_io::{Gate, Shelf};
-use lam_machine_replay::World;
-use lam_main_files::{Halt, Report, read_code};
-use lam_main_replay::read_start;
+use lam_main_replay::{Halt, Report, read_code, read_start};
 pub use lam_main_replay::{Reader, RunFiles, replay};
 use std::alloc::Global;
 use std::sync::Wait;
 use std::thread::Threads;
+use thread_host::World;
 
 /// The files of a run whose turns threads take, but for its program.
 #[derive(Drop)]

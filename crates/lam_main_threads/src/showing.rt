@@ -3,7 +3,7 @@
 ghost use Rattle.std.specs.Prelude.{◌≢◌, ◌<◌, ◌≤◌, IfOk, IfErr, string_bytes};
 ghost use Rattle.guarded_code_runs.specs.Worlds.{IsSound};
 ghost use Rattle.lam_main_words.specs.Words.{Text};
-ghost use Rattle.lam_main_plan.specs.Threads.{IsOfThreads, TakesTurns};
+ghost use Rattle.lam_main_replay.specs.Threads.{IsOfThreads, TakesTurns};
 ghost use Rattle.lam_main_replay.specs.Asked.{reader_of, lines_for};
 ghost use Rattle.lam_main_threads.specs.Taken.{HasBook, IsShown, planned, Offers};
 ghost use Rattle.turn_book.specs.Limits.{most_turns, most_workers};
@@ -12,15 +12,12 @@ use crate::Bounds;
 use crate::taking::{Ended, EndedKept, taken_turns};
 use guarded_code::Verified;
 use lam_io::Gate;
-use lam_machine_replay::World;
 use lam_machine_runs::How;
-use lam_main_files::Halt;
-use lam_main_replay::{NamedViewer, Reader, let_go_world, viewer_of};
+use lam_main_replay::{Halt, NamedViewer, Reader, let_go_world, viewer_of};
 use std::alloc::Global;
 use std::sync::Wait;
 use std::thread::Threads;
-use thread_host::RunParts;
-use thread_host_run::let_go_verified;
+use thread_host::{RunParts, World, let_go_verified};
 use turn_book::write_book;
 use want_of_memory::NoMemory;
 

@@ -9,12 +9,11 @@ ghost use Rattle.turn_book.specs.Limits.{most_turns, most_workers};
 use crate::Bounds;
 use guarded_code::Verified;
 use lam_io::Gate;
-use lam_machine_replay::{Keeps, World};
 use lam_machine_runs::How;
 use std::alloc::Global;
 use std::sync::Wait;
 use std::thread::Threads;
-use thread_host::{Finished, FinishedKept, RunParts, run_kept};
+use thread_host::{Finished, FinishedKept, Keeps, RunParts, World, run_kept};
 use want_of_memory::NoMemory;
 
 /// The turns that were taken, with the code and the start that they are of, and how their run ended.

@@ -2,13 +2,13 @@
 
 ghost use Rattle.std.specs.Prelude.{◌≡◌, Some, IsTrue, IfErr, string_bytes};
 ghost use Rattle.lam_io.specs.Outside.{Rose, AllStay};
-ghost use Rattle.lam_main_plan.specs.Answer.{OthersKept};
-ghost use Rattle.lam_main_files.specs.Halts.{Reports};
+ghost use Rattle.lam_main_replay.specs.Answer.{OthersKept};
+ghost use Rattle.lam_main_replay.specs.Halts.{Reports};
 ghost use Rattle.lam_main_threads.specs.Taken.{planned};
 
 use crate::showing::Taken;
 use lam_io::{Shelf, ShelfFault};
-use lam_main_files::{Halt, Report};
+use lam_main_replay::{Halt, Report};
 
 /// Writes the book of a run to a file. The text and the book were made before, so nothing is refused from here on.
 pub(crate) fn written<H: Shelf>(

@@ -16,19 +16,19 @@ use Rattle.thread_steps.specs.Threads.{Thread}
 use Rattle.lam_machine_terms.specs.Worlds.{World, thread_at}
 use Rattle.lam_machine_terms.specs.Turns.{Moment}
 use Rattle.lam_machine_runs.specs.Stops.{NotReady, stopped_at}
-use Rattle.lam_machine_replay.specs.Stops.{IsStop}
-use Rattle.lam_machine_replay.specs.declared.fault.RunFault.{RunFault}
-use Rattle.lam_machine_replay.specs.declared.fault.RunFault.TheVariants.{NotReady as not_ready, NoMemory as no_memory_of_run}
+use Rattle.lam_main_replay.specs.Stops.{IsStop}
+use Rattle.lam_main_replay.specs.RunFault.{RunFault}
+use Rattle.lam_main_replay.specs.RunFault.TheVariants.{NotReady as not_ready, NoMemory as no_memory_of_run}
 use Rattle.lam_machine_means.specs.Runs.{Began}
 use Rattle.lam_machine_means.specs.Meant.{MeansItsSource}
 use Rattle.turn_book.specs.Reading.{turns_of}
 use Rattle.world_doc_terms.specs.Breaks.{Reading}
 use Rattle.world_doc_terms.specs.Start.{start_of}
-use Rattle.world_doc_laws.specs.Documents.{RunMeans}
+use Rattle.lam_main_laws.specs.Documents.{RunMeans}
 use Rattle.source_walk_terms.specs.declared.Walked.{Walked}
 use Rattle.source_walk_terms.specs.declared.Walked.TheVariants.{Same, Departs}
 use Rattle.source_walk_terms.specs.Walks.{IsEntry, StandsAtEntry, ThreadsAtEntries, IsWalked}
-use Rattle.source_walk_meets.specs.Meets.{MeantRunsAreSame}
+use Rattle.source_walk.specs.Meets.{MeantRunsAreSame}
 use Rattle.lam_main_words.specs.Words.{Text}
 use Rattle.lam_main_plan.specs.Refusals.{Plan, prints, no_turn}
 use Rattle.lam_main_plan.specs.Reading.{HasFile, WithFile, of_file, Never, Compiles, program_limit, world_limit, book_limit}
@@ -37,10 +37,10 @@ use Rattle.lam_main_plan.specs.Books.{WithRun, NoTurns, WhereReady}
 use Rattle.lam_main_plan.specs.Walks.{IsSource, same_line, TellsSame, IsOfWalk, WalksRun, Walks}
 use Rattle.lam_main_plan.proofs.ReadLemmas.{same_files, file_map, thin_then, no_thin_then}
 use Rattle.lam_main_plan.proofs.BookLemmas.{start_then, no_start_then, run_then, no_turns_then, ready_then, run_map}
-use Rattle.lam_main_files.specs.declared.halt.Halt.{Halt}
-use Rattle.lam_main_files.specs.declared.halt.Halt.TheVariants.{Refused, NoMemory, ShelfFailed}
-use Rattle.lam_main_files.specs.Halts.{Finds, Says, Gives, IsRead}
-use Rattle.lam_main_files.proofs.FileLemmas.{says_map, not_found, gives_of}
+use Rattle.lam_main_replay.specs.Halt.{Halt}
+use Rattle.lam_main_replay.specs.Halt.TheVariants.{Refused, NoMemory, ShelfFailed}
+use Rattle.lam_main_replay.specs.Halts.{Finds, Says, Gives, IsRead}
+use Rattle.lam_main_replay.proofs.FileLemmas.{says_map, not_found, gives_of}
 use Rattle.lam_main_replay.specs.Asked.{IsStartOf, halt_of_run}
 use Rattle.lam_main_laws.specs.Meant.{MeansEverywhere, SourcesRunAsMeant}
 use Rattle.lam_main_walk.specs.declared.source.Source.{Source}

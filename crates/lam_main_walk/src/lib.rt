@@ -15,9 +15,9 @@ ghost use Rattle.guarded_code_runs.specs.Worlds.{IsSound};
 ghost use Rattle.lam_main_plan.specs.Reading.{WithFile, program_limit};
 ghost use Rattle.lam_main_plan.specs.Books.{WithRun};
 ghost use Rattle.lam_resolve_tree.specs.Tree.{resolved_tree};
-ghost use Rattle.world_doc_laws.specs.Documents.{RunMeans};
+ghost use Rattle.lam_main_laws.specs.Documents.{RunMeans};
 ghost use Rattle.lam_main_plan.specs.Walks.{TellsSame, Walks};
-ghost use Rattle.lam_main_files.specs.Halts.{Says, Gives};
+ghost use Rattle.lam_main_replay.specs.Halts.{Says, Gives};
 ghost use Rattle.lam_main_replay.specs.Asked.{files_of};
 ghost use Rattle.lam_main_laws.specs.Meant.{MeansEverywhere};
 ghost use Rattle.lam_main_walk.specs.Sources.{IsSoundSource, Tells};
@@ -26,9 +26,8 @@ use crate::source::{Source, let_go_source, read_source};
 use crate::telling::told;
 use lam_io::Shelf;
 use lam_machine_world::{World, let_go_world};
-use lam_main_files::Halt;
 use lam_main_laws::sources_run_as_meant;
-use lam_main_replay::{RunFiles, read_start, read_turns};
+use lam_main_replay::{Halt, RunFiles, read_start, read_turns};
 use std::alloc::Global;
 
 /// The line of how many asks stand in the run of a program, from the world of a document and in the order of a book: its

@@ -10,15 +10,14 @@ ghost use Rattle.thinned_code.specs.Thinned.{thinned};
 ghost use Rattle.lam_front.specs.Programs.{IsFine};
 ghost use Rattle.lam_main_words.specs.Words.{Text};
 ghost use Rattle.lam_main_plan.specs.Reading.{HasFile, WithFile, Never, Compiles, program_limit};
-ghost use Rattle.lam_main_files.specs.Halts.{Finds};
+ghost use Rattle.lam_main_replay.specs.Halts.{Finds};
 ghost use Rattle.lam_main_walk.specs.Sources.{IsSourceOf, IsOfProgram, IsSoundSource};
 
-use barrier_thin::thin_verified;
 use guarded_code::Verified;
 use lam_front::check_program;
 use lam_io::Shelf;
-use lam_main_files::{Halt, PROGRAM_LIMIT, read_file};
 use lam_main_plan::{CompileFault, compile};
+use lam_main_replay::{Halt, PROGRAM_LIMIT, read_file, thin_verified};
 use lam_resolve::resolve;
 use lam_resolve_laws::resolves;
 use lam_resolve_tree::Resolved;

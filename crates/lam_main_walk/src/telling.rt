@@ -4,19 +4,17 @@ ghost use Rattle.std.specs.Prelude.{◌≡◌, ◌≢◌, ℕ, List, IfOk, IfErr
 ghost use Rattle.lam_resolve_tree.specs.Tree.{resolved_tree};
 ghost use Rattle.guarded_code_runs.specs.Worlds.{IsSound};
 ghost use Rattle.lam_machine_runs.specs.Stops.{stopped_at};
-ghost use Rattle.world_doc_laws.specs.Documents.{RunMeans};
+ghost use Rattle.lam_main_laws.specs.Documents.{RunMeans};
 ghost use Rattle.lam_main_plan.specs.Books.{WhereReady};
 ghost use Rattle.lam_main_plan.specs.Walks.{same_line, TellsSame};
-ghost use Rattle.lam_main_files.specs.Halts.{Says};
+ghost use Rattle.lam_main_replay.specs.Halts.{Says};
 ghost use Rattle.lam_main_walk.specs.Sources.{IsSoundSource};
 
 use crate::source::Source;
 use decimal_text::push_number;
 use lam_machine_world::World;
-use lam_main_files::Halt;
-use lam_main_replay::run_halt;
-use source_walk::{Walked, walk_turns};
-use source_walk_meets::meant_runs_are_same;
+use lam_main_replay::{Halt, run_halt};
+use source_walk::{Walked, meant_runs_are_same, walk_turns};
 use std::alloc::Global;
 use want_of_memory::NoMemory;
 

@@ -1,17 +1,17 @@
 -- Worked examples: what small programs ask.
 use Rattle.std.specs.Prelude.{◌≡◌, pos, List, [], ◌∷◌, Some, None, codes, refl}
-use Rattle.capabilities.specs.Changes.{no_caps}
+use Rattle.thread_steps.specs.Changes.{no_caps}
 use Rattle.flow_labels.specs.Flow.{public_label}
-use Rattle.lam_value.specs.declared.values.Value.{Value}
-use Rattle.lam_value.specs.declared.values.Value.TheVariants.{Int, Obj}
-use Rattle.lam_value.specs.declared.names.Name.{Name}
+use Rattle.thread_steps.specs.Value.{Value}
+use Rattle.thread_steps.specs.Value.TheVariants.{Int, Obj}
+use Rattle.thread_steps.specs.Name.{Name}
 use Rattle.lam_operators.specs.declared.BinaryOp.TheVariants.{Add, Div, Lt}
 use Rattle.lam_builtins.specs.declared.Builtin.TheVariants.{Say}
 use Rattle.lam_builtins.specs.Types.{int, object}
-use Rattle.lam_asks.specs.declared.fault.Fault.TheVariants.{Zero}
-use Rattle.lam_asks.specs.declared.answer.Outcome.TheVariants as outcome
-use Rattle.lam_asks.specs.declared.answer.Answer.TheVariants.{Done, Entered}
-use Rattle.lam_asks.specs.declared.ask.Ask.TheVariants as ask
+use Rattle.thread_steps.specs.Fault.TheVariants.{Zero}
+use Rattle.thread_steps.specs.Outcome.TheVariants as outcome
+use Rattle.thread_steps.specs.Answer.TheVariants.{Done, Entered}
+use Rattle.thread_steps.specs.Ask.TheVariants as ask
 use Rattle.thread_steps.specs.Builtins.{builtin}
 use Rattle.lam_resolve_tree.specs.Tree.{ResolvedType, Expression, number_value, text_value, local_value, binary_of, builtin_of, call_of, label_of, caps_of, args_end, args_more, let_slot, while_block, return_value, sync_block, region_block, do_value, set_local, Block, block_end, block_more, ResolvedFunction, ResolvedTree}
 use Rattle.lam_meaning.specs.Trees.{on_end}

@@ -7,3 +7,5 @@ pub mod Pieces
 pub mod Scheme
 pub mod Long
 pub mod SchemeExamples
+pub use Rattle.thread_steps.specs.Builtins
+pub use Rattle.thread_steps.specs.Operators

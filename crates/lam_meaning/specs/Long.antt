@@ -1,7 +1,7 @@
 -- The first unit of a program that is too long.
 use Rattle.std.specs.Prelude.{ℕ, ◌+◌, Bool, nat_lt, if◌then◌else◌, List, [], ◌∷◌, length, Option, Some, None, Result, Ok, Err}
 use Rattle.lam_resolve_tree.specs.Tree.{ResolvedTree}
-use Rattle.lam_bytecode.specs.Codes.{CodeTree}
+use Rattle.thread_steps.specs.Codes.{CodeTree}
 use Rattle.lam_meaning.specs.Scheme.{Draft, drafts, scheme}
 
 -- the most operations of a unit

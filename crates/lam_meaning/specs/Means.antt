@@ -4,26 +4,26 @@ use Rattle.flow_labels.specs.declared.Label.{Label}
 use Rattle.flow_labels.specs.Flow.{public_label}
 use Rattle.flow_labels.specs.declared.Denied.{Denied as Denial}
 use Rattle.flow_labels.specs.Failing.{first_failing, read_test, write_test}
-use Rattle.capabilities.specs.declared.Caps.{Caps}
-use Rattle.capabilities.specs.Changes.{no_caps}
-use Rattle.lam_value.specs.declared.names.Name.{Name}
-use Rattle.lam_value.specs.declared.values.Value.{Value}
-use Rattle.lam_value.specs.declared.values.Value.TheVariants.{Int, Bool as Truth, Bytes, Nothing, Obj, Arr, CapV}
-use Rattle.lam_value.specs.declared.shapes.Kind.{Kind}
-use Rattle.lam_value.specs.declared.shapes.Kind.TheVariants as kind
-use Rattle.lam_value.specs.declared.shapes.Shape.TheVariants.{Class, Array}
-use Rattle.lam_value.specs.Shapes.{zero_of}
+use Rattle.thread_steps.specs.Caps.{Caps}
+use Rattle.thread_steps.specs.Changes.{no_caps}
+use Rattle.thread_steps.specs.Name.{Name}
+use Rattle.thread_steps.specs.Value.{Value}
+use Rattle.thread_steps.specs.Value.TheVariants.{Int, Bool as Truth, Bytes, Nothing, Obj, Arr, CapV}
+use Rattle.thread_steps.specs.Kind.{Kind}
+use Rattle.thread_steps.specs.Kind.TheVariants as kind
+use Rattle.thread_steps.specs.Shape.TheVariants.{Class, Array}
+use Rattle.thread_steps.specs.Shapes.{zero_of}
 use Rattle.lam_operators.specs.declared.BinaryOp.{BinaryOp}
 use Rattle.lam_operators.specs.declared.BinaryOp.TheVariants.{Or, And}
 use Rattle.lam_builtins.specs.Types.{int, bool, bytes, tag, label, caps, file, dir, pipe, thread, object, array}
-use Rattle.lam_asks.specs.declared.fault.Fault.TheVariants.{Denied, Index, Deep, Long, Thrown}
-use Rattle.lam_asks.specs.Faults.{fault_number}
-use Rattle.lam_asks.specs.declared.answer.Outcome.TheVariants as outcome
-use Rattle.lam_asks.specs.declared.answer.Answer.{Answer}
-use Rattle.lam_asks.specs.declared.answer.Answer.TheVariants.{Done, Entered, Val, Refused, Failed}
-use Rattle.lam_asks.specs.declared.ask.Ask.TheVariants as ask
-use Rattle.lam_asks.specs.Suits as sorts
-use Rattle.lam_asks.specs.Suits.{Sort, numbers}
+use Rattle.thread_steps.specs.Fault.TheVariants.{Denied, Index, Deep, Long, Thrown}
+use Rattle.thread_steps.specs.Faults.{fault_number}
+use Rattle.thread_steps.specs.Outcome.TheVariants as outcome
+use Rattle.thread_steps.specs.Answer.{Answer}
+use Rattle.thread_steps.specs.Answer.TheVariants.{Done, Entered, Val, Refused, Failed}
+use Rattle.thread_steps.specs.Ask.TheVariants as ask
+use Rattle.thread_steps.specs.Suits as sorts
+use Rattle.thread_steps.specs.Suits.{Sort, numbers}
 use Rattle.thread_steps.specs.Operators.{operator, prefix, label_from, with_sign}
 use Rattle.thread_steps.specs.Limits.{frames_limit, length_limit}
 use Rattle.thread_steps.specs.Builtins as calls

@@ -1,8 +1,8 @@
 -- Code whose branches are nested and whose constants stand by value, and how it is laid out flat.
 use Rattle.std.specs.Prelude.{ℕ, suc, ◌+◌, Bool, true, false, if◌then◌else◌, List, [], ◌∷◌, ◌++◌}
-use Rattle.lam_value.specs.declared.values.Value.{Value}
-use Rattle.lam_bytecode.specs.declared.op.Op.{Op}
-use Rattle.lam_bytecode.specs.declared.op.Op.TheVariants.{Const, Jump, JumpIfFalse}
+use Rattle.thread_steps.specs.Value.{Value}
+use Rattle.thread_steps.specs.Op.{Op}
+use Rattle.thread_steps.specs.Op.TheVariants.{Const, Jump, JumpIfFalse}
 use Rattle.lam_meaning.specs.Equal.{same_values}
 
 mutual

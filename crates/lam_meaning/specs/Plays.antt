@@ -1,10 +1,10 @@
 -- What a list of answers makes of a tree: the asks, in order, and how it stands when they are used up.
 use Rattle.std.specs.Prelude.{ℕ, ◌≡◌, true, if◌then◌else◌, List, [], ◌∷◌, map}
-use Rattle.capabilities.specs.declared.Caps.{Caps}
-use Rattle.lam_value.specs.declared.values.Value.{Value}
-use Rattle.lam_asks.specs.declared.answer.Answer.{Answer}
-use Rattle.lam_asks.specs.declared.ask.Ask.{Ask}
-use Rattle.lam_asks.specs.Suits.{fits}
+use Rattle.thread_steps.specs.Caps.{Caps}
+use Rattle.thread_steps.specs.Value.{Value}
+use Rattle.thread_steps.specs.Answer.{Answer}
+use Rattle.thread_steps.specs.Ask.{Ask}
+use Rattle.thread_steps.specs.Suits.{fits}
 use Rattle.lam_resolve_tree.specs.Tree.{ResolvedTree}
 use Rattle.lam_meaning.specs.Trees.{Asked, Tree, ends, spent, broken, asks}
 use Rattle.lam_meaning.specs.Means.{means}

@@ -1,13 +1,13 @@
 -- Worked examples: the code of small programs.
 use Rattle.std.specs.Prelude.{◌≡◌, ℕ, pos, true, false, List, [], ◌∷◌, map, Some, codes, refl}
-use Rattle.lam_value.specs.declared.values.Value.TheVariants.{Int as an_int, Nothing}
+use Rattle.thread_steps.specs.Value.TheVariants.{Int as an_int, Nothing}
 use Rattle.lam_operators.specs.declared.BinaryOp.TheVariants as binary
 use Rattle.lam_builtins.specs.Types.{int, bool, object}
-use Rattle.lam_bytecode.specs.declared.op.Op.{Op}
-use Rattle.lam_bytecode.specs.declared.op.Op.TheVariants.{Const, Load, Store, Add, Jump, JumpIfFalse, Call, Return, ReadBarrier, GetField, NewObject, MakeLabel, NoCaps, EnterRegion, LeaveRegion}
-use Rattle.lam_bytecode.specs.declared.unit.UnitKind.{UnitKind}
-use Rattle.lam_bytecode.specs.declared.unit.UnitKind.TheVariants.{Function, Region}
-use Rattle.lam_bytecode.specs.declared.unit.ArgKind.TheVariants as arg
+use Rattle.thread_steps.specs.Op.{Op}
+use Rattle.thread_steps.specs.Op.TheVariants.{Const, Load, Store, Add, Jump, JumpIfFalse, Call, Return, ReadBarrier, GetField, NewObject, MakeLabel, NoCaps, EnterRegion, LeaveRegion}
+use Rattle.thread_steps.specs.UnitKind.{UnitKind}
+use Rattle.thread_steps.specs.UnitKind.TheVariants.{Function, Region}
+use Rattle.thread_steps.specs.ArgKind.TheVariants as arg
 use Rattle.lam_resolve_tree.specs.Tree.{ResolvedType, Expression, number_value, bool_value, local_value, binary_of, field_of, call_of, new_object, label_of, caps_of, args_end, args_more, let_slot, if_block, while_block, return_value, region_block, set_local, Block, block_end, block_more, other_block, ResolvedFunction, ResolvedTree}
 use Rattle.lam_meaning.specs.Scheme.{scheme}
 

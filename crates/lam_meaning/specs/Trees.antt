@@ -2,18 +2,18 @@
 use Rattle.std.specs.Prelude.{ℕ, zero, suc, true, false, List, Option, Some, None, slice_get, slice_set}
 use Rattle.flow_labels.specs.declared.Label.{Label}
 use Rattle.flow_labels.specs.declared.Denied.{Denied as Denial}
-use Rattle.capabilities.specs.declared.Caps.{Caps}
-use Rattle.capabilities.specs.Changes.{with_both, joined}
-use Rattle.lam_value.specs.declared.names.Name.{Name}
-use Rattle.lam_value.specs.declared.values.Value.{Value}
-use Rattle.lam_value.specs.declared.values.Value.TheVariants.{Bool as Truth, Nothing, Obj, Arr, Tag, Lab, CapV}
-use Rattle.lam_asks.specs.declared.fault.Fault.{Fault}
-use Rattle.lam_asks.specs.declared.fault.Fault.TheVariants.{Denied, Null}
-use Rattle.lam_asks.specs.declared.answer.Answer.{Answer}
-use Rattle.lam_asks.specs.declared.answer.Answer.TheVariants.{Done, Entered, Val, Refused, Failed}
-use Rattle.lam_asks.specs.declared.ask.Ask.{Ask}
-use Rattle.lam_asks.specs.declared.ask.Ask.TheVariants as ask
-use Rattle.lam_asks.specs.Suits.{Sort, numbers, Want, want_of}
+use Rattle.thread_steps.specs.Caps.{Caps}
+use Rattle.thread_steps.specs.Changes.{with_both, joined}
+use Rattle.thread_steps.specs.Name.{Name}
+use Rattle.thread_steps.specs.Value.{Value}
+use Rattle.thread_steps.specs.Value.TheVariants.{Bool as Truth, Nothing, Obj, Arr, Tag, Lab, CapV}
+use Rattle.thread_steps.specs.Fault.{Fault}
+use Rattle.thread_steps.specs.Fault.TheVariants.{Denied, Null}
+use Rattle.thread_steps.specs.Answer.{Answer}
+use Rattle.thread_steps.specs.Answer.TheVariants.{Done, Entered, Val, Refused, Failed}
+use Rattle.thread_steps.specs.Ask.{Ask}
+use Rattle.thread_steps.specs.Ask.TheVariants as ask
+use Rattle.thread_steps.specs.Suits.{Sort, numbers, Want, want_of}
 use Rattle.thread_steps.specs.Operators as operators
 use Rattle.thread_steps.specs.Operators.{Pure, fine, faults}
 

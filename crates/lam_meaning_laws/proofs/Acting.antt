@@ -22,12 +22,12 @@ use Rattle.thread_steps.specs.Ops.{effect}
 use Rattle.thread_steps.specs.Next.{next_by, filled}
 use Rattle.lam_resolve_tree.specs.Tree.{ResolvedFunction, ResolvedTree}
 use Rattle.lam_resolve_tree.specs.Regions.{AreNumbered}
-use Rattle.lam_meaning.specs.Trees.{Own}
-use Rattle.lam_meaning.specs.Means.{At, means, first_locals}
-use Rattle.lam_meaning.specs.Plays.{How, has_ended, waits, is_spent, is_broken, how_of, asks_made}
+use Rattle.lam_meaning_typed.specs.Trees.{Own}
+use Rattle.lam_meaning_typed.specs.Means.{At, means, first_locals}
+use Rattle.lam_meaning_typed.specs.Plays.{How, has_ended, waits, is_spent, is_broken, how_of, asks_made}
 use Rattle.lam_meaning_typed.proofs.Locals.{length_are}
 use Rattle.lam_meaning_typed.proofs.Threads.{typed_never_broken}
-use Rattle.lam_meaning.specs.Scheme.{scheme}
+use Rattle.lam_meaning_typed.specs.Scheme.{scheme}
 use Rattle.lam_meaning_laws.specs.Nested.{block_code}
 use Rattle.lam_meaning_laws.specs.Gathers.{Along, with_locals, Out, gone, raised, returned, stops, ends_by, acts_to, body_does, closing, final_of, first_along, thread_acts}
 use Rattle.lam_meaning_laws.proofs.Threads.{nested_means}

@@ -8,8 +8,8 @@ use Rattle.lam_value.specs.declared.values.Value.{Value}
 use Rattle.lam_value.specs.declared.values.Value.TheVariants.{Int, Bool as Truth, Bytes, Nothing}
 use Rattle.lam_bytecode.specs.Codes.{IsConstant}
 use Rattle.thread_steps.specs.Equal.{same_values}
-use Rattle.lam_meaning.specs.Pieces.{Flat, an_op, a_constant, is_in, with_constant, constants_in, place_of}
-use Rattle.lam_meaning.specs.Scheme.{Draft, all_constants}
+use Rattle.lam_meaning_typed.specs.Pieces.{Flat, an_op, a_constant, is_in, with_constant, constants_in, place_of}
+use Rattle.lam_meaning_typed.specs.Scheme.{Draft, all_constants}
 
 itself : (v : Value) → IsConstant v → same_values v v ≡ true
 itself (Int n) h = int_eq_equiv.refl n

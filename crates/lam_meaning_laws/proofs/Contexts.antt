@@ -23,9 +23,9 @@ use Rattle.thread_steps.specs.Threads.{Frame, Phase, Body, Catch, Context}
 use Rattle.thread_steps.specs.Ops.{UnitAt, effect, region_in}
 use Rattle.thread_steps.specs.Next.{raised as raised_next, region_context, catch_place, unit_number, filled, outermost, past, next_of}
 use Rattle.thread_steps.specs.Next as machine
-use Rattle.lam_meaning.specs.Trees.{Own}
-use Rattle.lam_meaning.specs.Means.{inside as means_inside}
-use Rattle.lam_meaning.specs.Plays.{has_ended, waits, is_spent, is_broken}
+use Rattle.lam_meaning_typed.specs.Trees.{Own}
+use Rattle.lam_meaning_typed.specs.Means.{inside as means_inside}
+use Rattle.lam_meaning_typed.specs.Plays.{has_ended, waits, is_spent, is_broken}
 use Rattle.lam_meaning_laws.specs.Gathers.{Along, Out, gone, raised, returned, stops, and_on, ends_by, after_catch, caught, after_body, Enters, Does, awaits, region_by}
 use Rattle.lam_meaning_laws.specs.Lone as lone
 use Rattle.lam_meaning_laws.specs.Lone.{Lone, runs, asked, done, turn, turns}

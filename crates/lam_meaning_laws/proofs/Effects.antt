@@ -16,7 +16,7 @@ use Rattle.thread_steps.specs.Operators.{prefix, label_from, with_sign}
 use Rattle.thread_steps.specs.Builtins.{builtin}
 use Rattle.thread_steps.specs.Ops.{calls, fails, wants, Around, effect, operated, called, on_known, on_many, on_caps, on_label, new_object, function_takes, region_takes, region_in}
 use Rattle.thread_steps.specs.Limits.{frames_limit}
-use Rattle.lam_meaning.specs.Scheme.{prefix_op, sign_op}
+use Rattle.lam_meaning_typed.specs.Scheme.{prefix_op, sign_op}
 use Rattle.lam_meaning_laws.proofs.Lists.{push_all, many_same}
 
 module _ (a : Around) (s : List Value) where

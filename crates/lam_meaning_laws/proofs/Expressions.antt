@@ -24,11 +24,11 @@ use Rattle.thread_steps.specs.Ops.{Did, calls, wants, effect, on_caps}
 use Rattle.thread_steps.specs.Limits.{frames_limit}
 use Rattle.lam_resolve_tree.specs.Tree.{ResolvedType, ResolvedGiven, ResolvedPlace, CapSlot, Expression, number_value, text_value, bool_value, null_value, local_value, unary_of, binary_of, field_of, element_of, call_of, builtin_of, new_object, new_array, label_of, caps_of, spawn_of, Expressions, args_end, args_more, ResolvedFunction, ResolvedTree}
 use Rattle.lam_resolve_tree.specs.Typing.{Heads, heads_of, exact_places, Use, a_local, Scope, Operates, AreTags, Gives, AreArgs, AreRest, AreTagArgs}
-use Rattle.lam_meaning.specs.Trees as tree
-use Rattle.lam_meaning.specs.Trees.{Own, local, asked, Tree, ask_value, nothing_gained, on_truth}
-use Rattle.lam_meaning.specs.Means as means
-use Rattle.lam_meaning.specs.Means.{At, sort_of, kind_of, class_fields, signed, two, eval, eval_all}
-use Rattle.lam_meaning.specs.Scheme.{scheme, count, sign_op}
+use Rattle.lam_meaning_typed.specs.Trees as tree
+use Rattle.lam_meaning_typed.specs.Trees.{Own, local, asked, Tree, ask_value, nothing_gained, on_truth}
+use Rattle.lam_meaning_typed.specs.Means as means
+use Rattle.lam_meaning_typed.specs.Means.{At, sort_of, kind_of, class_fields, signed, two, eval, eval_all}
+use Rattle.lam_meaning_typed.specs.Scheme.{scheme, count, sign_op}
 use Rattle.lam_meaning_laws.specs.Nested.{Nested, operator_code, signs_code, expression_code, expressions_code}
 use Rattle.lam_meaning_laws.specs.Gathers.{Along, Out, gone, raised, and_on, Does, Caller, never_enters, did, around, op_does, picks, acts}
 use Rattle.lam_meaning_typed.proofs.Expressions.{head_at}

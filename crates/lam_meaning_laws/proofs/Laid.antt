@@ -7,8 +7,8 @@ use Rattle.lam_value.specs.declared.values.Value.{Value}
 use Rattle.lam_bytecode.specs.Codes.{CodeTree, IsConstant}
 use Rattle.lam_bytecode.specs.declared.op.Op.{Op}
 use Rattle.lam_bytecode.specs.declared.op.Op.TheVariants.{Const, Jump, JumpIfFalse}
-use Rattle.lam_meaning.specs.Pieces as laid
-use Rattle.lam_meaning.specs.Pieces.{Piece, Pieces, no_pieces, pieces, joined, size_of, size, Flat, an_op, a_constant, flat_of, flat, is_in, place_of, numbered}
+use Rattle.lam_meaning_typed.specs.Pieces as laid
+use Rattle.lam_meaning_typed.specs.Pieces.{Piece, Pieces, no_pieces, pieces, joined, size_of, size, Flat, an_op, a_constant, flat_of, flat, is_in, place_of, numbered}
 use Rattle.lam_meaning_laws.specs.Nested.{Nested, no_code, does, puts, both, when, either, loops, enters, pieces_of}
 use Rattle.lam_meaning_laws.proofs.Stands.{width, op_here}
 use Rattle.lam_meaning_laws.proofs.Constants.{AllIn}

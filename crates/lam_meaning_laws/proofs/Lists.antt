@@ -13,7 +13,7 @@ use Rattle.lam_value.specs.declared.values.Value.{Value}
 use Rattle.thread_steps.specs.Equal.{same_names}
 use Rattle.thread_steps.specs.Ops.{Did, breaks, on_many, is_held}
 use Rattle.thread_steps.specs.Next.{held_by, without}
-use Rattle.lam_meaning.specs.Trees.{value_or_null}
+use Rattle.lam_meaning_typed.specs.Trees.{value_or_null}
 
 -- ---- operands
 

@@ -29,8 +29,8 @@ use Rattle.thread_steps.specs.Ops as ops
 use Rattle.thread_steps.specs.Ops.{Did, breaks, wants, sets, on_constant, effect, operated, barrier, is_held}
 use Rattle.thread_steps.specs.Next.{held_by, without}
 use Rattle.lam_resolve_tree.specs.Tree.{ResolvedType}
-use Rattle.lam_meaning.specs.Trees.{Own, Asked, asked, Tree, broken, fails, asks, on_end, purely, value_reply, nothing_gained, ask_value, done_reply, ask_done, ask_unit, unless_denied, on_object, on_array, gained, local}
-use Rattle.lam_meaning.specs.Means.{At, may_read, may_write, within, on_number, makes_array, result_sort, called_in, take, give_back, throws}
+use Rattle.lam_meaning_typed.specs.Trees.{Own, Asked, asked, Tree, broken, fails, asks, on_end, purely, value_reply, nothing_gained, ask_value, done_reply, ask_done, ask_unit, unless_denied, on_object, on_array, gained, local}
+use Rattle.lam_meaning_typed.specs.Means.{At, may_read, may_write, within, on_number, makes_array, result_sort, called_in, take, give_back, throws}
 use Rattle.lam_meaning_laws.specs.Gathers.{Along, with_locals, answered, Out, gone, returned, and_on, Caller, Enters, never_enters, done, replied, awaits, did, op_does}
 use Rattle.lam_meaning_laws.proofs.Plays.{Keep, Held, along, Matches, MatchesAt, suits_same}
 use Rattle.lam_meaning_laws.proofs.Lists.{slot_there, is_below, listed, first_held, first_back}

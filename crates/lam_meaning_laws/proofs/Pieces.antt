@@ -5,10 +5,10 @@ use Rattle.std.specs.Prelude.{true, false}
 use Rattle.lam_operators.specs.declared.BinaryOp.{BinaryOp}
 use Rattle.lam_operators.specs.declared.BinaryOp.TheVariants as binary
 use Rattle.lam_bytecode.specs.declared.op.Op.TheVariants.{Load, Store, Pop, Add, Sub, Mul, Div, Rem, Eq, Ne, Lt, Le, Gt, Ge, Call, Return, Throw, ReadBarrier, WriteBarrier, GetField, PutField, GetElement, PutElement, NewArray, MakeLabel, NoCaps, System, EnterMonitor, LeaveMonitor, EnterRegion, Spawn}
-use Rattle.lam_meaning.specs.Means.{kind_of}
+use Rattle.lam_meaning_typed.specs.Means.{kind_of}
 use Rattle.lam_resolve_tree.specs.Tree.{CapSlot, Expression, number_value, text_value, bool_value, null_value, local_value, unary_of, binary_of, field_of, element_of, call_of, builtin_of, new_object, new_array, label_of, caps_of, spawn_of, Expressions, args_end, args_more, Statement, let_slot, if_block, while_block, return_value, throw_value, sync_block, region_block, do_value, set_local, set_field, set_element, Block, block_end, block_more, OtherBlock, no_other, other_block}
-use Rattle.lam_meaning.specs.Pieces.{Pieces, joined, one, op, puts, when, either, loops}
-use Rattle.lam_meaning.specs.Scheme.{between, prefix_op, sign_op, signs, count, expression, expressions, loads, gives_back, value_or_null, branches, statement, block, other_block_of}
+use Rattle.lam_meaning_typed.specs.Pieces.{Pieces, joined, one, op, puts, when, either, loops}
+use Rattle.lam_meaning_typed.specs.Scheme.{between, prefix_op, sign_op, signs, count, expression, expressions, loads, gives_back, value_or_null, branches, statement, block, other_block_of}
 use Rattle.lam_meaning_laws.specs.Nested.{Nested, pieces_of, operator_code, signs_code, expression_code, expressions_code, loads_code, gives_back_code, value_code, statement_code, block_code, branches_code}
 
 both_joined : (a b c d : Pieces) → a ≡ b → c ≡ d → joined a c ≡ joined b d

@@ -9,7 +9,7 @@ use Rattle.thread_steps.specs.Ops.{is_region, region_from, region_in}
 use Rattle.lam_resolve_tree.specs.Tree.{Statement, if_block, while_block, sync_block, region_block, Block, block_end, block_more, OtherBlock, no_other, other_block, ResolvedFunction, ResolvedTree}
 use Rattle.lam_resolve_tree.specs.Regions as numbers
 use Rattle.lam_resolve_tree.specs.Regions.{count_up, AreNumbered}
-use Rattle.lam_meaning.specs.Scheme.{Draft, function_draft, region_draft, regions_of, regions_in, regions_in_other, all_regions, drafts, all_constants, unit_of, scheme}
+use Rattle.lam_meaning_typed.specs.Scheme.{Draft, function_draft, region_draft, regions_of, regions_in, regions_in_other, all_regions, drafts, all_constants, unit_of, scheme}
 
 -- the constants of the code
 abbrev pub constants_of : ResolvedTree → List Value

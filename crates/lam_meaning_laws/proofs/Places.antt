@@ -14,10 +14,10 @@ use Rattle.thread_steps.specs.Ops.{region_in}
 use Rattle.thread_steps.specs.Next.{ops_of, ops_in}
 use Rattle.lam_resolve_tree.specs.Tree.{CapSlot, Expression, number_value, text_value, bool_value, null_value, local_value, unary_of, binary_of, field_of, element_of, call_of, builtin_of, new_object, new_array, label_of, caps_of, spawn_of, Expressions, args_end, args_more, Statement, let_slot, if_block, while_block, return_value, throw_value, sync_block, region_block, do_value, set_local, set_field, set_element, Block, block_end, block_more, OtherBlock, no_other, other_block, ResolvedFunction, ResolvedTree}
 use Rattle.lam_resolve_tree.specs.Regions.{AreNumbered}
-use Rattle.lam_meaning.specs.Pieces as laid
-use Rattle.lam_meaning.specs.Pieces.{Pieces, joined, one, op, size, an_op, a_constant, flat, place_of, numbered}
-use Rattle.lam_meaning.specs.Scheme as scheme_of
-use Rattle.lam_meaning.specs.Scheme.{Draft, block, function_draft, region_draft, regions_of, regions_in, regions_in_other, all_regions, drafts, unit_of, scheme}
+use Rattle.lam_meaning_typed.specs.Pieces as laid
+use Rattle.lam_meaning_typed.specs.Pieces.{Pieces, joined, one, op, size, an_op, a_constant, flat, place_of, numbered}
+use Rattle.lam_meaning_typed.specs.Scheme as scheme_of
+use Rattle.lam_meaning_typed.specs.Scheme.{Draft, block, function_draft, region_draft, regions_of, regions_in, regions_in_other, all_regions, drafts, unit_of, scheme}
 use Rattle.lam_meaning_laws.specs.Nested.{Nested, no_code, does, puts, both, when, either, loops, enters, pieces_of, operator_code, signs_code, expression_code, expressions_code, loads_code, gives_back_code, value_code, statement_code, block_code, branches_code}
 use Rattle.lam_meaning_laws.proofs.Pieces.{block_pieces}
 use Rattle.lam_meaning_laws.proofs.Placed.{constants_of, Placed, IsPlaced, BlockPlaced, OtherPlaced, function_drafted, function_unit, functions_placed}

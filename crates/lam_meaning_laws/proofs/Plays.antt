@@ -7,8 +7,8 @@ use Rattle.lam_value.specs.declared.values.Value.{Value}
 use Rattle.lam_asks.specs.declared.answer.Answer.{Answer}
 use Rattle.lam_asks.specs.declared.ask.Ask.{Ask}
 use Rattle.lam_asks.specs.Suits.{fits}
-use Rattle.lam_meaning.specs.Trees.{Own, Asked, End, goes, raises, leaves, Tree, ends, spent, broken, asks, on_end, next, and_then}
-use Rattle.lam_meaning.specs.Plays.{How, has_ended, waits, is_spent, is_broken, asks_of, how_of, AllFit}
+use Rattle.lam_meaning_typed.specs.Trees.{Own, Asked, End, goes, raises, leaves, Tree, ends, spent, broken, asks, on_end, next, and_then}
+use Rattle.lam_meaning_typed.specs.Plays.{How, has_ended, waits, is_spent, is_broken, asks_of, how_of, AllFit}
 use Rattle.lam_meaning_laws.specs.Gathers.{Along, Out, gone, raised, returned, stops, and_on, final_of}
 
 -- what stays along code: the number of locals, and the monitors that its context has where it returns

@@ -14,9 +14,9 @@ use Rattle.lam_asks.specs.declared.ask.Ask.{Ask}
 use Rattle.lam_asks.specs.declared.ask.Ask.TheVariants as ask
 use Rattle.lam_asks.specs.Suits.{numbers, is_done, always, fits}
 use Rattle.thread_steps.specs.Ops.{wants, on_caps, on_label}
-use Rattle.lam_meaning.specs.Trees.{Own, with_local, asked, End, goes, raises, leaves, Tree, asks, on_end, done_reply, on_region}
-use Rattle.lam_meaning.specs.Means as means
-use Rattle.lam_meaning.specs.Means.{At, inside, caught_end, body_end, enter_reply, region}
+use Rattle.lam_meaning_typed.specs.Trees.{Own, with_local, asked, End, goes, raises, leaves, Tree, asks, on_end, done_reply, on_region}
+use Rattle.lam_meaning_typed.specs.Means as means
+use Rattle.lam_meaning_typed.specs.Means.{At, inside, caught_end, body_end, enter_reply, region}
 use Rattle.lam_meaning_laws.specs.Gathers.{Along, with_own, answered, Out, gone, and_on, Does, Caller, replied, did, awaits, ends_by, after_catch, caught, after_body, region_by}
 use Rattle.lam_meaning_laws.proofs.Plays.{Keep, Held, along, stands, told, EndSized, Matches, MatchesAt, end_on, onto_same}
 use Rattle.lam_meaning_laws.proofs.Operations.{stays, ask_at, fails_at}

@@ -12,11 +12,11 @@ use Rattle.lam_bytecode.specs.declared.op.Op.TheVariants.{Load, Store, Return, L
 use Rattle.thread_steps.specs.Ops.{region_in, region_takes}
 use Rattle.lam_resolve_tree.specs.Tree.{ResolvedType, ResolvedGiven, Expression, Statement, let_slot, if_block, while_block, return_value, throw_value, sync_block, region_block, do_value, set_local, set_field, set_element, Block, block_end, block_more, OtherBlock, no_other, other_block, ResolvedTree}
 use Rattle.lam_resolve_tree.specs.Typing.{heads_of, a_local, a_monitor, Scope, with_use, locals_of, Gives, Returning, in_region, in_function, Returns, AreCaptured, after, IsStatement, IsBlock, IsOther}
-use Rattle.lam_meaning.specs.Trees as tree
-use Rattle.lam_meaning.specs.Trees.{Own, with_local, local, Tree, and_then, on_truth, spend}
-use Rattle.lam_meaning.specs.Means as means
-use Rattle.lam_meaning.specs.Means.{At, Open, take, give_back, returns, captured, inside, eval_option, exec, exec_block, exec_other}
-use Rattle.lam_meaning.specs.Scheme.{scheme}
+use Rattle.lam_meaning_typed.specs.Trees as tree
+use Rattle.lam_meaning_typed.specs.Trees.{Own, with_local, local, Tree, and_then, on_truth, spend}
+use Rattle.lam_meaning_typed.specs.Means as means
+use Rattle.lam_meaning_typed.specs.Means.{At, Open, take, give_back, returns, captured, inside, eval_option, exec, exec_block, exec_other}
+use Rattle.lam_meaning_typed.specs.Scheme.{scheme}
 use Rattle.lam_meaning_laws.specs.Nested.{Nested, loads_code, gives_back_code, value_code, statement_code, block_code, branches_code}
 use Rattle.lam_meaning_laws.specs.Gathers.{Along, with_locals, Out, gone, and_on, Does, Caller, never_enters, around, did, op_does, region_by, picks, use_unit, acts}
 use Rattle.lam_meaning_laws.proofs.Plays.{Keep, Held, MatchesAt, binds, and_assoc}

@@ -21,7 +21,7 @@ use Rattle.thread_steps.specs.Ops as ops
 use Rattle.thread_steps.specs.Ops.{Did, effect, barrier, on_thing, on_truth, on_constant}
 use Rattle.thread_steps.specs.Next as machine
 use Rattle.thread_steps.specs.Next.{next_by, past, called, gains}
-use Rattle.lam_meaning.specs.Trees.{Own, gained}
+use Rattle.lam_meaning_typed.specs.Trees.{Own, gained}
 use Rattle.lam_meaning_laws.specs.Gathers.{Along, with_locals, gone, and_on, Caller, never_enters, awaits, did, around, op_does}
 use Rattle.lam_meaning_laws.specs.Lone.{Lone, runs, asked, done, turns}
 use Rattle.lam_meaning_laws.proofs.Turns.{Kept, context, thread_of, at, place_of, op_at, around_at, Ends, step, one_goes, one_raises, one_waits}

@@ -14,9 +14,9 @@ use Rattle.thread_steps.specs.Ops.{region_takes}
 use Rattle.lam_resolve_tree.specs.Tree.{ResolvedType, Statement, if_block, while_block, sync_block, region_block, Block, block_end, block_more, OtherBlock, no_other, other_block, ResolvedFunction, ResolvedTree}
 use Rattle.lam_resolve_tree.specs.Typing.{heads_of, Scope, locals_of, Returning, in_function, IsBlock, IsFunction, IsTypedTree}
 use Rattle.lam_resolve_tree.specs.Regions.{AreNumbered}
-use Rattle.lam_meaning.specs.Trees.{End, goes, raises, leaves, Tree, on_end}
-use Rattle.lam_meaning.specs.Means.{At, Does, means, calls_limit, call_end, first_locals, body_of, deeper, calls_to, runs, block_runs, last_ask}
-use Rattle.lam_meaning.specs.Scheme.{scheme}
+use Rattle.lam_meaning_typed.specs.Trees.{End, goes, raises, leaves, Tree, on_end}
+use Rattle.lam_meaning_typed.specs.Means.{At, Does, means, calls_limit, call_end, first_locals, body_of, deeper, calls_to, runs, block_runs, last_ask}
+use Rattle.lam_meaning_typed.specs.Scheme.{scheme}
 use Rattle.lam_meaning_typed.proofs.Threads.{function_at}
 use Rattle.lam_meaning_laws.specs.Nested.{Nested, block_code}
 use Rattle.lam_meaning_laws.specs.Gathers.{Along, with_locals, Out, call_result, body_does, called, acts, acts_to, closing, Final, final_of, first_along}

@@ -12,9 +12,9 @@ use Rattle.lam_bytecode.specs.declared.op.Op.{Op}
 use Rattle.thread_steps.specs.Threads.{Frame, Phase, Context, Thread}
 use Rattle.thread_steps.specs.Ops.{returns, Around, effect}
 use Rattle.thread_steps.specs.Next.{ops_of, next_by, next_op, next_of}
-use Rattle.lam_meaning.specs.Trees.{Own}
-use Rattle.lam_meaning.specs.Means.{At}
-use Rattle.lam_meaning.specs.Plays.{has_ended, waits, is_spent, is_broken}
+use Rattle.lam_meaning_typed.specs.Trees.{Own}
+use Rattle.lam_meaning_typed.specs.Means.{At}
+use Rattle.lam_meaning_typed.specs.Plays.{has_ended, waits, is_spent, is_broken}
 use Rattle.lam_meaning_laws.specs.Gathers.{Along, Out, gone, raised, returned, stops, and_on}
 use Rattle.lam_meaning_laws.specs.Lone.{Lone, runs, op_work, done, turn, turns, asks_in, work_done, NotStuck}
 use Rattle.lam_meaning_laws.specs.Lone as lone

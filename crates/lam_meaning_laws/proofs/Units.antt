@@ -10,8 +10,8 @@ use Rattle.lam_builtins.specs.declared.Builtin.TheVariants as call
 use Rattle.lam_builtins.specs.Builtins.{row, row_by}
 use Rattle.thread_steps.specs.Ops.{function_takes}
 use Rattle.lam_resolve_tree.specs.Tree.{ResolvedType, ResolvedFunction, ResolvedTree}
-use Rattle.lam_meaning.specs.Means.{kind_of, class_fields}
-use Rattle.lam_meaning.specs.Scheme.{Draft, arg_kind, function_draft, unit_of, all_regions, all_constants, drafts, scheme}
+use Rattle.lam_meaning_typed.specs.Means.{kind_of, class_fields}
+use Rattle.lam_meaning_typed.specs.Scheme.{Draft, arg_kind, function_draft, unit_of, all_regions, all_constants, drafts, scheme}
 
 some_is : {A : Type 0} (a b : A) → ◌≡◌ {A = Option A} (Some a) (Some b) → a ≡ b
 some_is a b e = cc

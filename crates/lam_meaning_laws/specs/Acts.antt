@@ -9,10 +9,10 @@ use Rattle.thread_steps.specs.Ops.{function_takes}
 use Rattle.lam_resolve_tree.specs.Tree.{ResolvedFunction, ResolvedTree}
 use Rattle.lam_resolve_tree.specs.Typing.{IsTypedTree}
 use Rattle.lam_resolve_tree.specs.Regions.{AreNumbered}
-use Rattle.lam_meaning.specs.Means.{means}
-use Rattle.lam_meaning.specs.Plays.{asks_of, AllFit, asks_made}
+use Rattle.lam_meaning_typed.specs.Means.{means}
+use Rattle.lam_meaning_typed.specs.Plays.{asks_of, AllFit, asks_made}
 use Rattle.lam_meaning_typed.specs.Kinds.{AreOf}
-use Rattle.lam_meaning.specs.Scheme.{scheme}
+use Rattle.lam_meaning_typed.specs.Scheme.{scheme}
 use Rattle.lam_meaning_laws.specs.Lone.{Lone, turns, asks_in, work_done, NotStuck, alone, bound}
 
 -- these are the first of those

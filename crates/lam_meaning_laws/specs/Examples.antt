@@ -10,7 +10,7 @@ use Rattle.lam_asks.specs.declared.ask.Ask.TheVariants as ask
 use Rattle.thread_steps.specs.Ops.{effect}
 use Rattle.thread_steps.specs.Next.{next_of}
 use Rattle.lam_resolve_tree.specs.Tree.{ResolvedType, Expression, number_value, bool_value, binary_of, call_of, local_value, args_end, args_more, while_block, return_value, Block, block_end, block_more, ResolvedFunction, ResolvedTree}
-use Rattle.lam_meaning.specs.Scheme.{scheme}
+use Rattle.lam_meaning_typed.specs.Scheme.{scheme}
 use Rattle.lam_meaning_laws.specs.Lone.{asks_in, work_done, bound}
 use Rattle.lam_meaning_laws.specs.Acts.{lone}
 

@@ -21,11 +21,11 @@ use Rattle.thread_steps.specs.Ops as ops
 use Rattle.thread_steps.specs.Ops.{Did, Around, effect}
 use Rattle.thread_steps.specs.Next.{held_by, without}
 use Rattle.lam_resolve_tree.specs.Tree.{ResolvedFunction, ResolvedTree}
-use Rattle.lam_meaning.specs.Trees as tree
-use Rattle.lam_meaning.specs.Trees.{Own, gained}
-use Rattle.lam_meaning.specs.Means.{At, inside, deeper, first_locals}
-use Rattle.lam_meaning.specs.Plays.{How, has_ended, waits, is_spent, is_broken}
-use Rattle.lam_meaning.specs.Scheme.{scheme}
+use Rattle.lam_meaning_typed.specs.Trees as tree
+use Rattle.lam_meaning_typed.specs.Trees.{Own, gained}
+use Rattle.lam_meaning_typed.specs.Means.{At, inside, deeper, first_locals}
+use Rattle.lam_meaning_typed.specs.Plays.{How, has_ended, waits, is_spent, is_broken}
+use Rattle.lam_meaning_typed.specs.Scheme.{scheme}
 use Rattle.lam_meaning_laws.specs.Nested.{Nested, no_code, does, puts, both, when, either, loops, enters, block_code}
 
 -- what goes along: what the context owns, the answers to come and the asks so far

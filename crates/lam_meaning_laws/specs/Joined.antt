@@ -6,8 +6,8 @@ use Rattle.lam_asks.specs.declared.answer.Answer.{Answer}
 use Rattle.lam_resolve_tree.specs.Tree.{ResolvedFunction, ResolvedTree}
 use Rattle.lam_resolve_tree.specs.Typing.{IsTypedTree}
 use Rattle.lam_resolve_tree.specs.Regions.{AreNumbered}
-use Rattle.lam_meaning.specs.Means.{means}
-use Rattle.lam_meaning.specs.Plays.{is_broken, asks_of, how_of, AllFit, asks_made}
+use Rattle.lam_meaning_typed.specs.Means.{means}
+use Rattle.lam_meaning_typed.specs.Plays.{is_broken, asks_of, how_of, AllFit, asks_made}
 use Rattle.lam_meaning_laws.specs.Gathers.{thread_acts}
 
 -- the same asks, and it stands as the meaning does, where the answers suit and no operand is of another kind than its place

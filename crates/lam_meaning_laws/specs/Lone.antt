@@ -9,7 +9,7 @@ use Rattle.lam_bytecode.specs.Codes.{CodeTree}
 use Rattle.lam_bytecode.specs.declared.op.Op.{Op}
 use Rattle.lam_bytecode.specs.declared.op.Op.TheVariants.{ReadBarrier, WriteBarrier}
 use Rattle.lam_resolve_tree.specs.Tree.{ResolvedTree}
-use Rattle.lam_meaning.specs.Scheme.{ops_count, regions_count}
+use Rattle.lam_meaning_typed.specs.Scheme.{ops_count, regions_count}
 use Rattle.thread_steps.specs.Threads.{Inside, Context, Thread}
 use Rattle.thread_steps.specs.Next.{Next, goes, asks, stuck, next_of, ops_of, with_inside, takes, started, standing, is_stuck}
 

@@ -7,11 +7,11 @@ use Rattle.lam_operators.specs.declared.BinaryOp.{BinaryOp}
 use Rattle.lam_operators.specs.declared.BinaryOp.TheVariants as binary
 use Rattle.lam_bytecode.specs.declared.op.Op.{Op}
 use Rattle.lam_bytecode.specs.declared.op.Op.TheVariants.{Load, Store, Pop, Add, Sub, Mul, Div, Rem, Eq, Ne, Lt, Le, Gt, Ge, Call, Return, Throw, ReadBarrier, WriteBarrier, GetField, PutField, GetElement, PutElement, NewObject, NewArray, MakeLabel, NoCaps, System, EnterMonitor, LeaveMonitor, EnterRegion, Spawn}
-use Rattle.lam_meaning.specs.Means.{kind_of}
+use Rattle.lam_meaning_typed.specs.Means.{kind_of}
 use Rattle.lam_resolve_tree.specs.Tree.{CapSlot, Expression, number_value, text_value, bool_value, null_value, local_value, unary_of, binary_of, field_of, element_of, call_of, builtin_of, new_object, new_array, label_of, caps_of, spawn_of, Expressions, args_end, args_more, Statement, let_slot, if_block, while_block, return_value, throw_value, sync_block, region_block, do_value, set_local, set_field, set_element, Block, block_end, block_more, OtherBlock, no_other, other_block}
-use Rattle.lam_meaning.specs.Pieces as laid
-use Rattle.lam_meaning.specs.Pieces.{Pieces, no_pieces, joined, one}
-use Rattle.lam_meaning.specs.Scheme.{prefix_op, sign_op, count}
+use Rattle.lam_meaning_typed.specs.Pieces as laid
+use Rattle.lam_meaning_typed.specs.Pieces.{Pieces, no_pieces, joined, one}
+use Rattle.lam_meaning_typed.specs.Scheme.{prefix_op, sign_op, count}
 
 pub data Nested : Type 0 where
   no_code : Nested

@@ -12,7 +12,7 @@ use Rattle.lam_asks.specs.declared.answer.Answer.{Answer}
 use Rattle.lam_asks.specs.declared.answer.Answer.TheVariants.{Done, Entered, Val, Refused, Failed}
 use Rattle.lam_asks.specs.declared.ask.Ask.{Ask}
 use Rattle.lam_asks.specs.declared.ask.Ask.TheVariants as ask
-use Rattle.thread_steps.specs.Operators.{Pure, fine, faults, wrong}
+use Rattle.lam_meaning.specs.Operators.{Pure, fine, faults, wrong}
 use Rattle.lam_meaning.specs.Trees.{Own, Asked, End, goes, raises, leaves, Tree, ends, spent, broken, asks, on_end, next, and_then, fails, spend, purely, value_reply, ask_value, nothing_gained, done_reply, ask_done, ask_unit, unless_denied, on_object, on_array, on_thing, on_truth, on_caps, on_region}
 use Rattle.lam_meaning.specs.Means.{within, on_number}
 

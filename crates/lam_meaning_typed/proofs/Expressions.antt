@@ -14,9 +14,9 @@ use Rattle.lam_asks.specs.declared.fault.Fault.{Fault}
 use Rattle.lam_asks.specs.declared.ask.Ask.{Ask}
 use Rattle.lam_asks.specs.declared.ask.Ask.TheVariants as ask
 use Rattle.lam_asks.specs.Suits.{numbers}
-use Rattle.thread_steps.specs.Operators.{Pure, operator, prefix, label_from, with_sign, by_divisor, number}
-use Rattle.thread_steps.specs.Builtins as calls
-use Rattle.thread_steps.specs.Builtins.{Calls, builtin}
+use Rattle.lam_meaning.specs.Operators.{Pure, operator, prefix, label_from, with_sign, by_divisor, number}
+use Rattle.lam_meaning.specs.Builtins as calls
+use Rattle.lam_meaning.specs.Builtins.{Calls, builtin}
 use Rattle.lam_resolve_tree.specs.Tree.{ResolvedType, ResolvedGiven, ResolvedPlace, CapSlot, Expression, number_value, text_value, bool_value, null_value, local_value, unary_of, binary_of, field_of, element_of, call_of, builtin_of, new_object, new_array, label_of, caps_of, spawn_of, Expressions, args_end, args_more, ResolvedFunction, ResolvedTree}
 use Rattle.lam_resolve_tree.specs.Typing.{Head, head_of, heads_of, given_by, exact_places, a_local, Scope, Fits, FitsBy, Operates, AreTags, Gives, AreArgs, AreRest, AreTagArgs}
 use Rattle.lam_meaning.specs.Trees.{Own, local, Asked, End, goes, raises, leaves, Tree, and_then, purely, ask_value, asked, gained, nothing_gained}

@@ -17,9 +17,9 @@ use Rattle.lam_asks.specs.declared.answer.Answer.{Answer}
 use Rattle.lam_asks.specs.declared.answer.Answer.TheVariants.{Done, Entered, Val, Refused, Failed}
 use Rattle.lam_asks.specs.declared.ask.Ask.TheVariants as ask
 use Rattle.lam_asks.specs.Suits.{numbers}
-use Rattle.thread_steps.specs.Operators.{operator, prefix, label_from, with_sign}
-use Rattle.thread_steps.specs.Builtins as calls
-use Rattle.thread_steps.specs.Builtins.{Calls, builtin}
+use Rattle.lam_meaning.specs.Operators.{operator, prefix, label_from, with_sign}
+use Rattle.lam_meaning.specs.Builtins as calls
+use Rattle.lam_meaning.specs.Builtins.{Calls, builtin}
 use Rattle.lam_resolve_tree.specs.Tree.{ResolvedType, CapSlot, Expression, number_value, text_value, bool_value, null_value, local_value, unary_of, binary_of, field_of, element_of, call_of, builtin_of, new_object, new_array, label_of, caps_of, spawn_of, Expressions, args_end, args_more, Statement, let_slot, if_block, while_block, return_value, throw_value, sync_block, region_block, do_value, set_local, set_field, set_element, Block, block_end, block_more, OtherBlock, no_other, other_block, ResolvedFunction, ResolvedTree}
 use Rattle.lam_meaning.specs.Trees.{Own, with_locals, with_local, local, asked, End, goes, raises, leaves, Tree, fails, gives, gained}
 use Rattle.lam_meaning.specs.Means.{At, may_read, may_write, Caller, makes_array, called_in, result_sort, signed, two, eval, eval_all, Open, Does, take, give_back, returns, captured, caught_end, body_end, enter_reply, inside, region, throws, eval_option, exec, exec_block, exec_other, calls_limit, call_end, first_locals, body_of, deeper, calls_to, runs, block_runs, last_ask, means}

@@ -17,9 +17,9 @@ use Rattle.lam_asks.specs.declared.fault.Fault.TheVariants.{Zero, Overflow, Null
 use Rattle.lam_asks.specs.declared.ask.Ask.{Ask}
 use Rattle.lam_asks.specs.declared.ask.Ask.TheVariants as ask
 use Rattle.lam_asks.specs.Suits.{Sort, numbers, is_done, is_value, want_of}
-use Rattle.thread_steps.specs.Operators.{Pure, fine, faults, wrong, number, is_small, of_numbers, by_divisor, is_zero, prefix, is_null, some_null, tags_in, tag_before, label_by, label_from, with_sign}
-use Rattle.thread_steps.specs.Builtins as calls
-use Rattle.thread_steps.specs.Builtins.{Calls, builtin}
+use Rattle.lam_meaning.specs.Operators.{Pure, fine, faults, wrong, number, is_small, of_numbers, by_divisor, is_zero, prefix, is_null, some_null, tags_in, tag_before, label_by, label_from, with_sign}
+use Rattle.lam_meaning.specs.Builtins as calls
+use Rattle.lam_meaning.specs.Builtins.{Calls, builtin}
 use Rattle.lam_resolve_tree.specs.Tree.{ResolvedType, ResolvedGiven, ResolvedPlace, ResolvedTree}
 use Rattle.lam_resolve_tree.specs.Typing.{Fits, is_object}
 use Rattle.lam_meaning.specs.Trees.{asked}

@@ -17,7 +17,7 @@ use Rattle.lam_asks.specs.declared.ask.Ask.{Ask}
 use Rattle.lam_asks.specs.declared.ask.Ask.TheVariants as ask
 use Rattle.lam_asks.specs.Suits as sorts
 use Rattle.lam_asks.specs.Suits.{Sort, numbers, is_done, is_value, Want, always, want_of, fits}
-use Rattle.thread_steps.specs.Operators.{Pure, fine, faults, wrong}
+use Rattle.lam_meaning.specs.Operators.{Pure, fine, faults, wrong}
 use Rattle.lam_resolve_tree.specs.Tree.{ResolvedType, ResolvedTree}
 use Rattle.lam_resolve_tree.specs.Typing.{is_object}
 use Rattle.lam_meaning.specs.Trees.{Own, Asked, asked, End, goes, raises, leaves, Tree, ends, spent, broken, asks, on_end, next, and_then, fails, spend, purely, value_reply, done_reply, ask_done, unless_denied, on_object, on_array, on_thing, on_truth, on_caps, on_region}

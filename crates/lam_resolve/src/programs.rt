@@ -7,12 +7,11 @@ ghost use Rattle.lam_resolve_laws.specs.Resolved.{resolve_function as function_r
 ghost use Rattle.lam_resolve_tables.specs.Tables.{tables, all_fields};
 ghost use Rattle.lam_resolve.specs.Meets.{IsAdded, types_of_all};
 
-use lam_resolve_stmts::resolve_block;
+use lam_resolve_stmts::{open_unit, resolve_block};
 use lam_resolve_tables::kinds::{Kind, option_value_type, resolve_result};
 use lam_resolve_tables::named::Named;
 use lam_resolve_tables::tables::{Tables, field_types, resolve_vars, types_of_vars};
 use lam_resolve_tree::{Class, Function as ResolvedFunction, Resolved};
-use lam_resolve_units::units::open_unit;
 use lam_syntax::{Function, Item, Program};
 use std::alloc::Global;
 use want_of_memory::NoMemory;

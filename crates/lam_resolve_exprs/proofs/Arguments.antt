@@ -5,7 +5,7 @@ use Rattle.lam_syntax.specs.Tree.{expr_tree, exprs_tree}
 use Rattle.lam_builtins.specs.Types.{nothing}
 use Rattle.lam_resolve_tree.specs.declared.Expr.{Expr as Resolved}
 use Rattle.lam_resolve_tree.specs.Tree.{ResolvedGiven, Expressions, args_end, args_more, expr_tree as resolved_tree, exprs_tree as resolved_row}
-use Rattle.lam_resolve_laws.specs.Resolved.{then_some, Tables, Locals, Args, args_as, resolve, resolve_args}
+use Rattle.lam_resolve_tables.specs.Resolved.{then_some, Tables, Locals, Args, args_as, resolve, resolve_args}
 use Rattle.lam_resolve_exprs.specs.Meets.{first_of}
 use Rattle.lam_resolve_tables.proofs.Options.{first_some, goes, one_more}
 use Rattle.lam_resolve_exprs.proofs.Sizes.{expr_size, args_size}

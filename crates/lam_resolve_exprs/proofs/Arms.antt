@@ -12,7 +12,7 @@ use Rattle.lam_builtins.specs.Operators.{operator_type, unary_type}
 use Rattle.lam_builtins.specs.Builtins.{builtin_named}
 use Rattle.lam_resolve_tree.specs.Tree.{ResolvedType, unary_of, binary_of, new_array, label_of, caps_of, spawn_of, local_value, new_object}
 use Rattle.lam_resolve_tree.specs.Typing.{Head}
-use Rattle.lam_resolve_laws.specs.Resolved.{then_some, Found, found, Tables, Locals, local_named, Value, value_as, Args, field_read, element_read, called, resolve, resolve_form, resolve_args, resolve_caps, resolve_type}
+use Rattle.lam_resolve_tables.specs.Resolved.{then_some, Found, found, Tables, Locals, local_named, Value, value_as, Args, field_read, element_read, called, resolve, resolve_form, resolve_args, resolve_caps, resolve_type}
 use Rattle.lam_resolve_tables.proofs.Options.{first_some, next_some, goes}
 use Rattle.lam_resolve_exprs.proofs.Sizes.{expr_size, form_size, args_size}
 

@@ -9,7 +9,7 @@ use Rattle.lam_builtins.specs.declared.Builtin.{Builtin}
 use Rattle.lam_resolve_tree.specs.Tree.{ResolvedType, ResolvedGiven, Expression, field_of, call_of, cap_tree, caps_tree}
 use Rattle.lam_resolve_tree.specs.declared.CapItem.{CapItem as CapSlotItem}
 use Rattle.lam_syntax.specs.declared.CapItem.{CapItem}
-use Rattle.lam_resolve_laws.specs.Resolved.{then_some, Found, found, Locals, local_named, Value, value_as, Tables, field_read, Args, called, resolve_caps}
+use Rattle.lam_resolve_tables.specs.Resolved.{then_some, Found, found, Locals, local_named, Value, value_as, Tables, field_read, Args, called, resolve_caps}
 use Rattle.lam_resolve_tables.specs.declared.kinds.Kind.{Kind}
 use Rattle.lam_resolve_exprs.specs.declared.values.Local.{Local}
 use Rattle.lam_resolve_tables.specs.declared.named.Named.{Named}

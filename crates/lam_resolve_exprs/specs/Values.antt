@@ -2,7 +2,7 @@
 use Rattle.std.specs.Prelude.{ℕ, Bool, map}
 use Rattle.lam_resolve_tree.specs.Tree.{ResolvedType, ResolvedGiven, CapSlot, expr_tree, exprs_tree}
 use Rattle.lam_resolve_tree.specs.Typing.{Head, given_by}
-use Rattle.lam_resolve_laws.specs.Resolved.{Local as ResolvedLocal, Locals, Value as ResolvedValue, value_as, Args as ResolvedArgs, args_as, Found}
+use Rattle.lam_resolve_tables.specs.Resolved.{Local as ResolvedLocal, Locals, Value as ResolvedValue, value_as, Args as ResolvedArgs, args_as, Found}
 use Rattle.lam_resolve_tables.specs.declared.kinds.Kind.{Kind}
 use Rattle.lam_resolve_tables.specs.declared.kinds.Given.{Given}
 use Rattle.lam_resolve_tables.specs.declared.named.Named.{Named}

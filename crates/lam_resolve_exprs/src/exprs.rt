@@ -2,7 +2,7 @@
 
 ghost use Rattle.std.specs.Prelude.{◌≡◌, IfOk, IsSome, Some};
 ghost use Rattle.lam_syntax.specs.Tree.{expr_tree, exprs_tree, id_tree, type_tree, new_array_expr, label_expr, spawn_expr};
-ghost use Rattle.lam_resolve_laws.specs.Resolved.{resolve, resolve_form, resolve_args as resolved_args};
+ghost use Rattle.lam_resolve_tables.specs.Resolved.{resolve, resolve_form, resolve_args as resolved_args};
 ghost use Rattle.lam_resolve_tables.specs.Kinds.{given};
 ghost use Rattle.lam_resolve_exprs.specs.Meets.{first_of};
 ghost use Rattle.lam_resolve_tables.specs.Tables.{tables};

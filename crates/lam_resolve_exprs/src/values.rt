@@ -10,7 +10,7 @@ ghost use Rattle.lam_builtins.specs.Operators.{operator_type as type_of_operator
 ghost use Rattle.lam_builtins.specs.Rows.{plain_type};
 ghost use Rattle.lam_builtins.specs.Builtins.{row_by, answered as answered_by};
 ghost use Rattle.lam_resolve_tree.specs.Tree.{expr_tree, exprs_tree, cap_tree, caps_tree, text_value as text_tree, null_value as null_tree, local_value as local_tree, option_type_tree, new_object as new_object_tree, unary_of, builtin_of, call_of, field_of, binary_of, new_array as new_array_tree, label_of as label_tree, caps_of as caps_of_tree, spawn_of};
-ghost use Rattle.lam_resolve_laws.specs.Resolved.{then_some, value_as, local_named as first_local, field_read as read_field, element_read as read_element, builtin_value as value_of_builtin, called as called_by, found, resolve_caps as resolved_caps};
+ghost use Rattle.lam_resolve_tables.specs.Resolved.{then_some, value_as, local_named as first_local, field_read as read_field, element_read as read_element, builtin_value as value_of_builtin, called as called_by, found, resolve_caps as resolved_caps};
 ghost use Rattle.lam_builtins.specs.Builtins.{builtin_named};
 ghost use Rattle.lam_resolve_tables.specs.Kinds.{base_type, kind_type, given};
 ghost use Rattle.lam_resolve_tables.specs.Tables.{tables};

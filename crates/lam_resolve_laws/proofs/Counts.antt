@@ -1,7 +1,7 @@
 -- As many names as slots, and as many lists of names as regions.
 use Rattle.std.proofs.Common.{◌≡◌, ◌+◌, [], ◌∷◌, length, refl, arith, length-append}
 use Rattle.lam_syntax.specs.Tree.{class_item, function_item, ProgramTree, stmt_node, StmtForm, let_stmt, if_stmt, while_stmt, return_stmt, throw_stmt, sync_stmt, region_stmt, do_stmt, assign_stmt, StmtList, no_stmts, stmts, ElseTree, no_else, else_block}
-use Rattle.lam_types.specs.Judgement.{slots_in, slots_of, slots_or, regions_in, regions_of, regions_or, regions_of_program}
+use Rattle.region_check.specs.Judgement.{slots_in, slots_of, slots_or, regions_in, regions_of, regions_or, regions_of_program}
 use Rattle.lam_resolve_laws.specs.Names.{slot_words, block_words, else_words, region_words, block_region_words, else_region_words, all_region_words}
 
 mutual

@@ -10,7 +10,7 @@ use Rattle.lam_builtins.specs.Builtins.{Signature}
 use Rattle.lam_types_kinds.specs.Tables.{Names, find, typed_names, fields_of, answer_of, places_of, signature_of, declared, declared_classes, declared_functions}
 use Rattle.lam_types_kinds.proofs.TableLemmas.{find_declared}
 use Rattle.lam_types_exprs.specs.Judgement.{IsDeclared}
-use Rattle.lam_types.specs.Judgement.{AllDeclared, IsResult, AllItems}
+use Rattle.region_check.specs.Judgement.{AllDeclared, IsResult, AllItems}
 use Rattle.lam_resolve_tree.specs.Tree.{ResolvedType}
 use Rattle.lam_resolve_tree.specs.Typing.{Head, Heads, exact_places}
 use Rattle.lam_resolve_laws.specs.Resolved.{then_some, Found, found_from, found, class_names, numbered, resolve_type, resolve_result, resolve_vars, types_of, Tables, resolve_classes, resolve_head, resolve_heads, tables}

@@ -3,7 +3,7 @@ use Rattle.std.proofs.Common.{◌≡◌, Option, refl, sym, subst}
 use Rattle.std.specs.Prelude.{IsSome, IsSomeAnd}
 use Rattle.lam_syntax.specs.Tree.{ProgramTree}
 use Rattle.lam_syntax.specs.Unplaced.{unplaced}
-use Rattle.lam_types.specs.Judgement.{IsTyped}
+use Rattle.region_check.specs.Judgement.{IsTyped}
 use Rattle.region_check.specs.Legal.{IsRegionLegal}
 use Rattle.lam_resolve_tree.specs.Tree.{ResolvedTree}
 use Rattle.lam_resolve_tree.specs.Typing.{IsTypedTree}

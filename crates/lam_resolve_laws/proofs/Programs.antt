@@ -9,8 +9,8 @@ use Rattle.lam_builtins.specs.Limits.{most_regions}
 use Rattle.lam_types_kinds.specs.Written.{written}
 use Rattle.lam_types_kinds.specs.Tables.{Decls, typed_names, declared, declared_classes, declared_functions}
 use Rattle.lam_types_exprs.specs.Judgement.{IsDeclared}
-use Rattle.lam_types.specs.Program.{result_type}
-use Rattle.lam_types.specs.Judgement.{AllDeclared, IsResult, EndsWith as EndsWords, IsFunction as IsFunctionWords, AllItems, IsTyped}
+use Rattle.region_check.specs.Program.{result_type}
+use Rattle.region_check.specs.Judgement.{AllDeclared, IsResult, EndsWith as EndsWords, IsFunction as IsFunctionWords, AllItems, IsTyped}
 use Rattle.region_check.specs.Legal.{IsLegalBlock, IsRegionLegal}
 use Rattle.lam_resolve_tree.specs.Tree.{ResolvedType, Block, ResolvedFunction, ResolvedTree}
 use Rattle.lam_resolve_tree.specs.Typing.{Head, Heads, head_of, AreTypes, AreClasses, locals_of, in_function, block_ends, EndsWith, IsFunction, AreFunctions, IsTypedTree}

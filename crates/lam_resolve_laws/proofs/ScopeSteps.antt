@@ -10,8 +10,8 @@ use Rattle.lam_builtins.specs.Limits.{most_regions}
 use Rattle.lam_builtins.specs.Types.{ValueType}
 use Rattle.lam_types_kinds.specs.Written.{written}
 use Rattle.lam_types_kinds.specs.Tables.{Names, find, typed_names}
-use Rattle.lam_types.specs.Stmts.{with_local as with_name_typed}
-use Rattle.lam_types.specs.Judgement.{AllInScope}
+use Rattle.region_check.specs.Stmts.{with_local as with_name_typed}
+use Rattle.region_check.specs.Judgement.{AllInScope}
 use Rattle.region_check.specs.Breaks.{has, with_name}
 use Rattle.region_check.specs.Legal.{IsReached, AreReached, words}
 use Rattle.lam_resolve_tree.specs.Tree.{ResolvedType}

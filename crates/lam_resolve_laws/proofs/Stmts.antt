@@ -11,9 +11,9 @@ use Rattle.lam_builtins.specs.Types.{ValueType, int, bool, label, caps, object, 
 use Rattle.lam_types_kinds.specs.Written.{written}
 use Rattle.lam_types_kinds.specs.Tables.{Names, Decls}
 use Rattle.lam_types_exprs.specs.Judgement.{IsDeclared, IsGiven}
-use Rattle.lam_types.specs.Endings.{ends_form, ends_stmt, both_end, ends as tree_ends}
-use Rattle.lam_types.specs.Stmts.{with_local as with_name_typed, is_place}
-use Rattle.lam_types.specs.Judgement.{region_slots, IsNew, Stands as StandsWords, Returns as ReturnsWords, AllInScope, after as names_after, IsStmt, IsElse, IsBlock as IsBlockWords}
+use Rattle.region_check.specs.Endings.{ends_form, ends_stmt, both_end, ends as tree_ends}
+use Rattle.region_check.specs.Stmts.{with_local as with_name_typed, is_place}
+use Rattle.region_check.specs.Judgement.{region_slots, IsNew, Stands as StandsWords, Returns as ReturnsWords, AllInScope, after as names_after, IsStmt, IsElse, IsBlock as IsBlockWords}
 use Rattle.region_check.specs.Breaks.{with_name}
 use Rattle.region_check.specs.Legal.{Reaches, AreReached, ValueReaches, words, after as own_after, IsLegalForm, IsLegalElse, IsLegalBlock}
 use Rattle.lam_resolve_tree.specs.Tree.{ResolvedType, ResolvedGiven, Expression, local_value, field_of, element_of, Statement, return_value, throw_value, do_value, set_local, set_field, set_element, Block, OtherBlock}

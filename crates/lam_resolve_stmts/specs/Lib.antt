@@ -1,1 +1,2 @@
 pub mod Regions
+pub use Rattle.lam_resolve_units.specs.Seen

@@ -10,4 +10,5 @@
 mod regions;
 mod stmts;
 
+pub use lam_resolve_units::units::open_unit;
 pub use stmts::resolve_block;

@@ -6,3 +6,6 @@ pub mod Texts
 pub use Rattle.lam_value_homes.specs.TwoLists
 pub use Rattle.lam_value_homes.specs.Alike
 pub use Rattle.lam_value_homes.specs.Maps
+pub use Rattle.lam_value_homes.specs.Flow
+pub use Rattle.lam_value_homes.specs.Label
+pub use Rattle.lam_value_homes.specs.Tags

@@ -24,10 +24,10 @@ mod text;
 mod values;
 
 pub use byte_text::ByteText;
-pub use decimal_text::push_number;
 pub use homes::{Home, at_home};
 pub use lam_value_homes::{
-    Counters, Denied, HomeCounts, Label, Labelled, Same, TagNames, Whole, same_maps,
+    Counters, Denied, HomeCounts, Label, Labelled, NoMemory, Same, TagNames, Whole, push_number,
+    same_maps,
 };
 pub use names::Name;
 pub use same_lists::same_values;

@@ -5,8 +5,9 @@ ghost use Rattle.lam_value.specs.Texts.{hex_digit, escaped, bytes_text, name_tex
 
 use crate::names::Name;
 use crate::values::Value;
-use decimal_text::{push_int, push_number};
-use lam_value_homes::{Form, NoMemory, TagNames, push_label, push_sets, push_tag};
+use lam_value_homes::{
+    Form, NoMemory, TagNames, push_int, push_label, push_number, push_sets, push_tag,
+};
 use std::alloc::Global;
 
 /// The text of a value: a number in decimal; `true`, `false` or `null`; bytes in double quotes; a

@@ -5,3 +5,5 @@ pub mod Maps
 pub use Rattle.flow_labels.specs.LabelText
 pub use Rattle.flow_labels.specs.Tags
 pub use Rattle.flow_labels.specs.TwoLists
+pub use Rattle.flow_labels.specs.Flow
+pub use Rattle.flow_labels.specs.declared.Label

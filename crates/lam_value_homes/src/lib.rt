@@ -15,6 +15,7 @@ mod sameness;
 
 pub use counters::{Counters, HomeCounts};
 pub use flow_labels::{
-    Denied, Form, Label, NoMemory, TagId, TagNames, TagSet, push_label, push_sets, push_tag, same,
+    Denied, Form, Label, NoMemory, TagId, TagNames, TagSet, push_int, push_label, push_number,
+    push_sets, push_tag, same,
 };
 pub use sameness::{Labelled, Same, Whole, same_maps};

@@ -17,9 +17,8 @@ ghost use Rattle.lam_value.specs.declared.names.Name.{Name};
 ghost use Rattle.lam_value.specs.Names.{name_eq};
 ghost use Rattle.monitor_core.specs.Held.{is_free, count_of, takings, once_more, entered, left, dropped, lowered, one_less, most_takings, IsSound, AreSeenAlike};
 
-use flow_labels::{Label, NoMemory};
 use indexmap::IndexMap;
-use lam_value::{Name, Same, Whole, same_maps};
+use lam_value::{Label, Name, NoMemory, Same, Whole, same_maps};
 use std::alloc::Global;
 use std::marker::Model;
 

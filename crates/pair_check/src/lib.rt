@@ -24,8 +24,7 @@ ghost use Rattle.pair_check_agenda.specs.Agendas.{items_in};
 
 use flow_labels::Label;
 use guarded_code::Verified;
-use lam_machine_replay::{RunFault, World, runs_are_whole};
-use pair_check_agenda::answer_of;
+use pair_check_agenda::{RunFault, World, answer_of, runs_are_whole};
 pub use pair_check_agenda::{Agenda, Entry, Release, agenda_of};
 use pair_check_terms::pairs_look_same;
 pub use pair_check_terms::{PairAnswer, Part};

@@ -10,8 +10,8 @@ use Rattle.lam_machine_terms.specs.Worlds.{World}
 use Rattle.lam_machine_terms.specs.Turns.{Moment}
 use Rattle.lam_machine_terms.specs.Views.{Item, turn}
 use Rattle.lam_machine_laws.specs.Turned.{IsTurn}
-use Rattle.lam_machine.specs.Asking.{label_at}
-use Rattle.lam_machine.specs.Privately.{IsPrivateStep, private_event}
+use Rattle.lam_machine_replay.specs.Asking.{label_at}
+use Rattle.lam_machine_replay.specs.Privately.{IsPrivateStep, private_event}
 use Rattle.lam_machine_replay.specs.Keeping.{TakesTurn}
 use Rattle.lam_machine_replay.proofs.ProductLemmas.{products_told}
 use Rattle.pair_check_agenda.specs.Agendas.{IsAgenda}

@@ -2,7 +2,7 @@
 
 ghost use Rattle.std.specs.Prelude.{◌≡◌, None, IfOk, OnOk, IfErr};
 ghost use Rattle.lam_machine_terms.specs.Turns.{moments};
-ghost use Rattle.guarded_code_runs.specs.Worlds.{IsSound};
+ghost use Rattle.lam_machine_replay.specs.Worlds.{IsSound};
 ghost use Rattle.lam_machine_terms.specs.Views.{agenda};
 ghost use Rattle.lam_machine_runs.specs.Stops.{stopped_at};
 ghost use Rattle.lam_machine_replay.specs.Stops.{IsStop};

@@ -25,5 +25,5 @@ mod taking;
 
 pub use agenda::{Agenda, agenda_of, answer_of};
 pub use entry::{Entry, Release};
-pub use lam_machine_replay::{RunFault, World};
+pub use lam_machine_replay::{RunFault, World, runs_are_whole};
 pub use pair_check_terms::PairAnswer;

@@ -3,9 +3,9 @@
 ghost use Rattle.std.specs.Prelude.{◌≡◌, ℕ, [], None, IfOk, OnOk, IfErr};
 ghost use Rattle.flow_labels.specs.Flow.{seen};
 ghost use Rattle.lam_machine_terms.specs.Turns.{moments};
-ghost use Rattle.guarded_code_runs.specs.Worlds.{IsSound};
+ghost use Rattle.lam_machine_replay.specs.Worlds.{IsSound};
 ghost use Rattle.lam_machine_terms.specs.Views.{agenda};
-ghost use Rattle.lam_machine.specs.Asking.{label_at};
+ghost use Rattle.lam_machine_replay.specs.Asking.{label_at};
 ghost use Rattle.lam_machine_runs.specs.Stops.{stopped_at};
 ghost use Rattle.lam_machine_replay.specs.Stops.{IsStop};
 ghost use Rattle.lam_machine_replay.specs.Keeping.{TakesTurn};
@@ -15,8 +15,7 @@ use crate::entry::Entry;
 use crate::noting::{note_event, note_private};
 use flow_labels::{Label, seen};
 use guarded_code::Verified;
-use lam_machine::{step, step_privately};
-use lam_machine_replay::{RunFault, World};
+use lam_machine_replay::{RunFault, World, step, step_privately};
 use std::alloc::Global;
 use want_of_memory::NoMemory;
 

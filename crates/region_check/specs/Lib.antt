@@ -4,3 +4,7 @@ pub mod Legal
 pub mod Values
 pub mod Sees
 pub mod Seen
+pub use Rattle.lam_types.specs.Endings
+pub use Rattle.lam_types.specs.Judgement
+pub use Rattle.lam_types.specs.Program
+pub use Rattle.lam_types.specs.Stmts

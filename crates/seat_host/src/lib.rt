@@ -18,3 +18,4 @@ mod seat_table;
 pub use answer::{CloseFault, Closed, TurnAnswer, let_go_answer, let_go_closed};
 pub use places::places_differ;
 pub use seat::{Seat, SeatRun, let_go_seat, let_go_seat_run};
+pub use thread_host_run::let_go_verified;

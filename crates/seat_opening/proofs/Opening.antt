@@ -8,9 +8,9 @@ use Rattle.lam_main_plan.specs.Refusals.{Plan}
 use Rattle.lam_main_plan.specs.Reading.{Never, IsRunCode, Compiles, Thins}
 use Rattle.lam_main_plan.specs.Replays.{NoStart}
 use Rattle.lam_main_plan.proofs.ReadLemmas.{thin_then, no_thin_then}
-use Rattle.lam_main_files.specs.declared.halt.Halt.{Halt}
-use Rattle.lam_main_files.specs.declared.halt.Halt.TheVariants.{Refused, NoMemory, ShelfFailed}
-use Rattle.lam_main_files.specs.Halts.{Finds, refuses}
+use Rattle.lam_main_replay.specs.Halt.{Halt}
+use Rattle.lam_main_replay.specs.Halt.TheVariants.{Refused, NoMemory, ShelfFailed}
+use Rattle.lam_main_replay.specs.Halts.{Finds, refuses}
 use Rattle.seat_host.specs.Seats.{new_seat}
 use Rattle.seat_opening.specs.declared.Opened.{Opened}
 use Rattle.seat_opening.specs.Opens.{Shares, RunsFrom, IsOpened}

@@ -10,18 +10,16 @@ ghost use Rattle.lam_bytecode.specs.Codes.{IsCode};
 ghost use Rattle.guarded_code_runs.specs.Worlds.{IsSound};
 ghost use Rattle.lam_main_plan.specs.Reading.{Thins};
 ghost use Rattle.lam_main_plan.specs.Replays.{NoStart};
-ghost use Rattle.lam_main_files.specs.Halts.{Finds};
+ghost use Rattle.lam_main_replay.specs.Halts.{Finds};
 ghost use Rattle.seat_host.specs.Seats.{new_seat};
 ghost use Rattle.seat_opening.specs.Opens.{IsOpened, RunsFrom, Shares};
 
 use flow_labels::TagNames;
 use guarded_code::Verified;
 use lam_machine_world::{World, let_go_world};
-use lam_main_files::{Halt, run_code_of};
-use lam_main_replay::start_in;
-use seat_host::{Seat, SeatRun};
+use lam_main_replay::{Halt, run_code_of, start_in};
+use seat_host::{Seat, SeatRun, let_go_verified};
 use std::alloc::Global;
-use thread_host_run::let_go_verified;
 use want_of_memory::NoMemory;
 
 /// A shared run with no turns, a seat of it that has seen nothing, and the names of its tags.

@@ -6,7 +6,7 @@ use Rattle.std.proofs.lemmas.List.{length_push}
 use Rattle.lam_bytecode.specs.Codes.{CodeTree}
 use Rattle.lam_resolve_tree.specs.Tree.{ResolvedTree}
 use Rattle.thread_steps.specs.Threads.{Thread}
-use Rattle.source_walk_meets.proofs.Lists.{split_get}
+use Rattle.source_walk_run.proofs.Lists.{split_get}
 use Rattle.source_walk_state.specs.declared.Beginning.{Beginning}
 use Rattle.source_walk.specs.Starts.{BeginsAt, AreBeginnings}
 

@@ -16,15 +16,15 @@ use Rattle.lam_meaning_laws.specs.Acts.{AreFirst}
 use Rattle.lam_machine_terms.specs.Worlds.{World, thread_at}
 use Rattle.lam_machine_terms.specs.Turns.{Moment}
 use Rattle.lam_machine_laws.specs.Own.{done_by}
-use Rattle.lam_machine_means.specs.Runs.{asked_in, answers_in, WasSpawned, Began}
+use Rattle.source_walk_terms.specs.Runs.{asked_in, answers_in, WasSpawned, Began}
 use Rattle.source_walk_terms.specs.declared.Walked.TheVariants.{Same, Departs}
 use Rattle.source_walk_terms.specs.Departs.{DepartsAt}
 use Rattle.source_walk_terms.specs.Walks.{KeepsToSource, LeavesAt, LeavesItsSource}
 use Rattle.source_walk_state.specs.declared.Beginning.{Beginning}
 use Rattle.source_walk_follow.specs.Followed.{IsFollowed}
-use Rattle.source_walk_meets.specs.Births.{births, HasThreads}
-use Rattle.source_walk_meets.proofs.Lists.{is_there, split_get, made_get}
-use Rattle.source_walk_meets.proofs.Runs.{was_spawned, at_number}
+use Rattle.source_walk_run.specs.Births.{births, HasThreads}
+use Rattle.source_walk_run.proofs.Lists.{is_there, split_get, made_get}
+use Rattle.source_walk_run.proofs.Runs.{was_spawned, at_number}
 use Rattle.source_walk_run.specs.declared.histories.ThreadHistories.{ThreadHistories}
 use Rattle.source_walk_run.specs.Putting.{only_asked, beginning_of}
 use Rattle.source_walk_run.specs.ThreadHistories.{AreThreadHistories}

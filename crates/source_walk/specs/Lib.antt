@@ -1,3 +1,4 @@
 pub mod Entries
 pub mod Starts
 pub mod Walking
+pub use Rattle.source_walk_run.specs.Meets

@@ -9,7 +9,7 @@ use Rattle.source_walk_terms.specs.declared.Walked.{Walked}
 use Rattle.source_walk_terms.specs.Walks.{IsEntry, IsWalkedOf}
 use Rattle.source_walk_state.specs.declared.Beginning.{Beginning}
 use Rattle.source_walk_follow.specs.Followed.{IsFollowed}
-use Rattle.source_walk_meets.specs.Births.{HasThreads}
+use Rattle.source_walk_run.specs.Births.{HasThreads}
 use Rattle.source_walk_run.specs.declared.histories.ThreadHistories.{ThreadHistories}
 use Rattle.source_walk_run.specs.Putting.{lists_of}
 use Rattle.source_walk_run.specs.ThreadHistories.{AreThreadHistories}

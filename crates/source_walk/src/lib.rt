@@ -19,7 +19,7 @@ mod runs;
 mod starts;
 mod walking;
 
-pub use lam_machine_replay::{RunFault, World};
 pub use runs::walk;
+pub use source_walk_run::{RunFault, World, meant_runs_are_same};
 pub use source_walk_terms::Walked;
 pub use walking::walk_turns;

@@ -11,10 +11,10 @@ ghost use Rattle.source_walk_terms.specs.Walks.{ThreadsAtEntries, IsWalked};
 
 use crate::walking::walk_turns;
 use guarded_code::Verified;
-use lam_machine_replay::{RunFault, World, runs_are_whole};
 use lam_resolve::resolve;
 use lam_resolve_tree::Resolved;
 use region_check::Checked;
+use source_walk_run::{RunFault, World, runs_are_whole};
 use source_walk_terms::Walked;
 use std::alloc::Global;
 use thread_host_run::Run;

@@ -7,7 +7,7 @@ use Rattle.lam_asks.specs.declared.answer.What.{What}
 use Rattle.lam_asks.specs.declared.answer.What.TheVariants.{Private, Asked}
 use Rattle.lam_asks.specs.declared.ask.Ask.{Ask}
 use Rattle.lam_resolve_tree.specs.Tree.{ResolvedTree}
-use Rattle.lam_machine_means.specs.Runs.{asked_in, answers_in}
+use Rattle.source_walk_terms.specs.Runs.{asked_in, answers_in}
 use Rattle.lam_meaning_laws.specs.Acts.{AreFirst}
 use Rattle.source_walk_state.specs.declared.Control.{Control}
 use Rattle.source_walk_parts.specs.States.{State, left_at}

@@ -7,7 +7,7 @@ use Rattle.std.specs.Prelude.{◌≢◌, slice_get}
 use Rattle.lam_asks.specs.declared.answer.What.{What}
 use Rattle.lam_asks.specs.declared.answer.What.TheVariants.{Private, Asked}
 use Rattle.lam_asks.specs.declared.ask.Ask.{Ask}
-use Rattle.lam_machine_means.specs.Runs.{asked_in}
+use Rattle.source_walk_terms.specs.Runs.{asked_in}
 use Rattle.source_walk_terms.specs.Departs.{DepartsAt}
 
 pub asked-append : (xs ys : List What) → asked_in (xs ++ ys) ≡ asked_in xs ++ asked_in ys

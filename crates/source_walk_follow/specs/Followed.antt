@@ -7,7 +7,7 @@ use Rattle.lam_asks.specs.declared.ask.Ask.{Ask}
 use Rattle.lam_resolve_tree.specs.Tree.{ResolvedTree}
 use Rattle.lam_meaning.specs.Plays.{asks_made}
 use Rattle.lam_meaning_laws.specs.Acts.{AreFirst}
-use Rattle.lam_machine_means.specs.Runs.{asked_in, answers_in}
+use Rattle.source_walk_terms.specs.Runs.{asked_in, answers_in}
 use Rattle.source_walk_terms.specs.Departs.{DepartsAt}
 
 -- asks against those that are made: they are the first ones, or depart at a place

@@ -7,7 +7,7 @@ use Rattle.lam_value.specs.declared.shapes.Shape.TheVariants.{Class}
 use Rattle.lam_asks.specs.declared.answer.Answer.{Answer}
 use Rattle.lam_asks.specs.declared.answer.What.{What}
 use Rattle.lam_asks.specs.declared.answer.What.TheVariants.{Private, Asked}
-use Rattle.lam_machine_means.specs.Runs.{asked_in, answers_in}
+use Rattle.source_walk_terms.specs.Runs.{asked_in, answers_in}
 use Rattle.lam_asks.specs.declared.ask.Ask.{Ask}
 use Rattle.lam_asks.specs.declared.ask.Ask.TheVariants as ask
 use Rattle.lam_resolve_tree.specs.Tree.{ResolvedTree}

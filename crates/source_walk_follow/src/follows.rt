@@ -4,7 +4,7 @@ ghost use Rattle.std.specs.Prelude.{◌≡◌, true, length, [], ◌∷◌, IfOk
 ghost use Rattle.lam_asks.specs.declared.answer.What.TheVariants.{Asked as asked};
 ghost use Rattle.lam_resolve_tree.specs.Tree.{resolved_tree};
 ghost use Rattle.source_walk_parts.specs.States.{state_of};
-ghost use Rattle.lam_machine_means.specs.Runs.{asked_in, answers_in};
+ghost use Rattle.source_walk_terms.specs.Runs.{asked_in, answers_in};
 ghost use Rattle.source_walk_follow.specs.Standing.{stands, asks_left, Turns, went};
 ghost use Rattle.source_walk_follow.specs.Followed.{Follows, IsFollowed};
 

@@ -13,7 +13,7 @@ use Rattle.thread_steps.specs.Next.{locals_in, filled, started}
 use Rattle.lam_meaning_typed.specs.Kinds.{AreOf}
 use Rattle.lam_machine_terms.specs.Worlds.{World, thread_at}
 use Rattle.lam_machine_terms.specs.Turns.{Moment}
-use Rattle.lam_machine_means.specs.Runs.{WasSpawned, Began}
+use Rattle.source_walk_terms.specs.Runs.{WasSpawned, Began}
 use Rattle.source_walk_meets.specs.Births.{Birth, HasThreads}
 use Rattle.source_walk_meets.proofs.Lists.{same_fronts}
 use Rattle.source_walk_meets.proofs.Runs.{born, spawned_later, spawned_once}

@@ -9,8 +9,8 @@ use Rattle.thread_steps.specs.Threads.{Thread}
 use Rattle.lam_machine_terms.specs.Worlds.{World}
 use Rattle.lam_machine_terms.specs.Turns.{Moment, moments, replay}
 use Rattle.lam_machine_laws.specs.Own.{done_by}
-use Rattle.lam_machine_means.specs.Meant.{MeansItsSource}
-use Rattle.lam_machine_means.specs.Runs.{asked_in, Began}
+use Rattle.source_walk_terms.specs.Meant.{MeansItsSource}
+use Rattle.source_walk_terms.specs.Runs.{asked_in, Began}
 use Rattle.source_walk_terms.specs.declared.Walked.{Walked}
 use Rattle.source_walk_terms.specs.declared.Walked.TheVariants.{Same, Departs}
 use Rattle.source_walk_terms.specs.Departs.{DepartsAt}

@@ -15,7 +15,7 @@ use Rattle.lam_asks.specs.declared.ask.Ask.TheVariants.{Spawn}
 use Rattle.lam_bytecode.specs.Codes.{CodeTree, AreCounted}
 use Rattle.lam_machine_terms.specs.Worlds.{World}
 use Rattle.lam_machine_terms.specs.Turns.{Moment, step, and_then, moments, left_by}
-use Rattle.lam_machine_means.specs.Runs.{WasSpawned}
+use Rattle.source_walk_terms.specs.Runs.{WasSpawned}
 use Rattle.source_walk_meets.specs.Births.{Birth, birth_of, births, numbers, HasThreads, RunsHaveThreads}
 use Rattle.source_walk_meets.proofs.Lists.{behind_get, counted_get, counted_append}
 use Rattle.source_walk_meets.proofs.Turns.{births_one, turned}

@@ -5,7 +5,7 @@ use Rattle.lam_resolve_tree.specs.Tree.{ResolvedTree}
 use Rattle.thread_steps.specs.Threads.{Thread}
 use Rattle.lam_machine_terms.specs.Worlds.{World, thread_at}
 use Rattle.lam_machine_terms.specs.Turns.{moments, replay}
-use Rattle.lam_machine_means.specs.Meant.{MeansItsSource}
+use Rattle.source_walk_terms.specs.Meant.{MeansItsSource}
 use Rattle.source_walk_terms.specs.declared.Walked.{Walked}
 use Rattle.source_walk_terms.specs.declared.Walked.TheVariants.{Same}
 use Rattle.source_walk_terms.specs.Walks.{asks_in, IsWalked}

@@ -14,11 +14,11 @@ use Rattle.lam_asks.specs.declared.answer.Event.{Event}
 use Rattle.lam_machine_terms.specs.Worlds.{World}
 use Rattle.lam_machine_terms.specs.Turns.{Moment}
 use Rattle.lam_machine_laws.specs.Own.{done_by}
-use Rattle.lam_machine_means.specs.Runs.{asked_in}
-use Rattle.lam_machine_means.proofs.Alone.{asked_append}
+use Rattle.source_walk_meets.specs.Runs.{asked_in}
+use Rattle.source_walk_meets.proofs.Alone.{asked_append}
 use Rattle.lam_machine_replay.specs.Told.{product_label, IsToldBy}
 use Rattle.lam_machine_replay.specs.Keeping.{KeptOfSoMany, KeepsEvent}
-use Rattle.source_walk_terms.specs.Walks.{asks_in}
+use Rattle.source_walk_meets.specs.Walks.{asks_in}
 use Rattle.source_walk_state.specs.declared.Beginning.{Beginning}
 use Rattle.source_walk_meets.specs.Births.{Birth, birth_of, births, AreOfThreads}
 use Rattle.source_walk_meets.proofs.Runs.{births_append}

@@ -4,7 +4,7 @@ use Rattle.std.specs.List.{flat_map}
 use Rattle.lam_asks.specs.declared.answer.What.{What}
 use Rattle.lam_machine_terms.specs.Turns.{Moment}
 use Rattle.lam_machine_laws.specs.Own.{done_by}
-use Rattle.source_walk_terms.specs.Walks.{asks_in}
+use Rattle.source_walk_meets.specs.Walks.{asks_in}
 use Rattle.source_walk_meets.specs.Births.{births, AreOfThreads}
 use Rattle.source_walk_run.specs.declared.keeping.Kept.{Kept}
 use Rattle.source_walk_run.specs.declared.histories.ThreadHistories.{ThreadHistories}

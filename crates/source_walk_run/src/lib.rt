@@ -17,4 +17,5 @@ mod keeping;
 mod putting;
 
 pub use histories::{ThreadHistories, histories_of};
-pub use lam_machine_replay::{RunFault, World};
+pub use lam_machine_replay::{RunFault, World, runs_are_whole};
+pub use source_walk_meets::{meant_runs_are_same, runs_have_threads};

@@ -10,11 +10,11 @@ use Rattle.lam_resolve_tree.specs.Tree.{ResolvedFunction, ResolvedTree}
 use Rattle.thread_steps.specs.Threads.{Thread}
 use Rattle.thread_steps.specs.Next.{started}
 use Rattle.lam_meaning.specs.Plays.{asks_made}
-use Rattle.lam_meaning_typed.specs.Kinds.{AreOf}
-use Rattle.lam_meaning_laws.specs.Acts.{AreFirst}
-use Rattle.lam_machine_terms.specs.Worlds.{World, thread_at}
-use Rattle.lam_machine_terms.specs.Turns.{Moment, moments, replay}
-use Rattle.lam_machine_laws.specs.Own.{done_by}
+use Rattle.lam_machine_means.specs.Kinds.{AreOf}
+use Rattle.lam_machine_means.specs.Acts.{AreFirst}
+use Rattle.lam_machine_means.specs.Worlds.{World, thread_at}
+use Rattle.lam_machine_means.specs.Turns.{Moment, moments, replay}
+use Rattle.lam_machine_means.specs.Own.{done_by}
 use Rattle.lam_machine_means.specs.Runs.{asked_in, answers_in, Began, WasSpawned}
 use Rattle.source_walk_terms.specs.declared.Walked.{Walked}
 use Rattle.source_walk_terms.specs.declared.Walked.TheVariants.{Same, Departs}

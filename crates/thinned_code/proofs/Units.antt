@@ -6,7 +6,7 @@ use Rattle.lam_bytecode.specs.Codes.{CodeTree, given}
 use Rattle.lam_bytecode.specs.declared.unit.CodeUnit.{CodeUnit}
 use Rattle.lam_bytecode.specs.declared.unit.UnitKind.{UnitKind}
 use Rattle.lam_bytecode.specs.declared.unit.UnitKind.TheVariants.{Function, Region}
-use Rattle.thread_steps.specs.Ops.{function_takes, is_region, UnitAt, region_from, region_in, captures_of, region_takes}
+use Rattle.guarded_code.specs.Ops.{function_takes, is_region, UnitAt, region_from, region_in, captures_of, region_takes}
 use Rattle.guarded_code.specs.Changes.{kind_of_result, result_kind}
 use Rattle.thinned_code.specs.Thinned.{moved_kind, thin_unit, thinned_unit}
 

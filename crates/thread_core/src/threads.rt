@@ -8,7 +8,7 @@ ghost use Rattle.thread_core.specs.Untested.{untested_standing, untested_standin
 
 use crate::stepping::{context_ask, context_stands, context_waits, go_on_in};
 use crate::turn::{Standing, Turn, Waits};
-use guarded_code::Verified;
+use guarded_code_threads::Verified;
 use lam_asks::Ask;
 use lam_bytecode::Code;
 use thread_core_state::{Context, LamThread};

@@ -17,7 +17,7 @@ use Rattle.thread_core_state.specs.Stacked.{is_bottom, has_contexts, AreStacked,
 use Rattle.thread_steps.specs.Next.{Next, goes, asks, stuck, next_of, given, gains, done, entered, answered, result_after, takes}
 use Rattle.thread_core.specs.Turning as core
 use Rattle.thread_core.specs.Turning.{asked}
-use Rattle.lam_machine_terms.specs.Turns as turns
+use Rattle.lam_machine_valid.specs.Turns as turns
 use Rattle.lam_machine_valid.proofs.NextLemmas.{AskIs, ask_is}
 
 -- ---- which asks a context makes

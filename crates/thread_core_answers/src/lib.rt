@@ -12,3 +12,4 @@ mod plan;
 mod planning;
 
 pub use answering::{Prepared, prepare, take_answer};
+pub use thread_core::{Standing, Turn, advance, go_on};

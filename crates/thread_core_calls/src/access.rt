@@ -17,8 +17,7 @@ use flow_labels::{Denied, Label, read_rule, write_rule};
 use lam_asks::Fault;
 use lam_bytecode::Kinds;
 use lam_value::{Kind, Name, Value};
-use thread_core_effects::{AskRef, OpEffect, is_null, same_names, thing_in};
-use thread_core_state::Operands;
+use thread_core_effects::{AskRef, OpEffect, Operands, is_null, same_names, thing_in};
 
 /// How long an array may be.
 pub const LENGTH_LIMIT: u64 = 65_536;

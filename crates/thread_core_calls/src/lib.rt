@@ -25,8 +25,7 @@ use flow_labels::Label;
 use lam_asks::Fault;
 use lam_builtins::Builtin;
 use lam_value::{ByteText, Name, Value};
-use thread_core_effects::{AskRef, Called, OpEffect, ValueRef, some_null};
-use thread_core_state::Operands;
+use thread_core_effects::{AskRef, Called, OpEffect, Operands, ValueRef, some_null};
 
 /// How many bytes a value may have, and how many of a file are read at once.
 const BYTES_LIMIT: usize = 65_536;

@@ -5,7 +5,7 @@ use Rattle.std.specs.List.{list_any, list_all}
 use Rattle.std.proofs.lemmas.List.{take_more, append-nil}
 use Rattle.lam_value.specs.declared.values.Value.{Value}
 use Rattle.lam_value.specs.declared.values.Value.TheVariants.{Tag}
-use Rattle.thread_steps.specs.Operators.{is_null, some_null, tags_in, tag_before}
+use Rattle.thread_core_state.specs.Operators.{is_null, some_null, tags_in, tag_before}
 use Rattle.thread_core_effects.specs.Reading.{tag_in}
 use Rattle.thread_core_effects.specs.Acting.{tag_list}
 

@@ -13,16 +13,16 @@ use Rattle.lam_value.specs.declared.shapes.Shape.TheVariants as shape
 use Rattle.lam_value.specs.Shapes.{zero_of}
 use Rattle.lam_builtins.specs.declared.Builtin.{Builtin}
 use Rattle.lam_builtins.specs.Builtins.{row}
-use Rattle.lam_bytecode.specs.declared.unit.CodeUnit.{CodeUnit}
-use Rattle.lam_asks.specs.declared.ask.Ask.{Ask}
-use Rattle.lam_asks.specs.declared.ask.Ask.TheVariants as ask
-use Rattle.thread_steps.specs.Operators as operators
-use Rattle.thread_steps.specs.Operators.{Pure, label_from, with_sign}
-use Rattle.thread_steps.specs.Builtins as built
-use Rattle.thread_steps.specs.Builtins.{Calls, builtin, root_name}
-use Rattle.thread_steps.specs.Limits.{frames_limit}
-use Rattle.thread_steps.specs.Ops.{Did, gives, sets, jumps, calls, returns, fails, wants, leaves, breaks, on_any, on_many, on_known, on_caps, on_label, operated, new_object, region_takes, region_in, function_takes, called}
-use Rattle.lam_asks.specs.declared.fault.Fault.TheVariants as fault
+use Rattle.thread_core_state.specs.CodeUnit.{CodeUnit}
+use Rattle.thread_core_state.specs.Ask.{Ask}
+use Rattle.thread_core_state.specs.Ask.TheVariants as ask
+use Rattle.thread_core_state.specs.Operators as operators
+use Rattle.thread_core_state.specs.Operators.{Pure, label_from, with_sign}
+use Rattle.thread_core_state.specs.Builtins as built
+use Rattle.thread_core_state.specs.Builtins.{Calls, builtin, root_name}
+use Rattle.thread_core_state.specs.Limits.{frames_limit}
+use Rattle.thread_core_state.specs.Ops.{Did, gives, sets, jumps, calls, returns, fails, wants, leaves, breaks, on_any, on_many, on_known, on_caps, on_label, operated, new_object, region_takes, region_in, function_takes, called}
+use Rattle.thread_core_state.specs.Fault.TheVariants as fault
 use Rattle.thread_core_effects.specs.declared.acted.Computed.{Computed}
 use Rattle.thread_core_effects.specs.declared.acted.Computed.TheVariants as computed
 use Rattle.thread_core_effects.specs.declared.acted.AskRef.{AskRef}

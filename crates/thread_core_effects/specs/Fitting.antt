@@ -1,8 +1,8 @@
 -- Numbers of 64 bits, as code has them.
 use Rattle.std.specs.Prelude.{ℕ, ℤ, pos, negsuc, Option, Some, None, nat_lt, if◌then◌else◌}
 use Rattle.lam_value.specs.declared.values.Value.TheVariants.{Int}
-use Rattle.lam_asks.specs.declared.fault.Fault.TheVariants.{Overflow}
-use Rattle.thread_steps.specs.Operators.{Pure, fine, faults}
+use Rattle.thread_core_state.specs.Fault.TheVariants.{Overflow}
+use Rattle.thread_core_state.specs.Operators.{Pure, fine, faults}
 
 abbrev pub number_if : Option ℤ → Pure
 number_if (Some z) = fine (Int z)

@@ -2,8 +2,8 @@
 
 use capabilities::Caps;
 use flow_labels::{Denied, Label, TagId, TagSet};
-use lam_asks::Fault;
 use lam_value::{ByteText, Kind, Name, Value};
+use thread_core_state::Fault;
 
 /// An ask, its parts where they stand. It takes no memory.
 #[derive(Clone, Copy)]

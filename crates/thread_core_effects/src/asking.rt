@@ -4,7 +4,7 @@ ghost use Rattle.std.specs.Prelude.{◌≡◌, ◌++◌, ◌∷◌, [], map, IfO
 ghost use Rattle.std.specs.FinSet.{from_list};
 ghost use Rattle.std.specs.Fmt.{signed_decimal};
 ghost use Rattle.lam_value.specs.Shapes.{zero_of};
-ghost use Rattle.thread_steps.specs.Builtins.{root_name};
+ghost use Rattle.thread_core_state.specs.Builtins.{root_name};
 ghost use Rattle.thread_core_effects.specs.Acting.{ask_of, value_of, signed, tag_list};
 
 use crate::acted::{AskRef, ValueRef};
@@ -12,10 +12,9 @@ use crate::reading::tag_in;
 use capabilities::Caps;
 use decimal_text::push_int_bytes;
 use flow_labels::{Label, TagId, TagSet};
-use lam_asks::{Ask, both};
 use lam_value::{ByteText, Kind, Name, Shape, Value, Values};
 use std::alloc::Global;
-use thread_core_state::listed;
+use thread_core_state::{Ask, both, listed};
 use want_of_memory::NoMemory;
 
 fn zeros(alloc: Global, kinds: &[Kind]) -> Result<Values, NoMemory>

@@ -1,7 +1,7 @@
 //! When two values are equal, as a program tests it.
 
 ghost use Rattle.std.specs.Prelude.{◌≡◌};
-ghost use Rattle.thread_steps.specs.Equal.{same_names, same_tags, same_labels, same_values};
+ghost use Rattle.thread_core_state.specs.Equal.{same_names, same_tags, same_labels, same_values};
 
 use flow_labels::{Label, TagSet};
 use lam_value::{Name, Value};

@@ -15,3 +15,4 @@ pub use acted::{AskRef, Called, Computed, OpEffect, ValueRef};
 pub use asking::{ask_from, value_from};
 pub use equal::{same_names, same_values};
 pub use reading::{is_null, number_in, some_null, tag_in, thing_in, truth_in};
+pub use thread_core_state::{Context, Operands};

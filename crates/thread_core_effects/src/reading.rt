@@ -3,7 +3,7 @@
 ghost use Rattle.std.specs.Prelude.{◌≡◌};
 ghost use Rattle.std.specs.Option.{option_copied};
 ghost use Rattle.std.specs.List.{list_any};
-ghost use Rattle.thread_steps.specs.Operators.{is_null, some_null};
+ghost use Rattle.thread_core_state.specs.Operators.{is_null, some_null};
 ghost use Rattle.thread_core_effects.specs.Reading.{number_in, truth_in, thing_in, tag_in};
 
 use flow_labels::TagId;

@@ -1,2 +1,3 @@
 pub mod Units
 pub mod Untested
+pub use Rattle.thread_core_calls.specs.Reaching

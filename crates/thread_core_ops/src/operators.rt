@@ -13,9 +13,8 @@ use lam_asks::Fault;
 use lam_operators::{BinaryOp, UnaryOp};
 use lam_value::Value;
 use thread_core_effects::{
-    Computed, OpEffect, ValueRef, number_in, same_values, some_null, tag_in,
+    Computed, OpEffect, Operands, ValueRef, number_in, same_values, some_null, tag_in,
 };
-use thread_core_state::Operands;
 
 fn truth(b: bool) -> Computed<'static>
     ensures { result ≡ Computed.Fine (ValueRef.Bool b) }

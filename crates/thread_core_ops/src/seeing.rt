@@ -18,8 +18,7 @@ use thread_core_calls::{
     enter_monitor, get_element, get_field, leave_monitor, new_array, new_object, put_element,
     put_field, read_barrier, system, write_barrier,
 };
-use thread_core_effects::{OpEffect, ValueRef, number_in, truth_in};
-use thread_core_state::{Context, Operands};
+use thread_core_effects::{Context, OpEffect, Operands, ValueRef, number_in, truth_in};
 
 /// How many calls may be open in a context.
 pub const FRAMES_LIMIT: usize = 256;

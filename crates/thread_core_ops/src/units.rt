@@ -11,8 +11,7 @@ use flow_labels::TagSet;
 use lam_asks::Fault;
 use lam_bytecode::{Code, CodeUnit, UnitKind};
 use lam_value::Value;
-use thread_core_effects::{AskRef, OpEffect};
-use thread_core_state::Operands;
+use thread_core_effects::{AskRef, OpEffect, Operands};
 
 /// How many arguments the function with a number takes, `None` where there is no such function.
 pub fn function_takes(units: &[CodeUnit], unit: u32) -> Option<usize>

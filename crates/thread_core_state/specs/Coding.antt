@@ -1,17 +1,17 @@
 -- How the parts of threads are stored, for what holds them.
 use Rattle.std.specs.Prelude.{◌≡◌, ℕ, List, Option, Some, None, refl}
 use Rattle.std.specs.Coded.{Coded, code_by, coded×, coded_ℕ, coded_list, coded_option}
-use Rattle.flow_labels.specs.Tags.{Tags, coded_tags}
-use Rattle.flow_labels.specs.declared.Label.{Label}
-use Rattle.capabilities.specs.declared.Caps.{Caps}
-use Rattle.lam_value.specs.declared.names.Name.{Name}
-use Rattle.lam_value.specs.declared.values.Value.{Value}
-use Rattle.lam_value.specs.contracts.values.Value as value
-use Rattle.lam_value.specs.NameParts.{coded_label, coded_parts}
-use Rattle.lam_asks.specs.declared.fault.Fault.{Fault}
-use Rattle.lam_asks.specs.contracts.fault.Fault as fault
-use Rattle.lam_asks.specs.declared.answer.Outcome.{Outcome}
-use Rattle.lam_asks.specs.contracts.answer.Outcome as outcome
+use Rattle.thread_steps.specs.Tags.{Tags, coded_tags}
+use Rattle.thread_steps.specs.Label.{Label}
+use Rattle.thread_steps.specs.Caps.{Caps}
+use Rattle.thread_steps.specs.Name.{Name}
+use Rattle.thread_steps.specs.Value.{Value}
+use Rattle.thread_steps.specs.ValueContracts as value
+use Rattle.thread_steps.specs.NameParts.{coded_label, coded_parts}
+use Rattle.thread_steps.specs.Fault.{Fault}
+use Rattle.thread_steps.specs.FaultContracts as fault
+use Rattle.thread_steps.specs.Outcome.{Outcome}
+use Rattle.thread_steps.specs.OutcomeContracts as outcome
 use Rattle.thread_steps.specs.Threads.{Frame, Inside, Phase, Bottom, Body, Catch, Context, Thread}
 
 abbrev pub coded_values : Coded (List Value)

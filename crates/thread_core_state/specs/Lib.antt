@@ -1,3 +1,12 @@
 pub mod Coding
 pub mod Seen
 pub mod Stacked
+pub use Rattle.thread_steps.specs.Ask
+pub use Rattle.thread_steps.specs.Builtins
+pub use Rattle.thread_steps.specs.CodeUnit
+pub use Rattle.thread_steps.specs.Equal
+pub use Rattle.thread_steps.specs.Fault
+pub use Rattle.thread_steps.specs.Limits
+pub use Rattle.thread_steps.specs.Operators
+pub use Rattle.thread_steps.specs.Ops
+pub use Rattle.thread_steps.specs.Threads

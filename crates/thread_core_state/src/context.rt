@@ -6,12 +6,9 @@ ghost use Rattle.thread_core_state.specs.Seen.{phase_of};
 use crate::frame::Frame;
 use crate::operands::Operands;
 use crate::phase::Phase;
-use capabilities::Caps;
-use flow_labels::{Label, same};
-use lam_asks::Fault;
-use lam_value::{Name, Values};
 use std::alloc::Global;
 use std::marker::Model;
+use thread_steps::{Caps, Fault, Label, Name, Values, same};
 use want_of_memory::NoMemory;
 
 /// What one region of a thread works with: its label and capabilities, how deep it stands, what it is, the monitors

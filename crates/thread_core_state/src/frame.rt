@@ -3,9 +3,9 @@
 ghost use Rattle.std.specs.Prelude.{◌≡◌, ◌↔◌, IsTrue, IfOk};
 
 use crate::operands::Operands;
-use lam_value::Values;
 use std::alloc::Global;
 use std::marker::Model;
+use thread_steps::Values;
 use want_of_memory::NoMemory;
 
 /// A call that is open and waits: where it goes on in which unit, its locals and its operands.

@@ -20,3 +20,4 @@ pub use frame::Frame;
 pub use operands::{Operands, filled, listed};
 pub use phase::Phase;
 pub use thread::{LamThread, locals_of};
+pub use thread_steps::{Ask, Fault, both};

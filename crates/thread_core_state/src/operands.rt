@@ -2,13 +2,13 @@
 
 ghost use Rattle.std.specs.Prelude.{◌≡◌, ◌↔◌, ◌<◌, ◌≤◌, ◌-◌, ◌++◌, ◌∷◌, [], length, take, drop, reverse, replicate, slice_get, IsTrue, IfOk, OnOk, OnErr, MatchOption, vec_capacity};
 ghost use Rattle.std.specs.Option.{option_copied};
-ghost use Rattle.lam_value.specs.declared.values.Value.TheVariants.{Nothing as null};
+ghost use Rattle.thread_steps.specs.Value.TheVariants.{Nothing as null};
 ghost use Rattle.thread_core_state.specs.Seen.{filled_to};
 
-use lam_value::{Value, Values, same_values};
 use std::alloc::Global;
 use std::marker::Model;
 use std::mem::replace;
+use thread_steps::{Value, Values, same_values};
 use want_of_memory::NoMemory;
 
 /// A stack of values, seen from its top on.
@@ -20,8 +20,8 @@ pub struct Operands {
 impl Model for Operands {
     ghost use Rattle.std.specs.Prelude.{List, reverse};
     ghost use Rattle.std.specs.Coded.{coded_list};
-    ghost use Rattle.lam_value.specs.declared.values.Value.{Value as Item};
-    ghost use Rattle.lam_value.specs.contracts.values.Value as item;
+    ghost use Rattle.thread_steps.specs.Value.{Value as Item};
+    ghost use Rattle.thread_steps.specs.ValueContracts as item;
 
     ghost Value = { List Item };
 

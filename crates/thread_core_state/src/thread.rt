@@ -4,19 +4,15 @@ ghost use Rattle.std.specs.Prelude.{◌≡◌, IfOk, [], None, Some, reverse, le
 ghost use Rattle.std.specs.Option.{option_copied};
 ghost use Rattle.thread_steps.specs.Next.{started, locals_in};
 ghost use Rattle.thread_core_state.specs.Stacked.{IsThread};
-ghost use Rattle.flow_labels.specs.Flow.{public_label};
+ghost use Rattle.thread_steps.specs.Flow.{public_label};
 ghost use Rattle.thread_core_state.specs.Seen.{context_of, frame_of};
 
 use crate::context::Context;
 use crate::operands::{Operands, filled};
 use crate::phase::Phase;
-use capabilities::Caps;
-use flow_labels::Label;
-use lam_asks::Outcome;
-use lam_bytecode::Code;
-use lam_value::Values;
 use std::alloc::Global;
 use std::marker::Model;
+use thread_steps::{Caps, Code, Label, Outcome, Values};
 use want_of_memory::NoMemory;
 
 /// A thread: its contexts, and how it ended, if it did.

@@ -8,3 +8,4 @@
 mod stretch;
 
 pub use stretch::{STRETCH_LIMIT, Stretch, let_go_stretch};
+pub use thread_core::{Standing, Waits, standing as thread_core_standing, waits_for};

@@ -6,7 +6,7 @@ use Rattle.lam_machine_terms.specs.Worlds.{World}
 use Rattle.lam_machine_terms.specs.Turns.{Moment, step, moments, replay}
 use Rattle.lam_machine_runs.proofs.RunLemmas.{joined_runs, stopped_runs}
 use Rattle.lam_machine_laws.specs.Turned.{IsTurn}
-use Rattle.lam_machine.specs.Privately.{private_event}
+use Rattle.lam_machine_replay.specs.Privately.{private_event}
 use Rattle.lam_machine_replay.specs.Keeping.{KeptOfSoMany, KeepsOneMore, LeavesPrivate}
 use Rattle.lam_machine_replay.proofs.ProductLemmas.{products_told}
 use Rattle.thread_host_run.specs.Courses.{Progress, IsCourse, one_more, TookTurn}

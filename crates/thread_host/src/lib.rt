@@ -24,10 +24,11 @@ mod stretching;
 mod visits;
 mod workers;
 
+pub use lam_machine_replay::{Counter, Keeps, World};
 pub use lam_machine_runs::How;
 pub use origins::Origin;
 pub use running::{Finished, FinishedKept, run_kept, run_on};
 pub use sharing::Shared;
 pub use stretching::Opening;
-pub use thread_host_run::RunParts;
+pub use thread_host_run::{RunParts, let_go_verified};
 pub use visits::Visit;

@@ -3,7 +3,7 @@ use Rattle.std.proofs.Common.{◌≡◌, ℕ, ◌<◌, Bool, Option, Some, None,
 use Rattle.lam_asks.specs.declared.answer.Event.{Event}
 use Rattle.lam_bytecode.specs.Codes.{CodeTree}
 use Rattle.lam_machine_terms.specs.Worlds.{World}
-use Rattle.guarded_code_runs.specs.Worlds.{IsSound}
+use Rattle.lam_machine.specs.Worlds.{IsSound}
 use Rattle.lam_machine_laws.specs.Turned.{IsTurn}
 use Rattle.lam_machine.specs.Privately.{private_event}
 use Rattle.thread_host_run.specs.Courses.{Progress, IsCourse, ran_to, one_more, TookTurn, was_quiet}

@@ -13,8 +13,8 @@ use Rattle.lam_bytecode.specs.Codes.{CodeTree}
 use Rattle.thread_steps.specs.Threads.{Context, Thread}
 use Rattle.thread_steps.specs.Next.{Next, goes, asks, stuck, next_of, stands, standing_in, standing}
 use Rattle.thread_core_effects.specs.Reading.{thing_in}
-use Rattle.thread_core.specs.Turning.{Awaited, nobody, a_monitor, a_thread, asked, monitor_of, awaited, awaited_in, awaited_of}
-use Rattle.lam_machine_valid.proofs.NextLemmas.{what_it_may}
+use Rattle.thread_core_stretches.specs.Turning.{Awaited, nobody, a_monitor, a_thread, asked, monitor_of, awaited, awaited_in, awaited_of}
+use Rattle.lam_machine.proofs.NextLemmas.{what_it_may}
 use Rattle.lam_machine_terms.specs.Worlds.{World, thread_at}
 use Rattle.lam_machine_terms.specs.Serving.{serve}
 use Rattle.lam_machine_terms.specs.Turns.{Moment, is_taken, waits, is_ready, served, turn_by, turn_in, step, ready}

@@ -9,8 +9,8 @@ use Rattle.lam_machine_terms.specs.Worlds.{World}
 use Rattle.lam_machine_terms.specs.Turns.{Moment, step, ready}
 use Rattle.lam_machine_terms.specs.Valid.{IsValid}
 use Rattle.lam_machine_laws.proofs.TurnLemmas.{acts}
-use Rattle.guarded_code_runs.specs.Worlds.{IsSound}
-use Rattle.guarded_code_runs.proofs.Sound.{sound_replay}
+use Rattle.lam_machine.specs.Worlds.{IsSound}
+use Rattle.lam_machine.proofs.Sound.{sound_replay}
 use Rattle.lam_machine_runs.proofs.RunLemmas.{joined_runs}
 use Rattle.turn_book.specs.Book.{AreTurns}
 use Rattle.lam_machine_laws.specs.Turned.{IsTurn}

@@ -9,7 +9,7 @@ use Rattle.lam_bytecode.specs.Codes.{CodeTree}
 use Rattle.thread_steps.specs.Threads.{Context, Thread}
 use Rattle.thread_steps.specs.Next as next
 use Rattle.thread_steps.specs.Next.{Next, goes, asks, stuck, next_of}
-use Rattle.thread_core.specs.Turning.{moved, stepped_in, stepped}
+use Rattle.thread_core_stretches.specs.Turning.{moved, stepped_in, stepped}
 use Rattle.thread_core_stretches.specs.declared.stretch.Stretch.{Stretch}
 use Rattle.thread_core_stretches.specs.Stretches.{is_private, stands_private, rows, are_private, StretchStands}
 use Rattle.lam_machine_terms.specs.Worlds.{World, thread_at, with_thread}
@@ -20,8 +20,8 @@ use Rattle.lam_machine_laws.specs.Turned.{IsTurn, Acts, gone_on}
 use Rattle.lam_machine_laws.proofs.PartLemmas.{private_parts}
 use Rattle.lam_machine.specs.Privately.{private_event}
 use Rattle.lam_machine.proofs.AskLemmas.{acts_label}
-use Rattle.guarded_code_runs.specs.Worlds.{IsSound}
-use Rattle.guarded_code_runs.proofs.Sound.{sound_step}
+use Rattle.lam_machine.specs.Worlds.{IsSound}
+use Rattle.lam_machine.proofs.Sound.{sound_step}
 use Rattle.thread_host_run.specs.Courses.{Progress, IsCourse, one_more}
 use Rattle.thread_host_run.specs.Stretched.{StretchFits, checked_in}
 use Rattle.thread_host_run.proofs.CourseLemmas.{course_grows}

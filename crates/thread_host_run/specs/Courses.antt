@@ -4,7 +4,7 @@ use Rattle.std.specs.Coded.{Coded, code_by, coded×, coded_ℕ, coded_list}
 use Rattle.lam_asks.specs.declared.answer.Event.{Event}
 use Rattle.lam_bytecode.specs.Codes.{CodeTree}
 use Rattle.lam_machine_terms.specs.Worlds.{World}
-use Rattle.lam_machine_world.specs.Coding.{coded_world}
+use Rattle.lam_machine_equal.specs.Coding.{coded_world}
 use Rattle.lam_machine_laws.specs.Turned.{IsTurn}
 use Rattle.lam_machine.specs.Privately.{private_event}
 use Rattle.thread_host_run.specs.Quiet.{is_quiet}

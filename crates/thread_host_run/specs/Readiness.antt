@@ -2,7 +2,7 @@
 use Rattle.std.specs.Prelude.{ℕ, Bool, true, false, not}
 use Rattle.monitor_core.specs.Held.{is_free}
 use Rattle.thread_steps.specs.Next.{Standing, is_private, is_shared, is_stuck, is_ended}
-use Rattle.thread_core.specs.Turning.{Awaited, nobody, a_monitor, a_thread}
+use Rattle.thread_core_stretches.specs.Turning.{Awaited, nobody, a_monitor, a_thread}
 use Rattle.lam_machine_terms.specs.Worlds.{World, thread_at}
 use Rattle.lam_machine_terms.specs.Turns.{is_living}
 

@@ -5,9 +5,9 @@ use Rattle.lam_asks.specs.declared.answer.Event.{Event}
 use Rattle.lam_bytecode.specs.Codes.{CodeTree, coded_code}
 use Rattle.lam_machine_terms.specs.Worlds.{World}
 use Rattle.lam_machine_terms.specs.Turns.{replay, IsRun}
-use Rattle.guarded_code_runs.specs.Worlds.{IsSound}
+use Rattle.lam_machine.specs.Worlds.{IsSound}
 use Rattle.turn_book.specs.Book.{AreTurns}
-use Rattle.lam_machine_world.specs.Coding.{coded_world}
+use Rattle.lam_machine_equal.specs.Coding.{coded_world}
 use Rattle.lam_machine_laws.specs.Turned.{IsTurn}
 use Rattle.thread_host_run.specs.Quiet.{is_quiet}
 

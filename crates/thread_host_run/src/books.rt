@@ -1,13 +1,13 @@
 //! The run of a book of turns, or where they stop to be one.
 
 ghost use Rattle.std.specs.Prelude.{◌≡◌, ◌≤◌, [], length, IfOk, OnOk};
-ghost use Rattle.guarded_code_runs.specs.Worlds.{IsSound};
+ghost use Rattle.lam_machine.specs.Worlds.{IsSound};
 ghost use Rattle.thread_host_run.specs.Books.{IsRunOf, HasTaken};
 ghost use Rattle.turn_book.specs.Limits.{most_turns};
 
 use crate::run::{Run, let_go_run};
 use guarded_code::Verified;
-use lam_machine_world::World;
+use lam_machine::World;
 use std::alloc::Global;
 use want_of_memory::NoMemory;
 

@@ -4,7 +4,7 @@ ghost use Rattle.std.specs.Prelude.{◌≡◌, ◌↔◌, ◌<◌, true, [], len
 ghost use Rattle.lam_bytecode.specs.Codes.{CodeTree};
 ghost use Rattle.lam_machine_terms.specs.Worlds.{World as Plain};
 ghost use Rattle.lam_machine_terms.specs.Turns as turns;
-ghost use Rattle.guarded_code_runs.specs.Worlds.{IsSound};
+ghost use Rattle.lam_machine.specs.Worlds.{IsSound};
 ghost use Rattle.lam_machine_laws.specs.Turned.{IsTurn};
 ghost use Rattle.thread_core_stretches.specs.Stretches.{StretchStands};
 ghost use Rattle.thread_host_run.specs.Courses.{IsCourse, one_more, TookTurn};
@@ -15,7 +15,7 @@ use crate::stretches;
 use crate::taking::{go_turn, take_turn};
 use guarded_code::Verified;
 use lam_asks::Event;
-use lam_machine_world::{World, let_go_world};
+use lam_machine::{World, let_go_world};
 use std::alloc::Global;
 use std::marker::Model;
 use thread_core_stretches::Stretch;

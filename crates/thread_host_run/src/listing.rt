@@ -8,7 +8,7 @@
 ghost use Rattle.std.specs.Prelude.{◌≡◌, ◌<◌, ◌≤◌, true, length, IfOk, OnOk, OnErr, vec_capacity};
 ghost use Rattle.lam_machine_terms.specs.Worlds.{World as Plain};
 ghost use Rattle.lam_machine_terms.specs.Turns as turns;
-ghost use Rattle.guarded_code_runs.specs.Worlds.{IsSound};
+ghost use Rattle.lam_machine.specs.Worlds.{IsSound};
 ghost use Rattle.thread_core_stretches.specs.Stretches.{StretchStands};
 ghost use Rattle.thread_host_run.specs.Runs.{with_turn, HasTurn};
 ghost use Rattle.thread_host_run.specs.Stretched.{StretchFits, checked_in};
@@ -21,8 +21,8 @@ use crate::course::Course;
 use crate::readiness::ready;
 use crate::run::Run;
 use guarded_code::Verified;
+use lam_machine::World;
 use lam_machine_effects::THREAD_LIMIT;
-use lam_machine_world::World;
 use std::alloc::Global;
 use thread_core_stretches::Stretch;
 use want_of_memory::NoMemory;

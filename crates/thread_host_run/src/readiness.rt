@@ -6,19 +6,20 @@
 
 ghost use Rattle.std.specs.Prelude.{◌≡◌, slice_get};
 ghost use Rattle.std.specs.Option.{option_copied};
-ghost use Rattle.guarded_code_runs.specs.Worlds.{IsSound};
+ghost use Rattle.lam_machine.specs.Worlds.{IsSound};
 ghost use Rattle.thread_steps.specs.Next as next;
-ghost use Rattle.thread_core.specs.Turning.{awaited_of, awaited_by};
-ghost use Rattle.thread_core.specs.Untested.{ThreadFinds};
+ghost use Rattle.thread_core_stretches.specs.Turning.{awaited_of, awaited_by};
+ghost use Rattle.thread_core_stretches.specs.Untested.{ThreadFinds};
 ghost use Rattle.lam_machine_terms.specs.Turns as turns;
 ghost use Rattle.lam_machine_effects.specs.Parts.{world_of};
 ghost use Rattle.thread_host_run.specs.Readiness.{waits_on, ready_by};
 
 use guarded_code::Verified;
+use lam_machine::World;
 use lam_machine_effects::Stores;
-use lam_machine_world::{World, lives};
-use thread_core::{Standing, Waits, standing, waits_for};
+use lam_machine_equal::lives;
 use thread_core_state::LamThread;
+use thread_core_stretches::{Standing, Waits, thread_core_standing as standing, waits_for};
 
 /// Whether a thread is there, is neither stuck nor ended, and its next ask, if it makes one, does not wait. Takes no
 /// memory.

@@ -1,7 +1,7 @@
 //! The first thread of a world that lives, and the first that is ready.
 
 ghost use Rattle.std.specs.Prelude.{◌≡◌, true, length, MatchOption};
-ghost use Rattle.guarded_code_runs.specs.Worlds.{IsSound};
+ghost use Rattle.lam_machine.specs.Worlds.{IsSound};
 ghost use Rattle.lam_machine_terms.specs.Worlds.{thread_at};
 ghost use Rattle.lam_machine_terms.specs.Turns as turns;
 ghost use Rattle.lam_machine_terms.specs.Turns.{IsDone, is_living};
@@ -9,7 +9,8 @@ ghost use Rattle.lam_machine_runs.specs.Ends.{NoneReady};
 
 use crate::ready;
 use guarded_code::Verified;
-use lam_machine_world::{World, lives};
+use lam_machine::World;
+use lam_machine_equal::lives;
 use thread_core_state::LamThread;
 
 /// How many threads there are.

@@ -5,8 +5,8 @@ ghost use Rattle.lam_machine_terms.specs.Worlds.{thread_at, with_thread};
 ghost use Rattle.thread_host_run.specs.Stretched.{StretchFits};
 ghost use Rattle.turn_book.specs.Limits.{most_turns};
 
+use lam_machine::World;
 use lam_machine_equal::same_thread;
-use lam_machine_world::World;
 use std::mem::replace;
 use thread_core_state::LamThread;
 use thread_core_stretches::{Stretch, let_go_stretch};

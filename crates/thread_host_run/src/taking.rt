@@ -3,14 +3,13 @@
 ghost use Rattle.std.specs.Prelude.{◌≡◌, true, ◌++◌, ◌∷◌, [], IfOk, OnOk, OnErr};
 ghost use Rattle.lam_machine_terms.specs.Turns.{ready};
 ghost use Rattle.lam_machine_laws.specs.Turned.{IsTurn};
-ghost use Rattle.guarded_code_runs.specs.Worlds.{IsSound};
+ghost use Rattle.lam_machine.specs.Worlds.{IsSound};
 ghost use Rattle.thread_host_run.specs.Quiet.{touches_others, is_quiet};
 ghost use Rattle.thread_host_run.specs.Courses.{TookTurn, was_quiet};
 
 use guarded_code::Verified;
 use lam_asks::{Ask, Event, What};
-use lam_machine::{step, step_privately};
-use lam_machine_world::World;
+use lam_machine::{World, step, step_privately};
 use std::alloc::Global;
 use want_of_memory::NoMemory;
 

@@ -3,12 +3,12 @@ use Rattle.std.specs.Prelude.{Bool, true, false, ◌&&◌, nat_eq}
 use Rattle.std.specs.Ordering.{eq_by_cmp, int_eq, bool_cmp}
 use Rattle.std.specs.Str.{bytes_eq}
 use Rattle.std.specs.FinSet.{is_subset}
-use Rattle.flow_labels.specs.Tags.{Tags}
-use Rattle.flow_labels.specs.declared.Label.{Label}
-use Rattle.lam_value.specs.declared.names.Name.{Name}
-use Rattle.lam_value.specs.Names.{name_cmp}
-use Rattle.lam_value.specs.declared.values.Value.{Value}
-use Rattle.lam_value.specs.declared.values.Value.TheVariants.{Int, Bool as Truth, Bytes, Nothing, Obj, Arr, File, Dir, Pipe, Thread, Tag, Lab, CapV}
+use Rattle.lam_asks.specs.Tags.{Tags}
+use Rattle.lam_asks.specs.Label.{Label}
+use Rattle.lam_asks.specs.Name.{Name}
+use Rattle.lam_asks.specs.Names.{name_cmp}
+use Rattle.lam_asks.specs.Value.{Value}
+use Rattle.lam_asks.specs.Value.TheVariants.{Int, Bool as Truth, Bytes, Nothing, Obj, Arr, File, Dir, Pipe, Thread, Tag, Lab, CapV}
 
 abbrev pub same_names : Name → Name → Bool
 same_names a b = eq_by_cmp name_cmp a b

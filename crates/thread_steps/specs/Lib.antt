@@ -6,3 +6,29 @@ pub mod Builtins
 pub mod Ops
 pub mod Next
 pub use Rattle.lam_bytecode.specs.Codes
+pub use Rattle.lam_asks.specs.Caps
+pub use Rattle.lam_asks.specs.Changes
+pub use Rattle.lam_asks.specs.Faults
+pub use Rattle.lam_asks.specs.Flow
+pub use Rattle.lam_asks.specs.Kind
+pub use Rattle.lam_asks.specs.Label
+pub use Rattle.lam_asks.specs.Name
+pub use Rattle.lam_asks.specs.NameParts
+pub use Rattle.lam_asks.specs.Shape
+pub use Rattle.lam_asks.specs.Shapes
+pub use Rattle.lam_asks.specs.Suits
+pub use Rattle.lam_asks.specs.Tags
+pub use Rattle.lam_asks.specs.Value
+pub use Rattle.lam_asks.specs.ValueContracts
+pub use Rattle.lam_asks.specs.contracts.answer.Outcome as OutcomeContracts
+pub use Rattle.lam_asks.specs.contracts.fault.Fault as FaultContracts
+pub use Rattle.lam_asks.specs.declared.answer.Answer
+pub use Rattle.lam_asks.specs.declared.answer.Event
+pub use Rattle.lam_asks.specs.declared.answer.Outcome
+pub use Rattle.lam_asks.specs.declared.answer.What
+pub use Rattle.lam_asks.specs.declared.ask.Ask
+pub use Rattle.lam_asks.specs.declared.fault.Fault
+pub use Rattle.lam_bytecode.specs.declared.op.Op
+pub use Rattle.lam_bytecode.specs.declared.unit.ArgKind
+pub use Rattle.lam_bytecode.specs.declared.unit.CodeUnit
+pub use Rattle.lam_bytecode.specs.declared.unit.UnitKind

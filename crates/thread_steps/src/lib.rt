@@ -8,3 +8,8 @@
 //!
 //! Both the compiler's proof and the machine stand on these definitions, and neither on the other.
 #![tactic(auto)]
+
+pub use lam_asks::{
+    Answer, Ask, Caps, Fault, Label, Name, Outcome, Value, Values, both, same, same_values,
+};
+pub use lam_bytecode::Code;

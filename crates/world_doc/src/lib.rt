@@ -26,5 +26,6 @@ mod pipes;
 mod threads;
 
 pub use document::start;
+pub use lam_machine_world::let_go_world;
 pub use world_doc_stores::WorldFault;
 pub use world_doc_terms::WorldBreak;

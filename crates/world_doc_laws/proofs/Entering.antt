@@ -7,7 +7,7 @@ use Rattle.lam_bytecode.specs.Codes.{CodeTree}
 use Rattle.lam_bytecode.specs.declared.unit.ArgKind.{ArgKind}
 use Rattle.thread_steps.specs.Threads.{Thread}
 use Rattle.thread_steps.specs.Ops.{function_takes}
-use Rattle.guarded_code_threads.specs.Laws.{TakesAll}
+use Rattle.guarded_code_runs.specs.GuardedCodeThreadsLaws.{TakesAll}
 use Rattle.guarded_code_runs.specs.Worlds.{IsAtEntry}
 use Rattle.guarded_code_runs.proofs.Sound.{sound_entries}
 use Rattle.world_doc_laws.specs.Standing.{AreArguments, IsEntry, StandsAtEntry}

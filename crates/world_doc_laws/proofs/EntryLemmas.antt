@@ -21,7 +21,7 @@ use Rattle.thread_steps.specs.Next.{started}
 use Rattle.thread_steps.specs.Limits.{bytes_limit}
 use Rattle.lam_machine_terms.specs.Worlds.{World}
 use Rattle.lam_machine_terms.specs.Valid.{Lives, AllLive}
-use Rattle.lam_machine_valid.specs.Steps.{IsStart}
+use Rattle.lam_machine_means.specs.Steps.{IsStart}
 use Rattle.world_doc_terms.specs.Breaks.{Reading, ◌>>=◌, only_if, formed, member_as}
 use Rattle.world_doc_terms.specs.Tags.{FirstTags, tag_of, caps_in}
 use Rattle.world_doc_terms.specs.Stores.{pipe_called}

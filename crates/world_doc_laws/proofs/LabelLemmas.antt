@@ -13,7 +13,7 @@ use Rattle.flow_labels.specs.Names.{place_of}
 use Rattle.flow_labels.specs.Reading.{◌>>=◌, found, tags_of_names, sets_of, sets_in, first_end, words, bad_place}
 use Rattle.flow_labels.specs.LabelText.{label_or, label_of}
 use Rattle.lam_machine_terms.specs.Valid.{AreBelow}
-use Rattle.lam_machine_valid.proofs.TagLemmas.{below_list}
+use Rattle.lam_machine_means.proofs.TagLemmas.{below_list}
 
 -- the tags of a label are below a number
 abbrev pub IsBelow : ℕ → Label → Type 0

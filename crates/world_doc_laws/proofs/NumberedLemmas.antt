@@ -27,8 +27,8 @@ use Rattle.labelled_pipes.specs.Queues.{no_pipes}
 use Rattle.lam_bytecode.specs.Codes.{CodeTree}
 use Rattle.lam_machine_terms.specs.Worlds.{World}
 use Rattle.lam_machine_terms.specs.Valid.{IsKnownName, AreKnownNames, AreKnownHomes, EntryLives, StoresLive}
-use Rattle.lam_machine_valid.proofs.GrowLemmas.{Keeps, insert_keeps}
-use Rattle.lam_machine_valid.proofs.StoreLemmas.{all_on, all_append, there_now, Each, put_each, put_known}
+use Rattle.lam_machine_means.proofs.GrowLemmas.{Keeps, insert_keeps}
+use Rattle.lam_machine_means.proofs.StoreLemmas.{all_on, all_append, there_now, Each, put_each, put_known}
 use Rattle.world_doc_terms.specs.Breaks.{Reading, ◌>>=◌, only_if, formed, member_as}
 use Rattle.world_doc_terms.specs.Tags.{FirstTags, label_as, label_in}
 use Rattle.world_doc_terms.specs.Stores.{Spot, spot_of, Content, a_dir, a_text, unless_full}

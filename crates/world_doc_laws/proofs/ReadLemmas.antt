@@ -20,7 +20,7 @@ use Rattle.capabilities.specs.declared.kinds.TagKind.TheVariants.{Read}
 use Rattle.capabilities.specs.Kinds.{adds_freely, drops_freely, places, public_of}
 use Rattle.lam_machine_terms.specs.Limits.{most_tags}
 use Rattle.lam_machine_terms.specs.Valid.{AreBelow}
-use Rattle.lam_machine_valid.proofs.TagLemmas.{below_list}
+use Rattle.lam_machine_means.proofs.TagLemmas.{below_list}
 use Rattle.world_doc_terms.specs.Breaks.{Reading, ◌>>=◌, only_if, formed, present, member_as}
 use Rattle.world_doc_terms.specs.declared.version.Version.{Version}
 use Rattle.world_doc_terms.specs.declared.version.Version.TheVariants.{One, Two, Three}

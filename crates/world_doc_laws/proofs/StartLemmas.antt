@@ -11,10 +11,10 @@ use Rattle.thread_steps.specs.Threads.{Thread}
 use Rattle.lam_machine_terms.specs.Worlds.{World}
 use Rattle.lam_machine_terms.specs.Limits.{most_tags}
 use Rattle.lam_machine_terms.specs.Valid.{AreKnown, AreSoundStores, StoresLive}
-use Rattle.lam_machine_valid.proofs.GrowLemmas.{Grows, with_list}
-use Rattle.lam_machine_valid.specs.Steps.{IsStart}
-use Rattle.lam_machine_valid.proofs.StoreLemmas.{all_on, all_lives_on, moved_live}
-use Rattle.lam_machine_valid.proofs.StartLemmas.{valid_starts}
+use Rattle.lam_machine_means.proofs.GrowLemmas.{Grows, with_list}
+use Rattle.lam_machine_means.specs.Steps.{IsStart}
+use Rattle.lam_machine_means.proofs.StoreLemmas.{all_on, all_lives_on, moved_live}
+use Rattle.lam_machine_means.proofs.StartLemmas.{valid_starts}
 use Rattle.world_doc_terms.specs.Breaks.{Reading, ◌>>=◌, formed}
 use Rattle.world_doc_terms.specs.Tags.{FirstTags, tags_in}
 use Rattle.world_doc_terms.specs.declared.version.Version.{Version}

@@ -24,9 +24,9 @@ use Rattle.thread_steps.specs.Threads.{Thread}
 use Rattle.lam_machine_terms.specs.Worlds.{World}
 use Rattle.lam_machine_terms.specs.Serves.{adds_file, adds_dir, appends, adds_pipe}
 use Rattle.lam_machine_terms.specs.Valid.{AreBelow, Lives, AreSoundStores, StoresLive}
-use Rattle.lam_machine_valid.proofs.GrowLemmas.{lives_on, effect_grows}
-use Rattle.lam_machine_valid.proofs.StoreLemmas.{all_on, all_append, there_now, effect_live}
-use Rattle.lam_machine_valid.proofs.StartLemmas.{valid_starts}
+use Rattle.lam_machine_means.proofs.GrowLemmas.{lives_on, effect_grows}
+use Rattle.lam_machine_means.proofs.StoreLemmas.{all_on, all_append, there_now, effect_live}
+use Rattle.lam_machine_means.proofs.StartLemmas.{valid_starts}
 use Rattle.world_doc_terms.specs.Breaks.{BadMember, Reading, ◌>>=◌, formed, member_as}
 use Rattle.world_doc_terms.specs.Tags.{FirstTags, label_in}
 use Rattle.world_doc_terms.specs.Stores.{Spot, spot_of, Content, a_dir, a_text, content_of, with_content, unless_full, with_item, with_items, tree_in, Pipes, new_name, with_called, with_pipe_item, with_pipes, pipes_in}

@@ -6,7 +6,7 @@ use Rattle.lam_bytecode.specs.Codes.{CodeTree, IsCode}
 use Rattle.lam_resolve_tree.specs.Tree.{ResolvedTree}
 use Rattle.lam_resolve_tree.specs.Typing.{IsTypedTree}
 use Rattle.thread_steps.specs.Threads.{Thread}
-use Rattle.lam_meaning_laws.specs.Acts.{ActsAs}
+use Rattle.lam_machine_means.specs.Acts.{ActsAs}
 use Rattle.lam_machine_terms.specs.Worlds.{World, thread_at}
 use Rattle.lam_machine_terms.specs.Turns.{Moment, moments, replay}
 use Rattle.lam_machine_means.specs.Meant.{MeansItsSource, NoneStuck}

@@ -16,9 +16,9 @@ use Rattle.lam_bytecode.specs.declared.unit.ArgKind.TheVariants as kind
 use Rattle.lam_bytecode.specs.declared.unit.CodeUnit.{CodeUnit}
 use Rattle.lam_bytecode.specs.declared.unit.UnitKind.{UnitKind}
 use Rattle.lam_bytecode.specs.declared.unit.UnitKind.TheVariants.{Function, Region}
-use Rattle.thread_steps.specs.Threads.{Thread}
-use Rattle.thread_steps.specs.Next.{started}
-use Rattle.thread_steps.specs.Limits.{bytes_limit}
+use Rattle.lam_machine_terms.specs.Threads.{Thread}
+use Rattle.lam_machine_terms.specs.Next.{started}
+use Rattle.lam_machine_terms.specs.ThreadStepsLimits.{bytes_limit}
 use Rattle.world_doc_terms.specs.Breaks.{BadMember, NoTag, Reading, ◌>>=◌, only_if, formed, member_as}
 use Rattle.world_doc_terms.specs.Tags.{tag_of, caps_in}
 use Rattle.world_doc_terms.specs.Stores.{pipe_called}

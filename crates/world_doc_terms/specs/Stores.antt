@@ -14,7 +14,7 @@ use Rattle.labelled_files.specs.declared.directory.EntryKind.TheVariants.{Dir}
 use Rattle.labelled_files.specs.declared.files.FileFault.{FileFault}
 use Rattle.labelled_files.specs.Entries.{text_eq, is_entry_name, name_of_kind}
 use Rattle.labelled_files.specs.Trees.{most_bytes, Tree, root_alone, target_at, first_fault, next_name, with_file, with_dir, with_more}
-use Rattle.labelled_pipes.specs.Queues.{most_pipes, Queues, no_pipes, with_pipe}
+use Rattle.lam_machine_terms.specs.Queues.{most_pipes, Queues, no_pipes, with_pipe}
 use Rattle.world_doc_terms.specs.Breaks.{NoMember, BadMember, BadPath, PathTwice, Reading, ◌>>=◌, only_if, formed, member_as}
 use Rattle.world_doc_terms.specs.Tags.{label_in}
 

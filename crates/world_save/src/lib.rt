@@ -15,7 +15,7 @@ ghost use Rattle.world_forest.specs.Forest.{IsForest};
 ghost use Rattle.world_save_files.specs.Saved.{CanBeKept, IsSavedText, IsSaveFault};
 
 use std::alloc::Global;
-use thread_host_run::Run;
+pub use thread_host_run::{Run, RunOf, let_go_run, run_of};
 use world_forest_laws::runs_keep_forests;
 pub use world_save_files::{DOCUMENT_LIMIT, SaveFault, Saved, save_files};
 

@@ -8,3 +8,6 @@ pub mod Agreeing
 pub mod Saved
 pub mod Runs
 pub mod Longest
+pub use Rattle.world_doc_laws.specs.Documents
+pub use Rattle.world_doc_laws.specs.Entries
+pub use Rattle.world_doc_laws.specs.Starts

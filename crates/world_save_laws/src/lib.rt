@@ -22,3 +22,4 @@ pub use read_laws::{next_worlds_are_read, saved_starts_agree, saved_texts_are_re
 pub use run_laws::next_starts_agree;
 pub use text_laws::{spelled_documents_are_read, spelled_texts_are_bounded};
 pub use tree_laws::trees_are_made_again;
+pub use world_doc_laws::{entries_are_functions, runs_of_documents_mean, texts_start};

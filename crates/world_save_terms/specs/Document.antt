@@ -18,7 +18,7 @@ use Rattle.flow_labels.specs.LabelText.{label_text}
 use Rattle.capabilities.specs.declared.Caps.{Caps}
 use Rattle.capabilities.specs.declared.kinds.TagKind.{TagKind}
 use Rattle.capabilities.specs.declared.kinds.TagKind.TheVariants.{Read, Export, Integrity}
-use Rattle.lam_value.specs.declared.names.Name.{Name}
+use Rattle.labelled_files.specs.Name.{Name}
 use Rattle.labelled_files.specs.declared.directory.EntryKind.{EntryKind}
 use Rattle.labelled_files.specs.declared.directory.EntryKind.TheVariants.{File, Dir}
 use Rattle.labelled_files.specs.Trees.{Tree, bytes_at}

@@ -6,7 +6,7 @@ use Rattle.std.specs.Prelude.{◌≡◌, ℕ, zero, suc, List, [], ◌∷◌, �
 use Rattle.std.specs.List.{All, flat_map}
 use Rattle.std.specs.FinMap.{len}
 use Rattle.flow_labels.specs.TwoLists.{Text}
-use Rattle.lam_value.specs.declared.names.Name.{Name}
+use Rattle.labelled_files.specs.Name.{Name}
 use Rattle.labelled_files.specs.declared.directory.Target.{Target}
 use Rattle.labelled_files.specs.declared.directory.EntryKind.{EntryKind}
 use Rattle.labelled_files.specs.declared.directory.EntryKind.TheVariants.{File, Dir}

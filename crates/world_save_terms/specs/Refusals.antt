@@ -6,7 +6,7 @@ use Rattle.std.specs.FinMap.{contains_key}
 use Rattle.std.specs.FinSet.{contains}
 use Rattle.flow_labels.specs.TwoLists.{Text}
 use Rattle.flow_labels.specs.declared.Label.{Label}
-use Rattle.lam_value.specs.Homes.{Home}
+use Rattle.labelled_files.specs.Homes.{Home}
 use Rattle.labelled_files.specs.Trees.{Tree}
 use Rattle.world_save_terms.specs.Items.{Item, items_of}
 

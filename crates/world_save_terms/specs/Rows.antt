@@ -10,7 +10,7 @@ use Rattle.std.specs.declared.cmp.Ordering.TheVariants.{Less}
 use Rattle.std.specs.Cmp.Lexicographic.{slice_cmp}
 use Rattle.flow_labels.specs.TwoLists.{Text}
 use Rattle.flow_labels.specs.LabelText.{label_text}
-use Rattle.lam_value.specs.Homes.{Home, Counts, IsListing}
+use Rattle.labelled_files.specs.Homes.{Home, Counts, IsListing}
 
 -- a home by the texts of its labels, and its counter
 pub record Row : Type 0 where

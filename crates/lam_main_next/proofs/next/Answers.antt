@@ -1,7 +1,7 @@
 use Rattle.std.proofs.Common.{string_bytes}
-use Rattle.lam_main_plan.specs.Reading.{HasFile, IsRunCode, program_limit}
+use Rattle.lam_main_replay.specs.Reading.{HasFile, IsRunCode, program_limit}
 use Rattle.lam_main_replay.specs.Asked.{files_of}
-use Rattle.lam_main_files.proofs.ReportLemmas.{kept_of_all, kept_later, spared_later, failed_later}
+use Rattle.lam_main_replay.proofs.ReportLemmas.{kept_of_all, kept_later, spared_later, failed_later}
 use Rattle.lam_main_next.proofs.EndingLemmas.{program_reported, no_program_reported}
 use Rattle.lam_main_next.proofs.next.Goals as goal
 

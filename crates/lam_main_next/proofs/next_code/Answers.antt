@@ -1,11 +1,11 @@
 use Rattle.std.proofs.Common.{subst, string_bytes}
 use Rattle.world_doc_terms.specs.Start.{start_of}
 use Rattle.lam_main_words.specs.Words.{Text}
-use Rattle.lam_main_plan.specs.Replays.{ByWorld}
-use Rattle.lam_main_plan.specs.Books.{WithRun}
-use Rattle.lam_main_plan.specs.Saves.{IsOfEnd}
-use Rattle.lam_main_files.specs.Halts.{Reports}
-use Rattle.lam_main_files.proofs.ReportLemmas.{kept_of_all, kept_later, spared_later, failed_later}
+use Rattle.lam_main_replay.specs.Replays.{ByWorld}
+use Rattle.lam_main_replay.specs.Books.{WithRun}
+use Rattle.lam_main_replay.specs.Saves.{IsOfEnd}
+use Rattle.lam_main_replay.specs.Halts.{Reports}
+use Rattle.lam_main_replay.proofs.ReportLemmas.{kept_of_all, kept_later, spared_later, failed_later}
 use Rattle.lam_main_replay.specs.Asked.{files_of}
 use Rattle.lam_main_next.proofs.EndingLemmas.{old_reported, no_old_reported}
 use Rattle.lam_main_next.proofs.next_code.Goals as goal

@@ -1,11 +1,11 @@
 use Rattle.std.proofs.Common.{◌≡◌, ℕ, List, Ok, subst, string_bytes}
 use Rattle.lam_machine_runs.specs.Stops.{stopped_at}
 use Rattle.turn_book.specs.Reading.{turns_of}
-use Rattle.lam_main_plan.specs.Reading.{HasFile, book_limit}
-use Rattle.lam_main_plan.specs.Books.{WhereReady}
-use Rattle.lam_main_plan.specs.Saves.{IsOfEnd}
-use Rattle.lam_main_files.specs.Halts.{Reports}
-use Rattle.lam_main_files.proofs.ReportLemmas.{kept_of_all, kept_later, spared_later, failed_later}
+use Rattle.lam_main_replay.specs.Reading.{HasFile, book_limit}
+use Rattle.lam_main_replay.specs.Books.{WhereReady}
+use Rattle.lam_main_replay.specs.Saves.{IsOfEnd}
+use Rattle.lam_main_replay.specs.Halts.{Reports}
+use Rattle.lam_main_replay.proofs.ReportLemmas.{kept_of_all, kept_later, spared_later, failed_later}
 use Rattle.lam_main_next.proofs.EndingLemmas.{turns_reported, no_turns_reported}
 use Rattle.lam_main_next.proofs.next_from.Goals as goal
 

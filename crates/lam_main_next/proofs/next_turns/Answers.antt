@@ -1,8 +1,8 @@
 use Rattle.std.proofs.Common.{string_bytes}
 use Rattle.lam_machine_runs.specs.Stops.{stopped_at}
-use Rattle.lam_main_plan.specs.Books.{WhereReady}
-use Rattle.lam_main_plan.specs.Saves.{IsOfEnd}
-use Rattle.lam_main_files.proofs.ReportLemmas.{kept_of_all, all_stay}
+use Rattle.lam_main_replay.specs.Books.{WhereReady}
+use Rattle.lam_main_replay.specs.Saves.{IsOfEnd}
+use Rattle.lam_main_replay.proofs.ReportLemmas.{kept_of_all, all_stay}
 use Rattle.lam_main_next.proofs.EndingLemmas.{offer_reported, no_offer_reported}
 use Rattle.lam_main_next.proofs.next_turns.Goals as goal
 

@@ -1,9 +1,9 @@
 use Rattle.std.proofs.Common.{◌≡◌, Ok, string_bytes}
 use Rattle.lam_machine_terms.specs.Worlds.{World}
 use Rattle.world_doc_terms.specs.Start.{start_of}
-use Rattle.lam_main_plan.specs.Books.{WithRun}
-use Rattle.lam_main_plan.specs.Saves.{IsOfEnd}
-use Rattle.lam_main_files.proofs.ReportLemmas.{kept_of_all, all_stay}
+use Rattle.lam_main_replay.specs.Books.{WithRun}
+use Rattle.lam_main_replay.specs.Saves.{IsOfEnd}
+use Rattle.lam_main_replay.proofs.ReportLemmas.{kept_of_all, all_stay}
 use Rattle.lam_main_next.proofs.EndingLemmas.{world_reported, no_world_reported}
 use Rattle.lam_main_next.proofs.next_world_of.Goals as goal
 

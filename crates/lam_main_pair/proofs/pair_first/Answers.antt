@@ -1,7 +1,7 @@
 use Rattle.std.proofs.Common.{string_bytes}
-use Rattle.lam_main_plan.proofs.ReadLemmas.{stays_on}
+use Rattle.lam_main_replay.proofs.ReadLemmas.{stays_on}
 use Rattle.lam_main_replay.specs.Asked.{files_of}
-use Rattle.lam_main_files.proofs.ReportLemmas.{failed_later}
+use Rattle.lam_main_replay.proofs.ReportLemmas.{failed_later}
 use Rattle.lam_main_pair.proofs.PairLemmas.{first_says, no_first_says}
 use Rattle.lam_main_pair.proofs.pair_first.Goals as goal
 

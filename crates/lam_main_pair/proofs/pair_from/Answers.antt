@@ -3,9 +3,9 @@ use Rattle.flow_labels.specs.LabelText.{label_of}
 use Rattle.flow_labels.specs.declared.Label.{Label}
 use Rattle.lam_machine_effects.specs.declared.stores.Stores.{Stores}
 use Rattle.lam_main_words.specs.Words.{Text}
-use Rattle.lam_main_plan.specs.Reading.{Never}
-use Rattle.lam_main_plan.specs.Books.{ByLabel}
-use Rattle.lam_main_files.specs.Halts.{Finds}
+use Rattle.lam_main_replay.specs.Reading.{Never}
+use Rattle.lam_main_replay.specs.Books.{ByLabel}
+use Rattle.lam_main_replay.specs.Halts.{Finds}
 use Rattle.lam_main_replay.specs.Asked.{files_of}
 use Rattle.lam_main_pair.proofs.PairLemmas.{label_says, no_label_says}
 use Rattle.lam_main_pair.proofs.pair_from.Goals as goal

@@ -1,10 +1,10 @@
 use Rattle.std.proofs.Common.{◌≡◌, Ok, string_bytes}
 use Rattle.lam_machine_terms.specs.Worlds.{World}
 use Rattle.world_doc_terms.specs.Start.{start_of}
-use Rattle.lam_main_plan.specs.Reading.{HasFile, world_limit}
+use Rattle.lam_main_replay.specs.Reading.{HasFile, world_limit}
 use Rattle.lam_main_replay.specs.Asked.{reader_of}
 use Rattle.lam_main_threads.specs.Asked.{files_of}
-use Rattle.lam_main_files.proofs.ReportLemmas.{kept_of_all, kept_later, spared_later, failed_later}
+use Rattle.lam_main_replay.proofs.ReportLemmas.{kept_of_all, kept_later, spared_later, failed_later}
 use Rattle.lam_main_threads.proofs.ReportLemmas.{start_reported, no_start_reported}
 use Rattle.lam_main_threads.proofs.run_code.Goals as goal
 

@@ -1,7 +1,7 @@
 use Rattle.std.proofs.Common.{string_bytes}
-use Rattle.lam_main_plan.specs.Threads.{TakesTurns}
+use Rattle.lam_main_replay.specs.Threads.{TakesTurns}
 use Rattle.lam_main_replay.specs.Asked.{reader_of}
-use Rattle.lam_main_files.proofs.ReportLemmas.{kept_of_all, all_stay}
+use Rattle.lam_main_replay.proofs.ReportLemmas.{kept_of_all, all_stay}
 use Rattle.lam_main_threads.proofs.ReportLemmas.{offer_reported, no_offer_reported}
 use Rattle.lam_main_threads.proofs.run_from.Goals as goal
 

@@ -1,7 +1,7 @@
 use Rattle.std.proofs.Common.{string_bytes}
 use Rattle.lam_main_plan.specs.Reading.{HasFile, program_limit}
 use Rattle.lam_main_plan.proofs.ReadLemmas.{stays_on}
-use Rattle.lam_main_files.proofs.ReportLemmas.{failed_later}
+use Rattle.lam_main_replay.proofs.ReportLemmas.{failed_later}
 use Rattle.lam_main_replay.specs.Asked.{files_of}
 use Rattle.lam_main_walk.specs.Sources.{IsSourceOf}
 use Rattle.lam_main_walk.proofs.SourceLemmas.{means_everywhere, source_gives, no_source_gives}

@@ -5,7 +5,7 @@ use Rattle.turn_book.specs.Reading.{turns_of}
 use Rattle.lam_main_plan.specs.Reading.{HasFile, book_limit}
 use Rattle.lam_main_plan.specs.Books.{WhereReady}
 use Rattle.lam_main_plan.specs.Walks.{TellsSame}
-use Rattle.lam_main_files.specs.Halts.{Says}
+use Rattle.lam_main_replay.specs.Halts.{Says}
 use Rattle.lam_main_walk.proofs.SourceLemmas.{turns_say, no_turns_say}
 use Rattle.lam_main_walk.proofs.walk_from.Goals as goal
 

@@ -1,5 +1,5 @@
 use Rattle.std.proofs.Common.{ap}
-use Rattle.lam_machine_terms.specs.Worlds.{World}
+use Rattle.lam_machine_effects.specs.Worlds.{World}
 use Rattle.lam_machine_equal.proofs.WorldParts.{world_same}
 use Rattle.lam_machine_equal.proofs.worlds.same_world.Goals as goal
 

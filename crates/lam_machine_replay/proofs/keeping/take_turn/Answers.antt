@@ -1,6 +1,6 @@
 use Rattle.std.proofs.Common.{sym, subst}
 use Rattle.lam_machine_terms.specs.Worlds.{World}
-use Rattle.guarded_code_runs.specs.Worlds.{IsSound}
+use Rattle.lam_machine.specs.Worlds.{IsSound}
 use Rattle.lam_machine_replay.proofs.PrivateLemmas.{was_private, was_not, private_taken}
 use Rattle.lam_machine_replay.proofs.keeping.take_turn.Goals as goal
 

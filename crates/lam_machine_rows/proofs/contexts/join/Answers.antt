@@ -1,5 +1,5 @@
 use Rattle.std.proofs.Common.{◌∙◌, ap, refl, sym}
-use Rattle.lam_machine_terms.specs.Serving.{ended_with}
+use Rattle.lam_machine_effects.specs.Serving.{ended_with}
 use Rattle.lam_machine_rows.proofs.RowLemmas.{answers_as, refused_as, passes_as}
 use Rattle.lam_machine_rows.proofs.contexts.join.Goals as goal
 

@@ -1,7 +1,7 @@
 use Rattle.std.proofs.Common.{◌∙◌, ap}
 use Rattle.lam_value.specs.declared.values.Value.TheVariants as value
 use Rattle.lam_asks.specs.declared.answer.Answer.TheVariants as answer
-use Rattle.lam_machine_terms.specs.Serving.{opened}
+use Rattle.lam_machine_effects.specs.Serving.{opened}
 use Rattle.lam_machine_rows.proofs.RowLemmas.{answers_as, refused_as, passes_as}
 use Rattle.lam_machine_rows.proofs.files.open_file.Goals as goal
 

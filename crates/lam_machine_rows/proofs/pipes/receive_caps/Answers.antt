@@ -1,5 +1,5 @@
 use Rattle.std.proofs.Common.{◌∙◌, ap}
-use Rattle.lam_machine_terms.specs.Serving.{received}
+use Rattle.lam_machine_effects.specs.Serving.{received}
 use Rattle.lam_machine_rows.proofs.RowLemmas.{refused_as, gives_ok, passes_ok, whole}
 use Rattle.lam_machine_rows.proofs.pipes.receive_caps.Goals as goal
 

@@ -1,5 +1,5 @@
 use Rattle.std.proofs.Common.{◌∙◌, ap}
-use Rattle.lam_machine_terms.specs.Serving.{renamed}
+use Rattle.lam_machine_effects.specs.Serving.{renamed}
 use Rattle.lam_value.specs.Homes.{home_of, name_of}
 use Rattle.lam_machine_rows.proofs.RowLemmas.{refused_as, passes_as, fails_as, null_as, thing_as, makes_ok, passes_ok, holds_ok, thing_ok, whole}
 use Rattle.lam_machine_rows.proofs.things.copy_to.Goals as goal

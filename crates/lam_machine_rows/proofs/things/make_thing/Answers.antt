@@ -1,5 +1,5 @@
 use Rattle.std.proofs.Common.{◌∙◌, ap}
-use Rattle.lam_machine_terms.specs.Serving.{reference}
+use Rattle.lam_machine_effects.specs.Serving.{reference}
 use Rattle.lam_value.specs.Homes.{home_of, name_of}
 use Rattle.lam_machine_rows.proofs.RowLemmas.{fails_as, makes_ok, holds_ok, whole}
 use Rattle.lam_machine_rows.proofs.things.make_thing.Goals as goal

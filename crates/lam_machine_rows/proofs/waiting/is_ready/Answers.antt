@@ -1,5 +1,5 @@
 use Rattle.std.proofs.Common.{◌≡◌, ◌∙◌, true, not, ◌&&◌, ap, sym}
-use Rattle.lam_machine_terms.specs.Turns as turns
+use Rattle.lam_machine_effects.specs.Turns as turns
 use Rattle.lam_machine_rows.specs.Acting.{Acting}
 use Rattle.lam_machine_rows.specs.Rows.{with_monitors, at_label}
 use Rattle.lam_machine_rows.proofs.waiting.is_ready.Goals as goal

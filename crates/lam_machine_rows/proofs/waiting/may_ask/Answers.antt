@@ -1,5 +1,5 @@
 use Rattle.std.proofs.Common.{◌∙◌, ap, sym}
-use Rattle.lam_machine_terms.specs.Turns as turns
+use Rattle.lam_machine_effects.specs.Turns as turns
 use Rattle.lam_machine_rows.specs.Acting.{Acting}
 use Rattle.lam_machine_rows.proofs.WaitLemmas.{lists_reverse}
 use Rattle.lam_machine_rows.proofs.waiting.may_ask.Goals as goal

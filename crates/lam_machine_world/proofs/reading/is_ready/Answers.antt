@@ -1,5 +1,5 @@
 use Rattle.std.proofs.Common.{refl, sym}
-use Rattle.lam_machine_effects.specs.Parts.{world_of}
+use Rattle.lam_machine_rows.specs.Parts.{world_of}
 use Rattle.lam_machine_world.proofs.reading.is_ready.Goals as goal
 
 pub returns : goal.returns

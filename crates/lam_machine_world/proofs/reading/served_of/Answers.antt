@@ -1,5 +1,5 @@
 use Rattle.std.proofs.Common.{refl, sym}
-use Rattle.lam_machine_effects.specs.Parts.{world_of}
+use Rattle.lam_machine_rows.specs.Parts.{world_of}
 use Rattle.lam_machine_world.proofs.ReadLemmas.{at_one}
 use Rattle.lam_machine_world.proofs.reading.served_of.Goals as goal
 

@@ -1,7 +1,7 @@
 use Rattle.std.proofs.Common.{ℕ, List, subst, string_bytes}
 use Rattle.lam_machine_runs.specs.Stops.{stopped_at}
-use Rattle.lam_main_plan.specs.Books.{WhereReady}
-use Rattle.lam_main_files.specs.Halts.{Finds}
+use Rattle.lam_main_replay.specs.Books.{WhereReady}
+use Rattle.lam_main_replay.specs.Halts.{Finds}
 use Rattle.lam_main_pair.specs.Halves.{NoRun, IsNoted}
 use Rattle.lam_main_pair.proofs.PairLemmas.{half_found, no_half_found}
 use Rattle.lam_main_pair.proofs.half.half_of.Goals as goal

@@ -1,7 +1,7 @@
 use Rattle.std.proofs.Common.{subst}
 use Rattle.lam_machine_terms.specs.Worlds.{World}
 use Rattle.lam_machine_runs.specs.Stops.{stopped_at}
-use Rattle.lam_machine_replay.specs.Stops.{IsStop}
+use Rattle.lam_main_replay.specs.Stops.{IsStop}
 use Rattle.lam_main_pair.specs.Halves.{IsNoted}
 use Rattle.lam_main_pair.proofs.PairLemmas.{no_run_found}
 use Rattle.lam_main_pair.proofs.half.noted.Goals as goal

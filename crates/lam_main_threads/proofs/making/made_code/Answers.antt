@@ -3,9 +3,9 @@ use Rattle.lam_machine_terms.specs.Worlds.{World}
 use Rattle.world_doc_terms.specs.Start.{start_of}
 use Rattle.lam_main_words.specs.Words.{Text}
 use Rattle.audit_log_notes.specs.Sums.{summary_lines}
-use Rattle.lam_main_plan.specs.Replays.{NoStart}
-use Rattle.lam_main_files.specs.Halts.{Finds}
-use Rattle.lam_main_plan.specs.Threads.{IsOfThreads, made_budget}
+use Rattle.lam_main_replay.specs.Replays.{NoStart}
+use Rattle.lam_main_replay.specs.Halts.{Finds}
+use Rattle.lam_main_replay.specs.Threads.{IsOfThreads, made_budget}
 use Rattle.lam_main_threads.proofs.TakenLemmas.{world_offers, no_world_offers}
 use Rattle.lam_main_threads.proofs.making.made_code.Goals as goal
 

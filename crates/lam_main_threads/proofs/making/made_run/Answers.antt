@@ -1,7 +1,7 @@
 use Rattle.std.proofs.Common.{ap}
 use Rattle.lam_machine_terms.specs.Turns.{moments}
 use Rattle.audit_log_notes.specs.Sums.{summary_of, summary_lines}
-use Rattle.lam_main_plan.specs.Threads.{made_budget}
+use Rattle.lam_main_replay.specs.Threads.{made_budget}
 use Rattle.lam_main_threads.proofs.TakenLemmas.{shown_as, threads_shown}
 use Rattle.lam_main_threads.proofs.making.made_run.Goals as goal
 

@@ -1,6 +1,6 @@
 use Rattle.std.proofs.Common.{string_bytes}
-use Rattle.lam_main_plan.specs.Threads.{Makes}
-use Rattle.lam_main_files.proofs.ReportLemmas.{kept_of_all, all_stay}
+use Rattle.lam_main_replay.specs.Threads.{Makes}
+use Rattle.lam_main_replay.proofs.ReportLemmas.{kept_of_all, all_stay}
 use Rattle.lam_main_threads.proofs.ReportLemmas.{offer_reported, no_offer_reported}
 use Rattle.lam_main_threads.proofs.making.make.Goals as goal
 

@@ -1,9 +1,9 @@
 use Rattle.std.proofs.Common.{◌≡◌, ◌∙◌, Ok, Err, sym, ap, subst}
 use Rattle.lam_machine_effects.specs.declared.stores.Stores.{Stores}
-use Rattle.lam_main_plan.specs.Reading.{Never}
-use Rattle.lam_main_plan.specs.Replays.{read_by, ByReader}
-use Rattle.lam_main_files.specs.Halts.{Finds}
-use Rattle.lam_main_plan.specs.Threads.{IsOfThreads}
+use Rattle.lam_main_replay.specs.Reading.{Never}
+use Rattle.lam_main_replay.specs.Replays.{read_by, ByReader}
+use Rattle.lam_main_replay.specs.Halts.{Finds}
+use Rattle.lam_main_replay.specs.Threads.{IsOfThreads}
 use Rattle.lam_main_replay.specs.declared.viewer.NamedViewer.{NamedViewer}
 use Rattle.lam_main_replay.specs.Asked.{reader_of, lines_for}
 use Rattle.lam_main_threads.proofs.TakenLemmas.{reader_offers, no_reader_offers}

@@ -1,5 +1,5 @@
 use Rattle.region_check.specs.Seen.{checked_tree}
-use Rattle.lam_main_files.proofs.CodeLemmas.{resolved_guarded}
+use Rattle.lam_main_replay.proofs.CodeLemmas.{resolved_guarded}
 use Rattle.lam_main_walk.proofs.source.guarded_in.Goals as goal
 
 pub of-requires : goal.of-requires

@@ -2,7 +2,7 @@ use Rattle.std.proofs.Common.{Ok}
 use Rattle.std.proofs.lemmas.Result.{err_from_is_err_and}
 use Rattle.region_check.specs.Seen.{checked_tree}
 use Rattle.lam_main_plan.specs.Reading.{Never, IsCompiled, Compiles}
-use Rattle.lam_main_files.proofs.FileLemmas.{not_compiled, found_no_other}
+use Rattle.lam_main_replay.proofs.FileLemmas.{not_compiled, found_no_other}
 use Rattle.lam_main_walk.specs.Sources.{IsSourceOf}
 use Rattle.lam_main_walk.proofs.SourceLemmas.{source_found}
 use Rattle.lam_main_walk.proofs.source.source_in.Goals as goal

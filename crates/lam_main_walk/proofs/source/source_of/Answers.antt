@@ -1,7 +1,7 @@
 use Rattle.std.proofs.Common.{Ok}
 use Rattle.std.proofs.lemmas.Result.{err_from_is_err_and}
 use Rattle.lam_main_plan.specs.Reading.{Never, IsCompiled, Compiles}
-use Rattle.lam_main_files.proofs.FileLemmas.{not_checked, found_no_other}
+use Rattle.lam_main_replay.proofs.FileLemmas.{not_checked, found_no_other}
 use Rattle.lam_main_walk.specs.Sources.{IsSourceOf}
 use Rattle.lam_main_walk.proofs.source.source_of.Goals as goal
 

@@ -8,7 +8,7 @@ use Rattle.lam_resolve_tables.specs.Entries.{entries_of}
 use Rattle.lam_resolve_tables.specs.Kinds.{kind_type}
 use Rattle.lam_resolve_tables.specs.Tables.{tables, vars}
 use Rattle.lam_resolve_exprs.specs.Values.{locals}
-use Rattle.lam_resolve_units.specs.Seen.{state}
+use Rattle.lam_resolve_stmts.specs.Seen.{state}
 use Rattle.lam_resolve.proofs.ProgramSteps.{function_params, function_result, function_body, function_done}
 use Rattle.lam_resolve.proofs.programs.resolve_function.Goals as goal
 

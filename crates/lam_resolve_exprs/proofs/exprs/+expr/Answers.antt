@@ -6,7 +6,7 @@ use Rattle.lam_syntax.specs.declared.ExprKind.{ExprKind}
 use Rattle.lam_syntax.specs.declared.ExprKind.TheVariants.{Spawn}
 use Rattle.lam_syntax.specs.declared.Id.{Id}
 use Rattle.lam_syntax.proofs.Rows.{call_row, label_row, spawn_row}
-use Rattle.lam_resolve_laws.specs.Resolved.{resolve_args}
+use Rattle.lam_resolve_tables.specs.Resolved.{resolve_args}
 use Rattle.lam_resolve_tables.specs.Kinds.{kind_type, given}
 use Rattle.lam_resolve_tables.specs.Tables.{tables}
 use Rattle.lam_resolve_exprs.specs.Values.{locals, value, args as seen_args}

@@ -1,6 +1,6 @@
 use Rattle.std.proofs.Common.{◌+◌, drop}
 use Rattle.lam_syntax.specs.Tree.{expr_tree, exprs_tree, id_tree, type_tree, new_array_expr, label_expr, spawn_expr}
-use Rattle.lam_resolve_laws.specs.Resolved.{resolve_args}
+use Rattle.lam_resolve_tables.specs.Resolved.{resolve_args}
 use Rattle.lam_resolve_tables.specs.Kinds.{given}
 use Rattle.lam_resolve_tables.specs.Tables.{tables}
 use Rattle.lam_resolve_exprs.specs.Values.{locals}

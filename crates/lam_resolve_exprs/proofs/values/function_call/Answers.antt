@@ -1,6 +1,6 @@
 use Rattle.std.proofs.Common.{ap}
 use Rattle.lam_resolve_tree.proofs.Rows.{call_row}
-use Rattle.lam_resolve_laws.specs.Resolved.{value_as}
+use Rattle.lam_resolve_tables.specs.Resolved.{value_as}
 use Rattle.lam_resolve_tables.specs.Kinds.{given}
 use Rattle.lam_resolve_exprs.proofs.values.function_call.Goals as goal
 

@@ -1,7 +1,7 @@
 use Rattle.std.proofs.Common.{ap, ◌∙◌}
 use Rattle.lam_builtins.specs.Types.{a_value, label}
 use Rattle.lam_resolve_tree.proofs.Rows.{label_row}
-use Rattle.lam_resolve_laws.specs.Resolved.{value_as}
+use Rattle.lam_resolve_tables.specs.Resolved.{value_as}
 use Rattle.lam_resolve_exprs.proofs.values.label_of.Goals as goal
 
 pub returns : goal.returns

@@ -1,6 +1,6 @@
 use Rattle.std.proofs.Common.{ap, sym, ◌∙◌}
 use Rattle.std.specs.Option.{option_map}
-use Rattle.lam_resolve_laws.specs.Resolved.{local_named}
+use Rattle.lam_resolve_tables.specs.Resolved.{local_named}
 use Rattle.lam_resolve_exprs.specs.Values.{local, locals, cap_at}
 use Rattle.lam_resolve_tables.proofs.Options.{some_not_none}
 use Rattle.lam_resolve_exprs.proofs.values.resolve_cap.Goals as goal

@@ -2,7 +2,7 @@ use Rattle.std.proofs.Common.{ap, sym, ◌∙◌, is_some}
 use Rattle.std.proofs.lemmas.List.{drop_all}
 use Rattle.lam_syntax.specs.Tree.{caps_tree as written_caps, cap_tree as written_cap}
 use Rattle.lam_resolve_tree.specs.Tree.{caps_tree, cap_tree}
-use Rattle.lam_resolve_laws.specs.Resolved.{resolve_caps}
+use Rattle.lam_resolve_tables.specs.Resolved.{resolve_caps}
 use Rattle.lam_resolve_exprs.specs.Values.{locals}
 use Rattle.lam_resolve_tables.proofs.Options.{collected_first, collected_some, collected_one, collected_last, one_more}
 use Rattle.lam_resolve_exprs.proofs.ValueSteps.{cap_needs, caps_step, caps_push}

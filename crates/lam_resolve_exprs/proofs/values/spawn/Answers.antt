@@ -2,7 +2,7 @@ use Rattle.std.proofs.Common.{ap, ◌∙◌}
 use Rattle.lam_builtins.specs.Types.{a_value, thread}
 use Rattle.lam_resolve_tree.specs.Tree.{expr_tree, exprs_tree, spawn_of}
 use Rattle.lam_resolve_tree.proofs.Rows.{spawn_row}
-use Rattle.lam_resolve_laws.specs.Resolved.{value_as}
+use Rattle.lam_resolve_tables.specs.Resolved.{value_as}
 use Rattle.lam_resolve_exprs.proofs.values.spawn.Goals as goal
 
 pub returns : goal.returns

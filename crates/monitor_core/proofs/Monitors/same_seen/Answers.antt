@@ -1,4 +1,4 @@
-use Rattle.flow_labels.specs.Flow.{flows}
+use Rattle.lam_value.specs.Flow.{flows}
 use Rattle.monitor_core.proofs.HeldLemmas.{same_where, where_same}
 use Rattle.monitor_core.proofs.Monitors.same_seen.Goals as goal
 

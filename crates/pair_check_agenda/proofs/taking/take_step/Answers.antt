@@ -1,5 +1,5 @@
 use Rattle.std.proofs.Common.{subst}
-use Rattle.lam_machine.specs.Machine.{IsStep}
+use Rattle.lam_machine_replay.specs.Machine.{IsStep}
 use Rattle.pair_check_agenda.specs.Agendas.{items_in}
 use Rattle.pair_check_agenda.proofs.TakenLemmas.{event_taken}
 use Rattle.pair_check_agenda.proofs.taking.take_step.Goals as goal

@@ -1,6 +1,6 @@
 use Rattle.std.proofs.Common.{sym, subst}
 use Rattle.lam_machine_terms.specs.Worlds.{World}
-use Rattle.guarded_code_runs.specs.Worlds.{IsSound}
+use Rattle.lam_machine_replay.specs.Worlds.{IsSound}
 use Rattle.pair_check_agenda.specs.Agendas.{items_in}
 use Rattle.pair_check_agenda.proofs.TakenLemmas.{was_private, was_not, private_taken, private_seen}
 use Rattle.pair_check_agenda.proofs.taking.take_turn.Goals as goal

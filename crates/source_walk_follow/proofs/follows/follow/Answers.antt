@@ -2,7 +2,7 @@ use Rattle.std.proofs.Common.{List, map, subst, ap}
 use Rattle.std.proofs.lemmas.Result.{IfOk-weaker}
 use Rattle.lam_asks.specs.declared.ask.Ask.{Ask}
 use Rattle.lam_meaning.specs.Plays.{asks_of}
-use Rattle.lam_machine_means.specs.Runs.{asked_in, answers_in}
+use Rattle.source_walk_terms.specs.Runs.{asked_in, answers_in}
 use Rattle.source_walk_follow.specs.Followed.{Follows}
 use Rattle.source_walk_follow.proofs.follows.follow.Goals as goal
 

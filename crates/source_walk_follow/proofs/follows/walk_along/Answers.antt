@@ -1,6 +1,6 @@
 use Rattle.std.proofs.Common.{◌+◌, ℕ, refl, sym, subst, arith}
 use Rattle.lam_resolve_tree.specs.Tree.{resolved_tree}
-use Rattle.lam_machine_means.specs.Runs.{answers_in}
+use Rattle.source_walk_terms.specs.Runs.{answers_in}
 use Rattle.source_walk_parts.specs.States.{state_of}
 use Rattle.source_walk_follow.specs.Standing.{asks_left, Turns, IsAlong, went}
 use Rattle.source_walk_follow.proofs.Along.{starts_along, turn_along, turn_departs, all_along, one_at_most}

@@ -1,4 +1,4 @@
-use Rattle.lam_machine_means.specs.Runs.{answers_in}
+use Rattle.source_walk_terms.specs.Runs.{answers_in}
 use Rattle.lam_resolve_tree.specs.Tree.{resolved_tree}
 use Rattle.source_walk_parts.specs.States.{state_of}
 use Rattle.source_walk_follow.specs.Standing.{asks_left, IsAlong}

@@ -1,5 +1,5 @@
 use Rattle.std.proofs.Common.{◌≡◌, ◌++◌, replicate, vec_capacity}
-use Rattle.lam_value.specs.declared.values.Value.TheVariants.{Nothing}
+use Rattle.thread_steps.specs.Value.TheVariants.{Nothing}
 use Rattle.thread_core_state.proofs.operands.fill.Given as goal
 
 abbrev pub invariant-loop : goal.invariant-loop

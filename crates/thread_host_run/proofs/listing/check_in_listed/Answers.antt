@@ -1,6 +1,6 @@
 use Rattle.std.proofs.Common.{◌≡◌, ap, sym, ◌∙◌, subst}
 use Rattle.lam_machine_terms.specs.Worlds.{World}
-use Rattle.guarded_code_runs.specs.Worlds.{IsSound}
+use Rattle.lam_machine.specs.Worlds.{IsSound}
 use Rattle.thread_host_run.specs.Courses.{Progress}
 use Rattle.thread_host_run.specs.Stretched.{checked_in}
 use Rattle.thread_host_run.specs.ReadyLists.{ready_threads}

@@ -2,7 +2,7 @@ use Rattle.std.proofs.Common.{◌≡◌, true, subst, sym, ◌∙◌}
 use Rattle.lam_machine_terms.specs.Worlds.{World}
 use Rattle.lam_machine_terms.specs.Turns.{ready}
 use Rattle.lam_machine_laws.specs.Turned.{IsTurn}
-use Rattle.guarded_code_runs.specs.Worlds.{IsSound}
+use Rattle.lam_machine.specs.Worlds.{IsSound}
 use Rattle.lam_machine.specs.Machine.{IsStep}
 use Rattle.thread_host_run.proofs.PrivateLemmas.{on_err, was_private, was_not}
 use Rattle.thread_host_run.proofs.RunLemmas.{none_taken}

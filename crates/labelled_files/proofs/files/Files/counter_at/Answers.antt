@@ -1,6 +1,6 @@
 use Rattle.std.proofs.Common.{◌≡◌, ◌<◌, ℕ, Bor, Option, Some, None, IfSome, List, slice_get, sym}
 use Rattle.std.specs.Option.{option_map}
-use Rattle.flow_labels.specs.declared.Label.{Label}
+use Rattle.lam_value.specs.Label.{Label}
 use Rattle.lam_value.specs.Homes.{Home, home_of, Counts, IsAboveZero, IsListing}
 use Rattle.lam_value.proofs.Listings.{listed_at}
 use Rattle.labelled_files.proofs.files.Files.counter_at.Goals as goal

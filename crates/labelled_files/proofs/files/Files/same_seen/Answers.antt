@@ -1,4 +1,4 @@
-use Rattle.flow_labels.specs.Flow.{flows}
+use Rattle.lam_value.specs.Flow.{flows}
 use Rattle.labelled_files.proofs.SeenLemmas.{dirs_where, files_where, where_dirs, where_files}
 use Rattle.labelled_files.proofs.files.Files.same_seen.Goals as goal
 

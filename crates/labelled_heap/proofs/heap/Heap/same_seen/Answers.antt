@@ -1,5 +1,5 @@
 use Rattle.std.proofs.Common.{◌≡◌}
-use Rattle.flow_labels.specs.Flow.{flows}
+use Rattle.lam_value.specs.Flow.{flows}
 use Rattle.labelled_heap.specs.declared.heap.Thing.{Thing}
 use Rattle.labelled_heap.specs.Seen.{things_in}
 use Rattle.labelled_heap.proofs.RowLemmas.{things_alike, rows_alike}

@@ -1,4 +1,4 @@
-use Rattle.flow_labels.specs.Flow.{flows}
+use Rattle.lam_value.specs.Flow.{flows}
 use Rattle.labelled_pipes.proofs.QueueLemmas.{same_where, where_same}
 use Rattle.labelled_pipes.proofs.pipes.Pipes.same_seen.Goals as goal
 

@@ -1,7 +1,7 @@
 use Rattle.std.proofs.Common.{ℕ, List, ◌<◌, length, subst, sym}
 use Rattle.thread_host_run.specs.Courses.{Progress, IsCourse}
 use Rattle.thread_host_run.proofs.CourseLemmas.{course_grows}
-use Rattle.guarded_code_runs.specs.Worlds.{IsSound}
+use Rattle.lam_machine.specs.Worlds.{IsSound}
 use Rattle.thread_host_run.proofs.course.Course.turn.Goals as goal
 
 pub take_turn-requires-clause-sound : goal.take_turn-requires-clause-sound

@@ -1,5 +1,5 @@
 use Rattle.std.proofs.Common.{subst, sym}
-use Rattle.guarded_code_runs.specs.Worlds.{IsSound}
+use Rattle.lam_machine.specs.Worlds.{IsSound}
 use Rattle.thread_host_run.specs.Courses.{ran_to}
 use Rattle.thread_host_run.proofs.RunLemmas.{sound_now}
 use Rattle.thread_host_run.proofs.run.Run.find_ready.Goals as goal

@@ -1,6 +1,6 @@
 use Rattle.std.proofs.Common.{subst}
 use Rattle.lam_machine_terms.specs.Valid.{IsValid}
-use Rattle.guarded_code_runs.specs.Worlds.{IsSound}
+use Rattle.lam_machine.specs.Worlds.{IsSound}
 use Rattle.thread_host_run.specs.Courses.{ran_to}
 use Rattle.thread_host_run.specs.Runs.{Ran}
 use Rattle.thread_host_run.proofs.RunLemmas.{sound_now, valid_now}
