@@ -17,11 +17,10 @@ ghost use Rattle.std.specs.Prelude.{◌≡◌, IfOk};
 ghost use Rattle.lam_bytecode.specs.Codes.{IsCode};
 ghost use Rattle.guarded_code.specs.Breaks.{IsGuarded};
 ghost use Rattle.thinned_code.specs.Thinned.{thinned};
-ghost use Rattle.code_verify.specs.Tables.{tables_of};
 ghost use Rattle.barrier_thin.specs.Programs.{StandsForPrograms};
 
 use again::staying_units;
-use code_verify::{Described, VerifyFault, describe, is_guarded};
+use code_verify::{describe_units, is_guarded};
 use compiled_code_guarded::compiled_code_is_guarded;
 use guarded_code::Verified;
 use lam_bytecode::Code;
@@ -96,20 +95,7 @@ fn thin_guarded(alloc: Global, code: &Code) -> Result<Code, NoMemory>
     ensures sound { IfOk result (λ c. IsCode c) }
     ensures guarded { IfOk result (λ c. IsGuarded c) }
 {
-    let described = descriptions(alloc, code)?;
+    let described = describe_units(alloc, code)?;
     let staying = staying_units(alloc, code, &described)?;
     thin_code(alloc, code, staying.as_slice())
-}
-
-/// The descriptions of a guarded code, which has no break that `describe` could tell of.
-fn descriptions(alloc: Global, code: &Code) -> Result<Described, NoMemory>
-    requires code { IsCode code.now }
-    requires guarded { IsGuarded code.now }
-    ensures { IfOk result (λ d. d ≡ tables_of code.now) }
-{
-    match describe(alloc, code) {
-        Ok(described) => Ok(described),
-        Err(VerifyFault::NoMemory) => Err(NoMemory),
-        Err(_) => unreachable!(),
-    }
 }

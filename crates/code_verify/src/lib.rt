@@ -6,7 +6,8 @@
 //!
 //! - `verify` makes a code into one that is known to be guarded, or names its first break.
 //! - `is_guarded` tells the same of a code that is kept.
-//! - `describe` gives the descriptions themselves, of a code of which nobody asks that its accesses are guarded yet.
+//! - `describe` gives the descriptions themselves, of a code of which nobody asks that its accesses are guarded yet, and
+//!   `describe_units` those of a code that is known to have no break, without a search for one.
 //!
 //! `targets` has the rule that is tested first, `rounds` the rounds, `breaks` the first break of a unit and of a code,
 //! and `described` what `describe` gives.
@@ -80,5 +81,17 @@ pub fn describe(alloc: Global, code: &Code) -> Result<Described, VerifyFault>
     ensures err { IfErr result (λ f. TellsOf f (first_code_break code.now)) }
 {
     unless_describable(code_break(alloc, code)?)?;
+    Ok(describe_units(alloc, code)?)
+}
+
+/// The same descriptions, of a code of which it is known that it has no break: no break is looked for.
+///
+/// # Errors
+///
+/// `NoMemory` where memory is refused.
+pub fn describe_units(alloc: Global, code: &Code) -> Result<Described, NoMemory>
+    requires { IsCode code.now }
+    ensures { IfOk result (λ d. d ≡ tables_of code.now) }
+{
     Ok(Described::of(tables_of(alloc, code)?))
 }
