@@ -5,6 +5,7 @@ use Rattle.lam_lexer.specs.declared.token.TokenKind.{TokenKind}
 use Rattle.lam_lexer.specs.declared.token.TokenKind.TheVariants as Kind
 use Rattle.lam_lexer.specs.Characters.{starts_name, continues_name}
 use Rattle.lam_lexer.specs.Lexed.{reserved, Lexed}
+use Rattle.lam_lexer.specs.Text.{room}
 use Rattle.lam_syntax.specs.Tree.{ProgramTree}
 use Rattle.lam_print.specs.Pieces.{kinds}
 use Rattle.lam_print.specs.Canon.{pieces, canon}
@@ -30,7 +31,7 @@ IsNumber (negsuc n) = ⊥
 abbrev pub Fits : TokenKind → Type 0
 Fits (Kind.Id name) = (is_identifier (chars name) ≡ true) × IsUtf8 name × (reserved name ≡ None)
 Fits (Kind.Number n) = IsNumber n
-Fits (Kind.Text bytes) = AllBytes bytes × (length bytes ≤ 65536)
+Fits (Kind.Text bytes) = AllBytes bytes × (length bytes ≤ room)
 Fits Kind.End = ⊥
 Fits _ = Unit {0}
 
