@@ -1,0 +1,1 @@
+pub use Rattle.lam_machine_world.specs.Coding

@@ -1,0 +1,2 @@
+pub use Rattle.thread_host_run.specs.Books
+pub use Rattle.thread_host_run.specs.Runs
