@@ -7,8 +7,8 @@
 //!
 //! These are two lines of an observer's text ([`view_text`]): an event that it sees, and a release past it. The
 //! release's line in the audit ([`audit_text`]) is `12 t0 {a}/{} enter {}/{} by +{}-{a}`, with the turn and the acting
-//! label. It ends with ` public` where all that it took is public ([`marks_are_exact`]). A refusal's line is `8 t0
-//! {}/{} refused AddS a`.
+//! label. It ends with ` public` where all that it took is public ([`marks_are_exact`]). A refusal's line is
+//! `8 t0 {}/{} refused AddS a`.
 //!
 //! Both are written line by line into one text. `specs/Log.antt` defines the lines, of the kept lists and of the
 //! moments of a run themselves. [`views_are_read`] and [`audits_are_read`] say that these are the same. A moment's line

@@ -6,7 +6,7 @@
 //!
 //! The service of an ask that is ready can be applied. An effect needs room in its store. What is made needs a counter
 //! below its limit, and the monitor tests that. What is copied must live, which is part of a valid world. A monitor
-//! that is taken must be held by no other thread, which a thread that does not wait has.
+//! that is taken must be held by no other thread, which is so where the acting thread does not wait.
 
 ghost use Rattle.lam_machine_laws.specs.Turned.{TurnsHaveParts};
 ghost use Rattle.lam_machine_laws.specs.Ready.{ServedHasRoom};
