@@ -1,4 +1,4 @@
-//! Asks of contexts and threads, and what is said.
+//! Tests of asks of contexts and threads, and of what is said.
 
 ghost use Rattle.std.specs.Prelude.{◌≡◌, ◌↔◌, IsTrue};
 ghost use Rattle.lam_asks.specs.declared.ask.Ask.TheVariants as ask;

@@ -1,4 +1,4 @@
-//! Asks for entries of directories.
+//! Tests of asks for entries of directories.
 
 ghost use Rattle.std.specs.Prelude.{◌≡◌, ◌↔◌, IsTrue};
 ghost use Rattle.lam_asks.specs.declared.ask.Ask.TheVariants as ask;

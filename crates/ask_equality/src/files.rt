@@ -1,4 +1,4 @@
-//! Asks for the bytes of files.
+//! Tests of asks for the bytes of files.
 
 ghost use Rattle.std.specs.Prelude.{◌≡◌, ◌↔◌, IsTrue};
 ghost use Rattle.lam_asks.specs.declared.ask.Ask.TheVariants as ask;

@@ -1,10 +1,10 @@
-//! Whether two asks, two answers and two outcomes are equal.
+//! Equality of asks, of answers and of outcomes.
 //!
-//! An ask has thirty forms, and to compare two of them in place would be nine hundred cases in one function. So each form
-//! has a test of its own, by family: whether an ask is this form with these parts. [`same_ask`] looks at one of the two
-//! asks only. Nothing takes memory.
+//! An ask has thirty forms, and comparing two of them in place would be nine hundred cases in one function. So each
+//! form has a test of its own, by family: whether an ask is this form with these parts. [`same_ask`] takes apart only
+//! one of the two asks. Nothing allocates.
 //!
-//! `outcomes` has faults, outcomes and answers; the other modules have the forms of asks.
+//! `outcomes` compares faults, outcomes and answers; the other modules have the forms of asks.
 #![tactic(auto)]
 
 mod contexts;

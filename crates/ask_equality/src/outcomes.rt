@@ -1,4 +1,4 @@
-//! Outcomes and answers.
+//! Equality of faults, outcomes and answers.
 
 ghost use Rattle.std.specs.Prelude.{◌≡◌, ◌↔◌, IsTrue};
 

@@ -1,4 +1,4 @@
-//! Asks for pipes.
+//! Tests of asks for pipes.
 
 ghost use Rattle.std.specs.Prelude.{◌≡◌, ◌↔◌, IsTrue};
 ghost use Rattle.lam_asks.specs.declared.ask.Ask.TheVariants as ask;

@@ -1,4 +1,4 @@
-//! Asks for objects, arrays and monitors.
+//! Tests of asks for objects, arrays and monitors.
 
 ghost use Rattle.std.specs.Prelude.{◌≡◌, ◌↔◌, IsTrue};
 ghost use Rattle.lam_asks.specs.declared.ask.Ask.TheVariants as ask;

@@ -1,4 +1,4 @@
-//! What an auditor reads of a run.
+//! The text of an audit.
 
 ghost use Rattle.std.specs.Prelude.{◌≡◌, ◌++◌, ◌∷◌, [], codes, IfOk, OnOk, string_bytes};
 ghost use Rattle.flow_labels.specs.LabelText.{label_text};

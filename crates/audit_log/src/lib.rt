@@ -1,17 +1,18 @@
-//! The two texts that are read of a run: what an observer saw of it, and what an auditor has to look at.
+//! The texts of an observer's view and of a run's audit.
 //!
 //! ```text
 //! t0 {}/{} enter {a}/{} caps +{}-{a} region 0 (7) = entered
 //! release t0 enter {}/{} caps +{}-{} depth 2 region 1 (7) by +{}-{a}
 //! ```
 //!
-//! are two lines of an observer's text ([`view_text`]): an event that it sees, and a release past it. The release's line
-//! in the audit ([`audit_text`]) is `12 t0 {a}/{} enter {}/{} by +{}-{a}`, with the turn and the acting label, and ends with
-//! ` public` where all that it took is public ([`marks_are_exact`]); a refusal's is `8 t0 {}/{} refused AddS a`.
+//! These are two lines of an observer's text ([`view_text`]): an event that it sees, and a release past it. The
+//! release's line in the audit ([`audit_text`]) is `12 t0 {a}/{} enter {}/{} by +{}-{a}`, with the turn and the acting
+//! label. It ends with ` public` where all that it took is public ([`marks_are_exact`]). A refusal's line is
+//! `8 t0 {}/{} refused AddS a`.
 //!
-//! Both are written line by line into one text. `specs/Log.antt` says what the lines are, of the kept lists and of the
-//! moments of a run themselves, and [`views_are_read`] and [`audits_are_read`] that these are the same. A moment's line
-//! speaks of what is public in the moment's world. No turn changes that (`lam_machine_laws`), so that the text is written
+//! Both are written line by line into one text. `specs/Log.antt` defines the lines, of the kept lists and of the
+//! moments of a run themselves. [`views_are_read`] and [`audits_are_read`] say that these are the same. A moment's line
+//! speaks of what is public in the moment's world. No turn changes that (`lam_machine_laws`), so the text is written
 //! with what is public at the start.
 #![tactic(auto)]
 

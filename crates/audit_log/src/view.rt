@@ -1,4 +1,4 @@
-//! What an observer reads of a run.
+//! The text of an observer's view.
 
 ghost use Rattle.std.specs.Prelude.{◌≡◌, ◌++◌, ◌∷◌, [], codes, decimal, IfOk, OnOk, string_bytes};
 ghost use Rattle.flow_labels.specs.LabelText.{label_text};

@@ -1,9 +1,9 @@
-//! The two texts that are read of a run, written as its turns are taken.
+//! The texts of a view and of an audit, written as turns are taken.
 //!
-//! `audit_log` writes the lines of a list of what was seen, or of what was noted. Here the lines of a turn are written from its
-//! event and the world after it, and nothing but the text is kept: [`push_view`] for an observer, and [`push_audit`] for an
-//! auditor. `specs/Kept` says what is kept of the moments of a run, in the form of `Keeps` (`lam_machine_replay`). A private turn
-//! has no line ([`views_leave_private`], [`audits_leave_private`]).
+//! `audit_log` writes the lines of a list of what was seen, or of what was noted. Here a turn's lines are written from
+//! its event and the world after it, and only the text is kept. [`push_view`] does so for an observer, and
+//! [`push_audit`] for an auditor. `specs/Kept` says what is kept of the moments of a run, in the form of `Keeps`
+//! (`lam_machine_replay`). A private turn has no line ([`views_leave_private`], [`audits_leave_private`]).
 #![tactic(auto)]
 
 ghost use Rattle.std.specs.Prelude.{◌≡◌, ◌++◌, ℕ, List, OnOk, string_bytes};

@@ -1,12 +1,12 @@
-//! What is kept of a run for those who read it: what an observer saw, what an auditor has to look at, and what was counted.
+//! Records of a run: an observer's view, an auditor's notes, and counts.
 //!
-//! An observer at a label sees the events of the threads whose label flows to its own, and the *releases* past it: a
-//! region entered or a thing copied by a thread that it does not see, with a label that it does see, which is a
-//! declassification or an endorsement. A list of [`Seen`] is that, in order. An auditor looks at every release, whoever
-//! may see it, and at every refusal; a list of [`Noted`] is that. [`refusal_of`] says what counts as a refusal.
-//! `specs/Notes.antt` says which lists of both a run of the machine has (`lam_machine_terms`).
+//! An observer at a label sees the events of the threads whose label flows to its own, and the *releases* past it. An
+//! unseen thread makes a release where it enters a region, or copies a thing, with a label that the observer sees. That
+//! is a declassification or an endorsement. A list of [`Seen`] is that, in order. An auditor notes every release and
+//! every refusal; a list of [`Noted`] is that. [`refusal_of`] says what counts as a refusal. `specs/Notes.antt` says
+//! which lists of both a run of the machine has (`lam_machine_terms`).
 //!
-//! [`Sums`] are how often something was said, released and refused in a run: `specs/Sums` says what is counted in its
+//! [`Sums`] are how often something was said, released and refused in a run. `specs/Sums` says what is counted in its
 //! moments, and `summary` writes the lines.
 #![tactic(auto)]
 

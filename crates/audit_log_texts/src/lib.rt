@@ -1,6 +1,6 @@
-//! The texts of a run's events: faults, answers, asks, and the line that shows an event to an observer.
+//! The texts of a run's events, with their faults, asks and answers.
 //!
-//! A line tells who acts, at which label, what is asked and what is answered, in words with one space between each two:
+//! An event's line shows who acts, at which label, the ask and the answer, in words with one space between each two:
 //!
 //! ```text
 //! t0 {}/{} enter {a}/{} caps +{}-{} region 0 (1) = refused AddS a
@@ -8,11 +8,11 @@
 //! ```
 //!
 //! `specs/Lines.antt` has the table of all asks and answers. A private turn has no line. `words` writes the words of
-//! which such lines are made, each with the space before it, also for the lines of other crates; `answers` and `asks`
-//! write the two sides of an event.
+//! such lines, each with the space before it, also for the lines of other crates. `answers` and `asks` write the two
+//! sides of an event.
 //!
-//! All of them write at the end of a text and make no other text on the way. Where memory is refused, what was written
-//! by then may stand at the text's end.
+//! All of them append to a given text and make no other text on the way. Where memory is refused, what was written by
+//! then may stand at the text's end.
 #![tactic(auto)]
 
 mod answers;

@@ -1,7 +1,7 @@
-//! From a program with its names resolved to its code, by the scheme of `lam_meaning`.
+//! Code generation from a resolved program, by the scheme of `lam_meaning`.
 //!
-//! Each access stands behind a barrier, and each region is a unit of its own. What a program comes to, its code or the
-//! number of its first unit that is too long, is the definition `compiled` of `lam_meaning`; `emit` computes it.
+//! Each access stands behind a barrier, and each region is a unit of its own. A program comes to its code, or to the
+//! number of its first unit that is too long. `compiled` of `lam_meaning` defines that, and `emit` computes it.
 
 ghost use Rattle.std.specs.Prelude.{◌≡◌, map, Ok, IfOk, IfErr};
 ghost use Rattle.lam_resolve_tree.specs.Tree.{types_tree, classes_tree, resolved_tree};

@@ -1,7 +1,7 @@
 //! The compiler: from a checked program to its code.
 //!
-//! Names are resolved first (`lam_resolve`), then each function and each region gets its operations by the scheme of
-//! `lam_meaning` (`emitting`). [`compile`] does both; that the code acts as the program is a clause of it.
+//! It resolves names first (`lam_resolve`), and then gives each function and each region its operations by the scheme
+//! of `lam_meaning` (`emitting`). [`compile`] does both; that the code acts as the program is a clause of it.
 #![tactic(auto)]
 
 mod emitting;

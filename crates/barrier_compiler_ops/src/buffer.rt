@@ -1,4 +1,4 @@
-//! Where a unit's code is put.
+//! The instruction buffer of a unit.
 
 ghost use Rattle.std.specs.Prelude.{◌≡◌, ◌≤◌, length, map, slice_set, [], Ok, Err, IfOk, IfErr};
 ghost use Rattle.lam_bytecode.specs.declared.op.Op.TheVariants.{Load, Store, Call, GetField, PutField, NewObject, EnterRegion, Spawn};

@@ -1,4 +1,4 @@
-//! The unit of each function, and of each region.
+//! The units of functions and of regions.
 
 ghost use Rattle.std.specs.Prelude.{◌≡◌, ◌∷◌, [], map, IfOk};
 ghost use Rattle.lam_resolve_tree.specs.Tree.{type_tree, types_tree, option_type_tree, stmt_tree, stmts_tree, function_tree, functions_tree};

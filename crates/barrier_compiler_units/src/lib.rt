@@ -1,12 +1,11 @@
-//! The units of a program: its functions in source order, then its regions by number.
+//! The units of a program's code: functions in source order, then regions by number.
 //!
-//! `pool` numbers the constants, each once, in order of first use. `units` gathers the units: it numbers a unit's
+//! `pool` numbers the constants, each once, in order of first use. `units` gathers the units. It numbers a unit's
 //! constants when the unit is complete, so a unit's code by value lives no longer than it takes. `drafts` fills them,
-//! first one unit for each function and then, in a second walk, one for each region, since all functions stand before
-//! all regions.
+//! first one unit for each function and then, in a second walk, one for each region.
 //!
-//! As with a unit's buffer, what gave up keeps its first reason and takes nothing more. `specs/Adds.antt` says what
-//! a call adds.
+//! As with a unit's buffer, what gave up keeps its first reason and takes nothing more. `specs/Adds.antt` says what a
+//! call adds.
 #![tactic(auto)]
 
 mod drafts;

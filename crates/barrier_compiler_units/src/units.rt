@@ -1,4 +1,4 @@
-//! Units, one after another.
+//! The growing list of units.
 
 ghost use Rattle.std.specs.Prelude.{◌≡◌, ◌⊎◌, ◌<◌, ◌≤◌, ◌*◌, List, [], ◌∷◌, length, map, None, Ok, Err, IfOk, IfErr};
 ghost use Rattle.std.specs.List.{AllByRecursion};

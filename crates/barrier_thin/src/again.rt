@@ -1,4 +1,4 @@
-//! Which operations stay, by the descriptions of the code.
+//! The operations that stay, found from the descriptions of the code.
 
 ghost use Rattle.std.specs.Prelude.{◌≡◌, ◌<◌, ◌^◌, map, length, slice_get, Some, IfOk};
 ghost use Rattle.lam_bytecode.specs.Codes.{IsCode};

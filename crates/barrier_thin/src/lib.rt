@@ -1,11 +1,13 @@
-//! Leaves out the barriers that test again.
+//! The removal of redundant barriers.
 //!
-//! A barrier whose operand was tested by the same rule already always passes. Where a code is guarded, all such barriers
-//! are left out at once, and jumps and catch blocks go to the operation that stood there, or to the next one that stayed.
+//! A barrier is redundant where the same rule tested its operand already: it always passes. From guarded code all
+//! redundant barriers are removed at once. Jumps and catch blocks go to the operation that stood there, or to the next
+//! one that stayed.
 //!
-//! `again` tells from the descriptions of the code (`code_verify`) which operations stay; `units` builds the new code, where
-//! `staying` says which operations stay and `ops` where jumps go. That thinned code acts as the code does, and as the program
-//! that the code is of, are laws of `thinned_code_acts`; that a program's code has no break is one of `compiled_code_guarded`.
+//! `again` finds the operations that stay, from the descriptions of the code (`code_verify`). `units` builds the new
+//! code, where `staying` says which operations stay and `ops` where jumps go. `thinned_code_acts` has the laws that
+//! thinned code acts as the code, and as the code's program. That a program's code has no break is a law of
+//! `compiled_code_guarded`.
 #![tactic(auto)]
 
 mod again;

@@ -1,4 +1,4 @@
-//! Which operations of a unit stay, and where each address goes.
+//! The operations of a unit that stay, and the new place of each address.
 
 ghost use Rattle.std.specs.Prelude.{◌≡◌, ◌+◌, ◌<◌, ◌^◌, false, get_or, length, IfOk};
 ghost use Rattle.thinned_code.specs.Thinned.{moved};

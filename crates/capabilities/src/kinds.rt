@@ -1,4 +1,4 @@
-//! Kinds of tags: who may use a tag's capabilities (Flume, SOSP 2007).
+//! Kinds of tags, the policies that make a tag's capabilities public (Flume, SOSP 2007).
 //!
 //! A capability that everybody may use is *public*: it counts as held by all, and nobody lists it.
 

@@ -1,16 +1,17 @@
 //! Capabilities, and the changes of a label that they allow.
 //!
-//! A label is fixed by who made a thing, and information flows by labels alone. To change a label takes
-//! *capabilities* (Flume, SOSP 2007): `t+` lets its holder add the tag t to a label, and `t-` lets it
-//! remove t. So `t-` declassifies where t is a secret, and `t+` endorses where t vouches for a thing.
+//! Information flows by labels alone, and to change a label takes *capabilities* (Flume, SOSP 2007). `t+` lets its
+//! holder add the tag t to a label, and `t-` lets it remove t. So `t-` declassifies where t is a secret, and `t+`
+//! endorses where t vouches for a thing.
 //!
-//! `change_rule` is the safe label change: a tag that is added has a plus, a tag that is dropped has a
-//! minus, which the changer holds or which is *public*, that is everybody's. Like the rules of flow in
-//! `flow_labels` it answers the first rule that forbids the change, with that rule's least tag. The module
-//! `kinds` says which capabilities are public, and the module `texts` has the text of capabilities,
-//! `+{a}-{a,b}`, both ways.
+//! `change_rule` is the safe label change. Each added tag needs a plus and each dropped tag a minus, held by the
+//! changer or *public*, which means everybody's. Like the flow rules of `flow_labels`, it returns the first rule that
+//! forbids the change, with that rule's least tag.
 //!
-//! The calls that give no `Result` take no memory.
+//! - `kinds`: which capabilities are public.
+//! - `texts`: the text of capabilities, `+{a}-{a,b}`, both ways.
+//!
+//! Functions without a `Result` allocate nothing.
 
 #![tactic(auto)]
 

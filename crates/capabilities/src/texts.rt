@@ -1,4 +1,4 @@
-//! The text of capabilities, `+{a}-{a,b}`: what may be added, then what may be dropped.
+//! The text of capabilities, `+{a}-{a,b}`: tags to add, then tags to drop.
 
 ghost use Rattle.std.specs.Prelude.{◌≡◌, ◌++◌, ◌↔◌, IsTrue, IfOk, OnOk, string_bytes};
 ghost use Rattle.capabilities.specs.CapsText.{IsCapsText, caps_of, caps_text, Gives, CapsAreRead, TextsAreRead};

@@ -1,16 +1,16 @@
-//! A verifier of guarded code: whether each access stands behind its barrier, and else the first break.
+//! A verifier of guarded code, which names the first break of other code.
 //!
-//! The descriptions of a unit are found in rounds over its addresses, swept in order as they are defined, since another
-//! order would meet another first break. The table of one unit stands in memory at a time, with a byte for each local of
-//! each address; nothing is allocated where two paths meet.
+//! The descriptions of a unit are found in rounds over its addresses. They are swept in order, as they are defined,
+//! since another order would meet another first break. The table of one unit stands in memory at a time, with a byte
+//! for each local of each address. Nothing is allocated where two paths meet.
 //!
 //! - `verify` makes a code into one that is known to be guarded, or names its first break.
-//! - `is_guarded` tells the same of a code that is kept.
-//! - `describe` gives the descriptions themselves, of a code of which nobody asks that its accesses are guarded yet, and
-//!   `describe_units` those of a code that is known to have no break, without a search for one.
+//! - `is_guarded` answers the same for a borrowed code.
+//! - `describe` gives the descriptions themselves, also where an access without its barrier is the first break.
+//! - `describe_units` gives them for code that is known to have no break, without a search for one.
 //!
-//! `targets` has the rule that is tested first, `rounds` the rounds, `breaks` the first break of a unit and of a code,
-//! and `described` what `describe` gives.
+//! `targets` has the rule that is tested first, and `rounds` the rounds. `breaks` finds the first break of a unit and
+//! of a code, and `described` what `describe` gives.
 #![tactic(auto)]
 
 mod breaks;

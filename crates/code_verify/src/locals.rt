@@ -1,4 +1,4 @@
-//! What is known where a unit is entered.
+//! The description at a unit's entry.
 
 ghost use Rattle.std.specs.Prelude.{◌≡◌, if◌then◌else◌, nat_lt, IfOk};
 ghost use Rattle.lam_bytecode.specs.Codes.{given};

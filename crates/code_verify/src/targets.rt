@@ -1,4 +1,4 @@
-//! Whether each address that may come next is one of the unit, and each number names what its operation takes.
+//! The test of a unit's targets and of the numbers that its operations name.
 
 ghost use Rattle.std.specs.Prelude.{◌≡◌, ◌<◌, ◌+◌, ◌^◌, length};
 ghost use Rattle.guarded_code.specs.Changes.{goes};

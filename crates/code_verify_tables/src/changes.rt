@@ -1,4 +1,4 @@
-//! The table of operations: what each takes and gives.
+//! The table of operations, with what each takes and gives.
 
 ghost use Rattle.std.specs.Prelude.{◌≡◌, ◌∷◌, [], reverse, ◌++◌, slice_get, replicate, Some, None, length, unwrap_or};
 ghost use Rattle.lam_operators.specs.Words.{Word};

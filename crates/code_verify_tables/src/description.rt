@@ -1,4 +1,4 @@
-//! What is known at an address, and what an operation leaves of it.
+//! The description of an address, and its transfer over an operation.
 
 ghost use Rattle.std.specs.Prelude.{◌≡◌, [], IfOk, IfNone, OnSome, IfSome, IsFalse, Some, None};
 ghost use Rattle.guarded_code.specs.Descriptions.{meet};

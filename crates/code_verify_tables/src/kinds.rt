@@ -1,4 +1,4 @@
-//! Whether an operation finds operands that it takes, and an access the mark of its rule.
+//! Tests that operands suit their operation, and that an access has its rule's mark.
 
 ghost use Rattle.std.specs.Prelude.{◌≡◌, ◌∷◌, slice_get, Some, None};
 ghost use Rattle.guarded_code.specs.Descriptions.{is_tested};

@@ -1,4 +1,4 @@
-//! What is known at one address of a unit, in code: how an operation changes it, and what is left where paths meet.
+//! Descriptions of one address of a unit, with their transfer and meet.
 //!
 //! A verifier keeps such a description for each address that a path reaches, so a local takes one byte in it.
 //!
@@ -8,7 +8,7 @@
 //! - `meeting`: what two paths leave where they meet.
 //! - `kinds`: whether an operation finds operands that it takes, and an access the mark of its rule.
 //!
-//! All of it is stated where guarded code is defined, in `guarded_code`; here it is computed.
+//! `guarded_code` defines all of it; this crate computes it.
 #![tactic(auto)]
 
 mod changes;

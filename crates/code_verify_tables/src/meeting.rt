@@ -1,4 +1,4 @@
-//! What two paths leave where they meet.
+//! The meet of two descriptions where paths join.
 
 ghost use Rattle.std.specs.Prelude.{◌≡◌, Some, length, IsFalse};
 ghost use Rattle.guarded_code.specs.Descriptions.{met_kind, met_known, met_copies, met_operand, met_lists};

@@ -1,4 +1,4 @@
-//! What is known of a local, in one byte.
+//! Knowledge about one local, in one byte.
 
 ghost use Rattle.std.specs.Prelude.{◌≡◌, Bool, true};
 ghost use Rattle.code_verify_tables.specs.Packed.{chosen, state_for, known_of};

@@ -1,4 +1,4 @@
-//! What an operation does to a description: rows of a table, as values.
+//! Changes of a description by an operation: rows of a table, as values.
 
 ghost use Rattle.std.specs.Prelude.{◌≡◌, ◌≤◌, ◌<◌, ◌+◌, length, slice_get, MatchOption};
 ghost use Rattle.guarded_code.specs.Changes.{wanted};

@@ -1,6 +1,7 @@
-//! What an operation leaves of operands and locals, written over what stood there before.
+//! The in-place transfer of operands and locals over an operation.
 //!
-//! A description is written anew at each operation, in the same memory, so nothing is allocated once it is large enough.
+//! A description is written anew at each operation, in the same memory. So nothing is allocated once it is large
+//! enough.
 
 ghost use Rattle.std.specs.Prelude.{◌≡◌, ◌<◌, ◌∷◌, ◌++◌, [], length, map, slice_get, slice_set, drop, OnOk, Some};
 ghost use Rattle.guarded_code.specs.Descriptions.{untested, tested, fresh};

@@ -1,14 +1,14 @@
-//! Static layouts: a way to see that a unit of code breaks no rule without running the rounds.
+//! Static layouts, which show that a unit of code is guarded without any rounds.
 //!
-//! Whoever has made a unit from a tree knows for each of its addresses what stands there whichever way it is reached: of
-//! which kind each operand is, and each local in scope, as far as that is known, and which reference has just been tested.
-//! A *layout* is a table of such shapes in which each operation finds what it needs and leads to shapes that follow. It
-//! bounds what the rounds of `guarded_code` find at each address, so they never break, no operand is of a known kind that
-//! its operation does not take, and each access finds the mark of its rule.
+//! A *layout* is a table of shapes, one for each address. A shape has the known kinds of operands and of locals in
+//! scope, and the reference that was just tested. A compiler knows the shapes from the tree, by whatever way an address
+//! is reached. In a layout each operation finds what it needs and leads to shapes that follow. So a layout bounds what
+//! the rounds of `guarded_code` find at each address. They never break, no operand is of a known kind that its
+//! operation does not take, and each access finds the mark of its rule.
 //!
 //! - `specs/Layouts`: shapes, what follows a shape, and layouts.
 //!
-//! A layout is enough for code whose accesses stand right behind their barriers; it need not be found by a verifier.
+//! A layout is enough for code whose accesses stand right behind their barriers. No verifier has to find it.
 
 ghost use Rattle.compiled_code_guarded.specs.Layouts.{LaidOutIsGuarded};
 

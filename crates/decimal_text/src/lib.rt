@@ -1,8 +1,8 @@
-//! Numbers in decimal, read and written: `0`, `7` and `4096`, and whole numbers with their sign as `-12`.
+//! A reader and a writer of decimal numbers, such as `0`, `4096` and `-12`.
 //!
-//! A number has one text. It begins with no zero but that of `0` itself, with no `+`, and `-0` is none. So what is
-//! written is read as the same number, and no other text is: [`numbers_are_exact`] and [`ints_are_exact`] say it.
-//! Scripts, books, the words of a command and texts that a program reads all go by this crate.
+//! Each number has one text: no leading zeros, no `+`, no `-0`. So a written number reads back as itself, and no other
+//! text reads as that number ([`numbers_are_exact`], [`ints_are_exact`]). Scripts, schedules, the words of a command
+//! and texts that a program reads all use this crate.
 #![tactic(auto)]
 
 mod read;

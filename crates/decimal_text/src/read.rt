@@ -1,4 +1,4 @@
-//! Reading a number.
+//! The reader of decimal numbers.
 
 ghost use Rattle.std.specs.Prelude.{◌≡◌, ◌+◌, ◌*◌, ◌<◌, ◌^◌, true};
 ghost use Rattle.std.specs.Option.{SomeIff};

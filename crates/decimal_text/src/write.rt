@@ -1,4 +1,4 @@
-//! Writing a number to the end of a text or of bytes. NoMemory comes where memory runs out, and no other error.
+//! The writer of decimal numbers, at the end of a text or of bytes. Its only error is `NoMemory`.
 
 ghost use Rattle.std.specs.Prelude.{◌≡◌, ◌++◌, OnOk, string_bytes, decimal};
 ghost use Rattle.std.specs.Fmt.{signed_decimal};

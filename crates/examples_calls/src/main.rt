@@ -1,11 +1,11 @@
-//! Worked calls of the tool, as data: makes each call that a line of the file `calls` asks, over the files beside it, and
-//! prints what a terminal would show.
+//! Worked calls of the tool, as data.
 //!
-//! A line of `calls` is what stands at a terminal: `lam` and the words of the call, each after one space, so that a
-//! second space begins an empty word. It is printed after `$ `, then what the call prints, and then the number of its
-//! status. A line `cat NAME` is printed so, too, and then the text of that file and the end of a line. A line that is
-//! empty or begins with `#` is printed as it is. The calls are made from the first to the last, so that one can read the
-//! book that another has written.
+//! The program makes each call that a line of the file `calls` asks, over the files beside it, and prints what a
+//! terminal would show. A line of `calls` is what stands at a terminal: `lam` and the words of the call, each after one
+//! space, so that a second space begins an empty word. It is printed after `$ `, then what the call prints, and then
+//! the number of its status. A line `cat NAME` is printed so, too, and then the text of that file and the end of a
+//! line. A line that is empty or begins with `#` is printed as it is. The calls are made from the first to the last, so
+//! that one can read the book that another has written.
 //!
 //! The program ends with 0 where it made each call, however these ended, and else with the status of what failed.
 #![tactic(auto)]

@@ -1,4 +1,5 @@
-//! Codes and their first breaks: of the least unit that has one, the first rule that is broken, at its least address.
+//! Codes and their first breaks. Such a break is in the least unit that has one, of the first rule that is broken, at
+//! its least address.
 
 use code_verify::{VerifyFault, is_guarded, verify};
 use lam_bytecode::{ArgKind, Op};

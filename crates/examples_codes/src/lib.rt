@@ -1,7 +1,7 @@
-//! Worked examples of the verifier of guarded code, on code that is written by hand, and of the numbers of labels.
+//! Worked examples of the verifier of guarded code, and of numbered labels.
 //!
-//! The expected breaks, marks and numbers come from the definitions, never from the code: most codes here stand beside
-//! those definitions too, where their breaks are computed.
+//! The codes are written by hand. The expected breaks, marks and numbers come from the definitions, never from the
+//! code. Most codes here stand beside those definitions too, where their breaks are computed.
 #![tactic(auto)]
 
 #[cfg(test)]

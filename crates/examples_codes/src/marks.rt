@@ -1,5 +1,6 @@
-//! Which barriers of a code find their reference tested already. The first code here has an access without its barrier,
-//! which is no break of a description.
+//! The redundant barriers of a code, whose reference is tested already.
+//!
+//! The first code here has an access without its barrier, which is no break of a description.
 
 use crate::breaks::{FUNCTION, with_constants};
 use code_verify::describe;

@@ -1,4 +1,4 @@
-//! The numbers of labels, and which flows between them are remembered.
+//! The numbers of labels, and the flows between them that are remembered.
 
 use flow_labels::{Label, NoMemory, TagId, TagSet};
 use label_table::LabelTable;

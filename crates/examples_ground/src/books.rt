@@ -1,4 +1,4 @@
-//! Books that are none, each cut of a book, and the books of whole runs.
+//! Texts that are no books, each cut of a book, and books of whole runs.
 
 use std::test::Fail;
 use turn_book::{BookFault, read_book, write_book};

@@ -1,4 +1,4 @@
-//! Capabilities: what they allow, and their texts.
+//! Capabilities, with the changes that they allow and their texts.
 
 use crate::labels::known_names;
 use crate::sets::has;

@@ -1,7 +1,7 @@
-//! Worked examples of tag sets, labels and their rules, capabilities, scripts, books, numbers, and files and outputs that fail.
+//! Worked examples of tag sets, labels, capabilities, scripts, books, numbers and failing devices.
 //!
-//! A contract leaves want of memory free; these tests run each call once with ample memory. The expected values come from the
-//! descriptions of the formats, never from the code. Each is short, since it is proved before it runs.
+//! A contract leaves want of memory free; these tests run each call once with ample memory. The expected values come
+//! from the descriptions of the formats, never from the code. Each is short, since it is proved before it runs.
 #![tactic(auto)]
 
 #[cfg(test)]

@@ -1,4 +1,4 @@
-//! Scripts that are read, scripts that are broken, and what an observer reads of a run.
+//! Scripts that are read, broken scripts, and the text of an observer's view.
 
 ghost use Rattle.std.specs.Prelude.{◌≤◌, length};
 

@@ -1,4 +1,4 @@
-//! Sets of no tag, of one and of more: how they are made, and what a copy shares.
+//! Sets of no tag, of one and of more, with their making and their copies.
 
 use std::alloc::Global;
 use tag_sets::{NoMemory, TagId, TagSet};

@@ -1,4 +1,4 @@
-//! Expressions of each primary form, and where reading stops.
+//! Expressions of each primary form, and the places where reading stops.
 
 use lam_lexer::lex;
 use lam_parser_exprs::expression;

@@ -1,7 +1,8 @@
-//! Worked examples of the language: tokens, trees, canonical text, whole programs, resolved names, and first breaks.
+//! Worked examples of the language, from tokens to resolved names and first breaks.
 //!
-//! Each runs one call of the crates below. What is expected comes from the language's document, never from the tool.
-//! `proofs/Types` and `proofs/Regions` have programs and their first breaks, computed from the definitions alone.
+//! They have tokens, trees, canonical text, whole programs, resolved names and first breaks. Each runs one call of the
+//! crates below. What is expected comes from the language's document, never from the tool. `proofs/Types` and
+//! `proofs/Regions` have programs and their first breaks, computed from the definitions alone.
 #![tactic(auto)]
 
 #[cfg(test)]

@@ -1,4 +1,4 @@
-//! Programs, and what they resolve to.
+//! Programs and their resolved trees.
 
 use crate::shown::text_of;
 use lam_front::check_program;

@@ -1,5 +1,7 @@
-//! The text of a resolved program. A slot is `#n`; `cn`, `fn` and `rn` are the class, the function and the region of number n,
-//! and `c0.1` is field 1 of class 0.
+//! The text of a resolved program.
+//!
+//! A slot is `#n`; `cn`, `fn` and `rn` are the class, the function and the region of number n, and `c0.1` is field 1 of
+//! class 0.
 
 use lam_resolve_tree::{CapItem, Class, Expr, Function, Resolved, Stmt, ValueType};
 use std::alloc::Global;

@@ -1,4 +1,4 @@
-//! A program with every production of the grammar and every built-in call, which keeps all rules.
+//! A valid program with every production of the grammar and every built-in call.
 
 use lam_front::{check_program, read_program};
 use lam_print::print;

@@ -1,4 +1,4 @@
-//! Files: how long they get, and which entries may be made.
+//! Files: their greatest length, and the entries that may be made.
 
 use crate::run::{Given, ends};
 use lam_builtins::Builtin;

@@ -1,8 +1,9 @@
-//! Worked examples of the machine: code that is written by hand, the document of a world and a list of turns in, and what
-//! an observer sees of the run out.
+//! Worked examples of the machine: views of runs of hand-written code.
 //!
-//! `run` takes the turns, and the others are the examples; those of `documents` and `saved` are no worlds, and come to no
-//! turn. No program is parsed or compiled here. The expected lines come from the descriptions, never from the machine.
+//! Each takes hand-written code, the document of a world and a list of turns, and shows what an observer sees of the
+//! run. `run` takes the turns, and the others are the examples. Those of `documents` and `saved` are no worlds, and
+//! come to no turn. No program is parsed or compiled here. The expected lines come from the descriptions, never from
+//! the machine.
 #![tactic(auto)]
 
 #[cfg(test)]

@@ -1,4 +1,4 @@
-//! Pipes: what they keep, in which order, and how many there may be.
+//! Pipes: their contents, their order and their greatest number.
 
 use crate::run::{Given, ends, shows};
 use crate::worlds::{BARE, ONE_PIPE};

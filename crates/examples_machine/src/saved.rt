@@ -1,5 +1,7 @@
-//! Documents of saved worlds that are broken: how many files and directories each home has made, and the items of the tree
-//! with their names.
+//! Documents of saved worlds that are broken in their counters or their items.
+//!
+//! The counters say how many files and directories each home has made. The items are those of the tree, with their
+//! names.
 
 use crate::documents::breaks;
 use std::test::Fail;

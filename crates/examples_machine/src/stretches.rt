@@ -1,4 +1,4 @@
-//! A stretch of private turns, taken on a copy of a thread and checked in to a run.
+//! A stretch of private turns, taken on a copy and checked in to a run.
 
 ghost use Rattle.std.specs.Prelude.{IfOk, OnOk};
 ghost use Rattle.thread_core_stretches.specs.Stretches.{StretchStands};

@@ -1,4 +1,4 @@
-//! One call of the tool over files in memory, and what came of it.
+//! One call of the tool over files in memory, and its results.
 
 use crate::gates::Hook;
 use lam_io::{Got, MemShelf, MemSink, Shelf};

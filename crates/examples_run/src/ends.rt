@@ -1,4 +1,4 @@
-//! Runs, how they end, what is seen of them, and the books that they write.
+//! Runs with their ends, their views and the books that they write.
 
 use crate::call::{Calls, Given, WIDE, Wanted, comes_to, store, wrote};
 use crate::gates::Hook;

@@ -1,4 +1,4 @@
-//! Texts that are cut off: every proper front of a program, of a book and of a world document.
+//! Every proper prefix of a program, of a book and of a world document.
 
 use crate::call::{Calls, WIDE, Wanted, comes_to, store};
 use crate::gates::Hook;

@@ -1,12 +1,16 @@
-//! Worked examples of calls of the tool that a line of words can not ask: over an outside that fails, by a gate of their own,
-//! of many workers, or with a book that is looked into. The others are data, of `examples_calls`.
+//! Worked calls of the tool that a line of words cannot ask.
 //!
-//! `ends` has runs, what is seen of them and their books, also of those that no thread ends. `outside` has calls that fail,
-//! `fronts` texts that are cut off, and `play` scripts of the greatest length. The others are of schedules: who takes the turns (`workers`, by the gates of `gates`),
-//! what is the same whoever takes them (`views`), and the runs of what a number makes (`made`).
+//! Their outside fails, their gate is one of their own, they have many workers, or their book is looked into. The
+//! others are data, of `examples_calls`. Each runs the top call over a store and an output in memory (`call`). The
+//! expected bytes come from the documents of the formats, never from the tool.
 //!
-//! Each runs the top call over a store and an output in memory (`call`). The expected bytes come from the documents of the
-//! formats, never from the tool.
+//! - `ends`: runs, what is seen of them and their books, also of those that no thread ends.
+//! - `outside`: calls that fail.
+//! - `fronts`: texts that are cut off.
+//! - `play`: scripts of the greatest length.
+//! - `workers`: who takes the turns, by the gates of `gates`.
+//! - `views`: what is the same by any workers.
+//! - `made`: the runs of what a number makes.
 #![tactic(auto)]
 
 #[cfg(test)]

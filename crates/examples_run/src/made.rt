@@ -1,4 +1,4 @@
-//! Runs of what a number makes.
+//! Runs of the programs and worlds that numbers make.
 
 use crate::call::{Calls, WIDE, Wanted, comes_to, store};
 use crate::gates::Hook;

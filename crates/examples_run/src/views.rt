@@ -1,4 +1,4 @@
-//! What an observer sees of a run, whoever took its turns.
+//! An observer's view of a run, the same by any workers.
 
 use crate::call::{Calls, Given, Output, Told, WIDE, Wanted, comes_to, store, tell, wrote};
 use crate::gates::Hook;

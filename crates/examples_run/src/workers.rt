@@ -1,4 +1,4 @@
-//! Workers at once: that they are, that the gate's picks are what the run is, and that the book shows the run again.
+//! Concurrent workers, with the gate's picks, and the book that replays their run.
 
 use crate::call::{Calls, Told, WIDE, Wanted, book_in, comes_to, store, tell};
 use crate::gates::{Hook, Meets, Notes};

@@ -1,4 +1,4 @@
-//! What calls are answered, and what a run is closed into, as lines.
+//! The answers of calls, and the parts of a closed run, as lines.
 
 use audit_log_texts::push_event;
 use decimal_text::push_number;

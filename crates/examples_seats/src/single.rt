@@ -1,4 +1,4 @@
-//! One seat.
+//! Calls of one seat.
 
 use crate::given::FAULTS;
 use crate::scenes::one_seat_shows;

@@ -1,4 +1,4 @@
-//! What the book of a run shows.
+//! The contents of a run's book.
 
 use flow_labels::{TagNames, parse_label};
 use lam_main_replay::{NamedViewer, Viewer, shown_turns};

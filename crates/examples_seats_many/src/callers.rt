@@ -1,5 +1,6 @@
-//! Callers on threads of their own, each with a seat of its own. Each takes the turns of one lam thread until that thread is
-//! not ready, and writes down what they showed.
+//! Callers on threads of their own, each with a seat of its own.
+//!
+//! Each takes the turns of one lam thread until that thread is not ready, and writes down what they showed.
 
 ghost use Rattle.std.specs.Prelude.{◌≡◌};
 

@@ -1,8 +1,8 @@
-//! Worked examples of seats on threads of their own: several callers share one book, and whoever was quick, the book shows
-//! what each of them saw.
+//! Worked examples of seats on threads of their own, which share one book.
 //!
-//! `callers` takes the turns, `shared` opens and closes their run, `books` shows what its book has, and the others are the
-//! examples. The expected numbers come from the descriptions of seats and of made programs, never from the program.
+//! The order of their calls is open, and the book shows what each of them saw. `callers` takes the turns, `shared`
+//! opens and closes their run, `books` shows what its book has, and the others are the examples. The expected numbers
+//! come from the descriptions of seats and of made programs, never from the program.
 #![tactic(auto)]
 
 #[cfg(test)]

@@ -1,4 +1,4 @@
-//! How many things each home has made.
+//! Allocation counters by home.
 
 use crate::values::secret;
 use flow_labels::Label;

@@ -1,7 +1,7 @@
-//! Worked examples of values, their texts and shapes, lists of them, counters of homes, the heap, files and pipes.
+//! Worked examples of values, counters, the heap, monitors, files and pipes.
 //!
-//! A contract leaves want of memory free; these tests run each call once with ample memory. The expected values come from the
-//! descriptions, never from the code. Each is short, since it is proved before it runs.
+//! A contract leaves want of memory free; these tests run each call once with ample memory. The expected values come
+//! from the descriptions, never from the code. Each is short, since it is proved before it runs.
 #![tactic(auto)]
 
 #[cfg(test)]

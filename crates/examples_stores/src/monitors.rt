@@ -1,4 +1,4 @@
-//! Monitors: who holds each, and how often.
+//! Monitors, with their holders and counts.
 
 use flow_labels::Label;
 use lam_value::Name;

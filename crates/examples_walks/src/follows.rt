@@ -1,4 +1,4 @@
-//! What a thread did, and where it departs from its source.
+//! Histories of threads, with the places where they depart from their source.
 
 use crate::written::{Held, Is, NONE, caps_of, values_of};
 use lam_asks::{Answer, Ask, Fault, Outcome, What};

@@ -1,11 +1,12 @@
-//! Worked examples of walks: what a thread did, followed on the source of a small program.
+//! Worked examples of walks over the source of small programs.
 //!
-//! What is expected comes from the language's document: which asks the source makes, with as many units and these answers.
+//! A walk follows what a thread did on the source. What is expected comes from the language's document: which asks the
+//! source makes, with as many units and these answers.
 //!
-//! - `follows` has threads that ask for nothing but their end: which turns take a unit, and how a thread ends.
-//! - `written` has asks and answers as constants, and `tables` what a thread did by a table of them, with the asks in whose
-//!   place it would depart.
-//! - `things`, `regions`, `files`, `pipes` and `threads` are the tables. Together they have each kind of ask.
+//! - `follows`: threads that ask for nothing but their end, with which turns take a unit, and how a thread ends.
+//! - `written`: asks and answers as constants.
+//! - `tables`: what a thread did by a table of them, with the asks in whose place it would depart.
+//! - `things`, `regions`, `files`, `pipes` and `threads`: the tables. Together they have each kind of ask.
 #![tactic(auto)]
 
 #[cfg(test)]

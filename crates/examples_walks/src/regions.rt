@@ -1,4 +1,4 @@
-//! Asks for tags and regions, and what a thread tells of rules and faults.
+//! Asks for tags and regions, and a thread's asks about rules and faults.
 
 use crate::follows::MAIN;
 use crate::tables::Line::{Did, Not};

@@ -1,4 +1,4 @@
-//! Tables of what a thread asked, with what its source does not ask there.
+//! Tables of a thread's asks, with what its source does not ask there.
 
 use crate::follows::{Begins, place_of};
 use crate::written::{Asks, Gets, answer_of, ask_of};

@@ -1,4 +1,4 @@
-//! Asks for threads, what a thread asks that another one started, and a book that stops early.
+//! Asks for threads, the asks of a started thread, and a book that stops early.
 
 use crate::follows::{Begins, MAIN};
 use crate::tables::Line::{Did, Not};

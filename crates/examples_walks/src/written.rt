@@ -1,4 +1,4 @@
-//! Values, asks and answers as a table has them, written down with constants alone, and what is made of them.
+//! Values, asks and answers of a table, as constants, and their making.
 
 use capabilities::Caps;
 use flow_labels::{Denied, Label, Rule, TagId, TagSet};

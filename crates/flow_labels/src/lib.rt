@@ -1,22 +1,22 @@
-//! Labels of secrecy and integrity, and the rules by which information flows between them.
+//! Labels of secrecy and integrity, and the rules of information flow between them.
 //!
-//! A label is a pair of tag sets. A thing's secrecy says whose secrets are in it, and its integrity
-//! says who vouches for it. Information may flow from x to y where y is at least as secret as x, and
-//! at most as trusted: the lattice of Denning (CACM 1976), with the two sets of tags of Flume (SOSP
-//! 2007) and Laminar (PLDI 2009).
+//! A label is a pair of tag sets. A thing's secrecy says whose secrets are in it, and its integrity says who vouches
+//! for it. Information may flow from x to y where y is at least as secret as x, and at most as trusted. This is the
+//! lattice of Denning (CACM 1976), with the two tag sets of Flume (SOSP 2007) and Laminar (PLDI 2009).
 //!
-//! A reference monitor asks the rules here before each access. A rule call answers None where the
-//! access may go on, and else the first rule that forbids it with that rule's least tag: secrecy comes
-//! before integrity. The rules on changes of a label, which speak of capabilities, stand in the crate
-//! `capabilities`; the variants of [`Rule`] that they need stand here with the others.
+//! A reference monitor tests these rules before each access. A rule function returns `None` where the access is
+//! allowed. Otherwise it returns the first rule that forbids it, with that rule's least tag; secrecy comes before
+//! integrity. The rules for label changes, which involve capabilities, are in the crate `capabilities`. Their variants
+//! of [`Rule`] stand here with the others.
 //!
-//! The module `names` has the names of tags, `name_lists` whether two lists of them are equal, and
-//! `texts` the text of a label, `{a,b}/{t}`, both ways. Both ways stand on `two_lists`, which reads and
-//! writes two lists of tag names in braces; the text of capabilities, `+{a}-{a,b}`, is another layout of
-//! the same. Each text has a call that makes a `String` and one, named `push_..`, that writes at the end
-//! of a text handed in and makes none.
+//! - `names`: the names of tags.
+//! - `name_lists`: equality of two lists of tag names.
+//! - `texts`: the text of a label, `{a,b}/{t}`, both ways.
+//! - `two_lists`: two lists of tag names in braces, both ways. Labels and capabilities (`+{a}-{a,b}`) are layouts of
+//!   it.
 //!
-//! None of the calls without a Result takes memory.
+//! Each text has a function that returns a `String`, and one named `push_..` that appends to a given text. Functions
+//! without a `Result` allocate nothing.
 #![tactic(auto)]
 
 mod name_lists;

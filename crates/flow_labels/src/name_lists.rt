@@ -1,7 +1,7 @@
-//! Whether two lists of the names of tags are equal.
+//! Equality of two lists of tag names.
 //!
-//! Two runs that are compared whole have the same tags by the same names, or the texts of their labels say
-//! different things.
+//! Two runs that are compared whole have the same tags by the same names. Otherwise the texts of their labels would
+//! mean different things.
 
 ghost use Rattle.std.specs.Prelude.{◌≡◌, ◌↔◌, IsTrue, length, slice_get};
 

@@ -1,4 +1,4 @@
-//! The text of a label, `{a,b}/{t}`: secrecy, then integrity. The printed names of the rules.
+//! The text of a label, `{a,b}/{t}` (secrecy, then integrity), and the names of rules.
 
 ghost use Rattle.std.specs.Prelude.{◌≡◌, ◌++◌, ◌↔◌, IsTrue, IfOk, OnOk, string_bytes};
 ghost use Rattle.flow_labels.specs.LabelText.{IsLabelText, label_of, label_text, Gives, LabelsAreRead, TextsAreRead};

@@ -1,10 +1,9 @@
-//! Two lists of tag names in one text, both ways.
+//! A reader and a writer of two tag-name lists in one text.
 //!
-//! A label is written `{a,b}/{t}` and capabilities `+{a}-{a,b}`. Both are two lists of names in braces,
-//! and differ in the marks around them, so that reading, the places of faults and writing are said once
-//! here. Reading goes in two steps: [`bad_place`] looks at the form alone, and [`read_sets`] looks up
-//! the names of a text that has the form. A text is read in time linear in its length, and its tags are
-//! sorted.
+//! A label is written `{a,b}/{t}` and capabilities `+{a}-{a,b}`. Both are two lists of names in braces and differ only
+//! in the marks around them, so reading, fault positions and writing stand here once. Reading has two steps.
+//! [`bad_place`] checks the form alone, and [`read_sets`] looks up the names of a text that has the form. A text is
+//! read in time linear in its length, and its tags are sorted.
 
 ghost use Rattle.std.specs.Prelude.{◌≡◌, ◌≤◌, ◌++◌, ◌∷◌, [], ◌+◌, ◌^◌, ◌<◌, length, map, IfSome, IsNone, ◌↔◌, IfOk, OnOk, string_bytes, decimal};
 ghost use Rattle.flow_labels.specs.TwoLists.{HasForm, IsBadPlace, joined, braced, tag_text, sets_text};

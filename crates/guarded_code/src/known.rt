@@ -1,4 +1,4 @@
-//! What is known of one operand or local.
+//! Knowledge about one operand or local.
 
 /// What kind a value is known to be of.
 #[derive(Clone, Copy, Debug, PartialEq, Eq)]

@@ -1,17 +1,17 @@
-//! Guarded code: what is known at each address of a unit, and code in which every access stands behind its barrier.
+//! Guarded code, in which every access is dominated by its barrier.
 //!
-//! Nobody has to trust the compiler for where barriers stand: a code is described address by address, and its
-//! descriptions say whether each access finds a reference that was tested by its rule. The descriptions are found in
-//! rounds over the addresses, as dataflow analyses do (Kildall, POPL 1973), and so a verifier can find them too.
+//! The compiler need not be trusted for the placement of barriers. A code is described address by address, and its
+//! *descriptions* say whether each access finds a reference that was tested by its rule. A dataflow analysis finds them
+//! in rounds over the addresses (Kildall, POPL 1973), and so a verifier can find them too.
 //!
-//! - `specs/Descriptions`: what is known of operands and locals, what is left where paths meet, and where a unit begins.
+//! - `specs/Descriptions`: what is known of operands and locals, their meet where paths join, and the entry of a unit.
 //! - `specs/Changes`: one table of what each operation takes and gives, and what is known after it.
 //! - `specs/Rounds`: the rounds, for any kind of description.
 //! - `specs/Breaks`: the four rules of guarded code and the first break of a code, with its unit and address.
 //! - `specs/Says`: how much a description says, and which tables meet the rules on descriptions.
 //! - `specs/Facts`: what is proved of the rounds here; `specs/Samples`: codes by hand and their breaks.
 //!
-//! The rounds say nothing of a run; what a run of guarded code never meets is proved where runs are.
+//! The rounds say nothing of a run; `guarded_code_runs` proves what a run of guarded code never meets.
 #![tactic(auto)]
 
 mod known;

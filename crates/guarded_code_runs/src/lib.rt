@@ -1,13 +1,14 @@
-//! Guarded code is sound in every run: whatever threads do and in whatever order, each access finds a reference that is
-//! not null and whose rule holds.
+//! Soundness of guarded code in every run, for every interleaving of threads.
 //!
-//! Every turn of the machine keeps that all threads agree with the descriptions of their code, and a thread at a
-//! function's entry does. So nothing has to be tested a second time where a barrier has tested it.
+//! In such a run each access finds a non-null reference whose rule holds. A thread at a function's entry agrees with
+//! the descriptions of its code, and every turn of the machine keeps all threads in agreement. So what a barrier has
+//! tested needs no second test.
 //!
-//! That a world is valid and its code guarded, and that its threads agree with the descriptions, is one condition: it is
+//! The condition is one: a valid world, a guarded code, and threads that agree with the code's descriptions. It is
 //! asked of the world from which a run starts, and holds in every world of the run.
 //!
-//! - `specs/Worlds`: worlds whose threads are described, those from which runs start, and those from which they are sound.
+//! - `specs/Worlds`: worlds whose threads are described, those from which runs start, and those from which they are
+//!   sound.
 //! - `specs/Laws`: the laws.
 #![tactic(auto)]
 

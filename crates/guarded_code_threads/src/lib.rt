@@ -1,13 +1,13 @@
-//! Threads of guarded code agree with its descriptions, whatever they ask and whatever they are answered.
+//! Soundness of guarded code's descriptions for its threads, whatever answers they get.
 //!
-//! A description says of an address which operands and locals were tested, and for what. Here it is shown that this
-//! holds of every thread that began at a function's entry: so an access finds a reference that is not null and whose
-//! rule holds, and needs no test of its own.
+//! A description says which operands and locals were tested at an address, and for what. This crate shows that it holds
+//! of every thread that began at a function's entry. So an access finds a non-null reference whose rule holds, and
+//! needs no test of its own.
 //!
 //! - `specs/Described`: when a thread agrees with the descriptions of its code.
 //! - `specs/Answers`: the form of an answer.
 //! - `specs/Accesses`: what accesses find, and what they do without a second test.
-//! - `specs/Laws`: the laws. `specs/Samples`: what is known at some addresses.
+//! - `specs/Laws`: the laws; `specs/Samples`: what is known at some addresses.
 #![tactic(auto)]
 
 ghost use Rattle.lam_bytecode.specs.Codes.{CodeTree};

@@ -1,10 +1,10 @@
-//! Labels by number, with a memo of the flows between them.
+//! A table of numbered labels, with a memo of the flows between them.
 //!
-//! A table gives each label that it meets a number, 0 to the first, and remembers whether information flows between
-//! labels that were asked about. So a rule that is tested often is looked up in place of walking over two sets of tags.
+//! It numbers each label that it meets, from 0 on, and remembers whether information flows between labels that were
+//! asked about. A rule that is tested often is then a look-up in place of a walk over two tag sets.
 //!
-//! `intern` and `remember` take memory. All other calls take none: `remember` makes the room in which `flows` keeps
-//! its answers, and where that is full `flows` answers as before and keeps nothing.
+//! `intern` and `remember` allocate, and no other function does. `remember` makes the room in which `flows` keeps its
+//! answers. Where that is full, `flows` answers as before and keeps nothing.
 #![tactic(auto)]
 
 ghost use Rattle.std.specs.Prelude.{◌≡◌, ◌+◌, ◌<◌, ◌≤◌, ◌↔◌, length, cond, slice_get, Some, None, IsNone, IfSome, IfOk, OnOk, OnErr};

@@ -1,4 +1,4 @@
-//! Two results at once.
+//! Pairs of results, of which either may have failed for want of memory.
 
 ghost use Rattle.std.specs.Prelude.{◌≡◌, IfOk, Ok};
 

@@ -1,4 +1,4 @@
-//! Cells: numbers with labels.
+//! Cells, which are numbers with labels.
 
 ghost use Rattle.std.specs.Prelude.{◌≡◌, ◌<◌, ◌≤◌, ◌++◌, ◌∷◌, [], length, Some, IfOk, OnErr, slice_get};
 ghost use Rattle.std.specs.Option.{option_copied, option_map};

@@ -1,12 +1,12 @@
 //! The objects and arrays of a run, by name.
 //!
-//! An object's fields and an array's elements are its *slots*. The slots of all things are one finite map
-//! from names; what a thing is, an object of a class or an array of a kind, stands in a map of its own,
-//! since no observer is shown it. New things are numbered home by home: by the maker's label and the
-//! thing's own label, and never over all, so that a name tells of no other label.
+//! An object's fields and an array's elements are its *slots*. The slots of all things are one finite map from names. A
+//! second map says what a thing is, an object of a class or an array of a kind. No observer is shown that. New things
+//! are numbered per home (the maker's label and the thing's own) and never globally, so that a name tells of no other
+//! label.
 //!
-//! The numbers of a home begin at 0 and have no gap, and no thing is ever taken away. So the things of a home
-//! stand in a vector, each at its number, and a look-up by name is one look-up of the home and one index.
+//! The numbers of a home begin at 0 and have no gap, and no thing is ever removed. So the things of a home stand in a
+//! vector by number. A look-up by name is one look-up of the home and one index.
 
 ghost use Rattle.std.specs.Prelude.{◌≡◌, ◌≤◌, ◌<◌, ◌++◌, ◌∷◌, [], ◌↔◌, ℕ, IsTrue, IfOk, OnOk, OnErr, IsErrOf, length, slice_get, slice_set, cond, Some, None};
 ghost use Rattle.std.specs.Option.{option_copied};

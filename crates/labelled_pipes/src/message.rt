@@ -1,4 +1,4 @@
-//! What is sent through a pipe.
+//! Messages, the contents of pipes.
 
 ghost use Rattle.std.specs.Prelude.{◌≡◌, ◌↔◌, IsTrue, IfOk};
 ghost use Rattle.labelled_pipes.specs.Messages.{kind_of};

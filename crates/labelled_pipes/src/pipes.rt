@@ -1,8 +1,7 @@
 //! Pipes by name, with a counter for each home.
 //!
-//! The messages that wait in all pipes are one finite map from names. New pipes are numbered home by home:
-//! by the maker's label and the pipe's own label, and never over all, so that a name tells of no other
-//! label.
+//! The waiting messages of all pipes are one finite map from names. New pipes are numbered per home (the maker's label
+//! and the pipe's own) and never globally, so that a name tells of no other label.
 
 ghost use Rattle.std.specs.Prelude.{◌≡◌, ◌≤◌, ◌<◌, ◌↔◌, IsTrue, IsOk, IfOk, OnOk, OnErr, IfNone, IsErrOf, [], cond, Some};
 ghost use Rattle.std.specs.Option.{option_copied};

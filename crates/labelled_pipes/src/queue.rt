@@ -1,4 +1,4 @@
-//! The messages that wait in one pipe, first come, first served.
+//! The queue of one pipe's waiting messages, first in, first out.
 
 ghost use Rattle.std.specs.Prelude.{◌≡◌, ◌↔◌, IsTrue, length, [], IfOk, OnOk, OnErr};
 ghost use Rattle.std.specs.Option.{option_copied};

@@ -1,5 +1,7 @@
-//! The program: it runs the command that its words ask, over the files of the current folder and standard output,
-//! and ends with the number of the call's status. Where its own memory runs out it ends with 1.
+//! The program `lam`, over the files of the current folder and standard output.
+//!
+//! It runs the command that its words ask, and ends with the number of the call's status. Where its own memory runs out
+//! it ends with 1.
 #![tactic(auto)]
 
 use lam_io::{DirShelf, OpenGate, StdSink};

@@ -1,4 +1,4 @@
-//! Answers, how a thread ended, and the events of a run.
+//! Answers, outcomes of threads, and the events of a run.
 
 ghost use Rattle.std.specs.Prelude.{◌≡◌, IfOk};
 

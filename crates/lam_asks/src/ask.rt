@@ -1,4 +1,4 @@
-//! The asks.
+//! The forms of asks.
 
 ghost use Rattle.std.specs.Prelude.{◌≡◌, IfOk, IsTrue};
 ghost use Rattle.lam_asks.specs.declared.ask.Ask.TheVariants as Ask;

@@ -1,4 +1,4 @@
-//! Events and what they tell of.
+//! The dropping of events.
 
 use crate::families::let_go;
 use crate::{Event, What};

@@ -1,7 +1,7 @@
-//! Asks are let go, family by family.
+//! The dropping of asks, family by family.
 //!
-//! What an ask holds is moved into `drop`, one call each. Dropped in place, each part would have its own drop written out in
-//! the function, and the steps of a function that lets several go multiply.
+//! What an ask holds is moved into `drop`, one call each. Dropped in place, each part would have its own drop written
+//! out in the function. Then the steps of a function that drops several would multiply.
 
 ghost use Rattle.std.specs.Prelude.{◌≡◌};
 ghost use Rattle.lam_asks.specs.Families.{family_of};

@@ -1,17 +1,18 @@
-//! What a thread asks of the reference monitor, and what it is answered.
+//! A thread's asks of the reference monitor, which are its system calls, and their answers.
 //!
-//! A thread computes by itself until it needs something that others share: a slot of an object, a file, a pipe, a
-//! monitor, a change of its own label. Then it makes an *ask*, which is its system call, and goes on with the *answer*.
-//! Asks and answers stand in a crate alone, below the meaning of programs and beside the machine: neither of these two
-//! stands on the other, and both speak of asks.
+//! A thread computes by itself until it needs an object's slot, a file, a pipe, a monitor, or a change of its own
+//! label. Then it makes an *ask*, its system call, and goes on with the *answer*. The meaning of programs and the
+//! machine both speak of asks, and neither depends on the other. So asks and answers stand in a crate alone.
 //!
-//! `fault` has what can go wrong, with the numbers that a program sees. `ask` has the asks, `answer` the answers and
-//! the events of a run. `specs/Suits.antt` says which answers an ask may get.
+//! - `fault`: what can go wrong, with the numbers that a program sees.
+//! - `ask`: the asks.
+//! - `answer`: the answers and the events of a run.
+//! - `specs/Suits.antt`: which answers an ask may get.
 //!
-//! An ask has thirty forms, and a function that drops one has the drop of each form in it: too much beside anything
-//! else. So a layer that is done with an ask, or with an event that holds one, hands it to [`let_go`] or
-//! [`let_go_event`]. These look which family the ask is of first (`family`), and let it go form by form in a function for
-//! that family (`families`).
+//! An ask has thirty forms, and a function that drops one contains the drop of each form, too much beside anything
+//! else. So a layer that is done with an ask, or with an event that holds one, passes it to [`let_go`] or
+//! [`let_go_event`]. These find the ask's family first (`family`), and then drop it form by form in a function for that
+//! family (`families`).
 #![tactic(auto)]
 
 mod answer;

@@ -1,11 +1,13 @@
 //! The types of values, operators and built-in calls.
 //!
-//! `specs/Types` says which types there are, what an expression may give and what a place takes; a class in a type
-//! stands by its name or, once names are resolved, by its number. `specs/Operators` has the types of operators, and
-//! `specs/Builtins` is the one table of built-in calls: the name of each, its arguments and its result. The type
-//! checker, the meaning of a program, its bytecode and the machine all read these. `rows` has the same table as values,
-//! `operators` the types of operators; every other table of them in code is made from these. `limits` says how much a
-//! program may have.
+//! `specs/Types` defines the types, what an expression may give and what a place takes. A class in a type stands by its
+//! name or, once names are resolved, by its number. `specs/Operators` has the types of operators. `specs/Builtins` is
+//! the one table of built-in calls, with the name, the arguments and the result of each. The type checker, the meaning
+//! of a program, its bytecode and the machine all read these.
+//!
+//! - `rows`: the same table as values.
+//! - `operators`: the types of operators, as values. Every other table in code is made from these two.
+//! - `limits`: bounds on the size of a program.
 #![tactic(auto)]
 
 mod limits;

@@ -1,4 +1,5 @@
-//! How much a program may have. The type checker refuses what has more, and the compiler a unit with too long a code.
+//! Limits on the size of a program. The type checker refuses larger programs, and the compiler units with too long a
+//! code.
 
 /// The most classes of a program.
 pub const MOST_CLASSES: usize = 1024;

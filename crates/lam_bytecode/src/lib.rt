@@ -1,11 +1,15 @@
-//! The bytecode that programs are compiled to.
+//! The bytecode of compiled programs.
 //!
-//! A *unit* is the code of a function or of a region: operations on a stack of operands and on locals by number. Each
-//! operation is one turn of a thread. Accesses stand behind *barriers*, operations that test the label rule of the
-//! access beforehand (Laminar, PLDI 2009), so the access itself needs no test.
+//! A *unit* is the code of a function or of a region: operations on a stack of operands and on numbered locals. Each
+//! operation is one turn of a thread. An access stands behind a *barrier*, an operation that tests the label rule of
+//! the access beforehand (Laminar, PLDI 2009). So the access itself needs no test.
 //!
-//! `op` has the operations, `unit` the units, `code` a whole program with what every code keeps, and `text` its
-//! text. What an operation does is stated where threads are, not here: this crate is data.
+//! - `op`: the operations.
+//! - `unit`: the units.
+//! - `code`: the code of a whole program, with its invariant.
+//! - `text`: its text.
+//!
+//! This crate is data: `thread_steps` defines what an operation does.
 #![tactic(auto)]
 
 mod code;

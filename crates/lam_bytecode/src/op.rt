@@ -1,4 +1,4 @@
-//! The operations.
+//! The operations of the bytecode.
 
 use lam_builtins::Builtin;
 use lam_value::Kind;

@@ -1,4 +1,4 @@
-//! What holds of derivations.
+//! The laws of derivations.
 
 ghost use Rattle.lam_front_laws.specs.DerivationLaw.{SpeltIsDerived, DerivedIsSpelt, DerivedOnce, UnexpectedIsUnderived};
 

@@ -1,4 +1,4 @@
-//! What holds of canonical text that is read again.
+//! The laws of canonical text that is read again.
 
 ghost use Rattle.lam_front_laws.specs.Law.{SpeltAgain};
 

@@ -1,15 +1,15 @@
 //! The grammar of the language, as a table.
 //!
-//! `specs/Table.antt` lists the bodies of each rule, line by line as the printed grammar has them, and says which tokens a
-//! rule begins with, which rules and operators count in the depth sum, and what may stand before `=`.
-//! `specs/Meaning.antt` says what each rule means, as a tree of `lam_syntax` without its places in memory.
-//! `specs/Program.antt` joins them to a grammar of `lam_grammar_laws`, and says when a list of tokens spells a program.
+//! `specs/Table.antt` lists the bodies of each rule, line by line as the printed grammar has them. It also says which
+//! tokens a rule begins with, which rules and operators count in the depth sum, and what may stand before `=`.
+//! `specs/Meaning.antt` gives the meaning of each rule, as a tree of `lam_syntax` without its places in memory.
+//! `specs/Program.antt` makes them a grammar of `lam_grammar_laws`, and says when a list of tokens spells a program.
 //!
-//! `proofs/` shows that the table passes the tests of `lam_grammar_laws`: no two bodies of a rule begin alike, the first
-//! tokens of each rule are those of its bodies, and each text that was read so far can be finished. So all laws of
+//! `proofs/` shows that the table passes the tests of `lam_grammar_laws`. No two bodies of a rule begin alike, and the
+//! first tokens of each rule are those of its bodies. Each text read so far can be finished. So all laws of
 //! `lam_grammar_laws` hold of it: a list of tokens spells at most one program, and what stops at a token spells none.
 //!
-//! The parser, `lam_parser`, is stated and proved over this table, and so is the law that canonical text is read as the
+//! The parser, `lam_parser`, is stated and proved over this table. So is the law that canonical text is read as the
 //! tree that it was printed from.
 #![tactic(auto)]
 

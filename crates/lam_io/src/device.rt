@@ -1,4 +1,4 @@
-//! The files of the current folder, and standard output. What a device holds is not told.
+//! The current folder as a file store, and standard output. Their contracts say nothing of contents.
 
 ghost use Rattle.std.specs.Prelude.{◌≡◌, ◌≤◌, false, None, Err, take};
 ghost use Rattle.lam_io.specs.Outside.{Rose, refusals_after};

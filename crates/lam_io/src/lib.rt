@@ -1,11 +1,13 @@
-//! The outside of the tool: files, output and the scheduler's hook, as traits whose clauses say what each of
-//! them means, and the implementations that the program and the tests use.
+//! Traits for the tool's files, output and scheduler hook, with their implementations.
 //!
-//! A [`Shelf`] is a file store and a [`Sink`] is an output stream. Each counts its faults; a caller that is generic
-//! in them can not raise the count, so it can not make a fault up. [`MemShelf`] and [`MemSink`] hold their contents
-//! in memory and fail at the calls that a test lists. [`DirShelf`] and [`StdSink`] are the current folder and
-//! standard output: the trusted edge, which tells nothing of contents. A [`Gate`] is a hook that a scheduler asks
-//! which thread goes on; [`OpenGate`] is the program's own, and a [`TableGate`] picks what a test lists.
+//! A [`Shelf`] is a file store and a [`Sink`] an output stream; clauses of the traits say what each call means. Each
+//! counts its faults. A generic caller cannot raise the count, so it cannot make up a fault.
+//!
+//! - [`MemShelf`] and [`MemSink`] hold their contents in memory and fail at the calls that a test lists.
+//! - [`DirShelf`] and [`StdSink`] are the current folder and standard output, the trusted edge. Their contracts say
+//!   nothing of contents.
+//! - A [`Gate`] is a scheduler hook, which picks the thread that goes on. [`OpenGate`] is the program's own, and a
+//!   [`TableGate`] picks what a test lists.
 #![tactic(auto)]
 
 mod device;

@@ -1,4 +1,4 @@
-//! A shelf and a sink in memory, whose calls fail where a test wants it, and the gates.
+//! A file store and an output in memory with injected failures, and the scheduler hooks.
 
 ghost use Rattle.std.specs.Prelude.{if◌then◌else◌, ◌≡◌, ◌≤◌, ◌^◌, ◌-◌, Some, Ok, map, IfOk, OnOk, OnErr, IsErrOf, length, take, [], ◌/◌, true, string_bytes, not, IsTrue, ◌↔◌};
 ghost use Rattle.std.specs.Option.{option_copied};

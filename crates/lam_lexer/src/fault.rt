@@ -1,4 +1,4 @@
-//! Why a text has no tokens.
+//! Lexical faults, the reasons why a text has no tokens.
 
 ghost use Rattle.std.specs.Prelude.{◌≡◌};
 ghost use Rattle.lam_lexer.specs.declared.fault.LexFault.TheVariants.{NoMemory as no_memory};

@@ -1,4 +1,4 @@
-//! The reading of a whole text.
+//! The lexing of a whole text.
 
 ghost use Rattle.std.specs.Prelude.{◌≡◌, ◌<◌, ◌+◌, ◌-◌, ◌*◌, ◌^◌, ◌⊎◌, ◌∷◌, ◌++◌, ℕ, true, List, length, IfSome, MatchResult, IsUtf8, chars, encode_utf8_all};
 ghost use Rattle.lam_lexer.specs.Characters as spec;

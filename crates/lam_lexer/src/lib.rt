@@ -1,4 +1,4 @@
-//! From the text of a program to its tokens.
+//! The lexer: from the text of a program to its tokens.
 #![tactic(auto)]
 
 pub mod fault;

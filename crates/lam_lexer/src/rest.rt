@@ -1,4 +1,4 @@
-//! What is left of a text.
+//! The unread rest of a text.
 
 ghost use Rattle.std.specs.Prelude.{◌≡◌, ◌∷◌, [], chars, drop, MatchOption, IfSome, IsUtf8};
 ghost use Rattle.lam_lexer.specs.Characters.{first};

@@ -1,4 +1,4 @@
-//! What a character begins.
+//! Classification of characters by the token that they begin.
 
 ghost use Rattle.std.specs.Prelude.{◌≡◌, chars};
 ghost use Rattle.lam_lexer.specs.Characters as spec;

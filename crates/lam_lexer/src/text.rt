@@ -1,4 +1,4 @@
-//! The reading of a text between quotes.
+//! The lexing of text literals, with their escapes.
 
 ghost use Rattle.std.specs.Prelude.{◌≡◌, ◌<◌, ◌+◌, ◌^◌, IfOk, IfSome, MatchResult, IsUtf8, chars, encode_utf8, ◌++◌, OnOk};
 ghost use Rattle.lam_lexer.specs.Text as spec;

@@ -1,9 +1,10 @@
 //! The machine: a step of a thread over the shared stores.
 //!
-//! [`step`] takes the turn of a thread that `lam_machine_terms` defines, where the thread is ready. A private turn changes its
-//! thread alone. A turn that asks is served by reading (`lam_machine_world`); then the thread readies itself for the answer, and
-//! the effect on the stores is applied last, so that a refusal of memory leaves the world as it was. Neither the thread
-//! nor the world is copied. [`step_privately`] takes a turn only where it is private, and makes no event of it.
+//! [`step`] takes the turn of a thread that `lam_machine_terms` defines, where the thread is ready. A private turn
+//! changes its thread alone. A turn that asks is served by reading (`lam_machine_world`). Then the thread prepares for
+//! the answer, and the effect on the stores is applied last. So a refusal of memory leaves the world as it was. Neither
+//! the thread nor the world is copied. [`step_privately`] takes a turn only where it is private, and makes no event of
+//! it.
 #![tactic(auto)]
 
 mod asking;

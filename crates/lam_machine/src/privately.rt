@@ -1,4 +1,4 @@
-//! Private turns, of which there is no event to tell.
+//! Private turns, which make no event.
 
 ghost use Rattle.std.specs.Prelude.{◌≡◌, length, IfOk, OnErr};
 ghost use Rattle.lam_machine_effects.specs.declared.stores.Stores.{Stores};

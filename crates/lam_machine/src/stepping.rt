@@ -1,4 +1,4 @@
-//! Steps.
+//! The steps of threads.
 
 ghost use Rattle.std.specs.Prelude.{◌≡◌, ◌≤◌, Some, length, slice_get, IfOk, OnErr};
 ghost use Rattle.flow_labels.specs.declared.Label.{Label as LabelOf};

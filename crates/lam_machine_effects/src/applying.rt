@@ -1,4 +1,4 @@
-//! What an effect does to the stores.
+//! The application of an effect to the stores.
 
 ghost use Rattle.std.specs.Prelude.{ℕ, ◌≡◌, ◌<◌, ◌+◌, IsTrue, None, OnOk, OnErr};
 ghost use Rattle.std.specs.FinMap.{contains_key};

@@ -1,4 +1,4 @@
-//! Effects, and how they are made of what an ask names.
+//! Effects, and their construction from what an ask names.
 
 ghost use Rattle.std.specs.Prelude.{◌≡◌, IfOk, reverse};
 ghost use Rattle.lam_value.specs.Homes.{home_of};

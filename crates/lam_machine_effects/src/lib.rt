@@ -1,16 +1,16 @@
-//! The stores of a world, and services: what the reference monitor answers to an ask, and what happens to the stores.
+//! The stores of a world, and services, the monitor's answers with their effects.
 //!
 //! A service is data. The monitor makes one by reading alone, so nothing has changed until [`apply`] is called with the
-//! service's effect; it changes one store in one call, or nothing where memory is refused. So a turn of the machine can
-//! ready the acting thread first, and apply the effect last.
+//! service's effect. That changes one store in one call, or nothing where memory is refused. So a turn of the machine
+//! can prepare the acting thread first, and apply the effect last.
 //!
-//! - `stores` has one of each store: what the threads of the machine share, with its copy.
-//! - `served` has them and the short ways to write them.
-//! - `effect` has the effects, and makes them of what an ask names.
-//! - `applying` applies them.
+//! - `stores`: one of each store, which the threads of the machine share, with its copy.
+//! - `served`: services, and short ways to write them.
+//! - `effect`: effects, made of what an ask names.
+//! - `applying`: their application.
 //!
-//! A world is its stores and its threads (`specs/Parts`). `specs/Meaning` says what services mean: an effect is one of the
-//! definitions', and `effect_of` there says what it does.
+//! A world is its stores and its threads (`specs/Parts`). `specs/Meaning` says what services mean: an effect is one of
+//! the definitions', and `effect_of` there says what it does.
 #![tactic(auto)]
 
 mod applying;

@@ -1,4 +1,4 @@
-//! Services.
+//! The services of the reference monitor.
 
 ghost use Rattle.std.specs.Prelude.{◌≡◌};
 ghost use Rattle.lam_machine_terms.specs.Answer.TheVariants.{Done, Val, Refused, Failed};

@@ -1,9 +1,8 @@
-//! What the threads of the machine share: objects and arrays with their monitors, files and directories, pipes, how
-//! many tags there are, and what is public.
+//! The state that the machine's threads share, one of each store.
 //!
-//! Each store stands in a crate of its own and says what its calls do. [`Stores`] has one of each. Threads stand
-//! beside it: a world of the machine is stores and threads (`specs/Parts`), so that a thread can be taken out and
-//! changed while the stores are changed too.
+//! [`Stores`] has objects and arrays with their monitors, files and directories, pipes, the number of tags, and what is
+//! public. Each store stands in a crate of its own, whose contracts say what its calls do. Threads stand beside the
+//! stores: a world is both (`specs/Parts`), so that a thread can be taken out and changed while the stores change too.
 //!
 //! Nothing here tests a label.
 

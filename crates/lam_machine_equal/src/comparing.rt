@@ -1,4 +1,4 @@
-//! Whether two codes are equal.
+//! Equality of two codes.
 
 ghost use Rattle.std.specs.Prelude.{◌≡◌, ◌↔◌, IsTrue, length};
 

@@ -1,4 +1,4 @@
-//! Whether two contexts are equal.
+//! Equality of two contexts.
 
 ghost use Rattle.std.specs.Prelude.{◌≡◌, ◌↔◌, IsTrue, length};
 ghost use Rattle.thread_core_state.specs.Seen.{phase_of};

@@ -1,4 +1,4 @@
-//! An equal code.
+//! Deep copies of a code.
 
 ghost use Rattle.std.specs.Prelude.{◌≡◌, IfOk};
 ghost use Rattle.lam_bytecode.specs.Codes.{IsCode};

@@ -1,14 +1,16 @@
-//! Whether two worlds, and two codes, are equal; and an equal code.
+//! Equality of worlds and of code, and deep copies of code.
 //!
-//! Two runs end alike where their last worlds are equal: all stores, and all threads with their contexts. Each part of
-//! a world says itself whether it equals another one; here stand the parts that none of the crates below compares.
+//! Two runs end alike where their last worlds are equal: all stores, and all threads with their contexts. Most parts of
+//! a world compare themselves. This crate has the parts that none of the crates below compares.
 //!
-//! `outcomes` compares faults and how threads ended, `contexts` the contexts of threads with their calls, `threads` and
-//! `worlds` the rest. Each goes over both sides once, place by place, and takes no memory.
+//! - `outcomes`: faults, and how threads ended.
+//! - `contexts`: the contexts of threads with their calls.
+//! - `threads` and `worlds`: the rest.
+//! - `copying`: an equal code. `comparing`: whether two codes are equal.
 //!
-//! A program's code is given once and kept where it is needed; whoever must keep it beside a run, or must see that two
-//! runs are of one program, copies or compares it here, part by part: `copying` gives an equal code, and `comparing` says
-//! whether two are equal.
+//! Each comparison goes over both sides once, place by place, and takes no memory. A program's code is given once and
+//! kept where it is needed. This crate copies it for callers that keep it beside a run. It compares codes, part by
+//! part, for callers that must see that two runs are of one program.
 #![tactic(auto)]
 
 mod comparing;

@@ -1,4 +1,4 @@
-//! Whether two faults are equal, and whether two threads ended alike.
+//! Equality of two faults, and of two threads' outcomes.
 
 ghost use Rattle.std.specs.Prelude.{◌≡◌, ◌↔◌, IsTrue};
 ghost use Rattle.std.specs.Option.{option_copied};

@@ -1,4 +1,4 @@
-//! Whether two threads are equal.
+//! Equality of two threads.
 
 ghost use Rattle.std.specs.Prelude.{◌≡◌, ◌↔◌, IsTrue, length};
 

@@ -1,4 +1,4 @@
-//! Whether two worlds are equal.
+//! Equality of two worlds.
 
 ghost use Rattle.std.specs.Prelude.{◌≡◌, ◌↔◌, IsTrue};
 ghost use Rattle.lam_machine_effects.specs.Parts.{stores_of};

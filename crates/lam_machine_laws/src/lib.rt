@@ -1,16 +1,17 @@
-//! What every turn of the machine keeps, and what an observer can tell of its runs, for every code and every interleaving.
+//! Invariants of the machine's turns, and isolation of observers, for every code and interleaving.
 //!
-//! The laws stand over `lam_machine_terms`' definitions, and look into no operation of a code: a private turn changes the
-//! inside of the acting context and nothing else, and each ask is looked at once, by the store that it is about.
+//! The laws stand over the definitions of `lam_machine_terms`, and look into no operation of a code. A private turn
+//! changes only the inside of the acting context, and each ask is looked at once, by the store that it is about.
 //!
-//! - `specs/Isolation`: two runs that agree below an observer's label, and what their starts are asked for.
+//! - `specs/Isolation`: two runs that agree below an observer's label, and what their starts must satisfy.
 //! - `specs/Sound`: what every turn keeps of the stores. Each stays sound, and no counter passes its limit.
-//! - `specs/Laws`, `specs/Tests`: contexts come back as they were, faults are handled where they were raised, releases are
-//!   allowed by capabilities that the acting context holds or that are public, no context gets capabilities but by minting,
-//!   receiving and entering, and no turn changes what is public; what is refused, and by which rule.
-//! - `specs/Judged`: each ask once, by its tests, its fault and what is done. Tables over all asks are read off from it.
-//! - `turn_parts`: a turn that asks is made of the service of its ask, what the answer does to the thread, and what the
-//!   effect does to the stores (`specs/Turned`), and a service that is ready has room (`specs/Ready`).
+//! - `specs/Laws`, `specs/Tests`: contexts come back as they were, and faults are handled where they were raised.
+//!   Releases are allowed by capabilities that the acting context holds or that are public. No context gets
+//!   capabilities but by minting, receiving and entering, and no turn changes what is public. They also say what is
+//!   refused, and by which rule.
+//! - `specs/Judged`: each ask once, by its tests, its fault and its effect. Tables over all asks are read off from it.
+//! - `turn_parts`: a turn that asks is its ask's service, with the answer's effect on the thread and its own on the
+//!   stores (`specs/Turned`). A service that is ready has room (`specs/Ready`).
 //! - `specs/Own`: a thread of a run is that thread with its own turns and the answers that it got.
 #![tactic(auto)]
 

@@ -1,12 +1,12 @@
-//! A turn of the machine by its parts, in proofs alone.
+//! The decomposition of a machine's turn into its parts, in proofs alone.
 //!
-//! A turn that asks is made of three: the reference monitor's service, what its answer does to the acting thread, and what
-//! its effect does to the stores and the list of threads. Code does them one by one; this says that together they are
-//! the turn that `lam_machine_terms` defines.
+//! A turn that asks has three parts. They are the monitor's service, its answer's effect on the acting thread, and its
+//! own effect on the stores and the list of threads. Code does them one by one. The law says that together they are the
+//! turn that `lam_machine_terms` defines.
 //!
-//! And the service of an ask that is ready can be applied. An effect needs room in its store: what is made, a counter below
-//! its limit, what is copied, that it lives, and a monitor that is taken, that no other thread holds it. The monitor tests
-//! the first, a thread that does not wait has the last, and that what is copied lives is part of a valid world.
+//! The service of an ask that is ready can be applied. An effect needs room in its store. What is made needs a counter
+//! below its limit, and the monitor tests that. What is copied must live, which is part of a valid world. A monitor
+//! that is taken must be held by no other thread, which is so where the acting thread does not wait.
 
 ghost use Rattle.lam_machine_laws.specs.Turned.{TurnsHaveParts};
 ghost use Rattle.lam_machine_laws.specs.Ready.{ServedHasRoom};

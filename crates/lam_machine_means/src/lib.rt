@@ -1,26 +1,30 @@
-//! Runs mean what the source means.
+//! The law that runs of typed programs make the asks of their source.
 //!
-//! In every run of a code that acts as a typed program no thread is ever stuck, and each thread asks what its source means:
-//! with the function, arguments and capabilities that it was started with, and the answers that stand in the run. The
-//! meaning with n *units* bounds its asks from both sides: they are the first ones of the source with as many units as the
-//! thread made turns; and after `(n + 1) * bound` turns, or once it has ended, it has asked all that the source asks with n
-//! units.
+//! In every run of a code that acts as a typed program no thread is ever stuck, and each thread asks what its source
+//! means. Its source is taken with the function, arguments and capabilities that the thread was started with, and the
+//! answers in the run. The meaning with n *units* bounds its asks from both sides:
 //!
-//! That a thread of the code alone does so, where its answers suit, is what it is to act as the program (`ActsAs` in
-//! `lam_meaning_laws`, which shows it of the scheme's code); that a thread of a run is a thread alone with the answers that
-//! it got, `lam_machine_laws`. That all answers of a run suit is proved here.
+//! - they are the first ones of the source with as many units as the thread made turns,
+//! - after `(n + 1) * bound` turns, or once it has ended, it has asked all that the source asks with n units.
 //!
-//! A run is a protocol of two parties. Turns keep what stands on the heap of its types, and answer typed asks by values of
-//! the types wanted (`turns_are_typed`): a typing says what each heap name stands for, an object of a class or an array of
-//! a type; it is no part of a world, and grows where a thing is made, as the ask's place wants. Threads of a typed program
-//! ask typed asks alone, as long as each answer is of the type that its place wants (`asks_are_typed`): they read a field
-//! of an object of the field's class, write values of the slot's type, spawn functions with arguments of their types, and
-//! end with a number. Neither holds alone. One induction over the turns of a run puts them together
-//! (`answers_suit_in_runs`): each thread's asks so far are those that its source means with the answers that it got, so its
-//! next ask is typed, so its answer suits.
+//! A lone thread of the code does so where its answers suit: that is what acting as the program means.
+//! `lam_meaning_laws` defines it (`ActsAs`), and shows it of the scheme's code. `lam_machine_laws` says that a thread
+//! of a run is a lone thread with the answers that it got. This crate proves that all answers of a run suit.
 //!
-//! That threads ask typed asks is the proof of `lam_meaning_typed`, with values of types under a typing in place of values of
-//! their types' sorts: `proofs/Sorts` has what it takes of them. `proofs/Steps` has one turn, and `proofs/Whole` the run.
+//! A run is a protocol of two parties. Turns keep what stands on the heap of its types, and answer typed asks by values
+//! of the types wanted (`turns_are_typed`). A *typing* says what each heap name stands for, an object of a class or an
+//! array of a type. It is no part of a world, and grows where a thing is made, as the ask's place wants. Threads of a
+//! typed program make typed asks alone, as long as each answer is of the type that its place wants (`asks_are_typed`).
+//! They read a field of an object of the field's class, and write values of the slot's type. They spawn functions with
+//! arguments of their types, and end with a number.
+//!
+//! Neither holds alone, so one induction over the turns of a run puts them together (`answers_suit_in_runs`). Each
+//! thread's asks so far are those that its source means with the answers that it got. So its next ask is typed, and so
+//! its answer suits.
+//!
+//! That threads make typed asks is the proof of `lam_meaning_typed`, with values of types under a typing in place of
+//! values of their types' sorts. `proofs/Sorts` has what it takes of them, `proofs/Steps` one turn, and `proofs/Whole`
+//! the run.
 #![tactic(auto)]
 
 ghost use Rattle.lam_bytecode.specs.Codes.{CodeTree};

@@ -1,4 +1,4 @@
-//! What an auditor notes of turns.
+//! The fold of an auditor over turns.
 
 ghost use Rattle.std.specs.Prelude.{◌≡◌, ◌++◌, None, IfOk, OnOk, IfErr};
 ghost use Rattle.std.specs.Option.{option_to_list};

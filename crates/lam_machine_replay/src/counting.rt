@@ -1,4 +1,4 @@
-//! Counting in turns, one by one.
+//! The fold that counts, turn by turn.
 
 ghost use Rattle.std.specs.Prelude.{◌≡◌};
 ghost use Rattle.audit_log_notes.specs.Sums.{sums};

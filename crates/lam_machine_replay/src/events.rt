@@ -1,4 +1,4 @@
-//! What is counted of one turn, by its event.
+//! The counts of one turn, by its event.
 
 ghost use Rattle.std.specs.Prelude.{◌≡◌, ◌-◌, ◌^◌, ◌<◌};
 ghost use Rattle.lam_value.specs.declared.values.Value.{Value as Plain};

@@ -1,4 +1,4 @@
-//! Why turns are no run.
+//! Faults, the reasons why turns are no run.
 
 ghost use Rattle.std.specs.Prelude.{◌≡◌};
 ghost use Rattle.lam_machine_replay.specs.declared.fault.RunFault.TheVariants.{NoMemory as no_memory};

@@ -1,4 +1,4 @@
-//! One pass over the turns of a run, whatever it keeps of them.
+//! One pass over the turns of a run, for any fold.
 
 ghost use Rattle.std.specs.Prelude.{◌≡◌, ◌-◌, ◌^◌, ◌<◌, List, [], None, IfOk, OnOk, IfErr};
 ghost use Rattle.lam_machine_terms.specs.Turns.{Moment, moments};

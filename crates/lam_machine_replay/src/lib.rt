@@ -1,17 +1,17 @@
-//! Runs: a start, and a list of turns, each of a thread that is ready; and what is kept of the turns of a book.
+//! Replay of a schedule from a start, with folds over its turns.
 //!
-//! `keeping` takes the turns of a start one by one, and keeps what somebody looks for in them: [`keep_turns`] over
-//! [`Keeps`]. It stops at the first turn whose thread is not ready, and names it in a [`RunFault`]; `specs/Stops` says
-//! where turns stop to be a run, `specs/Keeping` what it is to keep something of a turn. Whoever takes turns can hand them
-//! to one that keeps something as they are taken. Three look for something:
+//! `keeping` takes the turns of a start one by one, by [`keep_turns`] over [`Keeps`], and keeps what a fold looks for.
+//! It stops at the first turn whose thread is not ready, and names it in a [`RunFault`]. `specs/Stops` says where turns
+//! stop to be a run, and `specs/Keeping` what it is to keep something of a turn. A caller that takes turns itself can
+//! hand each to a fold as it is taken. There are three folds:
 //!
-//! - an observer, which is its label, for what it sees ([`seen_by`], `specs/Viewed`);
-//! - an [`Auditor`] for each release and each refusal ([`noted_in`], `specs/Audited`);
-//! - and a [`Counter`] for how often something is said, released and refused (`specs/Counted`).
+//! - an observer, which is its label, for what it sees ([`seen_by`], `specs/Viewed`),
+//! - an [`Auditor`] for each release and each refusal ([`noted_in`], `specs/Audited`),
+//! - a [`Counter`] for how often something is said, released and refused (`specs/Counted`).
 //!
-//! `telling` has what a turn made: a region that was entered, or a copy, with all that is in it. It is read from the
-//! turn's event and the world after it, by [`product_label`] and [`product`], so that no turn copies more than what is
-//! kept of it; that they tell it whole is the law [`products_are_told`]. `specs/Told` has the definitions.
+//! `telling` has what a turn made: a region that was entered, or a copy, with all that is in it. [`product_label`] and
+//! [`product`] read it from the turn's event and the world after it. So no turn copies more than what is kept of it.
+//! The law [`products_are_told`] says that they tell it whole. `specs/Told` has the definitions.
 #![tactic(auto)]
 
 mod auditing;

@@ -1,4 +1,4 @@
-//! What a turn made, told by its event and the world after it.
+//! The product of a turn, from its event and the world after it.
 
 ghost use Rattle.std.specs.Prelude.{◌≡◌, ℕ, Some, IfOk};
 ghost use Rattle.std.specs.Option.{option_copied};

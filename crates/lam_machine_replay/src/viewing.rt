@@ -1,4 +1,4 @@
-//! What an observer sees of turns.
+//! The fold of an observer over turns.
 
 ghost use Rattle.std.specs.Prelude.{◌≡◌, ◌++◌, None, IfOk, OnOk, IfErr};
 ghost use Rattle.std.specs.Option.{option_to_list};

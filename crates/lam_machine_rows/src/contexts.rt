@@ -1,4 +1,4 @@
-//! Tags, regions and threads.
+//! The rows of asks about tags, regions and threads.
 
 ghost use Rattle.std.specs.Prelude.{◌≡◌, ℕ, List, length, reverse, IfOk};
 ghost use Rattle.lam_value.specs.declared.values.Value.{Value as AValue};

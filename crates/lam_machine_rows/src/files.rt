@@ -1,4 +1,4 @@
-//! Files and directories.
+//! The rows of asks about files and directories.
 
 ghost use Rattle.std.specs.Prelude.{◌≡◌, pos, length, IfOk};
 ghost use Rattle.lam_value.specs.Homes.{home_of};

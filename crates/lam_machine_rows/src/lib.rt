@@ -1,15 +1,15 @@
-//! The reference monitor: what each ask is served by.
+//! The reference monitor, with a semantic rule for each ask.
 //!
-//! [`serve`] has a row for each ask: its tests in their order, its fault, its effect and its answer. It reads the
-//! stores and the acting context, and changes nothing; `lam_machine_effects` applies the effect. A rule is tested by
-//! `flow_labels` and `capabilities`, and the first that fails is the answer. Where a rule asks for capabilities, the
+//! [`serve`] has a *row* for each ask: its tests in their order, its fault, its effect and its answer. It reads the
+//! stores and the acting context, and changes nothing; `lam_machine_effects` applies the effect. `flow_labels` and
+//! `capabilities` test the rules, and the first that fails is the answer. Where a rule asks for capabilities, the
 //! public ones of the stores count beside those of the context.
 //!
-//! - `rules` has the tests of more than one rule.
-//! - `things`, `files`, `pipes` and `contexts` have the rows of the asks about each.
-//! - `services` makes their services where memory may be refused to an effect.
-//! - `rows` leads each ask to its row.
-//! - `waiting` says which ask waits, and which may be made.
+//! - `rules`: the tests of more than one rule.
+//! - `things`, `files`, `pipes` and `contexts`: the rows of the asks about each.
+//! - `services`: their services where memory may be refused to an effect.
+//! - `rows`: the dispatch of each ask to its row.
+//! - `waiting`: which ask waits, and which may be made.
 //!
 //! `specs/Serves` says what is read, and `lam_machine_terms` what is served.
 #![tactic(auto)]

@@ -1,4 +1,4 @@
-//! Pipes.
+//! The rows of asks about pipes.
 
 ghost use Rattle.std.specs.Prelude.{◌≡◌, IfOk};
 ghost use Rattle.std.specs.Option.{option_copied};

@@ -1,4 +1,4 @@
-//! Each ask is led to its row.
+//! The dispatch of each ask to its row.
 
 ghost use Rattle.std.specs.Prelude.{IfOk};
 ghost use Rattle.std.specs.Option.{option_copied};

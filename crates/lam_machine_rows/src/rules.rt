@@ -1,4 +1,4 @@
-//! Tests of more than one rule, limits, and references.
+//! Tests of more than one rule, of limits and of references.
 //!
 //! Where a rule asks for capabilities, the public ones count beside those of the context.
 

@@ -1,6 +1,6 @@
 //! Services whose effect may have been refused memory.
 //!
-//! A row moves its effect here, so that it has nothing left to let go of where there was no memory.
+//! A row moves its effect here, so that it has nothing left to drop where there was no memory.
 
 ghost use Rattle.std.specs.Prelude.{◌≡◌, IfOk};
 ghost use Rattle.lam_machine_effects.specs.Serves as told;

@@ -1,4 +1,4 @@
-//! Objects, arrays and their monitors.
+//! The rows of asks about objects, arrays and their monitors.
 
 ghost use Rattle.std.specs.Prelude.{◌≡◌, IfOk};
 ghost use Rattle.capabilities.specs.Changes.{joined};

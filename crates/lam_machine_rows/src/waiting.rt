@@ -1,4 +1,4 @@
-//! Which ask a context may make, and which one waits.
+//! The asks that a context may make, and those that wait.
 
 ghost use Rattle.std.specs.Prelude.{◌≡◌};
 ghost use Rattle.thread_steps.specs.Threads.{Context};

@@ -1,8 +1,9 @@
-//! Runs turn by turn: how they join and grow, where turns stop to be a run, and how a run ends.
+//! Runs turn by turn: their concatenation, their longest valid prefix, and their ends.
 //!
-//! `specs/Stops` defines the first turn whose thread is not ready: the plan of a call (`lam_main_plan`) and the fold over turns
-//! (`lam_machine_replay`) both speak of it. A run ended ([`How`], `specs/Ends`) because every thread has ended, all that live wait,
-//! or a budget of turns is used up: the workers that take the turns (`thread_host`) and the plan of a call speak of that.
+//! `specs/Stops` defines the first turn whose thread is not ready. The plan of a call (`lam_main_plan`) and the fold
+//! over turns (`lam_machine_replay`) both use it. A run ends ([`How`], `specs/Ends`) because every thread has ended,
+//! all that live wait, or the budget of turns is used up. The workers that take the turns (`thread_host`) and the plan
+//! of a call use that.
 #![tactic(auto)]
 
 ghost use Rattle.lam_machine_terms.specs.Codes.{CodeTree};

@@ -1,11 +1,12 @@
-//! The machine as plain data: worlds, what each ask does to one, turns, runs, and what an observer sees.
+//! The machine's definition: worlds, asks, turns, runs and observers' views.
 //!
-//! A world is a record of what the stores are seen as (`specs/Worlds`). An ask is served by a *service*: the answer, what
-//! happens to the one store that it is about, and what is made (`specs/Serves`). `specs/Serving` has a clause for each
-//! ask, and `specs/Turns` the step of one thread, runs and their replay. `specs/Views` says what an observer sees of a
-//! world and of a run: the view, releases, the agenda, the trace. `specs/Valid` says which worlds are valid.
+//! A world is a record of what the stores are seen as (`specs/Worlds`). A *service* serves an ask: it has the answer,
+//! the change of the one store that the ask is about, and what is made (`specs/Serves`). `specs/Serving` has a clause
+//! for each ask, and `specs/Turns` the step of one thread, runs and their replay. `specs/Views` defines what an
+//! observer sees of a world and of a run: the view, releases, the agenda, the trace. `specs/Valid` says which worlds
+//! are valid.
 //!
-//! What an answer does to the acting thread is by definition what `thread_steps` says that it does.
+//! By definition, an answer does to the acting thread what `thread_steps` says.
 #![tactic(auto)]
 
 pub use labelled_files::{FileFault, Files};

@@ -1,10 +1,10 @@
-//! Every turn leads from a valid world to a valid one; what a thread asks next, and how it is answered.
+//! The law that turns keep worlds valid, and laws of asks and their answers.
 //!
 //! - `specs/Laws`: what a context asks next, for every code and every context.
-//! - `specs/Living`: what lives in a world goes on living, and what a thread does next names only what lives.
+//! - `specs/Living`: what lives in a world goes on living, and a thread's next turn names only what lives.
 //! - `specs/Steps`: every turn of every code leads from a valid world to a valid one.
-//! - `specs/Suiting`, `specs/Faults`, `specs/Events`, `specs/Ready`: each answer suits its ask, which fault it may be, that
-//!   failing tests are events, and which threads are ready.
+//! - `specs/Suiting`, `specs/Faults`, `specs/Events`, `specs/Ready`: each answer suits its ask, which fault it may be,
+//!   that failing tests are events, and which threads are ready.
 //! - `specs/Threads`: the threads of a valid world are threads as the machine's code has them.
 #![tactic(auto)]
 

@@ -1,8 +1,8 @@
-//! Letting worlds and codes go.
+//! The dropping of worlds and codes.
 //!
-//! A world holds the stores and the threads of a run. A function that drops one in place has the drop of each of their parts
-//! in it, once for each place: the longest part of its proof. So whoever is done with a world, or with the code that ran in
-//! it, hands it over here, where its drop is proved once.
+//! A world holds the stores and the threads of a run. A function that drops one in place has the drop of each of their
+//! parts in it, once for each place. That is the longest part of its proof. So callers pass worlds that they are done
+//! with, and their codes, to this module, where the drop is proved once.
 
 use crate::world::World;
 use lam_bytecode::Code;

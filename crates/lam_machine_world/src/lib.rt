@@ -1,10 +1,10 @@
-//! Worlds of the machine: the stores, and the threads.
+//! Worlds of the machine, which are the stores and the threads.
 //!
-//! A [`World`] is seen as the plain record of `lam_machine_terms`. [`served_of`] is the serving of an ask in a world by the
-//! context that makes it: it reads how many threads there are and how another one ended, and leaves the rest to
+//! A [`World`] is seen as the plain record of `lam_machine_terms`. [`served_of`] serves an ask in a world for the
+//! context that makes it. It reads how many threads there are and how another one ended, and leaves the rest to
 //! `lam_machine_rows`. It takes the parts of a world, so that a turn can go on to change them.
 //!
-//! `letting_go` lets worlds, stores and codes go.
+//! `letting_go` drops worlds, stores and codes.
 #![tactic(auto)]
 
 mod letting_go;

@@ -1,4 +1,4 @@
-//! What an ask meets in a world.
+//! The facts of a world that an ask meets.
 
 ghost use Rattle.std.specs.Prelude.{◌≡◌, ◌≤◌, length, slice_get, IfOk};
 ghost use Rattle.std.specs.Option.{option_copied};

@@ -1,4 +1,4 @@
-//! Worlds.
+//! The type of worlds.
 
 ghost use Rattle.std.specs.Prelude.{◌≡◌, ◌≤◌, length, IfOk};
 ghost use Rattle.lam_machine_rows.specs.Limits.{most_threads};

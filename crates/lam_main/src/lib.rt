@@ -1,17 +1,22 @@
-//! The tool as one call: [`lam`] takes the words of the command line, a file store, an output stream and a
-//! scheduler's hook, and gives the status that the process ends with.
+//! The tool as one call, from words, files and output to a status.
 //!
-//! Its contract is the tool's. The *plan* of the words and the files (`lam_main_plan`) says what is printed, which file
-//! is written and how the call ends where nothing fails; the call answers to it, unless memory runs out or the file
-//! store or the output fails, which is answered only where its count of faults rose in the call. `lam_main_words` tells
-//! which command is asked; `lam_main_files`, `lam_main_replay`, `lam_main_threads`, `lam_main_pair`, `lam_main_next`
-//! and `lam_main_walk` read the files that it names, run its threads and make its text; and `print` prints that or the
-//! line of a refusal. The program `lam` calls it with the current folder and standard output, and tests with a store
-//! and a stream in memory (`lam_io`).
+//! [`lam`] takes the words of the command line, a file store, an output stream and a scheduler's hook. It returns the
+//! status that the process ends with. Its contract is the tool's. The *plan* of the words and the files
+//! (`lam_main_plan`) says what is printed, which file is written and how the call ends where nothing fails. The call
+//! answers to it, unless memory runs out or the file store or the output fails. Such a failure is answered only where
+//! its count of faults rose in the call.
 //!
-//! What `format` prints is read again as the same program, and printed the same, under two conditions: the depth sum of
-//! the printed text passes its limit at no token, and its length does not pass that of a program file
-//! (docs/LANGUAGE.md has both, and how far a text can grow).
+//! - `lam_main_words` tells which command is asked.
+//! - `lam_main_files`, `lam_main_replay`, `lam_main_threads`, `lam_main_pair`, `lam_main_next` and `lam_main_walk` read
+//!   the files that it names, run its threads and make its text.
+//! - `print` prints that, or the line of a refusal.
+//!
+//! The program `lam` calls it with the current folder and standard output, and tests with a store and a stream in
+//! memory (`lam_io`).
+//!
+//! What `format` prints is read again as the same program, and printed the same, under two conditions. The depth sum of
+//! the printed text passes its limit at no token, and its length does not pass that of a program file. docs/LANGUAGE.md
+//! has both, and how far a text can grow.
 #![tactic(auto)]
 
 mod print;

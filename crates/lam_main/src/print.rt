@@ -1,4 +1,4 @@
-//! What goes to the sink: the text of a command, or the line of a refusal. It takes no memory.
+//! The printing of a command's text or of a refusal's line, without memory.
 
 ghost use Rattle.std.specs.Prelude.{◌≡◌, ◌≤◌, ◌∷◌, [], None, OnErr, decimal};
 ghost use Rattle.lam_front.specs.declared.fault.ProgramFault.TheVariants.{At};

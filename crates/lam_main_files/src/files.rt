@@ -1,4 +1,4 @@
-//! Reading the files that the words name.
+//! The reader of the files that the words name.
 
 ghost use Rattle.std.specs.Prelude.{◌≡◌, ◌≤◌, IsTrue, IfErr, string_bytes};
 ghost use Rattle.lam_io.specs.Outside.{Rose, AllStay};

@@ -1,4 +1,4 @@
-//! Why a call does not print the text of its command.
+//! Halts, the reasons why a call does not print its command's text.
 
 ghost use Rattle.std.specs.Prelude.{◌≡◌};
 ghost use Rattle.lam_main_files.specs.Halts.{halt_of, halt_of_code};

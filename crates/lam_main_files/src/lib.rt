@@ -1,8 +1,8 @@
-//! The commands on one file: [`play`], [`format`], [`check`] and [`code`], and what every command shares.
+//! The commands `play`, `format`, `check` and `code`, and the parts that all commands share.
 //!
-//! A command reads the files that the words name and makes its text, or halts: what it reads is refused, memory ran out,
-//! or the file store failed. A [`Refusal`] is known by the line that is printed for it. What a command answers is what
-//! its plan says (`lam_main_plan`), in one relation for all commands (`specs/Halts.antt`).
+//! A command reads the files that the words name and makes its text, or halts. It halts where what it reads is refused,
+//! memory ran out, or the file store failed. A [`Refusal`] is known by the line that is printed for it. What a command
+//! answers is what its plan says (`lam_main_plan`), in one relation for all commands (`specs/Halts.antt`).
 #![tactic(auto)]
 
 mod files;

@@ -1,7 +1,7 @@
-//! The commands on a program alone, `format`, `check` and `code`, and the code that is run of a program.
+//! The commands `format`, `check` and `code`, and the code of a program that is run.
 //!
-//! `check` and `code` are of the code that a program is compiled to. What is run has no barrier that tests again. Compiled
-//! code is guarded (`compiled_code_guarded`), and so is what is run: nobody verifies it at run time.
+//! `check` and `code` are of the code that a program is compiled to. What is run has no redundant barrier. Compiled
+//! code is guarded (`compiled_code_guarded`), and so is what is run: nothing verifies it at run time.
 
 ghost use Rattle.std.specs.Prelude.{◌≡◌, ◌≢◌, ◌≤◌, ◌⊎◌, ℕ, Ok, Err, IsTrue, IfOk, IfErr, string_bytes};
 ghost use Rattle.lam_io.specs.Outside.{Rose, AllStay};

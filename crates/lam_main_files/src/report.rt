@@ -1,4 +1,4 @@
-//! What a command reports, where it prints its text.
+//! The report of a command that prints its text.
 
 ghost use Rattle.std.specs.Prelude.{◌≡◌};
 ghost use Rattle.lam_main_files.specs.Halts.{done};

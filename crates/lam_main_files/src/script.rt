@@ -1,4 +1,4 @@
-//! The command `play`: a script and an observer in, what the observer sees of its steps out.
+//! The command `play`: an observer's view of a script's steps.
 
 ghost use Rattle.std.specs.Prelude.{◌≡◌, ◌≢◌, IsTrue, IfErr, string_bytes};
 ghost use Rattle.lam_io.specs.Outside.{Rose, AllStay};

@@ -1,7 +1,8 @@
-//! That what is kept of a run is whole: no release is lost to an observer who may see what it made, every release and
-//! every refusal is in the audit with its turn, and nothing else is.
+//! The laws that views and audits are complete, over the machine's runs.
 //!
-//! The laws stand over `lam_machine_terms`' definitions of runs and those of `audit_log_notes` of what is kept of one.
+//! No release is lost to an observer that may see what it made. Every release and every refusal is in the audit with
+//! its turn, and nothing else is. The laws stand over the definitions of runs (`lam_machine_terms`) and of what is kept
+//! of one (`audit_log_notes`).
 
 ghost use Rattle.lam_bytecode.specs.Codes.{CodeTree};
 ghost use Rattle.lam_main_laws.specs.Whole.{ReleasesAreTold, AuditsAreWhole};

@@ -1,7 +1,8 @@
-//! How the calls end that nothing failed: what is in order ends in order, and what is refused is refused as it is planned.
+//! The laws of how calls end where nothing failed.
 //!
-//! Of runs, whose words and files have many plans, `runs` and `makes` say what is in order. Here it is said of the other
-//! commands; and of all commands, that the statuses of refusals come exactly where the plan has them.
+//! What is in order ends in order, and what is refused is refused as it is planned. For runs, whose words and files
+//! have many plans, `runs` and `makes` say what is in order. These laws say it for the other commands. For all
+//! commands, they say that the statuses of refusals come exactly where the plan has them.
 
 ghost use Rattle.std.specs.Prelude.{List};
 ghost use Rattle.lam_main_words.specs.Words.{Text};

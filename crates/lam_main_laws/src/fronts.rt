@@ -1,6 +1,7 @@
-//! What an observer is shown of a front of a run: the first of the lines that it is shown of the run.
+//! The law of an observer's text of a run's prefix.
 //!
-//! So a book that lost its end shows no other run, and nothing that was shown is taken back by a turn more.
+//! Of a prefix of a run an observer is shown the first of the lines that it is shown of the run. So a book that lost
+//! its end shows no other run, and a turn more takes back nothing that was shown.
 
 ghost use Rattle.std.specs.Prelude.{List};
 ghost use Rattle.lam_bytecode.specs.Codes.{CodeTree};

@@ -1,21 +1,22 @@
-//! The laws of calls: what the text and the files of a call tell, in proofs alone.
+//! The laws of calls: what a call's text and files tell, in proofs alone.
 //!
-//! What a call does of its plan is the contract of the tool; `lam_main_plan` says what is planned. Here that is joined to the
-//! laws of the machine, of documents and of the source. All but those of `audits`, two of `saves` and
+//! The tool's contract says what a call does of its plan, and `lam_main_plan` says what is planned. These laws join
+//! that to the laws of the machine, of documents and of the source. All but those of `audits`, two of `saves` and
 //! `sources_run_as_meant` are clauses of `lam`.
 //!
-//! - `runs`: **the headline**. What `run` printed is what its observer sees of the run that the written book records, and
-//!   any other run of the code that it cannot tell apart looks the same to it (`specs/Headline`, with the like of `make`).
+//! - `runs`: **the headline**. What `run` printed is what its observer sees of the run that the written book records.
+//!   Any other run of the code that it cannot tell apart looks the same to it (`specs/Headline`, with the like of
+//!   `make`).
 //! - `makes`: every call of `make` is in order (`specs/Complete`).
 //! - `ends`: a call whose words and files are in order is done, and refusals come exactly where they are planned
 //!   (`specs/Orderly`).
-//! - `fronts`: of a front of a run an observer is shown the first of the lines of the run, and `replay` prints them so
+//! - `fronts`: of a prefix of a run an observer is shown the first of the lines of the run, and `replay` prints them so
 //!   (`specs/Fronts`).
 //! - `replays`: two calls of `replay` whose starts their observer cannot tell apart print the same, and `audit` prints
 //!   each release past any observer (`specs/Calls`).
 //! - `pairs`: what `pair` tells of two runs (`specs/Pairs`).
-//! - `saves`: what `next` does with the files at the end of a run, and that what it writes is read as the start of the next
-//!   one (`specs/Saves`).
+//! - `saves`: what `next` does with the files at the end of a run. What it writes is read as the start of the next one
+//!   (`specs/Saves`).
 //! - `walks`: what `walk` tells of a run (`specs/Walks`).
 //! - `audits`: what is kept of a run for observers and auditors is whole (`specs/Whole`).
 //! - `meant`: the runs of all these calls mean what their source means (`specs/Meant`).

@@ -1,13 +1,16 @@
-//! Every call of `make` is in order.
+//! The law that every call of `make` is in order.
 //!
 //! `make` compiles a text that is fixed, and starts it from the document of a world that it writes of its two numbers.
-//! Here it is shown that the text always has code and the document always a start: so a call whose words are in order
-//! ends as a run ends, unless memory runs out, or the file store or the output fails.
+//! The text always has code and the document always a start. So a call whose words are in order ends as a run ends,
+//! unless memory runs out, or the file store or the output fails.
 //!
-//! In `proofs/`, `Lexing` and `Parsing` compute tokens and trees by functions that are shown to keep the relations of the
-//! lexer and of the grammar; `Program` has the made program's tokens and tree, and `MadeCode` its code; `Lists` and
-//! `Document` read the made document as JSON, and `MadeStart` as a world; `Words` has the range of the words' number, and
-//! `Plans` joins them.
+//! In `proofs/`:
+//!
+//! - `Lexing` and `Parsing` compute tokens and trees by functions that are shown to keep the relations of the lexer and
+//!   of the grammar.
+//! - `Program` has the made program's tokens and tree, and `MadeCode` its code.
+//! - `Lists` and `Document` read the made document as JSON, and `MadeStart` as a world.
+//! - `Words` has the range of the words' number, and `Plans` joins them.
 
 ghost use Rattle.std.specs.Prelude.{List};
 ghost use Rattle.lam_io.specs.Outside.{Files};

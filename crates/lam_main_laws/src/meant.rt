@@ -1,12 +1,14 @@
-//! The runs that `replay`, `audit` and `run` are asked for mean what their source means.
+//! The law that runs of `replay`, `audit` and `run` mean what their source means.
 //!
-//! Where the files of such a call hold a program that keeps the type rules and the region rules, with its code, and a
-//! document with a start, then in each state of each run no thread is stuck, and each thread asks what its source means
-//! (`world_doc_laws`). What is run is the thinned code, which acts as the program, since its code is guarded
-//! (`compiled_code_guarded`, `thinned_code_acts`). Its asks are the first ones of its function in the source, with the arguments and capabilities
-//! that it was started with, as many units as it made turns, and the answers that stand in the run. Those of the source
-//! with n units are in turn the first ones of its own, once it has made (n + 1) * (T + 2R + 1) turns or has ended: T is
-//! the number of operations of the code that the program is compiled to, R that of its regions.
+//! The premise is that such a call's files hold a checked program that has code, and a document with a start. Then in
+//! each state of each run no thread is stuck, and each thread asks what its source means (`world_doc_laws`). What is
+//! run is the thinned code, which acts as the program, since its code is guarded (`compiled_code_guarded`,
+//! `thinned_code_acts`).
+//!
+//! Its asks are the first ones of its function in the source, with as many units as it made turns. They are taken with
+//! the arguments and capabilities that it was started with, and the answers in the run. In turn, the source's asks with
+//! n units are the first ones of its own after `(n + 1) * (T + 2R + 1)` turns, or once it has ended. T is the number of
+//! operations of the code that the program is compiled to, and R that of its regions.
 
 ghost use Rattle.std.specs.Prelude.{List};
 ghost use Rattle.lam_io.specs.Outside.{Files};

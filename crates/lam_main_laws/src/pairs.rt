@@ -1,7 +1,7 @@
-//! What a call of `pair` tells of two runs.
+//! The law of a call of `pair`, over two runs.
 //!
-//! A call of `pair` prints the one answer that is to be given of its two runs, and up to the number of that answer they look
-//! the same to the observer: isolation (`lam_machine_laws`), said of what is printed.
+//! A call of `pair` prints the one answer of its two runs. Up to the number of that answer they look the same to the
+//! observer: that is isolation (`lam_machine_laws`), said of what is printed.
 
 ghost use Rattle.std.specs.Prelude.{List};
 ghost use Rattle.lam_io.specs.Outside.{Files};

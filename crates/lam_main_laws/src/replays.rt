@@ -1,9 +1,9 @@
-//! What the texts of `replay` and `audit` tell.
+//! The laws of the texts that `replay` and `audit` print.
 //!
-//! A call of `replay` prints what its observer sees of the run that its files hold, and two calls whose starts the observer
-//! cannot tell apart print the same as far as their agendas agree: two-run isolation (`lam_machine_laws`), said of what is
-//! printed. A call of `audit` prints a line for each release past any observer, with the capabilities that it took, and marks
-//! it where all of these are public.
+//! A call of `replay` prints what its observer sees of the run that its files hold. Two calls whose starts the observer
+//! cannot tell apart print the same as far as their agendas agree. That is two-run isolation (`lam_machine_laws`), said
+//! of what is printed. A call of `audit` prints a line for each release past any observer, with the capabilities that
+//! it took. It marks the line where all of these are public.
 
 ghost use Rattle.std.specs.Prelude.{List};
 ghost use Rattle.lam_io.specs.Outside.{Files};

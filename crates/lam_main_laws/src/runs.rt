@@ -1,12 +1,12 @@
-//! What a call of `run` tells.
+//! The law of a call of `run`.
 //!
 //! However its threads interleave, `run` prints for an observer exactly the visible events of the machine run that its
 //! book records; and any other run of the program whose start agrees below the observer's label, with the same visible
-//! turns in the same order and the same releases past the label, has the same visible events and visible state as far as
-//! both go.
+//! turns in the same order and the same releases past the label, has the same visible events and visible state as far
+//! as both go.
 //!
 //! That is [`runs_are_recorded`]. It joins what a call did of its plan (`lam_main_plan`) to two-run isolation
-//! (`lam_machine_laws`). The plan says no more than that some run was taken; which run it was, the book tells.
+//! (`lam_machine_laws`). The plan says no more than that some run was taken; the book tells which.
 
 ghost use Rattle.std.specs.Prelude.{List};
 ghost use Rattle.lam_io.specs.Outside.{Files};

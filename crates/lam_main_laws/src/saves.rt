@@ -1,4 +1,4 @@
-//! What a call of `next` does with the files at the end of a run.
+//! The laws of the files that a call of `next` carries over.
 
 ghost use Rattle.std.specs.Prelude.{List};
 ghost use Rattle.lam_io.specs.Outside.{Files};

@@ -1,4 +1,4 @@
-//! What a call of `walk` tells of a run.
+//! The law of a call of `walk`, over a run.
 
 ghost use Rattle.std.specs.Prelude.{List};
 ghost use Rattle.lam_io.specs.Outside.{Files};

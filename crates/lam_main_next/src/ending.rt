@@ -1,4 +1,4 @@
-//! What is made of the end of a run: the document of the next run's world, and the line of how many items it has.
+//! The product of a run's end: the next document, and its line about the items.
 
 ghost use Rattle.std.specs.Prelude.{◌≡◌, ◌≢◌, ◌≤◌, Ok, length, IfOk, IfErr, string_bytes};
 ghost use Rattle.guarded_code_runs.specs.Worlds.{IsSound};

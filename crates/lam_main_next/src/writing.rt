@@ -1,4 +1,4 @@
-//! The document goes to its file, and the line is reported.
+//! The writing of the document, and the report of its line.
 
 ghost use Rattle.std.specs.Prelude.{◌≡◌, Some, IsTrue, IfErr, string_bytes};
 ghost use Rattle.lam_io.specs.Outside.{Rose, AllStay};

@@ -1,4 +1,4 @@
-//! One of two runs: the world that it starts from, and what the observer notes of its turns.
+//! One of two runs: its start, and what the observer notes of its turns.
 
 ghost use Rattle.std.specs.Prelude.{◌≡◌, ◌≢◌, ◌≤◌, IsTrue, IfErr, string_bytes};
 ghost use Rattle.lam_io.specs.Outside.{Rose, AllStay};

@@ -1,10 +1,10 @@
-//! The command `pair`: whether an observer may expect to see the same of two runs of a program.
+//! The command `pair`, which compares two runs of a program below an observer's label.
 //!
-//! The files are read one after another, and the first refusal ends the call: the program, which is compiled; then the first
-//! run, which is its world, the observer's label by the tags of that world, its book and the turns of it; then the second run
-//! in the same way. Of each run what the observer notes is kept while its turns are taken (`pair_check_agenda`), once, and
-//! then the starts and the agendas are compared (`pair_check`). What a call answers is what the plan of these files says
-//! (`lam_main_plan`).
+//! The files are read one after another, and the first refusal ends the call. First comes the program, which is
+//! compiled. Then comes the first run: its world, the observer's label by the tags of that world, its book, and its
+//! turns. The second run comes in the same way. What the observer notes of each run is kept while its turns are taken,
+//! once (`pair_check_agenda`). Then the starts and the agendas are compared (`pair_check`). What a call answers is what
+//! the plan of these files says (`lam_main_plan`).
 #![tactic(auto)]
 
 mod half;

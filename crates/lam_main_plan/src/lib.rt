@@ -1,9 +1,9 @@
-//! What a call of the tool does: the *plan* of its words and the files, in definitions, and how a call may answer to it.
+//! Plans, the specifications of a call's outcome, and how a call may answer to one.
 //!
-//! A [`Status`] is how a call ends. A plan (`specs/Plan.antt`) is a status, the text that is printed and the file that is
-//! written, if any; it is said command by command, in the order in which files are read, and a new command adds a case.
-//! What a call may make of its plan (`specs/Answer.antt`) is one relation for all commands: the output or the file
-//! store may fail, and memory may run out.
+//! A [`Status`] is how a call ends. A *plan* (`specs/Plan.antt`) is a status, the text that is printed and the file
+//! that is written, if any. It is defined command by command, in the order in which files are read, and a new command
+//! adds a case. What a call may make of its plan is one relation for all commands (`specs/Answer.antt`). The output or
+//! the file store may fail, and memory may run out.
 #![tactic(auto)]
 
 ghost use Rattle.std.specs.Prelude.{◌≡◌, ◌≤◌};

@@ -1,5 +1,7 @@
-//! The start of a run: the world of a document. Its threads stand at the entries of functions (`world_doc_laws`), so that
-//! runs of a guarded code from there are sound.
+//! The start of a run, which is the world of a document.
+//!
+//! Its threads stand at the entries of functions (`world_doc_laws`), so that runs of a guarded code from there are
+//! sound.
 
 ghost use Rattle.std.specs.Prelude.{◌≡◌, ◌≢◌, ◌≤◌, Ok, IsTrue, IfOk, IfErr, string_bytes};
 ghost use Rattle.lam_io.specs.Outside.{Rose, AllStay};

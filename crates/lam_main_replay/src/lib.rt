@@ -1,10 +1,10 @@
-//! The commands `replay` and `audit`: what is shown of a run that three files describe.
+//! The commands `replay` and `audit`, which show the run that three files describe.
 //!
-//! The files are read one after another, and the first refusal ends the call: the program, which is compiled
-//! (`lam_main_files`); the document of the world that the run starts from (`world_doc`); then the observer's label, whose
-//! tags that world names; and the book, which says whose turn comes when (`turn_book`). The turns are taken on the machine,
-//! and what is seen of them, or noted (`lam_machine_replay`), is printed (`audit_log`). What a call answers is what the
-//! plan of these files says (`lam_main_plan`). The command `run` reads its files by the same calls.
+//! The files are read one after another, and the first refusal ends the call. First comes the program, which is
+//! compiled (`lam_main_files`), then the document of the world that the run starts from (`world_doc`). Then come the
+//! observer's label, whose tags that world names, and the book, the schedule of turns (`turn_book`). The machine takes
+//! the turns, and what is seen of them, or noted (`lam_machine_replay`), is printed (`audit_log`). What a call answers
+//! is what the plan of these files says (`lam_main_plan`). The command `run` reads its files by the same calls.
 #![tactic(auto)]
 
 mod document;

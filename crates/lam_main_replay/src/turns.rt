@@ -1,5 +1,4 @@
-//! The turns of a book, and the label of an observer, for the commands that go on from them; and what their faults halt
-//! with.
+//! The turns of a book, an observer's label, and the halts of their faults.
 
 ghost use Rattle.std.specs.Prelude.{◌≡◌, ◌≢◌, ◌≤◌, Ok, length, IsTrue, IfOk, IfErr, string_bytes};
 ghost use Rattle.flow_labels.specs.LabelText.{label_of};

@@ -1,4 +1,4 @@
-//! Who reads of a run, with the observer's label read by the names of the start.
+//! The readers of a run, with the observer's label read by the start's names.
 
 ghost use Rattle.std.specs.Prelude.{◌≡◌, ◌≢◌, Ok, IfOk, IfErr};
 ghost use Rattle.lam_main_files.specs.Reading.{Never};

@@ -1,4 +1,4 @@
-//! The command `make`: a program and a world of a number, and the summary of their run.
+//! The command `make`: a program and a world from a number, and their run's summary.
 
 ghost use Rattle.std.specs.Prelude.{◌≡◌, ◌≢◌, ◌≤◌, Some, None, IsTrue, IfOk, IfErr, string_bytes};
 ghost use Rattle.lam_io.specs.Outside.{Rose, AllStay};

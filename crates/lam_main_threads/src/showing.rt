@@ -1,4 +1,4 @@
-//! What a reader is shown of the turns that threads took, and their book.
+//! The text of a run that threads took, and its book.
 
 ghost use Rattle.std.specs.Prelude.{◌≢◌, ◌<◌, ◌≤◌, IfOk, IfErr, string_bytes};
 ghost use Rattle.guarded_code_runs.specs.Worlds.{IsSound};

@@ -1,4 +1,4 @@
-//! The turns that threads take, as the parts of their run, and what is kept of them.
+//! The turns that threads take, as parts of their run, with what is kept.
 
 ghost use Rattle.std.specs.Prelude.{◌<◌, ◌≤◌, [], IfOk};
 ghost use Rattle.guarded_code_runs.specs.Worlds.{IsSound};

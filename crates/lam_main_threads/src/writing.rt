@@ -1,4 +1,4 @@
-//! The book goes to its file, and the rest is reported.
+//! The writing of the book, and the report of the rest.
 
 ghost use Rattle.std.specs.Prelude.{◌≡◌, Some, IsTrue, IfErr, string_bytes};
 ghost use Rattle.lam_io.specs.Outside.{Rose, AllStay};

@@ -1,9 +1,9 @@
-//! The command `walk`: whether the source of a program makes what was asked in its run, by the source alone.
+//! The command `walk`, which checks a run's asks against the program's source.
 //!
-//! The program is read once, and is both compiled and taken with its names resolved. The code is run by the book, to know what
-//! was asked and answered, and then it is looked at no more: a walk over the source, with the answers, meets the asks again
-//! (`source_walk`). A run of a program's own code keeps to its source (`lam_main_laws`), so there is one answer, how many asks
-//! there were. What a call answers is what the plan of these files says (`lam_main_plan`).
+//! The program is read once, and is both compiled and taken with its names resolved. The code is run by the book, to
+//! know what was asked and answered, and is then not looked at again. A walk over the source, with the answers, meets
+//! the asks again (`source_walk`). A run of a program's own code keeps to its source (`lam_main_laws`), so there is one
+//! answer, how many asks there were. What a call answers is what the plan of these files says (`lam_main_plan`).
 #![tactic(auto)]
 
 mod source;

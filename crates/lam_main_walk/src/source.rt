@@ -1,4 +1,4 @@
-//! The code that is run of a program, and the program with its names resolved, from one reading of its text.
+//! The code of a program that is run, and its resolved tree, from one reading.
 
 ghost use Rattle.std.specs.Prelude.{◌≡◌, ◌≢◌, ◌≤◌, ◌⊎◌, ℕ, Ok, Err, IsTrue, IfOk, IfErr, string_bytes};
 ghost use Rattle.lam_io.specs.Outside.{Rose, AllStay};

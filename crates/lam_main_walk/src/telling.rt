@@ -1,4 +1,4 @@
-//! What a walk over the source of a run is told by: the line of how many asks there are.
+//! The line of a walk's answer, with the number of asks.
 
 ghost use Rattle.std.specs.Prelude.{◌≡◌, ◌≢◌, ℕ, List, IfOk, IfErr, string_bytes};
 ghost use Rattle.lam_resolve_tree.specs.Tree.{resolved_tree};

@@ -1,7 +1,8 @@
-//! The words of the command line: the forms that they may have, and the commands that they ask.
+//! The words of the command line, their forms, and the commands that they ask.
 //!
-//! The forms are a table, `Form::kinds`: a command adds a line to it, or one for each way to write its options, its name, a line of [`help_text`],
-//! and a case to [`read_words`]. Words that are in no form are refused at the least index at which no form agrees with them.
+//! The forms are a table, `Form::kinds`. A command adds a line to it, or one for each way to write its options. It also
+//! adds its name, a line of [`help_text`], and a case of [`read_words`]. Words that are in no form are refused at the
+//! least index at which no form agrees with them.
 #![tactic(auto)]
 
 ghost use Rattle.std.specs.Prelude.{◌≡◌, ◌≤◌, IfOk, IfSome, length, map, find, string_bytes};

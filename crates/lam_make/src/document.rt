@@ -1,4 +1,4 @@
-//! The document of the world.
+//! The world document of a made input.
 
 ghost use Rattle.std.specs.Prelude.{◌≡◌, ◌≤◌, ◌++◌, [], codes, nat_eq, if◌then◌else◌, OnOk, string_bytes};
 ghost use Rattle.lam_make.specs.Made.{listed, nth_thread, tag_word, args_text, caps_text, thread_text, world_text, most_made_threads};

@@ -1,4 +1,4 @@
-//! The numbers that are drawn from a seed.
+//! Numbers that are drawn from a seed.
 
 ghost use Rattle.std.specs.Prelude.{◌≡◌};
 ghost use Rattle.lam_make.specs.Made.{next, number_in};

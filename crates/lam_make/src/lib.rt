@@ -1,8 +1,9 @@
-//! A large input from a number, to time runs and to try them with many threads.
+//! A generator of large inputs from a seed, for timing and for many threads.
 //!
-//! The program is always the same: a thread sums the numbers up to one in a region that bears its own tag, and says the
-//! sum in a region below it. The world has so many threads, each with a tag of its own, the capabilities of that tag and a
-//! number below 1000 that is drawn from the seed. So one seed and one number of threads make one input, on every machine.
+//! The program is always the same. Each thread sums the numbers up to its own in a region with its own tag, and says
+//! the sum in a public region inside. The world has the wanted number of threads. Each has a tag, the capabilities of
+//! that tag, and a number below 1000 that is drawn from the seed. So a seed and a number of threads make one input, on
+//! every machine.
 #![tactic(auto)]
 
 mod document;

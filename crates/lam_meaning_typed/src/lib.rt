@@ -1,17 +1,17 @@
-//! Typed programs never go wrong, and what a thread asks for with fewer units.
+//! Type soundness of programs, and monotonicity of their asks in fuel.
 //!
-//! The judgement on resolved programs (`lam_resolve_tree`'s `specs/Typing`) suffices for the meaning of threads: a thread of
-//! a typed program never comes to an operand of another kind than its place takes. It ends, it waits for an answer, or
-//! its units are spent. The answers may be any: one that does not suit its ask ends the asks there.
+//! A thread of a typed program never comes to an operand of another kind than its place takes. It ends, it waits for an
+//! answer, or its units are spent. The judgement on resolved programs (`lam_resolve_tree`'s `specs/Typing`) suffices
+//! for that. The answers may be any: one that does not suit its ask ends the asks there.
 //!
-//! The proof takes of values of types only what `proofs/Sorts` lists, so it is made once: here values are of their types'
-//! sorts and any ask may be made; `lam_machine_means` has values of types by what stands on the heap, and typed asks.
-//! `proofs/Rows` has a line for each operator and built-in call, `proofs/Locals` the locals of a unit, each of the type
-//! of its slot while the slot is in scope.
+//! The proof takes of values of types only what `proofs/Sorts` lists, so it is made once. Here values are of their
+//! types' sorts, and any ask may be made. `lam_machine_means` has values of types by what stands on the heap, and typed
+//! asks. `proofs/Rows` has a line for each operator and built-in call. `proofs/Locals` has the locals of a unit, each
+//! of the type of its slot while the slot is in scope.
 //!
-//! The meaning of a thread has a number of *units*, one for each turn of a loop and each call, so that its tree of asks
-//! is finite. The number decides only how far the tree goes: with fewer units it is the same tree, cut off at places where
-//! the units are used up. So each list of asks that a meaning gives stays, and grows at its end alone.
+//! The meaning of a thread has a number of *units*, one for each turn of a loop and each call. So its tree of asks is
+//! finite. With fewer units it is the same tree, cut off where the units are used up. So each list of asks that a
+//! meaning gives stays, and grows at its end alone.
 #![tactic(auto)]
 
 ghost use Rattle.lam_resolve_tree.specs.Tree.{ResolvedTree};

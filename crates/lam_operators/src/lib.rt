@@ -1,7 +1,7 @@
 //! The operators of the language.
 //!
-//! The syntax tree, the program with its names resolved, the bytecode and the meaning of a program all speak of the same
-//! operators. They stand here, below all of these, so that the machine does not stand on the syntax tree.
+//! The syntax tree, the resolved program, the bytecode and the meaning of a program share these operators. They stand
+//! below all of these, so that the machine does not depend on the syntax tree.
 #![tactic(auto)]
 
 /// The operators between two operands, from those that bind weakest to those that bind strongest:

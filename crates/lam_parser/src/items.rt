@@ -1,4 +1,4 @@
-//! Classes, functions, and the program that they make.
+//! The parser of classes, functions and programs.
 
 ghost use Rattle.std.specs.Prelude.{◌≡◌, true, ◌<◌, ◌≤◌, length, slice_get, IfOk};
 ghost use Rattle.lam_grammar.specs.Table as table;

@@ -1,14 +1,17 @@
-//! From the tokens of a text to the tree of its program.
+//! The parser: from the tokens of a text to the tree of its program.
 //!
-//! `parse` is the plain descent over the grammar's rules, one small function for each: items and their parts in `items`,
-//! statements with blocks in `stmts`. What contains no block is read by `lam_parser_stmts`, expressions by
-//! `lam_parser_exprs`, types and names by `lam_parser_parts`. It looks at one token ahead, copies no tokens, and lets go of
-//! those of the items that it has read. Items, statements and the other lists are read by loops; blocks within blocks are
-//! read by calls within calls, at most 128 deep, since each counts in the depth sum.
+//! `parse` descends over the grammar's rules, one small function for each, with one token of lookahead. `items` reads
+//! items and their parts, and `stmts` statements with blocks. `lam_parser_stmts` reads what contains no block,
+//! `lam_parser_exprs` expressions, and `lam_parser_parts` types and names. The parser copies no tokens, and lets go of
+//! those of the items that it has read. Loops read items, statements and the other lists. Nested blocks are nested
+//! calls, at most 128 deep, since each counts in the depth sum.
 //!
-//! What an answer says is `Parses`, in `specs/Answers.antt`: the tree is exactly the one that the tokens spell,
-//! positions included; the token named as unexpected is the first that continues no program, and something of the
-//! wanted kind could stand in its place; the token named as too deep is the first at which the depth sum passes 128.
+//! `Parses`, in `specs/Answers.antt`, specifies the answers:
+//!
+//! - the tree is exactly the one that the tokens spell, positions included,
+//! - the token named as unexpected is the first that continues no program, and something of the wanted kind could stand
+//!   in its place,
+//! - the token named as too deep is the first at which the depth sum passes 128.
 #![tactic(auto)]
 
 ghost use Rattle.std.specs.Prelude.{◌≡◌, ℕ, List, slice_get};

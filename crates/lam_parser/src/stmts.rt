@@ -1,4 +1,4 @@
-//! Statements and blocks.
+//! The parser of statements and blocks.
 
 ghost use Rattle.std.specs.Prelude.{◌≡◌, ◌<◌, ◌≤◌, length, IfOk};
 ghost use Rattle.lam_parser_tokens.specs.Reading.{Taken};

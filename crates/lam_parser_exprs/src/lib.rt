@@ -1,8 +1,8 @@
-//! From tokens to the trees of expressions.
+//! The parser of expressions.
 //!
 //! Each function reads one rule of the grammar, from a token on and with a depth sum, and says so in its contract.
-//! Operators of one level, postfix parts and lists are loops; only what is nested recurses, which the depth limit bounds.
-//! What contains no expression is read by `lam_parser_parts`.
+//! Operators of one level, postfix parts and lists are loops. Only nesting recurses, and the depth limit bounds it.
+//! `lam_parser_parts` reads the parts that contain no expression.
 #![tactic(auto)]
 
 mod operators;

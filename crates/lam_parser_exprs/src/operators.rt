@@ -1,4 +1,4 @@
-//! Expressions by their operators: those that group to the left, comparisons, prefixes, and postfix parts.
+//! Operator expressions: left-associative levels, comparisons, prefixes and postfix parts.
 
 ghost use Rattle.std.specs.Prelude.{◌≡◌, ◌<◌, ◌≤◌, length, IfOk, MatchResult};
 ghost use Rattle.lam_grammar.specs.Table as table;

@@ -1,4 +1,4 @@
-//! Primary expressions: literals, parentheses, names, calls, and what begins with `new`, `label`, `caps` or `spawn`.
+//! Primary expressions: literals, parentheses, names, calls, and the forms of `new`, `label`, `caps` and `spawn`.
 //!
 //! `primary` looks at one token and chooses the form, and each form has a function. Lists of arguments and of tags are
 //! loops, so only nested expressions recurse, which the limit of the depth sum bounds.

@@ -1,7 +1,7 @@
-//! From tokens to types, to names with their types, and to the parts of expressions that contain no expression.
+//! The parser of types, typed names, and expression parts without nested expressions.
 //!
-//! Each function that reads a rule of the grammar does so from a token on and with a depth sum, and says so in its
-//! contract. The others make a node of the tree from what was read.
+//! A function that reads a rule of the grammar does so from a token on with a depth sum, and says so in its contract.
+//! The others make a node of the tree from what was read.
 #![tactic(auto)]
 
 mod nodes;

@@ -1,4 +1,4 @@
-//! The nodes of the tree that stand for the forms of a primary expression, made of what was read.
+//! Constructors of the tree nodes of primary expressions.
 //!
 //! Each function says which tree of `lam_syntax` its node is seen as.
 

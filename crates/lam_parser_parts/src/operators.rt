@@ -1,4 +1,4 @@
-//! The nodes of operators, prefixes and postfix parts, made of what was read.
+//! Constructors of the tree nodes of operators, prefixes and postfix parts.
 
 ghost use Rattle.std.specs.Prelude.{◌≡◌, ◌+◌, ◌^◌, ◌<◌, ◌≤◌, length, IfOk, MatchResult};
 ghost use Rattle.lam_syntax.specs.Tree.{expr_tree, expr_node, binary_expr, unary_expr, field_expr, element_expr, id_tree};

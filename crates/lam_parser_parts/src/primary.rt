@@ -1,4 +1,4 @@
-//! Primary expressions that contain no other: literals, `caps` and `new` with a class; and the forms of all.
+//! Primary expressions without nested ones (literals, `caps`, `new` with a class), and all forms.
 
 ghost use Rattle.std.specs.Prelude.{◌≡◌, true, ◌<◌, ◌≤◌, length, slice_get, IfOk};
 ghost use Rattle.lam_grammar.specs.Table as table;

@@ -1,4 +1,4 @@
-//! Types.
+//! The parser of types.
 
 ghost use Rattle.std.specs.Prelude.{◌≡◌, ◌<◌, ◌≤◌, length, IfOk};
 ghost use Rattle.lam_syntax.specs.Tree.{type_form, type_tree, type_node, array_type};

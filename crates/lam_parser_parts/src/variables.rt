@@ -1,4 +1,4 @@
-//! Names with their types, and lists of names.
+//! The parser of typed names, and of lists of names.
 
 ghost use Rattle.std.specs.Prelude.{◌<◌, ◌≤◌, length, IfOk};
 ghost use Rattle.lam_grammar.specs.Table.{fields, params, names};

@@ -1,7 +1,7 @@
-//! From tokens to statements without blocks, and to the head of a region.
+//! The parser of statements without blocks, and of region heads.
 //!
 //! Each function reads one form, from the token behind its word on and with a depth sum, and says so in its contract.
-//! Statements with blocks, which contain one another, are read by `lam_parser`.
+//! `lam_parser` reads statements with blocks, which contain one another.
 #![tactic(auto)]
 
 mod nodes;

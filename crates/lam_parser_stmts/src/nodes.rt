@@ -1,4 +1,4 @@
-//! The nodes of statements, made of what was read.
+//! Constructors of the tree nodes of statements.
 //!
 //! Each function says which tree of `lam_syntax` its node is seen as.
 

@@ -1,4 +1,4 @@
-//! `let`, `return`, `throw`, expressions as statements, assignments; and what a region begins with.
+//! The parser of `let`, `return`, `throw`, expression statements, assignments and region heads.
 
 ghost use Rattle.std.specs.Prelude.{◌≡◌, ◌<◌, ◌≤◌, length, slice_get, IfOk};
 ghost use Rattle.lam_syntax.specs.Tree.{expr_tree};

@@ -1,4 +1,4 @@
-//! Why reading stopped.
+//! Breaks, the reasons why reading stopped.
 
 ghost use Rattle.std.specs.Prelude.{◌≡◌};
 ghost use Rattle.lam_parser_tokens.specs.declared.breaks.Break.TheVariants.{NoMemory as no_memory};

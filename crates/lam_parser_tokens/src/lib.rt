@@ -1,10 +1,10 @@
-//! What every part of the parser stands on: the classes of tokens, how one is taken, and what it is to have read a rule.
+//! The basis of the parser: token classes, the token list, and reading contracts.
 //!
-//! A reading function reads one rule of the grammar from a token on, with a depth sum, and answers what was read and the
-//! token after it, or a `Break`. Its contract is in the words of `specs/Reading.antt`: the rule gives a value (`Gives`),
-//! or reading it comes to all that the break says (`Fails`).
+//! A reading function reads one rule of the grammar from a token on, with a depth sum. It returns what was read and the
+//! token after it, or a `Break`. Its contract is in the words of `specs/Reading.antt`: the rule gives a value
+//! (`Gives`), or reading it comes to all that the break says (`Fails`).
 //!
-//! `proofs/Rules.antt` has the lemmas by which each such function is proved: a rule is begun, its symbols are taken one
+//! `proofs/Rules.antt` has the lemmas for the proof of each such function. A rule is begun, its symbols are taken one
 //! after another, and it is finished; or what stops at the next symbol stops the rule.
 #![tactic(auto)]
 

@@ -1,4 +1,4 @@
-//! The tokens, and how one is taken.
+//! The token list, and the taking of one token.
 
 ghost use Rattle.std.specs.Prelude.{◌≡◌, true, ◌<◌, length, slice_get, IfOk, IfSome, MatchOption, MatchResult, option_copied};
 ghost use Rattle.lam_syntax.specs.Tree.{id_tree};

@@ -1,4 +1,4 @@
-//! What holds of canonical text.
+//! The laws of canonical text.
 
 ghost use Rattle.lam_print.specs.Fitting.{PiecesFit};
 ghost use Rattle.lam_print.specs.Law.{TextLaw, TokensFit};

@@ -1,7 +1,7 @@
-//! The canonical text of a program.
+//! The printer of a program's canonical text.
 //!
-//! One item after another with an empty line between, a statement or a field a line, two blanks for each open block,
-//! and parentheses only where the grammar needs them. Comments are no part of a tree, so they are dropped.
+//! Items are separated by an empty line. A statement or a field has one line, with two blanks for each open block.
+//! Parentheses stand only where the grammar needs them. Comments are no part of a tree, so they are dropped.
 //!
 //! `specs/Canon.antt` lays a tree out as pieces (tokens, blanks and lines), and the printer writes those.
 #![tactic(auto)]

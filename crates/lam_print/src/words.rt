@@ -1,4 +1,4 @@
-//! What the printer writes in one go.
+//! The pieces of text that the printer writes at once.
 
 ghost use Rattle.std.specs.Prelude.{◌≡◌, ◌<◌, ◌/◌, ◌%◌, ◌++◌, ◌∷◌, [], OnOk};
 ghost use Rattle.std.specs.String.{string_bytes};

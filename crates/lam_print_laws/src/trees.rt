@@ -1,4 +1,4 @@
-//! What holds of reading canonical text.
+//! The laws of reading canonical text.
 
 ghost use Rattle.lam_print_laws.specs.Law.{TreeLaw, WayRound, Steady};
 

@@ -1,4 +1,4 @@
-//! What holds of the words of a program that was read from a text.
+//! The laws of the words of a program that was read from a text.
 
 ghost use Rattle.lam_print_laws.specs.Words.{WordsFit, ReadAgain};
 

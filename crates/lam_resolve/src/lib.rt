@@ -1,12 +1,12 @@
-//! A checked program with its names resolved.
+//! Name resolution of checked programs.
 //!
-//! `resolve` answers the tree that `lam_resolve_laws` defines, in one pass: its contract is that equation with the laws of
-//! that tree, and `NoMemory` alone is free. The classes, their fields and the functions of a program stand in tables by
-//! name, made once (`lam_resolve_tables`). `programs` goes through the functions, whose statements `lam_resolve_stmts`
-//! resolves. The program is borrowed, and stays whole beside what it resolves to.
+//! `resolve` answers the tree that `lam_resolve_laws` defines, in one pass. Its contract is that equation with the laws
+//! of that tree, and only `NoMemory` is free. The classes, their fields and the functions of a program stand in tables
+//! by name, made once (`lam_resolve_tables`). `programs` goes through the functions, whose statements
+//! `lam_resolve_stmts` resolves. The program is borrowed, and stays whole beside what it resolves to.
 //!
-//! The functions below `resolve` require that their part of the program resolves. A checked program does: that is the
-//! law which `lam_resolve_laws` carries, and `resolve` alone uses it.
+//! The functions below `resolve` require that their part of the program resolves. A law of `lam_resolve_laws` says that
+//! a checked program does, and `resolve` alone uses it.
 #![tactic(auto)]
 
 mod checked;

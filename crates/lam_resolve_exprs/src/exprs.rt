@@ -1,4 +1,4 @@
-//! Expressions.
+//! The traversal of an expression.
 
 ghost use Rattle.std.specs.Prelude.{◌≡◌, IfOk, IsSome, Some};
 ghost use Rattle.lam_syntax.specs.Tree.{expr_tree, exprs_tree, id_tree, type_tree, new_array_expr, label_expr, spawn_expr};

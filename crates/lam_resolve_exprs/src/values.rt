@@ -1,6 +1,4 @@
-//! Names in scope, and resolved expressions with what they give.
-//!
-//! Each function here makes one form of an expression of resolved parts.
+//! Names in scope, and constructors of resolved expressions with what they give.
 
 ghost use Rattle.std.specs.Prelude.{◌≡◌, ℕ, IfOk, IsSome, Some, slice_get};
 ghost use Rattle.std.specs.Option.{option_map, option_copied};

@@ -1,8 +1,8 @@
-//! A checked program with its names resolved.
+//! The definition of name resolution, and its laws for checked programs.
 //!
-//! `specs/Resolved.antt` says what a program resolves to: a tree of `lam_resolve_tree`, in which locals stand by slot, and
-//! fields, classes, functions and regions by number. `specs/Names.antt` says which program a resolved one is once its
-//! names are put back. `resolves` has the laws that join the two to the checker; `lam_resolve` computes the tree.
+//! `specs/Resolved.antt` says what a program resolves to: a tree of `lam_resolve_tree`, with locals by slot, and
+//! fields, classes, functions and regions by number. `specs/Names.antt` puts the names of a resolved program back.
+//! `resolves` has the laws that join the two to the checker; `lam_resolve` computes the tree.
 #![tactic(auto)]
 
 ghost use Rattle.std.specs.Prelude.{◌≡◌, IsSome, IsSomeAnd};

@@ -1,8 +1,8 @@
-//! The statements of a unit with their names resolved.
+//! Name resolution of a unit's statements.
 //!
 //! `stmts` goes through the statements of a unit, over the names in scope and the slots of `lam_resolve_units` and the
-//! expressions of `lam_resolve_exprs`. What stands before a region's blocks, and the node that is made of its parts, are
-//! in `regions`, outside of that recursion.
+//! expressions of `lam_resolve_exprs`. `regions` stands outside that recursion. It has what stands before a region's
+//! blocks, and the node that is made of its parts.
 //!
 //! Each function requires that its part of the program resolves, and answers what `lam_resolve_laws` says of it.
 #![tactic(auto)]

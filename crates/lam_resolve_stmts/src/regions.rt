@@ -1,4 +1,4 @@
-//! What stands before and after the blocks of a region.
+//! The parts of a region before and after its blocks.
 
 ghost use Rattle.std.specs.Prelude.{◌≡◌, IfOk, IsSome, Some};
 ghost use Rattle.lam_syntax.specs.Tree.{expr_tree};

@@ -1,4 +1,4 @@
-//! Types as the resolver carries them, and what an expression gives.
+//! The resolver's types, and what an expression gives.
 
 ghost use Rattle.std.specs.Prelude.{◌≡◌, IfOk, IsSome, Some, option_map};
 ghost use Rattle.lam_syntax.specs.Tree.{type_tree as written_tree, option_type_tree as written_option};

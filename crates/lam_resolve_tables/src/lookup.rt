@@ -1,4 +1,4 @@
-//! Names are found in constant time.
+//! Look-up of names in constant time.
 
 ghost use Rattle.std.specs.Prelude.{◌≡◌, ◌++◌, ◌∷◌, [], List, OnErr, OnOk, length, take};
 ghost use Rattle.lam_operators.specs.Words.{Word};

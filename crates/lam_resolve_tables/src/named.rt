@@ -1,4 +1,4 @@
-//! Named values.
+//! Lists of named values.
 
 ghost use Rattle.std.specs.Prelude.{◌≡◌};
 ghost use Rattle.lam_types_kinds.specs.Values.{keyed};

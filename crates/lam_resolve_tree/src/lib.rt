@@ -1,16 +1,16 @@
-//! A program with its names resolved.
+//! The tree of a resolved program, in which names are slots and numbers.
 //!
-//! Locals stand by slot, fields, classes, functions and regions by number. An access has the type of what it reads or
-//! writes, a built-in call the type of its result. The meaning of a program and the compiler's scheme are on these
-//! trees, and neither looks at a name.
+//! Locals stand by slot, and fields, classes, functions and regions by number. An access has the type of what it reads
+//! or writes, and a built-in call the type of its result. The meaning of a program and the compiler's scheme are on
+//! these trees, and neither looks at a name.
 //!
-//! A unit is a function or a region: each has slots of its own, counted from 0. A function's are its parameters and
-//! then one for each `let` and each `sync`, in order of appearance, but those inside of its regions; a region's are its
-//! captures and then one for each `let`, each `sync` and its catch name. Functions and classes are numbered in source
-//! order, the fields of a class too, and the regions of a program by the position of the word `region`.
+//! A unit is a function or a region, with slots of its own, counted from 0. A function's slots are its parameters, then
+//! one for each `let` and each `sync` outside its regions, in order of appearance. A region's slots are its captures,
+//! then one for each `let`, each `sync` and its catch name. Functions, classes and the fields of a class are numbered
+//! in source order, and regions by the position of the word `region`.
 //!
-//! As with the trees of `lam_syntax`, the definitions are on a mirror of these types as plain data, in
-//! `specs/Tree.antt`, with a view from each type here.
+//! As in `lam_syntax`, the definitions are on a mirror of these types as plain data (`specs/Tree.antt`), with a view
+//! from each type here.
 #![tactic(auto)]
 
 use lam_builtins::Builtin;

@@ -1,8 +1,8 @@
-//! Units and the parts of statements.
+//! Name resolution of units and of the parts of statements.
 //!
-//! A unit is a function or a region. `units` has its names in scope and its slots: one more slot, one more name, names
-//! that go out of scope, a unit that opens and a region that is entered with what it captures. `parts` makes statements
-//! of resolved parts. The statements themselves are gone through in `lam_resolve_stmts`.
+//! A unit is a function or a region. `units` has its names in scope and its slots. It adds slots and names, drops names
+//! that go out of scope, opens a unit, and enters a region with its captures. `parts` makes statements from resolved
+//! parts. `lam_resolve_stmts` goes through the statements themselves.
 #![tactic(auto)]
 
 pub mod parts;

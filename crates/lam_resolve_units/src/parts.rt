@@ -1,4 +1,4 @@
-//! Statements, of resolved parts.
+//! Constructors of statements from resolved parts.
 
 ghost use Rattle.std.specs.Prelude.{◌≡◌, IfOk, IsSome, OnOk, Some};
 ghost use Rattle.lam_syntax.specs.Tree.{expr_tree as written_tree, option_expr_tree as written_option, var_tree, let_stmt};

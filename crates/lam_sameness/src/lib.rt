@@ -1,7 +1,7 @@
-//! Whether two programs are the same but for positions.
+//! Equality of programs, up to positions.
 //!
-//! Two trees are the same where their views without positions (`unplaced`, of `lam_syntax`) are. Nothing of the tool's
-//! own way stands on this crate: it serves whoever compares programs, and the worked examples.
+//! Two trees are the same where their views without positions (`unplaced`, of `lam_syntax`) are. The tool itself does
+//! not depend on this crate: it serves callers that compare programs, and the worked examples.
 #![tactic(auto)]
 
 ghost use Rattle.std.specs.Prelude.{◌≡◌, ◌↔◌, IsTrue};

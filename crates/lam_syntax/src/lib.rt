@@ -1,12 +1,12 @@
 //! The syntax tree of a program.
 //!
-//! The parser makes a tree, the type checker and the region rules read it, the printer writes it as canonical text,
-//! and the meaning of a program and the compiler's scheme are defined on it. Each node keeps its position: the byte
-//! of the text, counted from 0, at which its first token begins. Parentheses round a whole node do not belong to it,
-//! and no node stands for them.
+//! The parser makes a tree, the type checker and the region rules read it, and the printer writes it as canonical text.
+//! The meaning of a program and the compiler's scheme are defined on it. Each node keeps its position: the byte of the
+//! text, counted from 0, at which its first token begins. Parentheses around a whole node do not belong to it, and no
+//! node stands for them.
 //!
-//! Boxes and vectors have places in memory, of which no definition speaks. So `specs/Tree.antt` has a mirror of these
-//! types as plain data, with a view from each type here, and every definition of the language is on that mirror.
+//! Boxes and vectors have places in memory, and no definition speaks of those. So `specs/Tree.antt` mirrors these types
+//! as plain data, with a view from each type here. Every definition of the language is on that mirror.
 #![tactic(auto)]
 
 use lam_operators::{BinaryOp, UnaryOp};

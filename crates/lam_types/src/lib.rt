@@ -1,12 +1,12 @@
 //! The type checker.
 //!
-//! `specs/Stmts.antt` and `specs/Program.antt` say which break of the typing rules is the first in a program:
-//! all class names, all function names, then the items in source order, each from left to right. `specs/Judgement.antt`
-//! says which programs are typed, with one rule for each form of the grammar, and no positions and no order. `check`
+//! `specs/Stmts.antt` and `specs/Program.antt` define the first break of the typing rules in a program. All class names
+//! come first, then all function names, then the items in source order, each from left to right. `specs/Judgement.antt`
+//! says which programs are typed, with one rule for each form of the grammar, and without positions or order. `check`
 //! joins the two: it answers Ok exactly where the program is typed, and else the first break.
 //!
-//! The crate stands on `lam_types_exprs`, which types expressions, and on `lam_types_kinds`, which has the types and the tables.
-//! Names in scope are a table that a block cuts back at its end, so a look-up takes constant time.
+//! `lam_types_exprs` types expressions, and `lam_types_kinds` has the types and the tables. Names in scope are a table
+//! that a block cuts back at its end, so a look-up takes constant time.
 #![tactic(auto)]
 
 mod endings;

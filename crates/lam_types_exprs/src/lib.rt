@@ -1,11 +1,11 @@
 //! The typing of expressions.
 //!
-//! `specs/Exprs.antt` says what an expression gives and which break is the first in it, from left to right, an
-//! operator's own rule after its operands. `specs/Judgement.antt` says which expressions are typed, with one rule for
-//! each form of the grammar, and no positions and no order. `check_one` joins the two.
+//! `specs/Exprs.antt` defines what an expression gives, and the first break in it. The order is from left to right,
+//! with an operator's own rule after its operands. `specs/Judgement.antt` says which expressions are typed, with one
+//! rule for each form of the grammar, and without positions or order. `check_one` joins the two.
 //!
-//! Every function here takes the tables of the program's classes and functions, and the names in scope. It answers
-//! what the expression gives, without allocating; only a refusal that names types does.
+//! Every function here takes the tables of the program's classes and functions, and the names in scope. It answers what
+//! the expression gives. Only a refusal that names types allocates.
 #![tactic(auto)]
 
 ghost use Rattle.std.specs.Prelude.{◌≡◌, IfOk, OnOk, length, is_some, Some};

@@ -1,4 +1,4 @@
-//! How built-in calls are called, by types that borrow from a program's tree. The table is that of `lam_builtins`.
+//! Signatures of built-in calls, in types that borrow from a program's tree. The table is that of `lam_builtins`.
 
 ghost use Rattle.std.specs.Prelude.{◌≡◌, take, length};
 ghost use Rattle.lam_operators.specs.Words.{Word};

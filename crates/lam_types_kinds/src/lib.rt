@@ -1,12 +1,15 @@
-//! Types as the checker sees them, and the tables of a program's classes and functions.
+//! The type checker's types and refusals, and its tables of classes and functions.
 //!
-//! The type checker stands on this crate: `types` has a program's types without their positions and what an
-//! expression gives, `builtins` how the built-in calls of `lam_builtins` are called, `fault` the refusals of the
-//! checker, and `tables` the declared classes and functions with look-up in constant time. Types borrow from the
-//! program's tree and are `Copy`; only a refusal that names types allocates.
+//! The type checker stands on this crate.
 //!
-//! The definitions are in `specs/`: `Breaks` says what a break is and how checks follow one another, and `Tables` which
-//! names a program declares. The language's types and its table of built-in calls are those of `lam_builtins`.
+//! - `types`: a program's types without their positions, and what an expression gives.
+//! - `builtins`: signatures of the built-in calls of `lam_builtins`.
+//! - `fault`: the refusals of the checker.
+//! - `tables`: the declared classes and functions, with look-up in constant time.
+//!
+//! Types borrow from the program's tree and are `Copy`; only a refusal that names types allocates. In `specs/`,
+//! `Breaks` says what a break is and how checks follow one another, and `Tables` which names a program declares. The
+//! language's types and its table of built-in calls are those of `lam_builtins`.
 #![tactic(auto)]
 
 pub mod builtins;

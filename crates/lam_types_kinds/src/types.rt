@@ -1,4 +1,4 @@
-//! Types that borrow from a program's tree, what an expression gives, and what a place takes.
+//! Types that borrow from a program's tree: of expressions, and of places.
 
 ghost use Rattle.std.specs.Prelude.{◌≡◌, IfOk, None, Some};
 ghost use Rattle.std.specs.Str.{bytes_eq};

@@ -1,4 +1,4 @@
-//! Byte strings, whose copies share their bytes.
+//! Byte strings whose copies share their bytes.
 
 ghost use Rattle.std.specs.Prelude.{◌≡◌, IsTrue, ◌↔◌, IfOk};
 ghost use Rattle.std.specs.Arc.{arc_slice_items};

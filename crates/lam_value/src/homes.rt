@@ -1,4 +1,4 @@
-//! The homes of things, and what a map has at a home.
+//! The homes of things, and look-up in a map by home.
 
 ghost use Rattle.std.specs.Prelude.{◌≡◌, nat_eq, IfOk};
 ghost use Rattle.std.proofs.Common.{rules, ap};

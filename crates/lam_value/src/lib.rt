@@ -1,17 +1,17 @@
 //! Names, values and their texts.
 //!
-//! Everything that a program makes has a *name*: the label of its maker, its own label and a number. A
-//! name tells all that a reference monitor asks about a thing, so no test on a reference reads the thing.
-//! A *value* is what a local, a field or an array's element holds; references among them are names.
+//! Everything that a program makes has a *name*: its maker's label, its own label and a number. A name tells all that a
+//! reference monitor asks about a thing, so no test on a reference reads the thing. A *value* is what a local, a field
+//! or an array's element holds; references among values are names.
 //!
-//! - `homes` has homes, each a pair of a maker's label and an own label, and what a map has at one; `names` has names and
-//!   their order, by which stores are maps from names.
-//! - `byte_text` and `values` have the values; `shapes` what a new thing looks like.
-//! - `text` prints values.
+//! - `homes`: homes, each a pair of a maker's label and an own label, and look-up in a map by home.
+//! - `names`: names and their order, by which stores are maps from names.
+//! - `byte_text` and `values`: the values.
+//! - `shapes`: the classes, kinds and sizes of new things.
+//! - `text`: the printed values.
 //!
-//! Things are numbered by `lam_value_homes`, which this crate passes on: the counters of homes, and equality of maps.
-//!
-//! Contracts see all of these as plain data: equal values are equal in every respect.
+//! `lam_value_homes`, which this crate passes on, has the counters of homes and equality of maps. Contracts see all of
+//! these as plain data: equal values are equal in every respect.
 
 #![tactic(auto)]
 

@@ -1,4 +1,4 @@
-//! What a new object or array looks like.
+//! Shapes of new objects and arrays, with their first contents.
 
 ghost use Rattle.std.specs.Prelude.{◌≡◌, IfOk};
 ghost use Rattle.lam_value.specs.Shapes.{zero_of, slots_of};

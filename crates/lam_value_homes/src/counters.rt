@@ -1,4 +1,4 @@
-//! How many things each home has made.
+//! Allocation counters by home.
 
 ghost use Rattle.std.specs.Prelude.{◌≡◌, ◌+◌, ◌^◌, ◌<◌, ◌↔◌, IsTrue, cond, Some, None, unwrap_or, slice_get, IfOk, OnOk, OnErr};
 ghost use Rattle.std.specs.Option.{option_map};

@@ -1,13 +1,13 @@
-//! Monitors: which thread holds each object or array, and how often.
+//! Reentrant monitors of objects and arrays.
 //!
-//! Every object and array has a monitor. A thread that holds one may take it again, and holds it until it
-//! has left as often as it entered; to every other thread it is taken. Contracts see the monitors as a
-//! finite map from names to holders, in which a name stands exactly while its monitor is held.
+//! Every object and array has a monitor. A thread that holds one may take it again, and holds it until it has left as
+//! often as it entered. To every other thread it is taken. Contracts see the monitors as a finite map from names to
+//! holders, in which a name stands exactly while its monitor is held.
 //!
-//! Nothing here looks at labels: the machine above lets a thread at a monitor only where its label and the
-//! thing's are equal. The calls that give no `Result` take no memory. A call looks one name up, in constant
-//! time, whatever the number of monitors; `drop_all` does so for each name that it is given. `holder` alone answers
-//! all that is asked before an entry: who holds a monitor, and how often.
+//! Nothing here looks at labels: the machine above lets a thread at a monitor only where its label and the thing's are
+//! equal. Functions without a `Result` allocate nothing. A call looks one name up in constant time, whatever the number
+//! of monitors; `drop_all` does so for each name that it is given. `holder` alone answers all questions before an
+//! entry: who holds a monitor, and how often.
 #![tactic(auto)]
 
 ghost use Rattle.std.specs.Prelude.{◌≡◌, ◌<◌, ◌↔◌, IsTrue, IfOk, OnOk, OnErr, Some, cond};

@@ -1,12 +1,12 @@
-//! Whether an observer may expect to see the same of two runs of a code.
+//! The comparison of two runs of a code below an observer's label.
 //!
-//! [`pair`] tests the premises of isolation for two runs: that their starts agree below the observer's label, and how far
-//! their agendas are equal. Up to there the runs look the same to the observer, whatever else differs (`pair_check_terms`,
-//! `specs/Laws`): no visible event of theirs has to be compared.
+//! [`pair`] tests the premises of isolation for two runs: that their starts agree below the observer's label, and how
+//! far their agendas are equal. Up to there the runs look the same to the observer, whatever else differs
+//! (`pair_check_terms`, `specs/Laws`). So none of their visible events has to be compared.
 //!
-//! [`agenda_for`] is what an observer notes of a run, entry by entry. `worlds` finds the first part in which two starts differ,
-//! `stores` and `threads` compare their parts. A caller that has no [`Run`], but starts and lists of turns, takes [`agenda_of`]
-//! once for each, which says too whether the turns are a run, and then [`answer_of_starts`].
+//! [`agenda_for`] is what an observer notes of a run, entry by entry. `worlds` finds the first part in which two starts
+//! differ; `stores` and `threads` compare their parts. A caller that has starts and lists of turns, and no [`Run`],
+//! calls [`agenda_of`] once for each, and then [`answer_of_starts`]. The first also says whether the turns are a run.
 #![tactic(auto)]
 
 mod stores;

@@ -1,4 +1,4 @@
-//! Whether the stores of two worlds look the same to an observer.
+//! The comparison of two worlds' stores below an observer's label.
 
 ghost use Rattle.std.specs.Prelude.{◌≡◌, ◌↔◌, IsTrue, Some};
 ghost use Rattle.flow_labels.specs.Flow.{seen, public_label};

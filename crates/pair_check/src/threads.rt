@@ -1,4 +1,4 @@
-//! Whether the threads of two worlds look the same to an observer.
+//! The comparison of two worlds' threads below an observer's label.
 
 ghost use Rattle.std.specs.Prelude.{◌≡◌, ◌↔◌, ◌<◌, ◌≤◌, ◌+◌, ◌∷◌, [], ℕ, IsTrue, MatchOption, Some, drop, filter, length, reverse, slice_get};
 ghost use Rattle.std.specs.Option.{option_copied};

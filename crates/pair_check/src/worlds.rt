@@ -1,13 +1,13 @@
 //! The first part in which two worlds differ for an observer.
 //!
 //! An observer sees of a world what stands at a label that flows to its own (`lam_machine_terms`, `specs/Views`).
-//! [`first_part`] compares what it sees of two worlds, part by part, and names the first part that differs: no part does
+//! [`first_part`] compares its views of two worlds, part by part, and names the first part that differs. There is none
 //! exactly where the worlds agree below the observer's label (`pair_check_terms`, `specs/Parts`). Both worlds are read
 //! where they stand, and no memory is taken.
 //!
 //! `stores` compares the parts that are stores: each store says itself whether it looks the same as another one.
-//! `threads` compares threads: the contexts that are seen, in order, whatever stands between them, and where the public is
-//! seen how many threads there are and how they ended.
+//! `threads` compares threads: the contexts that are seen, in order, whatever stands between them. Where the public is
+//! seen, it also compares how many threads there are and how they ended.
 
 ghost use Rattle.std.specs.Prelude.{◌≡◌, ◌↔◌, IsTrue, MatchOption};
 ghost use Rattle.lam_machine_terms.specs.Views.{Agree};

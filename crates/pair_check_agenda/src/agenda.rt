@@ -1,4 +1,4 @@
-//! Agendas.
+//! The type of agendas.
 
 ghost use Rattle.std.specs.Prelude.{◌≡◌, None, IfOk, OnOk, IfErr};
 ghost use Rattle.lam_machine_terms.specs.Turns.{moments};

@@ -1,4 +1,4 @@
-//! Whether two contents of releases are equal.
+//! Equality of two contents of releases.
 
 ghost use Rattle.std.specs.Prelude.{◌≡◌, ◌↔◌, IsTrue};
 ghost use Rattle.audit_log_notes.specs.declared.Content.TheVariants as content;

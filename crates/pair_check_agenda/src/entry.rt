@@ -1,4 +1,4 @@
-//! What is kept of one turn.
+//! The record of one turn.
 
 ghost use Rattle.std.specs.Prelude.{◌≡◌, ◌↔◌, IsTrue};
 ghost use Rattle.lam_machine_terms.specs.Views as views;

@@ -1,17 +1,17 @@
-//! What an observer notes of a run: its agenda.
+//! Agendas, the schedules of runs as an observer sees them, with the releases past it.
 //!
-//! Two runs from starts that agree below a label look the same there as far as they have the same agenda: the same turns
-//! of threads that are seen, and the same releases past the observer (`lam_machine_terms`, `specs/Views`). An [`Agenda`]
-//! is that, as data. [`agenda_of`] makes it in one pass over the turns of a start, and [`answer_of`] says how far two
-//! agendas are equal (`pair_check_terms`, `specs/Pairs`).
+//! Two runs from starts that agree below a label look the same there as far as they have the same agenda. That is the
+//! same turns of visible threads, and the same releases past the observer (`lam_machine_terms`, `specs/Views`). An
+//! [`Agenda`] is that, as data. [`agenda_of`] makes it in one pass over the turns of a start, and [`answer_of`] says
+//! how far two agendas are equal (`pair_check_terms`, `specs/Pairs`).
 //!
-//! Of a turn that is seen only its thread is kept, and a release stands in a box of its own: so a long agenda takes two
+//! Of a visible turn only its thread is kept, and a release stands in a box of its own. So a long agenda takes two
 //! words for each of its entries, and the contents of its releases.
 //!
-//! - `contents` says whether two contents of releases are equal.
-//! - `entry` has what is kept of one turn, and `agenda` the list: [`Agenda::entries`] reads it.
-//! - `noting` makes an entry of a turn's event and the world after it, `taking` takes the turns one by one.
-//! - `meeting` compares two agendas.
+//! - `contents`: equality of two contents of releases.
+//! - `entry`: the record of one turn; `agenda`: the list, which [`Agenda::entries`] reads.
+//! - `noting`: the entry of a turn's event and the world after it; `taking`: the turns, one by one.
+//! - `meeting`: the comparison of two agendas.
 //!
 //! `specs/Agendas` says what an agenda stands for, and `specs/Noting` what is noted of one turn.
 #![tactic(auto)]

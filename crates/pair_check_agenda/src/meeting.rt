@@ -1,4 +1,4 @@
-//! How far two agendas are equal.
+//! The length of the part in which two agendas are equal.
 
 ghost use Rattle.std.specs.Prelude.{◌≡◌, ◌||◌, cond, length, min};
 ghost use Rattle.pair_check_terms.specs.Pairs.{is_turn, IsMet};

@@ -1,4 +1,4 @@
-//! What an observer notes of one turn.
+//! The noting of one turn by an observer.
 
 ghost use Rattle.std.specs.Prelude.{◌≡◌, ◌++◌, cond, Some, None, IfOk, OnOk};
 ghost use Rattle.std.specs.Option.{option_map, option_to_list};

@@ -1,10 +1,11 @@
-//! What is to be said of two runs of a code: whether an observer may expect to see the same of both.
+//! Definitions for comparing two runs of a code below an observer's label.
 //!
-//! Two runs look the same to an observer where their starts agree below its label, and as far as they have the same agenda:
-//! the same turns that it sees, and the same releases past it. That is the isolation of runs (`lam_machine_laws`). An answer
-//! names the first thing that keeps two runs from that: a [`Part`] of the starts, a turn, or a release.
+//! Two runs look the same to an observer where their starts agree below its label, and as far as they have the same
+//! agenda. An *agenda* is the turns that the observer sees and the releases past it. That is the isolation of runs
+//! (`lam_machine_laws`). An answer names the first thing that keeps two runs from it: a [`Part`] of the starts, a turn,
+//! or a release.
 //!
-//! - `specs/Parts`: what an observer sees of a world, part by part, and the first part in which two worlds differ.
+//! - `specs/Parts`: an observer's view of a world, part by part, and the first part in which two worlds differ.
 //! - `specs/Pairs`: when each answer is given.
 //! - `specs/Laws`: two runs have one answer, and up to its number they look the same.
 #![tactic(auto)]

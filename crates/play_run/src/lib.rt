@@ -1,17 +1,16 @@
-//! The run of a play script: what its actors do to its cells, what an observer sees of it, and the
-//! lines that it prints.
+//! The execution of a play script, and its view at an observer's label.
 //!
-//! The steps of a script are taken in order. Each is tested by the rules of `flow_labels` and
-//! `capabilities`, with the capabilities that are public by the kinds of the script's tags; where a rule fails the step is refused, with the first rule that failed and its least
-//! tag, and changes nothing. An observer sees the steps of the actors whose labels flow to its own. A copy
-//! by an actor that it does not see into a cell that it does see is a *release past* the observer (a
-//! declassification or an endorsement), and prints a line of its own, with the capabilities that it used.
+//! Steps are taken in order. Each is tested by the rules of `flow_labels` and `capabilities`, with the capabilities
+//! that the kinds of the script's tags make public. A step that fails a rule is refused with the first failed rule and
+//! its least tag, and changes nothing. An observer sees the steps of the actors whose labels flow to its own. A copy by
+//! an unseen actor into a seen cell is a *release past* the observer, a declassification or an endorsement. It prints a
+//! line of its own, with the capabilities that it used.
 //!
-//! `play_script` reads the scripts; [`play_text`] gives what an observer reads.
+//! `play_script` reads the scripts; [`play_text`] gives the text of an observer's view.
 //!
-//! [`scripts_are_isolated`] says what the observer cannot tell: the numbers of the cells that it does
-//! not see, but for what the releases past it tell. It is the form that isolation has for a script, in the
-//! sense of non-interference up to declassification.
+//! [`scripts_are_isolated`] is non-interference up to declassification for scripts. Take two scripts that differ only
+//! in the numbers of unseen cells. They print the same as far as the observer sees the same steps and the same releases
+//! past it.
 #![tactic(auto)]
 
 mod lines;

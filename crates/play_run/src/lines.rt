@@ -1,4 +1,4 @@
-//! The lines of what an observer sees.
+//! The printed lines of an observer's view.
 
 ghost use Rattle.std.specs.Prelude.{◌≡◌, ◌++◌, ◌∷◌, [], OnOk, string_bytes, codes};
 ghost use Rattle.std.specs.Fmt.{signed_decimal};

@@ -1,4 +1,4 @@
-//! What the steps of a script do, and what an observer sees of them.
+//! The effects of a script's steps, and an observer's view of them.
 
 ghost use Rattle.std.specs.Prelude.{◌≡◌, ◌≤◌, ◌++◌, [], length, Some, None, IfOk, OnOk, string_bytes, slice_get};
 ghost use Rattle.std.specs.Option.{option_copied};

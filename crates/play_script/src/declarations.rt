@@ -1,4 +1,4 @@
-//! Declarations: tags, actors and cells, each name before its use and once.
+//! Declarations of tags, actors and cells, each name declared once and before its use.
 
 ghost use Rattle.std.specs.Prelude.{◌≡◌, ◌++◌, ◌∷◌, [], true, is_none, Some};
 ghost use Rattle.capabilities.specs.CapsText.{caps_of};

@@ -1,4 +1,4 @@
-//! Why a line was not read.
+//! The faults of a script's line.
 
 ghost use Rattle.std.specs.Prelude.{◌≡◌};
 ghost use Rattle.play_script.specs.declared.faults.LineFault.TheVariants.{NoMemory as no_memory};

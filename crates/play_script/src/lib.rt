@@ -1,28 +1,25 @@
-//! The reader of play scripts: texts that declare tags, actors and cells, and then
-//! say, step by step, what the actors do to the cells.
+//! A parser of play scripts, which declare tags, actors and cells and list steps.
 //!
-//! A script is at most 65,536 ASCII lines, each ended by a line feed, with one space between
-//! two words. First come declarations, each name before its use:
+//! A script is at most 65,536 ASCII lines, each ended by a line feed, with one space between two words. First come
+//! declarations, each name before its use:
 //!
-//! - `tag NAME` and `tag NAME KIND`, with a KIND of `read`, `export` and `integrity`; without it the kind
-//!   is `read`,
+//! - `tag NAME` and `tag NAME KIND`, with a KIND of `read`, `export` and `integrity`; without it the kind is `read`,
 //! - `actor NAME LABEL` and `actor NAME LABEL CAPS`; without CAPS it has no capabilities,
 //! - `cell NAME LABEL INT`;
 //!
-//! and then steps:
+//! and then steps, which say what an actor does to a cell:
 //!
 //! - `ACTOR read CELL`,
 //! - `ACTOR write CELL INT`,
 //! - `ACTOR copy CELL CELL`, from the first cell to the second.
 //!
-//! A NAME is an ASCII letter and up to 31 letters, digits or `_`, and none of the six words of
-//! the format. Tags, actors and cells share one name space, and a name is declared once. An INT
-//! is an `i64` in decimal, as `decimal_text` reads it: without leading zeros and without `-0`.
+//! A NAME is an ASCII letter and up to 31 letters, digits or `_`, and none of the six words of the format. Tags, actors
+//! and cells share one name space, and a name is declared once. An INT is an `i64` in decimal, as `decimal_text` reads
+//! it: without leading zeros and without `-0`. `flow_labels` and `capabilities` read LABEL and CAPS.
 //!
-//! [`read_script`] gives the script that a text spells, or the least line that breaks it. The
-//! definitions that its contract cites follow the order of the code; the laws below it join
-//! them to the format in the format's own words. LABEL and CAPS are read by `flow_labels` and
-//! `capabilities`; what a script does is said above this crate.
+//! [`read_script`] returns the script that a text spells, or the least line that breaks it. The definitions that its
+//! contract cites follow the order of the code. The laws below it relate them to the format in the format's own words.
+//! `play_run` defines what a script does.
 #![tactic(auto)]
 
 mod declarations;

@@ -1,4 +1,4 @@
-//! Reading a script line by line.
+//! The line-by-line reader of a script.
 
 ghost use Rattle.std.specs.Prelude.{◌≡◌, IfOk};
 ghost use Rattle.play_script.specs.Pieces.{texts};

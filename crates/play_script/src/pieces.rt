@@ -1,4 +1,4 @@
-//! Cutting a text into lines, and a line into words.
+//! The splitting of a text into lines, and of a line into words.
 
 ghost use Rattle.std.specs.Prelude.{◌≡◌, ◌∷◌, [], ◌<◌, length, MatchOption, Some, IfOk, IfSome, not, nat_eq};
 ghost use Rattle.std.specs.Str.{IsUtf8};

@@ -1,4 +1,4 @@
-//! Steps: what an actor does to a cell, read from the words of a line.
+//! The reader of steps: an actor's action on a cell, from a line's words.
 
 ghost use Rattle.std.specs.Prelude.{◌≡◌};
 ghost use Rattle.flow_labels.specs.Names.{place_of};

@@ -1,5 +1,6 @@
-//! The callers. Each takes the turns of one lam thread by a seat of its own, until that thread has ended, and writes down
-//! what it sees of them.
+//! The callers, each with a seat of its own.
+//!
+//! Each takes the turns of one lam thread until that thread has ended, and writes down what it sees of them.
 
 ghost use Rattle.std.specs.Prelude.{◌≡◌};
 

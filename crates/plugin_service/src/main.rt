@@ -1,12 +1,13 @@
-//! A program that embeds lam: it holds a labelled world, and four callers of its own act in it, each by a seat.
+//! A program that embeds lam, with four callers on one labelled world.
 //!
-//! Two users have a wage each, which is secret, and a plug-in serves both. It may read what it likes, and holds no
-//! capability: it writes each user's tax where that user's wage is, and then tries to carry Ann's wage to Bob. The
-//! host's caller starts the three others; these act at once, on threads of their own. `story` has the program and the
-//! world that they act in, `callers` takes the turns, and `auditing` reads the book of what they did.
+//! Each caller acts by a seat of its own. Two users have a wage each, which is secret, and a plug-in serves both. It
+//! may read what it likes, and holds no capability. It writes each user's tax where that user's wage is, and then tries
+//! to carry Ann's wage to Bob. The host's caller starts the three others; these act at once, on threads of their own.
+//! `story` has the program and the world that they act in, `callers` takes the turns, and `auditing` reads the book of
+//! what they did.
 //!
 //! It prints what each caller saw of its own turns, one caller after another, and the audit of the book. The number of
-//! a turn hangs on who was quick, so the audit is printed without it. Nothing is written to a file.
+//! a turn depends on the order of the callers, so the audit is printed without it. Nothing is written to a file.
 #![tactic(auto)]
 
 mod auditing;

@@ -1,4 +1,4 @@
-//! Why the program stops early.
+//! The reasons why the program stops early.
 
 use std::alloc::{AllocError, AllocFailed};
 use want_of_memory::NoMemory;

@@ -1,11 +1,11 @@
-//! The region rules.
+//! The checker of the region rules.
 //!
-//! A security region (Laminar, PLDI 2009) reaches only what it captured and what it declares itself: inside, another
-//! local is neither read nor written, nothing is captured twice, and no `return` leaves the region. What stands before
-//! the region's blocks, its label, its capabilities and its captures, belongs to the outside.
+//! A security region (Laminar, PLDI 2009) reaches only its captures and its own declarations. Inside, no other local is
+//! read or written, nothing is captured twice, and no `return` leaves the region. The region's label, capabilities and
+//! captures stand before its blocks and belong to the outside.
 //!
-//! `specs/Breaks.antt` says which break of these rules is the first in a program, and `specs/Legal.antt` which programs
-//! keep them, without positions and without order. `regions` joins the two.
+//! `specs/Breaks.antt` defines the first break of these rules in a program. `specs/Legal.antt` says which programs keep
+//! them, without positions or order. `regions` joins the two.
 #![tactic(auto)]
 
 ghost use Rattle.std.specs.Prelude.{◌≡◌, [], OnOk, IfErr, false};

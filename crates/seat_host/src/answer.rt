@@ -1,4 +1,4 @@
-//! What a caller's turn answers, and what a shared run is closed into.
+//! The answers of a caller's turn, and the results of closing a shared run.
 
 use lam_asks::{Event, let_go_event};
 use thread_host_run::{Run, let_go_run};

@@ -1,4 +1,4 @@
-//! What the slot keeps: a run, the places that hold its turns, and the last place of each thread.
+//! The content of the slot: a run, its turns' places, and each thread's last place.
 
 ghost use Rattle.std.specs.Prelude.{◌≡◌, ℕ, ◌+◌, ◌<◌, ◌^◌, ◌++◌, [], ◌∷◌, length, true, Some, slice_set, IfOk, IfErr, OnOk};
 ghost use Rattle.std.specs.Prelude.{drop};

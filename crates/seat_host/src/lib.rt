@@ -1,11 +1,12 @@
-//! Seats: callers' own threads share one run.
+//! Seats, which are callers' handles on one shared run.
 //!
-//! A [`SeatRun`] is a run that many callers have at once, each by a [`Seat`] of its own, on whatever threads they like.
-//! [`SeatRun::turn_as`] takes one turn for its caller. All turns stand in one book, each once, in the caller's order, and
-//! after all that its seat had seen; [`SeatRun::close`] gives the run, which is one of the given code from the given start.
+//! A [`SeatRun`] is a run that many callers share, each by a [`Seat`] of its own, on any threads. [`SeatRun::turn_as`]
+//! takes one turn for its caller. All turns stand in one book, each once, in the caller's order, and after all that its
+//! seat had seen. [`SeatRun::close`] gives the run, which is one of the given code from the given start.
 //!
-//! Whoever calls draws a ticket, and waits until it is served. A ticket's use is a *place*: it holds the thread that took
-//! a turn there, or nothing. `seat_table` has the atomic steps, `law` the rule that they keep, `book` what the slot keeps.
+//! A call draws a ticket, and waits until it is served. A *place* is one ticket's position in the order of calls. It
+//! holds the thread that took a turn there, or nothing. `seat_table` has the atomic steps, `law` the rule that they
+//! keep, and `book` the content of the table's slot.
 #![tactic(auto)]
 
 mod answer;

@@ -1,4 +1,4 @@
-//! The law of places.
+//! The law that places of different seats differ.
 
 ghost use Rattle.seat_host.specs.Laws.{PlacesDiffer};
 

@@ -1,4 +1,4 @@
-//! The table that callers share, step by step: tickets, the slot with the book, and who holds it.
+//! The table that callers share: tickets, the slot with the book, and its holder.
 
 ghost use Rattle.std.specs.Prelude.{◌≡◌, ℕ, ◌+◌, ◌<◌, ◌≤◌, ◌++◌, [], ◌∷◌, length, true, false, IfOk, IfErr};
 ghost use mathlib.Core.List.{IsPrefix};

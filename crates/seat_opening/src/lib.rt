@@ -1,8 +1,8 @@
-//! Opens shared runs: from the bytes of a program and of a world's document to a run whose turns callers take by seats.
+//! The opening of shared runs, from a program's and a world document's bytes.
 //!
-//! It is the first call of a program that embeds such a run. The bytes are compiled and read as the tool does it, without the
-//! barriers that test again, so they are refused for the same faults, and the tool replays the book of the run; `seat_host`
-//! has what comes then.
+//! It is the first call of a program that embeds such a run. The bytes are compiled and read as the tool does it,
+//! without redundant barriers. So they are refused for the same faults, and the tool replays the book of the run.
+//! `seat_host` has what comes then.
 #![tactic(auto)]
 
 ghost use Rattle.std.specs.Prelude.{◌≡◌, ◌≢◌, IfOk, IfErr};

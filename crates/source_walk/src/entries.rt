@@ -1,4 +1,4 @@
-//! Whether a thread may begin at a function of a program with arguments.
+//! The test that a thread may begin at a function with these arguments.
 
 ghost use Rattle.std.specs.Prelude.{◌≡◌, ◌↔◌, Some, IsTrue, length};
 ghost use Rattle.lam_value.specs.declared.values.Value.TheVariants.{Nothing as nothing};

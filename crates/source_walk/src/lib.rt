@@ -1,17 +1,17 @@
-//! A book checked by the source alone: whether the asks of a run are those that the source of its program makes.
+//! A check of a run's asks against the source of its program alone.
 //!
-//! [`walk_turns`] goes over a program with its names resolved, with the answers that stand in a run of turns from a start,
-//! and compares the asks that it meets with those that stand there. It does not take what the code of the run says: where
-//! its threads ask something else than their source, or more, the answer names the first such thread and the place of that
-//! ask (`source_walk_terms`, `specs/Walks`).
+//! [`walk_turns`] re-executes a program with its names resolved, with the answers of a run of turns from a start. It
+//! compares the asks that it meets with the run's. It does not rely on the code of the run. Where a thread asks
+//! something else than its source, or more, the answer names the first such thread and that ask's place
+//! (`source_walk_terms`, `specs/Walks`).
 //!
-//! - `entries` says whether a thread may begin where it was started;
-//! - `starts` has how the threads of a start begin, `source_walk_run` how the others do, and what each did;
-//! - `walking` is the walk over all of them, `source_walk_follow` that over one.
-//! - `runs` has the walk over a run of a checked program: [`walk`].
+//! - `entries`: whether a thread may begin where it was started.
+//! - `starts`: how the threads of a start begin; `source_walk_run` has how the others do, and what each did.
+//! - `walking`: the walk over all threads; `source_walk_follow` is that over one.
+//! - `runs`: the walk over a run of a checked program, [`walk`].
 //!
-//! `specs/Walking` says what a walk finds of each thread. That a walk has one answer, and which it is where the code of a
-//! run means its source, are laws of `source_walk_meets`.
+//! `specs/Walking` says what a walk finds of each thread. `source_walk_meets` has the laws that a walk has one answer,
+//! and which it is where the code of a run means its source.
 #![tactic(auto)]
 
 mod entries;

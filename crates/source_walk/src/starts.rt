@@ -1,4 +1,4 @@
-//! How the threads of a start begin.
+//! The beginnings of a start's threads.
 
 ghost use Rattle.std.specs.Prelude.{◌≡◌, ◌≤◌, ◌<◌, ◌^◌, take, length, IfOk};
 ghost use Rattle.lam_resolve_tree.specs.Tree.{resolved_tree};

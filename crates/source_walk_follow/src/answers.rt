@@ -1,4 +1,4 @@
-//! An answer goes into a walk.
+//! The taking of an answer into a walk.
 
 ghost use Rattle.std.specs.Prelude.{◌≡◌, true, Some, IfOk, OnOk};
 ghost use Rattle.capabilities.specs.Changes.{with_both, joined};

@@ -1,4 +1,4 @@
-//! How a walk begins.
+//! The beginning of a walk.
 
 ghost use Rattle.std.specs.Prelude.{◌≡◌, ℕ, Some, slice_get, IfOk};
 ghost use Rattle.lam_resolve_tree.specs.Tree.{function_tree, resolved_tree, ResolvedTree};

@@ -1,4 +1,4 @@
-//! Whether an ask is the one at which a walk stands.
+//! The comparison of an ask with the one at which a walk stands.
 
 ghost use Rattle.std.specs.Prelude.{◌≡◌, ◌↔◌, IsTrue, Some, map, slice_get, IfOk};
 ghost use Rattle.lam_asks.specs.declared.ask.Ask.TheVariants as asks;

@@ -1,4 +1,4 @@
-//! A walk along what a thread did.
+//! A walk along a thread's history.
 
 ghost use Rattle.std.specs.Prelude.{◌≡◌, true, length, [], ◌∷◌, IfOk};
 ghost use Rattle.lam_asks.specs.declared.answer.What.TheVariants.{Asked as asked};

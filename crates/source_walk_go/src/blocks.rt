@@ -1,4 +1,4 @@
-//! A value goes to a frame of a statement that has blocks.
+//! The continuation of frames of statements with blocks.
 
 ghost use Rattle.std.specs.Prelude.{◌≡◌, ℕ, true, false, IfOk};
 ghost use Rattle.source_walk_state.specs.declared.Region.{Region as TheRegion};

@@ -1,8 +1,8 @@
-//! How the frames of a walk go on: with a value, with a fault that was raised, and with a `return`; and what the values of
-//! arguments are used for.
+//! The continuation of a walk's frames with a value, a fault or a `return`.
 //!
-//! A frame that has its value becomes a control again (`values`, `blocks`). A fault and a `return` drop frames down to the
-//! next mark, the end of a call or of a region (`marks`). `uses` calls functions and built-in calls.
+//! A frame that has its value becomes a control again (`values`, `blocks`). A fault and a `return` drop frames down to
+//! the next mark, the end of a call or of a region (`marks`). `uses` calls functions and built-in calls with the values
+//! of their arguments.
 #![tactic(auto)]
 
 mod blocks;

@@ -1,4 +1,4 @@
-//! Marks: the ends of calls and regions, and what faults and returns do there.
+//! Marks, the ends of calls and regions, which stop faults and returns.
 
 ghost use Rattle.std.specs.Prelude.{◌≡◌, ℕ, List, IfOk};
 ghost use Rattle.lam_asks.specs.declared.fault.Fault.{Fault as TheFault};

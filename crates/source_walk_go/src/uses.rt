@@ -1,4 +1,4 @@
-//! What the values of arguments are used for.
+//! The uses of argument values: function calls, built-in calls, labels and new threads.
 
 ghost use Rattle.std.specs.Prelude.{◌≡◌, ◌<◌, ℕ, Some, slice_get, IfOk};
 ghost use Rattle.lam_resolve_tree.specs.Tree.{resolved_tree, function_tree, ResolvedTree};

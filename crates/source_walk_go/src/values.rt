@@ -1,4 +1,4 @@
-//! A value goes to the next frame.
+//! The continuation of the next frame with a value.
 
 ghost use Rattle.std.specs.Prelude.{◌≡◌, ◌++◌, ◌∷◌, [], IfOk};
 ghost use Rattle.lam_value.specs.declared.values.Value.{Value as TheValue};

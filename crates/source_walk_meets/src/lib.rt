@@ -1,8 +1,8 @@
-//! What follows from the answer of a walk over the source of a run (`source_walk_terms`), whoever walks.
+//! Laws of a source walk's answer (`source_walk_terms`), for any walk.
 //!
-//! A walk has one answer: how a thread began is one, since the threads that a run starts get the next numbers, in order
-//! (`specs/Births`), and where its asks leave those of its source is one place. And where each thread means its source,
-//! as in every run of a program's own code (`lam_machine_means`), that answer is that all asks are the same.
+//! A walk has one answer. Each thread began in one way, since the threads that a run starts get the next numbers, in
+//! order (`specs/Births`). And a thread's asks leave those of its source at one place. Where each thread means its
+//! source, as in every run of a program's own code (`lam_machine_means`), the answer is that all asks are the same.
 #![tactic(auto)]
 
 ghost use Rattle.lam_bytecode.specs.Codes.{CodeTree};

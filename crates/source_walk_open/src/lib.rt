@@ -1,8 +1,8 @@
-//! The first steps of expressions and statements: they open into a control for the first operand and a frame that waits
-//! for its value.
+//! The first steps of a source walk at expressions and statements.
 //!
-//! `exprs` has expressions, arguments and lists of tags; `caps` the braces of `caps`, which need no frame, since their tags
-//! are locals; `stmts` statements and blocks. Each takes one step, however deep what it opens is.
+//! An expression or a statement opens into a control for its first operand and a frame that waits for its value.
+//! `exprs` has expressions, arguments and lists of tags, and `stmts` statements and blocks. `caps` has the braces of
+//! `caps`, which need no frame, since their tags are locals. Each takes one step, however deep what it opens is.
 #![tactic(auto)]
 
 mod caps;

@@ -1,4 +1,4 @@
-//! Accesses to fields and elements: null first, then the rule of the label, then the place.
+//! Accesses to fields and elements, with their tests: null, label rule, index.
 
 ghost use Rattle.std.specs.Prelude.{◌≡◌, IfOk};
 ghost use Rattle.lam_asks.specs.declared.ask.Ask.TheVariants as ask;

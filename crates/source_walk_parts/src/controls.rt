@@ -1,4 +1,4 @@
-//! How a walk goes on with what was computed.
+//! The control after an operator or a built-in call.
 
 ghost use Rattle.std.specs.Prelude.{◌≡◌, ◌<◌, length, IfOk};
 ghost use Rattle.flow_labels.specs.declared.Label.{Label as TheLabel};

@@ -1,13 +1,14 @@
-//! The parts that steps of a walk over a thread's source are made of.
+//! The building blocks of a source walk's steps.
 //!
-//! - `walk` has all that a walk keeps beside its control: its frames, the place and the context's own, and the units that
-//!   are left; with the changes that steps make of it.
-//! - `suiting` says which answers suit an ask.
-//! - `controls` says how a walk goes on with what an operator or a built-in call gives.
-//! - `locals` makes the locals of calls and regions.
-//! - `access` has accesses to fields and elements, with their tests in order, and `things` monitors and threads.
+//! - `walk`: a walk's frames, its context's label, capabilities, locals and open calls, and the units left; with the
+//!   changes that steps make.
+//! - `suiting`: which answers suit an ask.
+//! - `controls`: how a walk goes on with the result of an operator or a built-in call.
+//! - `locals`: the locals of calls and regions.
+//! - `access`: accesses to fields and elements, with their tests in order.
+//! - `things`: arrays, monitors and threads.
 //!
-//! `specs/States` says what a step is: it leaves the tree of asks as it is, and takes a unit or makes what is pending
+//! `specs/States` says what a step is. It leaves the tree of asks as it is, and takes a unit or makes what is pending
 //! less, as `specs/Weights` counts it.
 #![tactic(auto)]
 

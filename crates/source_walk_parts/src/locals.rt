@@ -1,4 +1,4 @@
-//! The locals of calls and regions, when they begin.
+//! The first locals of calls and regions.
 
 ghost use Rattle.std.specs.Prelude.{◌≡◌, ◌-◌, ◌++◌, length, map, replicate, slice_get, IfOk};
 ghost use Rattle.lam_value.specs.declared.values.Value.TheVariants.{Nothing as null};

@@ -1,7 +1,7 @@
-//! Which answers suit an ask, as code.
+//! The answers that suit an ask, as code.
 //!
-//! What may be answered hangs on the ask, and for a read on the sort of value that its place wants. An answer that does
-//! not suit its ask ends the asks that a program makes.
+//! They depend on the ask, and for a read on the sort of value that its place wants. An answer that does not suit its
+//! ask ends the asks that a program makes.
 
 ghost use Rattle.std.specs.Prelude.{◌≡◌, true, false};
 ghost use Rattle.lam_asks.specs.Suits.{is_of, copied_as, made_as, want_of, same_fault, is_among, gives, fits, suits};

@@ -1,4 +1,4 @@
-//! Controls that ask for a thing, and what stands before them.
+//! Controls that ask for an array, a monitor or a thread, and throws.
 
 ghost use Rattle.std.specs.Prelude.{◌≡◌, OnOk};
 ghost use Rattle.source_walk_state.specs.declared.Sort.TheVariants as sorts;

@@ -1,4 +1,4 @@
-//! What a walk keeps beside its control.
+//! The state of a walk beside its control.
 
 ghost use Rattle.std.specs.Prelude.{◌≡◌, ◌<◌, ◌-◌, [], IfOk, OnOk, MatchOption, slice_get, ◌^◌};
 ghost use Rattle.lam_meaning.specs.Trees.{value_or_null};

@@ -1,4 +1,4 @@
-//! How many turns each thread takes.
+//! The number of turns that each thread takes.
 
 ghost use Rattle.std.specs.Prelude.{◌≡◌, ◌-◌, ◌^◌, ◌<◌, get_or, IfOk};
 ghost use Rattle.source_walk_run.specs.Counting.{counted, AreTurnsOf};

@@ -1,4 +1,4 @@
-//! What the threads of a run did.
+//! The histories of a run's threads.
 
 ghost use Rattle.std.specs.Prelude.{◌≡◌, length, None, IfOk, OnOk, IfErr};
 ghost use Rattle.lam_machine_terms.specs.Turns.{moments};

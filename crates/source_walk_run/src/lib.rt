@@ -1,14 +1,14 @@
-//! What the threads of a run did, for whoever compares each of them with its source.
+//! Histories of a run's threads, for comparison with their source.
 //!
-//! One pass over the turns of a run keeps what is asked and answered, by thread, and how the threads began that the run
-//! started. A private turn leaves nothing behind but that it was taken, which the list of turns tells: how many turns each
-//! thread took is counted there.
+//! One pass over the turns of a run keeps the asks and answers of each thread, and how the threads began that the run
+//! started. Of a private turn nothing is kept. How many turns each thread took is counted from the list of turns.
 //!
-//! - `histories` has what is kept, and [`histories_of`];
-//! - `keeping` is the pass, and `putting` what one turn puts there;
-//! - `counting` counts the turns.
+//! - `histories`: what is kept, and [`histories_of`].
+//! - `keeping`: the pass; `putting`: what one turn adds.
+//! - `counting`: the number of turns.
 //!
-//! `specs/ThreadHistories` says what is kept of a run, `specs/Putting` what one turn adds, and `specs/Counting` what is counted.
+//! `specs/ThreadHistories` says what is kept of a run, `specs/Putting` what one turn adds, and `specs/Counting` what is
+//! counted.
 #![tactic(auto)]
 
 mod counting;

@@ -1,4 +1,4 @@
-//! What one turn puts to what is kept.
+//! The part of a history that one turn adds.
 
 ghost use Rattle.std.specs.Prelude.{◌≡◌, ◌-◌, ◌^◌, ◌<◌, ◌∷◌, [], IfOk, OnOk};
 ghost use Rattle.std.specs.Option.{option_map, option_to_list};

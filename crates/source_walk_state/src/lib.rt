@@ -1,18 +1,17 @@
-//! The state of a walk over the source of one thread, and what it means.
+//! The state of a walk over one thread's source, and its meaning.
 //!
-//! A walk keeps its pending work in a list of its own, so that deep programs take no machine stack: a *control*, what is
-//! done now, and *frames*, what is done with its value or its end, the next one last. An expression opens into a control
-//! for its first operand and a frame that waits for that operand's value; a frame that has its value becomes a control
-//! again. Calls and regions leave *marks* among the frames, which keep what stood around them: a fault and a `return` drop
-//! frames down to the next mark that stops them.
+//! A walk keeps its pending work in a list of its own, so that deep programs take no machine stack. A *control* is what
+//! is done now. *Frames* are what is done with its value or its end, the next one last. An expression opens into a
+//! control for its first operand and a frame that waits for that operand's value. A frame that has its value becomes a
+//! control again. Calls and regions leave *marks* among the frames, which keep what stood around them. A fault and a
+//! `return` drop frames down to the next mark that stops them.
 //!
-//! A state means the tree of asks that is left of the thread (`specs/Meaning`): the control's own tree, and what the
-//! frames do with each of its ends. That each step leaves that tree as it is, or goes from an ask to one of its answers,
-//! is proved where the steps are; `proofs/Steps` has the law of each.
+//! A state means the tree of asks that is left of the thread (`specs/Meaning`). That is the control's own tree, and
+//! what the frames do with each of its ends. Each step leaves that tree as it is, or goes from an ask to one of its
+//! answers. This is proved where the steps are; `proofs/Steps` has the law of each.
 //!
-//! `walk_laws` says that a walk begins as the thread's meaning, and that marks keep what stood around them.
-//!
-//! A meaning bounds how deep loops and calls go inside each other. What is pending has that bound, its *depth*, beside it.
+//! `walk_laws` says that a walk begins as the thread's meaning, and that marks keep what stood around them. A meaning
+//! bounds how deep loops and calls nest. Pending work has that bound, its *depth*, beside it.
 #![tactic(auto)]
 
 mod walk_laws;

@@ -1,8 +1,9 @@
-//! What the states of a walk mean: the laws that tie them to the meaning of threads.
+//! The laws that relate a walk's states to the meaning of threads.
 //!
-//! A walk begins with the whole meaning of its thread, as one control and no frames (`walks_begin`). A call and a region
-//! leave a mark among the frames, and what is below it goes on as the meaning says: the caller with its own locals, and
-//! what stood around a region after the body, after a fault that was caught, and after the catch block (`marks_keep`).
+//! A walk begins with the whole meaning of its thread, as one control and no frames (`walks_begin`). A call and a
+//! region leave a mark among the frames, and what is below it goes on as the meaning says (`marks_keep`). A caller goes
+//! on with its own locals. What stood around a region goes on after the body, after a caught fault, and after the catch
+//! block.
 
 ghost use Rattle.lam_resolve_tree.specs.Tree.{ResolvedTree};
 ghost use Rattle.source_walk_state.specs.Laws.{WalksBegin, MarksKeep};

@@ -1,11 +1,11 @@
-//! When the asks of a run are those that the source of its program makes, as definitions.
+//! Definitions of when the asks of a run are those of its source.
 //!
-//! A walk goes over a program with its names resolved, with the answers that stand in a run, and compares the asks that
-//! it meets with those that stand there. It takes no code, and trusts none: a run of whatever code is walked, and where
-//! a thread asks something else than its source, or more, the walk names the thread and the place of that ask.
+//! A walk re-executes a resolved program with the answers of a run, and compares the asks that it meets with those of
+//! the run. It takes no code and trusts none: it can walk a run of any code. Where a thread asks something else than
+//! its source, or more, the walk names the thread and the place of that ask.
 //!
-//! `specs/Departs` says of two lists of asks where the first leaves the second, `specs/Walks` what the answer of a walk
-//! says of a run, and `proofs/Examples` has a worked example.
+//! `specs/Departs` says where one list of asks leaves another. `specs/Walks` says what the answer of a walk tells of a
+//! run, and `proofs/Examples` has a worked example.
 #![tactic(auto)]
 
 /// How the asks of a run stand to those of its source.

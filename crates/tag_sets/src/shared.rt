@@ -1,7 +1,7 @@
-//! Lists of tags that their copies share.
+//! Tag lists whose copies share their tags.
 //!
-//! A `TagSet` is made once and copied often, and most sets have one tag or none. So one tag stands in the
-//! list itself, where it takes no memory; more stand in one slice that all copies have in common.
+//! A `TagSet` is made once and copied often, and most sets have one tag or none. A single tag stands in the list itself
+//! and takes no memory. More tags stand in one slice that all copies share.
 
 ghost use Rattle.std.specs.Prelude.{◌≡◌, ◌↔◌, not, [], ◌∷◌, find, IsTrue, IfOk};
 ghost use Rattle.std.specs.Arc.{arc_slice_items};

@@ -1,18 +1,19 @@
-//! Code without the barriers that test again.
+//! The definition of thinned code, guarded code without its redundant barriers.
 //!
-//! Where a code is guarded, what is known just before a barrier may say that its operand was tested by the same rule
-//! already. Such a barrier always passes, so it can be left out. All of them are left out at once, and what goes to an
-//! address goes to the operation that stood there, or to the next one that stayed.
+//! In guarded code, what is known just before a barrier may say that the same rule tested its operand already. Such a
+//! barrier always passes, so it is redundant. All redundant barriers are removed at once. A jump to an address goes to
+//! the operation that stood there, or to the next one that stayed.
 //!
 //! - `specs/Thinned`: which operations stay, where an address goes, and thinned code, with examples.
 //! - `specs/Facts`: what is proved of it here.
 //!
-//! That thinned code is guarded rests on two facts about descriptions. An operand that is a copy of a local always has
-//! that local's marks, so a barrier that tests again changes no description (`proofs/Coherent`). And what stood at the
-//! operations that stayed meets the rules of thinned code (`proofs/Thinning`), while what thinned code's own rounds find,
-//! spread over the barriers that were left out, meets the rules of the code (`proofs/Spread`): so both say the same.
+//! Thinned code is guarded because of two facts about descriptions. An operand that is a copy of a local always has
+//! that local's marks, so a redundant barrier changes no description (`proofs/Coherent`). And the descriptions of both
+//! codes say the same. What stood at the operations that stayed meets the rules of thinned code (`proofs/Thinning`).
+//! What thinned code's own rounds find, spread over the removed barriers, meets the rules of the code
+//! (`proofs/Spread`).
 //!
-//! What thinned code does in a run is not said here.
+//! `thinned_code_acts` says what thinned code does in a run.
 #![tactic(auto)]
 
 ghost use Rattle.thinned_code.specs.Facts.{StaysGuarded, StaysCode, KeepsUnits, KeepsNames, ThinnedOnce};

@@ -1,14 +1,16 @@
-//! Thinned code acts as the program that the code acts as.
+//! The law that thinned code acts as its program.
 //!
-//! A thread of guarded code that runs alone is set beside the same thread of the thinned code. Each turn at an operation
-//! that stayed is matched by the same operation's turn; a barrier that was left out passes, asks nothing and counts as no
-//! work. So after as many turns, or fewer, the thread of thinned code has made the same asks and done the same work.
+//! The proof compares a thread of guarded code that runs alone with the same thread of the thinned code. Each turn at
+//! an operation that stayed is matched by the same operation's turn. A removed barrier passes, asks nothing and counts
+//! as no work. So after as many turns, or fewer, the thread of thinned code has made the same asks and done the same
+//! work.
 //!
-//! That a barrier that was left out passes rests on what is known at its address (`guarded_code_threads`), and that holds
-//! while each ask gets an answer of its form. The answers suit the asks that the program means, of which each wants an
-//! answer of its own form (`proofs/Wanted`).
+//! A removed barrier passes because of what is known at its address (`guarded_code_threads`), and that holds while each
+//! ask gets an answer of its form. The answers suit the asks that the program means, and each of those wants an answer
+//! of its own form (`proofs/Wanted`).
 //!
-//! `turns` has one turn of both threads beside each other (`specs/Matches`). `specs/Laws` has the statement, `proofs/Lone` single turns, and `proofs/Acting` whole runs.
+//! `turns` has one turn of both threads beside each other (`specs/Matches`). `specs/Laws` has the statement,
+//! `proofs/Lone` single turns, and `proofs/Acting` whole runs.
 #![tactic(auto)]
 
 mod turns;

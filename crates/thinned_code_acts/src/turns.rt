@@ -1,8 +1,8 @@
-//! A turn of thinned code is the turn of the same operation in the code.
+//! The correspondence of single turns in a code and in its thinned code.
 //!
-//! A thread of a code is set beside the same thread at the addresses of the thinned code. Where it stands at an operation
-//! that stayed, or has a fault to handle, what it does next in thinned code is what it does next in the code, at the new
-//! addresses; and an answer does the same to both. At a barrier that was left out nothing is to be done.
+//! A thread of a code is compared with the same thread at the addresses of the thinned code. Where it stands at an
+//! operation that stayed, or has a fault to handle, it does the same next in both, at their own addresses. An answer
+//! does the same to both. At a removed barrier nothing is to be done.
 //!
 //! - `specs/Moved`: threads at their new addresses.
 //! - `specs/Matches`: what is proved of their turns.

@@ -1,4 +1,4 @@
-//! What comes next of a context.
+//! The next turn of a context.
 
 ghost use Rattle.std.specs.Prelude.{◌≡◌, ◌<◌, ◌+◌, ◌^◌, IfSome, slice_get};
 ghost use Rattle.thread_steps.specs.Next.{ops_of};

@@ -1,11 +1,13 @@
-//! The turns of a thread: how it stands, what it asks, what it waits for, and its private turns.
+//! A thread's turns: its standing, its ask, its wait and its private turns.
 //!
-//! What comes next of a thread hangs on its acting context alone, and is read without memory ([`next`]). `standing`,
-//! `waits_for` and `ask` say what that is; [`go_on`] computes it once, takes a private turn, and tells of any other only
-//! how the thread stands; [`advance`] hands the ask out, too. A step that memory is refused to leaves the thread as it was.
-//! An access goes by the barrier before it, and its rule is not tested a second time: the code is guarded, and its runs meet no
-//! access whose rule fails (`guarded_code_runs`).
-//! What an answer does to a thread is a crate of its own, above this one.
+//! A thread's next turn depends on its acting context alone, and [`next`] reads it without memory. `standing`,
+//! `waits_for` and `ask` give its parts. [`go_on`] computes it once and takes a private turn; of any other it tells
+//! only how the thread stands. [`advance`] hands the ask out, too. A step that is refused memory leaves the thread as
+//! it was.
+//!
+//! An access relies on the barrier before it, and its rule is not tested again. The code is guarded, and its runs meet
+//! no access whose rule fails (`guarded_code_runs`). `thread_core_answers`, above, does what an answer does to a
+//! thread.
 #![tactic(auto)]
 
 mod coming;

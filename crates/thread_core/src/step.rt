@@ -1,4 +1,4 @@
-//! What a context does in its next turn where this is private, with its value made.
+//! A context's next private step, with its value made.
 
 use crate::turn::Standing;
 use lam_asks::Fault;

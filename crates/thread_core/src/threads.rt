@@ -1,4 +1,4 @@
-//! Threads: how one stands, what it asks, and its private turns.
+//! Threads, with their standing, their asks and their private turns.
 
 ghost use Rattle.std.specs.Prelude.{◌≡◌, ◌↔◌, IsTrue, Some, None, is_some, reverse, IfOk, OnOk, OnErr};
 ghost use Rattle.thread_core_state.specs.Stacked.{IsThread};

@@ -1,4 +1,4 @@
-//! What a turn of a thread is, how a thread stands, and what it waits for.
+//! The types of a thread's turns, standings and waits.
 
 use lam_asks::Ask;
 use lam_value::Name;

@@ -1,4 +1,4 @@
-//! An answer is done, or undone, without memory.
+//! The commit and the rollback of a prepared answer, without memory.
 
 ghost use Rattle.std.specs.Prelude.{◌≡◌, ◌<◌, [], None, if◌then◌else◌, reverse, length, drop, slice_get};
 ghost use Rattle.std.specs.List.{remove};

@@ -1,7 +1,7 @@
-//! What an answer does to a thread, in two parts.
+//! The effect of an answer on a thread, in two phases: prepare, then commit.
 //!
 //! The machine serves an ask in its shared stores and answers it to the thread, and a refusal of memory must change
-//! neither. So [`prepare`] takes all memory that the answer needs first, and a [`Prepared`] is then done, or undone,
+//! neither. So [`prepare`] takes all memory that the answer needs first. A [`Prepared`] is then done, or undone,
 //! without any: what grows was put on the thread already, and doing it only takes away. Nothing of the thread is
 //! copied. [`take_answer`] does both at once.
 #![tactic(auto)]

@@ -1,4 +1,4 @@
-//! What an answer will do to a thread.
+//! The plan of an answer's effect on a thread.
 
 use capabilities::Caps;
 use lam_asks::Fault;

@@ -1,4 +1,4 @@
-//! What an answer will do to a thread, and the memory for it.
+//! The making of a plan, with all memory that the answer needs.
 
 ghost use Rattle.std.specs.Prelude.{◌≡◌, ◌<◌, ◌≤◌, ◌∷◌, ◌++◌, [], List, length, take, drop, reverse, IfOk, OnOk, OnErr};
 ghost use Rattle.thread_steps.specs.Ops.{region_in};

@@ -1,8 +1,8 @@
-//! Barriers, accesses, monitors, and what is made.
+//! Effects of barriers, accesses, monitors, and of making things.
 //!
-//! A barrier tests its rule, and an access does not test it a second time: in a run of guarded code it finds a reference whose
-//! rule holds. Only where an element's place is outside the length is the rule tested, since an access whose rule fails
-//! raises nothing.
+//! A barrier tests its rule, and the access does not test it again. In a run of guarded code it finds a reference whose
+//! rule holds. The access tests the rule only where an element's index is outside the length, since an access whose
+//! rule fails raises nothing.
 
 ghost use Rattle.std.specs.Prelude.{◌≡◌, ◌∷◌, true, reverse, List};
 ghost use Rattle.lam_asks.specs.declared.ask.Ask.TheVariants as ask;

@@ -1,8 +1,8 @@
-//! The built-in calls, and the barriers, accesses and monitors.
+//! Effects of the built-in calls, and of barriers, accesses and monitors.
 //!
-//! A built-in call is seen before it is done, without memory: its value, fault or ask stands as [`Called`], with the
-//! parts of its arguments where they are. [`system`] is the effect of a call with the arguments on top of the operands.
-//! `access` has the effects of the operations that reach a thing or make one.
+//! The effect of a built-in call is known before it is done, without memory. Its value, fault or ask is a [`Called`],
+//! which borrows the parts of its arguments. [`system`] is the effect of a call with the arguments on top of the
+//! operands. `access` has the effects of the operations that reach a thing or make one.
 #![tactic(auto)]
 
 mod access;

@@ -1,4 +1,4 @@
-//! What the code of an operation says of it.
+//! Effects of operations, with values and asks whose parts are borrowed.
 
 use capabilities::Caps;
 use flow_labels::{Denied, Label, TagId, TagSet};

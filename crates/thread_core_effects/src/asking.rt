@@ -1,4 +1,4 @@
-//! Asks and values, made of parts that are copied.
+//! Asks and values, made from copied parts.
 
 ghost use Rattle.std.specs.Prelude.{◌≡◌, ◌++◌, ◌∷◌, [], map, IfOk, OnOk};
 ghost use Rattle.std.specs.FinSet.{from_list};

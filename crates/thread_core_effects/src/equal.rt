@@ -1,4 +1,4 @@
-//! When two values are equal, as a program tests it.
+//! Equality of values, as a program tests it.
 
 ghost use Rattle.std.specs.Prelude.{◌≡◌};
 ghost use Rattle.thread_core_state.specs.Equal.{same_names, same_tags, same_labels, same_values};

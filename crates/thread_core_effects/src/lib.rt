@@ -1,9 +1,9 @@
-//! What an operation does, seen before it is done: the types of effects, and what is made of them.
+//! Effects of operations as data, known before they are done.
 //!
-//! An [`OpEffect`] says exactly what an operation does to the acting call, as its definition says (`did_of`), with the parts
-//! of values and asks where they stand. It takes no memory. [`value_from`] and [`ask_from`] make a value or an ask of
-//! its parts, which they copy. The crates above give the effect of each operation: `thread_core_calls` those of built-in
-//! calls, `thread_core_ops` all others.
+//! An [`OpEffect`] says exactly what an operation does to the acting call, as its definition says (`did_of`). It
+//! borrows the parts of values and asks, and allocates nothing. [`value_from`] and [`ask_from`] copy such parts into a
+//! value or an ask. The crates above give the effect of each operation: `thread_core_calls` those of built-in calls,
+//! `thread_core_ops` all others.
 #![tactic(auto)]
 
 mod acted;

@@ -1,4 +1,4 @@
-//! Values by what they are.
+//! Readers of a value as a number, a truth value, a thing or a tag.
 
 ghost use Rattle.std.specs.Prelude.{◌≡◌};
 ghost use Rattle.std.specs.Option.{option_copied};

@@ -1,11 +1,14 @@
-//! What each operation does in the acting call of a context.
+//! The effect of each operation in the acting call of a context.
 //!
-//! [`see`] says of an operation what it does, before it is done: an `OpEffect`, exactly what the definition says, with the
-//! parts of values and asks where they stand. It takes no memory and changes nothing, so the same answer serves to say
-//! how a thread stands, to ask, to act, and to know what is left of the operands when an ask was answered.
+//! [`see`] gives an operation's effect before it is done. The `OpEffect` is exactly what the definition says, with the
+//! parts of values and asks borrowed. It allocates nothing and changes nothing. So the same answer serves to say how a
+//! thread stands, to ask, to act, and to find the operands that an answered ask leaves.
 //!
-//! `operators` has operators and what makes labels and capabilities, `units` what begins a unit, and `seeing` the
-//! operations. Built-in calls, barriers, accesses and monitors stand in `thread_core_calls`.
+//! - `operators`: operators, and the making of labels and capabilities.
+//! - `units`: what begins a unit.
+//! - `seeing`: the operations.
+//!
+//! Built-in calls, barriers, accesses and monitors stand in `thread_core_calls`.
 #![tactic(auto)]
 
 mod operators;

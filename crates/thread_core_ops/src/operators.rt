@@ -1,4 +1,4 @@
-//! Operators, and what makes labels and capabilities.
+//! Effects of operators, and of making labels and capabilities.
 
 ghost use Rattle.std.specs.Prelude.{◌≡◌, ◌⊎◌, ◌++◌, ◌&&◌, List, None, is_some};
 ghost use Rattle.lam_value.specs.declared.values.Value.{Value};

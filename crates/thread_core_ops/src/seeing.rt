@@ -1,4 +1,4 @@
-//! What an operation does, before it is done.
+//! Effects of operations, known before they are done.
 
 ghost use Rattle.std.specs.Prelude.{◌≡◌, ◌+◌, if◌then◌else◌, List, slice_get, length};
 ghost use Rattle.lam_value.specs.declared.values.Value.{Value};

@@ -1,4 +1,4 @@
-//! Contexts.
+//! The security contexts of a thread.
 
 ghost use Rattle.std.specs.Prelude.{◌≡◌, IfOk, reverse};
 ghost use Rattle.thread_core_state.specs.Seen.{phase_of};

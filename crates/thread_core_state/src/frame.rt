@@ -1,4 +1,4 @@
-//! Calls that wait for another one.
+//! Suspended calls, which wait for another one.
 
 ghost use Rattle.std.specs.Prelude.{◌≡◌, ◌↔◌, IsTrue, IfOk};
 

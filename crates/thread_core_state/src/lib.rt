@@ -1,12 +1,12 @@
-//! Threads of the machine, in code.
+//! The state of the machine's threads, in code.
 //!
-//! A [`LamThread`] is a stack of [`Context`]s, and the outcome with which it ended, if it did. A context has a label and
-//! capabilities, the monitors that it took, and the calls that are open in it: the acting one in the context itself,
-//! and each that waits as a [`Frame`]. [`Operands`] is the stack of operands of a call.
+//! A [`LamThread`] is a stack of [`Context`]s, with its outcome if it ended. A context has a label and capabilities,
+//! the monitors that it took, and its open calls. The acting call stands in the context itself, and each waiting one is
+//! a [`Frame`]. [`Operands`] is the stack of operands of a call.
 //!
-//! Contracts see the plain records of `thread_steps`, where the top of each stack stands first; in code it is the
-//! last of a vector. The fields are public, since the steps of a thread, in the crate above, change them in place:
-//! no invariant ties them.
+//! Contracts see the plain records of `thread_steps`, where the top of each stack stands first; in code it is the last
+//! of a vector. The fields are public, since the steps of a thread, in the crate above, change them in place. No
+//! invariant ties them.
 #![tactic(auto)]
 
 mod context;

@@ -1,4 +1,4 @@
-//! What a context of a thread is.
+//! The phases of a context: first context, region body or catch block.
 
 /// What a context of a thread is.
 #[derive(Clone, Copy, Debug, PartialEq, Eq)]

@@ -1,4 +1,4 @@
-//! Threads.
+//! The type of threads.
 
 ghost use Rattle.std.specs.Prelude.{◌≡◌, IfOk, [], None, Some, reverse, length, slice_get};
 ghost use Rattle.std.specs.Option.{option_copied};

@@ -1,8 +1,8 @@
-//! Stretches: private turns of one thread, taken on a copy of it.
+//! Stretches, batches of private turns taken on a copy of one thread.
 //!
-//! A private turn reads and changes its thread alone, so a worker that shares a world with others can take many of them on a
-//! copy, and needs the world only to put the result back. A [`Stretch`] knows what its thread was, what it is after so many
-//! private turns, and how many. `specs/Stretches` says when that is so of a code; each step keeps it.
+//! A private turn reads and changes its thread alone. So a worker that shares a world can take many of them on a copy,
+//! and needs the world only to put the result back. A [`Stretch`] knows its thread before, its thread after so many
+//! private turns, and their number. `specs/Stretches` says when that is so of a code; each step keeps it.
 #![tactic(auto)]
 
 mod stretch;

@@ -1,4 +1,4 @@
-//! Who keeps nothing of a run.
+//! The fold that keeps nothing of a run.
 
 use lam_asks::{Event, let_go_event};
 use lam_machine_replay::{Keeps, World};

@@ -1,18 +1,23 @@
-//! A run whose turns are taken by several workers, which share it under one lock.
+//! A run whose turns several workers take, under one lock.
 //!
 //! [`run_on`] starts the workers. Each takes the lock and asks the scheduler's hook (a `Gate` of `lam_io`) for a ready
-//! thread. Where the next turn of that thread is private and a copy of it costs little (`lightness`), the worker lets
-//! the lock go, takes up to 64 private turns of a copy, and checks them in under the lock, if the thread is still what
-//! it was; else it takes one turn under the lock. Then it lets the lock go and tells the hook; it stops where the run
-//! has ended. What is checked in is whole under the lock, so the turns stand in one order, and what the workers leave
-//! is a run like any other: that order and the start tell all of it. What the hook picks decides the order, and nothing
-//! that a contract says rests on it. [`run_kept`] is such a run of which somebody keeps something, as a view of it or a
-//! count (`Keeps` of `lam_machine_replay`), as its turns are taken: no second pass over them is made.
+//! thread. If the thread's next turn is private and its copy costs little (`lightness`), the worker releases the lock.
+//! It takes up to 64 private turns of a copy, and checks them in under the lock, if the thread is still what it was.
+//! Else it takes one turn under the lock. Then it releases the lock and tells the hook; it stops where the run has
+//! ended.
 //!
-//! A lock does not tell which value it gives back. `sharing` has the type of what lies under it, which is marked by an origin
-//! ([`Origin`], `origins`): a code, a start, a budget and what is to be kept. So it is known of what comes back that it is a
-//! course of them, and nothing is copied or compared to find that out. `visits` has one visit of it, `stretching` how private
-//! turns begin and come back, `workers` those who visit it, and `running` the runs.
+//! What is checked in is whole under the lock, so the turns stand in one order. What the workers leave is a run like
+//! any other, and that order and the start tell all of it. The hook's picks decide the order, and no contract rests on
+//! them. [`run_kept`] also folds over the run as its turns are taken, for a view or a count (`Keeps` of
+//! `lam_machine_replay`). So no second pass is made.
+//!
+//! A lock's contract does not say which value it returns. The guarded type (`sharing`) therefore has a phantom
+//! parameter, [`Origin`] (`origins`), that fixes the code, the start, the budget and what is kept. So what comes back
+//! is known to be a course of them, and nothing is copied or compared to find that out.
+//!
+//! - `visits`: one visit of the shared course.
+//! - `stretching`: how private turns begin and come back.
+//! - `workers`: the workers; `running`: the runs.
 #![tactic(auto)]
 
 mod keepers;

@@ -1,6 +1,8 @@
-//! Which threads are light: to copy one, and to compare the copy with it, costs little beside the private turns that
-//! are taken of the copy. Turns of the others are taken under the lock, one at a time. It is a matter of speed alone,
-//! so no clause speaks of it.
+//! Light threads, which cost little to copy.
+//!
+//! Copying such a thread, and comparing the copy with it, costs little beside the private turns that are taken of the
+//! copy. Turns of other threads are taken under the lock, one at a time. It is a matter of speed alone, so no clause
+//! speaks of it.
 
 use lam_value::Value;
 use thread_core_state::{Context, Frame, LamThread, Operands};

@@ -1,4 +1,4 @@
-//! What a shared course is one of.
+//! Origins, phantom types that fix what a shared course is one of.
 
 use std::marker::Brand;
 

@@ -1,4 +1,4 @@
-//! A run on workers, to its end.
+//! The running of workers, to the end of a run.
 
 ghost use Rattle.std.specs.Prelude.{◌≡◌, ◌<◌, ◌≤◌, [], length, IfOk};
 ghost use Rattle.guarded_code_runs.specs.Worlds.{IsSound};

@@ -1,4 +1,4 @@
-//! What lies under the lock: a course that is known to be one of its origin, and what is kept of it.
+//! The locked value: a course of its origin, and what is kept of it.
 
 ghost use Rattle.std.specs.Prelude.{◌≡◌, ◌<◌, ◌≤◌, true, [], length, IsTrue, ◌↔◌, IfOk, OnOk, IfSome, MatchOption};
 ghost use Rattle.guarded_code_runs.specs.Worlds.{IsSound};

@@ -1,4 +1,4 @@
-//! Private turns of a thread that are taken outside the lock: how they begin, and how they come back.
+//! Stretches of private turns outside the lock: their beginning and their return.
 
 ghost use Rattle.std.specs.Prelude.{◌≡◌, ◌+◌, ◌<◌, ◌≤◌, ◌↔◌, true, false, length, IsTrue, IfOk, IfSome, OnOk, vec_capacity};
 ghost use Rattle.thread_core_stretches.specs.Stretches.{StretchStands, begun};

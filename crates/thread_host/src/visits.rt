@@ -1,4 +1,4 @@
-//! One visit of a course: a turn of a ready thread, or that the run has ended.
+//! One visit of a course: a turn of a ready thread, or the run's end.
 
 ghost use Rattle.std.specs.Prelude.{◌≡◌, ◌<◌, ◌≤◌, true, false, length, OnOk, MatchOption, vec_capacity};
 ghost use Rattle.lam_machine_terms.specs.Turns as turns;

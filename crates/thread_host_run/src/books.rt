@@ -1,4 +1,4 @@
-//! The run of a book of turns, or where they stop to be one.
+//! The run of a book of turns, or its first turn of an unready thread.
 
 ghost use Rattle.std.specs.Prelude.{◌≡◌, ◌≤◌, [], length, IfOk, OnOk};
 ghost use Rattle.lam_machine.specs.Worlds.{IsSound};

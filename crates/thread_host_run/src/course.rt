@@ -1,4 +1,4 @@
-//! The part of a run that moves.
+//! Courses, which are the parts of runs that move.
 
 ghost use Rattle.std.specs.Prelude.{◌≡◌, ◌↔◌, ◌<◌, true, [], length, IsTrue, IfOk, OnOk, OnErr};
 ghost use Rattle.lam_bytecode.specs.Codes.{CodeTree};

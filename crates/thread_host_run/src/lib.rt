@@ -1,22 +1,24 @@
-//! Runs: a code, a start, the turns in order, and the world that they leave.
+//! Runs of a code: a start, turns in order, and the world that they leave.
 //!
-//! A [`Run`] begins with no turn, and each [`Run::turn`] is one of a thread that is ready. So whoever drives it, one caller
-//! or many workers under one lock, has a run at each moment, and can only make it longer. [`Run::go`] is such a turn for
-//! whoever does not ask what it was.
+//! A [`Run`] begins with no turn, and each [`Run::turn`] is one of a thread that is ready. So its driver, one caller or
+//! many workers under one lock, has a run at each moment, and can only make it longer. [`Run::go`] takes such a turn
+//! for a caller that does not need its event.
 //!
-//! The code is guarded and the start is sound for it (`IsSound` of `guarded_code_runs`), and so is the world of each moment: every
-//! access finds a reference that its rule allows, and none is tested a second time.
+//! The code is guarded and the start is sound for it (`IsSound` of `guarded_code_runs`), and so is the world of each
+//! moment. Every access finds a reference that its rule allows, and none is tested a second time.
 //!
-//! A [`Course`] is the part of a run that moves, and a run is put together of a code, a start and a course of them
-//! ([`Run::of`]): so workers can share a course under a lock while the code and the start are lent from outside.
+//! A [`Course`] is the part of a run that moves. [`Run::of`] puts a run together from a code, a start and a course of
+//! them. So workers can share a course under a lock, while the code and the start are lent from outside.
 //!
-//! Private turns of one thread can be taken on a copy of it, and checked in as a whole (`Stretch` of `thread_core_stretches`,
-//! [`Course::check_in`], [`Run::check_in`]): where the thread is still what it was when the stretch began, its turns are turns
-//! of the run.
+//! Private turns of one thread can be taken on a copy of it and checked in as a whole (`Stretch` of
+//! `thread_core_stretches`, [`Course::check_in`], [`Run::check_in`]). Where the thread is still what it was when the
+//! stretch began, its turns are turns of the run.
 //!
-//! `readiness` tells whether a thread is ready, without memory. `course` and `run` have the types, `taking` one turn,
-//! `stretches` how stretches come back, and `seeking` looks for a thread that is ready or lives. `listing` keeps the list of
-//! the ready threads from turn to turn. `books` makes the run of a book of turns, or tells where they stop to be one.
+//! - `readiness`: whether a thread is ready, without memory.
+//! - `course` and `run`: the types; `taking`: one turn; `stretches`: how stretches come back.
+//! - `seeking`: the search for a thread that is ready or lives.
+//! - `listing`: the list of the ready threads, kept from turn to turn.
+//! - `books`: the run of a book of turns, or the turn at which they stop to be one.
 #![tactic(auto)]
 
 mod books;

@@ -1,8 +1,8 @@
 //! The list of a run's ready threads, kept from turn to turn.
 //!
-//! After a quiet turn no monitor has changed its holder and no thread was started or has ended, so each other thread is
-//! ready where it was, and only the one that took the turn is looked at again. Private turns are quiet, and so are all asks
-//! but those that take monitors or give them back, start a thread or end one; after these the list is made anew.
+//! After a quiet turn no monitor has changed its holder and no thread was started or has ended. So each other thread is
+//! ready where it was, and only the one that took the turn is looked at again. Private turns are quiet, and so are all
+//! asks but those that take monitors or give them back, start a thread or end one. After these the list is made anew.
 //! Its room is taken once, for as many threads as a run can have, and no turn takes more.
 
 ghost use Rattle.std.specs.Prelude.{◌≡◌, ◌<◌, ◌≤◌, true, length, IfOk, OnOk, OnErr, vec_capacity};

@@ -1,7 +1,7 @@
-//! Whether a thread is ready.
+//! Readiness of threads, tested without memory.
 //!
-//! [`ready`] tells whether there is a turn of a thread to take, without memory: it reads how the thread stands, and, where
-//! it asks next, what the ask waits for. `lam_machine_terms` says by the turn itself what ready means; `specs/Readiness` says
+//! [`ready`] tells whether there is a turn of a thread to take. It reads how the thread stands, and, where it asks
+//! next, what the ask waits for. `lam_machine_terms` says by the turn itself what ready means; `specs/Readiness` says
 //! it by these two.
 
 ghost use Rattle.std.specs.Prelude.{◌≡◌, slice_get};

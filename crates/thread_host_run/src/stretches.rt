@@ -1,4 +1,4 @@
-//! Stretches of private turns that were taken on a copy of a thread, and how they come back.
+//! Stretches of private turns on a copy of a thread, and their return.
 
 ghost use Rattle.std.specs.Prelude.{◌≡◌, ◌+◌, ◌<◌, ◌≤◌, ◌++◌, Some, length, slice_set, replicate, IsTrue, ◌↔◌, OnOk, OnErr, vec_len, vec_capacity};
 ghost use Rattle.lam_machine_terms.specs.Worlds.{thread_at, with_thread};

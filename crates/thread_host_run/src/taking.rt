@@ -1,4 +1,5 @@
-//! One turn of a run with its event, and whether it was quiet: every other thread is ready where it was.
+//! One turn of a run with its event, and whether it was quiet. After a quiet turn every other thread is ready where it
+//! was.
 
 ghost use Rattle.std.specs.Prelude.{◌≡◌, true, ◌++◌, ◌∷◌, [], IfOk, OnOk, OnErr};
 ghost use Rattle.lam_machine_terms.specs.Turns.{ready};

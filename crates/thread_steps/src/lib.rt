@@ -1,12 +1,17 @@
-//! What a thread of the machine is, and what its next turn does, as definitions.
+//! Definitions of threads, and of the next turn of each.
 //!
-//! A thread is a stack of contexts, each with its label and capabilities. Only the top context acts: it takes an
-//! operation of its code, or handles a fault that was raised. An operation is *private* where it changes the top
-//! context's inside alone, and else an *ask*, which the reference monitor answers; where neither applies, the thread is
-//! *stuck*. `specs/Threads` has the data, `specs/Operators` what operators give, `specs/Builtins` the one table of built-in calls, `specs/Ops` the effect of
-//! each operation, and `specs/Next` what comes next and what an answer does to the thread.
+//! A thread is a stack of security contexts, each with its label and capabilities. Only the top context acts: it takes
+//! an operation of its code, or handles a raised fault. An operation is *private* where it changes only the inside of
+//! the top context, and else an *ask*, which the reference monitor answers. Where neither applies, the thread is
+//! *stuck*.
 //!
-//! Both the compiler's proof and the machine stand on these definitions, and neither on the other.
+//! - `specs/Threads`: the data.
+//! - `specs/Operators`: what operators give.
+//! - `specs/Builtins`: the one table of built-in calls.
+//! - `specs/Ops`: the effect of each operation.
+//! - `specs/Next`: what comes next, and what an answer does to the thread.
+//!
+//! The compiler's proof and the machine both stand on these definitions, and neither on the other.
 #![tactic(auto)]
 
 pub use lam_asks::{

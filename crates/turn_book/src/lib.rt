@@ -1,12 +1,11 @@
-//! The text of a book, both ways.
+//! A reader and a writer of books, the texts of schedules.
 //!
-//! A book is a schedule: which thread takes each turn of a run. A run that is written as its book can be
-//! replayed, turn for turn. The text is the line `lam book 1`, and then a line `THREAD COUNT` for each
-//! longest stretch of turns of one thread. So each book has one text, and each text is that of at most
-//! one book.
+//! A *book* is a schedule: which thread takes each turn of a run. A run can be replayed from its book, turn for turn.
+//! The text is the line `lam book 1`, and then a line `THREAD COUNT` for each maximal sequence of turns of one thread.
+//! So each book has one text, and each text is that of at most one book.
 //!
-//! A text that is no book is refused at its least broken line, and says what is broken there; the head is
-//! line 1. Both ways take time linear in the text and the turns.
+//! A text that is no book is refused at its least broken line, with what is broken there; the head is line 1. Both ways
+//! take time linear in the text and the turns.
 #![tactic(auto)]
 
 mod lines;

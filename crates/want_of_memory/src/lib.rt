@@ -1,7 +1,7 @@
-//! Want of memory, the one failure that no contract ties down.
+//! The error for refused memory, the one failure that contracts leave open.
 //!
-//! Every call that takes memory answers with a `Result` whose error is `NoMemory` or has it as a variant of its own.
-//! It stands in a crate alone, below all others, so that the language does not stand on the labels for its sake.
+//! Every call that allocates returns a `Result` whose error is `NoMemory` or has it as a variant. The crate lies below
+//! all others, so that the crates of the language need not depend on those of labels for it.
 #![tactic(auto)]
 
 use std::alloc::{AllocError, AllocFailed};

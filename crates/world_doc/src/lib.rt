@@ -1,22 +1,22 @@
-//! World documents: from a text to the world at the start of a run.
+//! The reader of world documents: from a text to the start of a run.
 //!
-//! [`start`] is the whole reading: the bytes are UTF-8 and a JSON text, and its members are `version`, `tags`, `tree`,
-//! `pipes` and `threads`, looked at in this order; in version 3 `counts` stands before `tree`. The tags and what is said by
-//! their names are read, and the files are made, by `world_doc_stores`; what is public in the world is so by the kinds of
-//! the tags.
+//! [`start`] is the whole reading. The bytes are UTF-8 and a JSON text. Its members are `version`, `tags`, `tree`,
+//! `pipes` and `threads`, looked at in this order; in version 3 `counts` stands before `tree`. `world_doc_stores` reads
+//! the tags and what is said by their names, and makes the files. What is public in the world is so by the kinds of the
+//! tags.
 //!
 //! Each thread runs a function of the code whose result is a number, with an argument of its kind for each parameter,
-//! and with capabilities. The threads are answered as they just started, or their first break, exactly as the definition
-//! `threads_in` of `world_doc_terms` reads them.
+//! and with capabilities. The threads are answered as they just started, or their first break, exactly as the
+//! definition `threads_in` of `world_doc_terms` reads them.
 //!
-//! - `document` has the whole reading.
-//! - `pipes` makes the pipes, with a table of what the document calls them: they are looked up in constant time.
-//! - `entry` has the functions that a thread may run.
-//! - `args` has the arguments: of several contents that may be there, exactly one is.
-//! - `threads` has the threads.
+//! - `document`: the whole reading.
+//! - `pipes`: the pipes, with a table of what the document calls them for look-up in constant time.
+//! - `entry`: the functions that a thread may run.
+//! - `args`: the arguments. Of several contents that may be there, exactly one is.
+//! - `threads`: the threads.
 //!
-//! The answer is the world that the definition `start_of` of `world_doc_terms` reads, or its break in a [`WorldFault`]: the
-//! first of the document. Only want of memory is tied to nothing.
+//! The answer is the world that the definition `start_of` of `world_doc_terms` reads, or the document's first break, in
+//! a [`WorldFault`]. Only want of memory is left open.
 #![tactic(auto)]
 
 mod args;

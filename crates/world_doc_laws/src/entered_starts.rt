@@ -1,7 +1,7 @@
-//! The threads of a document's start stand at the entries of functions, with all their arguments.
+//! The law that a start's threads stand at function entries, with all their arguments.
 //!
-//! So where the code is guarded, runs from there are sound: each access finds a reference that is not null and whose rule
-//! holds (`guarded_code_runs`).
+//! So where the code is guarded, runs from there are sound: each access finds a non-null reference whose rule holds
+//! (`guarded_code_runs`).
 
 ghost use Rattle.lam_bytecode.specs.Codes.{CodeTree};
 ghost use Rattle.world_doc_laws.specs.Entered.{StartsAreEntered, StartsAreSound};

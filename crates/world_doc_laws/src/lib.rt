@@ -1,15 +1,15 @@
 //! Laws of world documents, in proofs alone.
 //!
-//! `world_doc_terms` defines what a document gives: the start of a run, or its first break. Here that is joined to the machine
-//! and to the source.
+//! `world_doc_terms` defines what a document gives: the start of a run, or its first break. These laws join that to the
+//! machine and to the source.
 //!
-//! - `starts`: a world that a document gives is valid, so that everything that is proved of runs from a valid start holds
-//!   of runs from a document, and its threads stand at entries (`specs/Starts`, `specs/Standing`).
+//! - `starts`: a world that a document gives is valid. So what is proved of runs from a valid start holds of runs from
+//!   a document. Its threads stand at entries (`specs/Starts`, `specs/Standing`).
 //! - `entered_starts`: the threads of a start stand at entries of guarded code, and agree with its descriptions
 //!   (`specs/Entered`).
-//! - `saved`: what is read of a document of version 3 by the counters and items that it says (`specs/Saved`).
-//! - `runs`: every run from there of a code that acts as a typed program means what its source means (`specs/Documents`,
-//!   `specs/Entries`).
+//! - `saved`: the reading of a document of version 3, by its counters and items (`specs/Saved`).
+//! - `runs`: every run from there of a code that acts as a typed program means what its source means
+//!   (`specs/Documents`, `specs/Entries`).
 #![tactic(auto)]
 
 mod entered_starts;

@@ -1,10 +1,10 @@
-//! Runs from the world of a document mean what their source means.
+//! The law that runs from a document's world mean what their source means.
 //!
-//! A world document starts threads at functions whose result is a number, with an argument of its kind for each parameter
-//! and in a valid world (`starts`). The entries of a program's code, also of its thinned code, are its functions
-//! (`entries_are_functions`): each is the program's own function of the same number, which takes what the unit says; and no
-//! such argument is an object or an array. So what `lam_machine_means` says of runs holds of every run, from every document,
-//! of a code that acts as a typed program and has such entries.
+//! A world document starts threads in a valid world (`starts`). Each runs a function whose result is a number, with an
+//! argument of its kind for each parameter. The entries of a program's code, also of its thinned code, are its
+//! functions (`entries_are_functions`). Each is the program's own function of the same number, which takes what the
+//! unit says. No such argument is an object or an array. So what `lam_machine_means` says holds of every run, from
+//! every document, of a code that acts as a typed program and has such entries.
 
 ghost use Rattle.lam_bytecode.specs.Codes.{CodeTree};
 ghost use Rattle.lam_resolve_tree.specs.Tree.{ResolvedTree};

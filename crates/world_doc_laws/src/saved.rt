@@ -1,8 +1,8 @@
-//! What is read of a document of version 3.
+//! The law of reading a document of version 3.
 //!
-//! The definitions of `world_doc_terms` read such a document member by member, as JSON. Here this is joined to what the
-//! members say (`SavedItems` there): counters of homes, and items with their paths, names and contents. What stands in the
-//! document beside them, and how it spells them, plays no part.
+//! The definitions of `world_doc_terms` read such a document member by member, as JSON. This law joins that to what the
+//! members say (`SavedItems` there): counters of homes, and items with their paths, names and contents. Other members
+//! of the document and its spelling play no part.
 
 ghost use Rattle.lam_bytecode.specs.Codes.{CodeTree};
 ghost use Rattle.world_doc_laws.specs.Saved.{FilesAreRead, StartsAreRead, BytesAreRead};

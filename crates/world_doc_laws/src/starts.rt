@@ -1,11 +1,11 @@
-//! What holds of every world that a document gives.
+//! The law that every world that a document gives is valid.
 //!
-//! `world_of` of `world_doc_terms` is a function on what was read of a JSON text, and says nothing of validity. Here is the
-//! law that joins it to the machine: a world that it gives is a valid world, so that everything that is proved of runs
-//! from a valid start holds of runs from a document. The proof follows the members in the order in which they are
-//! looked at: names (`proofs/ReadLemmas`), the tree and the pipes (`proofs/StoreLemmas`), which stay sound and living
-//! with each item, and the threads (`proofs/EntryLemmas`), whose arguments live. How the threads stand is a law of its
-//! own (`threads_stand_at_entries`).
+//! `world_of` of `world_doc_terms` is a function on what was read of a JSON text, and says nothing of validity. By this
+//! law, everything that is proved of runs from a valid start holds of runs from a document. The proof follows the
+//! members in the order in which they are looked at. First come the names (`proofs/ReadLemmas`), then the tree and the
+//! pipes (`proofs/StoreLemmas`), which stay sound and living with each item. Last come the threads
+//! (`proofs/EntryLemmas`), whose arguments live. How the threads stand is a law of its own
+//! (`threads_stand_at_entries`).
 
 ghost use Rattle.lam_bytecode.specs.Codes.{CodeTree};
 ghost use Rattle.world_doc_laws.specs.Starts.{WorldsStart, TextsStart};

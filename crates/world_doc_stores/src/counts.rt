@@ -1,7 +1,7 @@
-//! How many files and directories each home has made, by the member `counts` of a document of version 3.
+//! The allocation counters of homes, by the member `counts` of a version 3 document.
 //!
-//! The counters of the files cannot tell whether the home of the root was named, since it has made the root. So there is a
-//! table of the homes that were named beside them.
+//! The counters of the files cannot tell whether the home of the root was named, since it has made the root. So there
+//! is a table of the homes that were named beside them.
 
 ghost use Rattle.std.specs.Prelude.{◌≡◌, ◌≤◌, ◌<◌, OnOk, IfOk};
 ghost use Rattle.std.specs.FinMap.{empty, insert};

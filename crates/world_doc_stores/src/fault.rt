@@ -1,4 +1,4 @@
-//! Why a document gives no world: it is broken, or memory ran out.
+//! Faults of reading a world document: its first break, or refused memory.
 
 ghost use Rattle.std.specs.Prelude.{◌≡◌};
 ghost use Rattle.world_doc_terms.specs.Breaks.{NoMember, BadMember, NoTag};

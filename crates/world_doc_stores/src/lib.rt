@@ -1,16 +1,17 @@
-//! Reading a world document up to its pipes: its members, what it says by tags, and its files and directories.
+//! The reader of a world document's members, tags, files and directories.
 //!
-//! A document is a JSON value of `serde_json`. Each reader here is the definition of the same name in `world_doc_terms` in
-//! code: it answers the value that the definition reads, or the definition's break, as a [`WorldFault`]. Members are
-//! looked at in the order of the calls, so the first break of the document is the one that is named.
+//! A document is a JSON value of `serde_json`. Each reader here computes the definition of the same name in
+//! `world_doc_terms`. It answers the value that the definition reads, or the definition's break, as a [`WorldFault`].
+//! Members are looked at in the order of the calls, so the first break of the document is the one that is named.
 //!
-//! - `fault` has the faults, `members` a member of an object in the form that it must have, and `tags` the tags with their
-//!   names and kinds, labels, tags by their names, and capabilities. `specs/Meaning` says what a result means.
-//! - `path` walks a path from the root down, over the entries of directories.
-//! - `tree` reads the items of the tree of versions 1 and 2, and puts each into the files by their own call.
-//! - `counts` reads how many files and directories each home has made, and `numbered` the items of the tree of version 3,
-//!   each of which says its name.
-//! - `files` has all files and directories of a document of any version ([`read_files`]).
+//! - `fault`: the faults. `specs/Meaning` says what a result means.
+//! - `members`: a member of an object in the form that it must have.
+//! - `tags`: the tags with their names and kinds, labels, tags by their names, and capabilities.
+//! - `path`: the way of a path from the root down, over the entries of directories.
+//! - `tree`: the items of the tree of versions 1 and 2, each put into the files by their own call.
+//! - `counts`: how many files and directories each home has made.
+//! - `numbered`: the items of the tree of version 3, each of which says its name.
+//! - `files`: all files and directories of a document of any version ([`read_files`]).
 #![tactic(auto)]
 
 mod counts;

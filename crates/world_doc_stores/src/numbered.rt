@@ -1,4 +1,6 @@
-//! The items of the tree of version 3: each says its own name, and the bytes of a file by digits.
+//! The items of the tree of version 3.
+//!
+//! Each says its own name, and the bytes of a file by digits.
 
 ghost use Rattle.std.specs.Prelude.{◌≡◌, ◌<◌, ◌&&◌, not, true, false, codes, MatchResult, OnOk, IfOk, None, unwrap_or};
 ghost use Rattle.std.specs.List.{list_any};

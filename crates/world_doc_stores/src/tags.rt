@@ -1,4 +1,4 @@
-//! The tags of a world, and what the other members say by their names.
+//! The tags of a world, and readers of what other members say by their names.
 
 ghost use Rattle.std.specs.Prelude.{◌≡◌, ◌++◌, ◌∷◌, [], ◌≤◌, true, length, codes, option_and_then, OnOk, IfOk};
 ghost use Rattle.serde_json.specs.View.{view, items_view};

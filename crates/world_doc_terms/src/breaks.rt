@@ -1,4 +1,4 @@
-//! Why a document is no world.
+//! Breaks, the reasons why a document is no world.
 
 /// What is broken in the document of a world: the first break, in the order in which its members are looked at.
 #[derive(Debug, Drop)]

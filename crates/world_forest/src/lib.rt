@@ -1,8 +1,8 @@
 //! Files and directories as a forest, in proofs alone.
 //!
-//! Nothing in the stores says that a directory is not its own grandchild. Here it is said, and shown to last: each
-//! living name stands in one entry at most and the root in none (`specs/Forest`), names are fresh where something is
-//! made, and removing only takes entries away (`specs/Laws`). So who walks from the root down by entries comes to each
+//! Nothing in the stores says that a directory is not its own grandchild. This crate defines that and shows it to last.
+//! Each living name stands in one entry at most, and the root in none (`specs/Forest`). Names are fresh where something
+//! is made, and removing only takes entries away (`specs/Laws`). So a walk from the root down by entries comes to each
 //! file and directory once at most.
 #![tactic(auto)]
 

@@ -1,8 +1,8 @@
-//! The files and directories of every run from a document are a forest, in proofs alone.
+//! The law that files and directories of every run from a document are a forest.
 //!
-//! What a forest of files is, and that each call on files keeps it, is said in `world_forest`. `first_worlds` says that every
-//! world that a document gives begins with one (`specs/FirstWorlds`). The laws below say that each turn of the machine keeps it,
-//! by its effect, and so every run.
+//! `world_forest` defines a forest of files, and says that each call on files keeps it. `first_worlds` says that every
+//! world that a document gives begins with one (`specs/FirstWorlds`). The laws below say that each turn of the machine
+//! keeps it, by its effect, and so every run. All of it is in proofs alone.
 #![tactic(auto)]
 
 mod first_worlds;

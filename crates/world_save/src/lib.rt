@@ -1,9 +1,9 @@
-//! From a run to the document of the next one.
+//! The saving of a run: from its end to the document of the next one.
 //!
-//! [`save`] is `save_files` of `world_save_files` at the end of a run: the files and directories are those that its turns
-//! left, and the names of tags, what is public, the pipes and the threads are those that it began with. That such a document
-//! has pipes and threads to be taken is the law [`starts_can_be_kept`]; that the files are still a forest is that of
-//! `world_forest_laws`.
+//! [`save`] is `save_files` of `world_save_files` at the end of a run. The files and directories are those that its
+//! turns left. The names of tags, what is public, the pipes and the threads are those that it began with. The law
+//! [`starts_can_be_kept`] says that such a document has pipes and threads to be taken. That the files are still a
+//! forest is a law of `world_forest_laws`.
 #![tactic(auto)]
 
 ghost use Rattle.std.specs.Prelude.{◌≡◌, Ok, IfOk, IfErr};

@@ -1,4 +1,4 @@
-//! What files hold are bytes, for proofs.
+//! The fact that files hold bytes, for proofs.
 
 ghost use Rattle.std.specs.Prelude.{◌≡◌, All};
 ghost use Rattle.hex.specs.Hex.{IsBytes};

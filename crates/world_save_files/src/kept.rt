@@ -1,4 +1,4 @@
-//! What the next document takes from an older one.
+//! The parts of an older document that the next one takes over.
 
 ghost use Rattle.std.specs.Prelude.{◌≡◌, IsSome, IfOk, Some};
 ghost use Rattle.serde_json.specs.Data.{Data};

@@ -1,14 +1,14 @@
-//! The document of the next run, of files and directories as they are.
+//! The next run's document, made of given files and directories.
 //!
-//! [`save_files`] refuses first what has no text: the least tag that has no name, then the first path that is no text. Then
-//! it takes from the document that the run began with the values of `pipes` and `threads`, counts the bytes that the new
-//! document would have, and builds it only where it is not too long. What such a document is, and what is refused, is said
-//! in `specs/Saved`.
+//! [`save_files`] refuses first what has no text: the least tag that has no name, then the first path that is no text.
+//! Then it takes the values of `pipes` and `threads` from the document that the run began with, and counts the bytes of
+//! the new document. It builds the document only where it is not too long. `specs/Saved` defines such a document, and
+//! what is refused.
 //!
-//! - `numbers` and `values` have the text of a JSON value.
-//! - `kept` has the texts that are taken from the older document.
-//! - `holding` says that what the files hold are bytes.
-//! - `saving` has the refusals and the document.
+//! - `numbers` and `values`: the text of a JSON value.
+//! - `kept`: the texts that are taken from the older document.
+//! - `holding`: the fact that files hold bytes.
+//! - `saving`: the refusals and the document.
 #![tactic(auto)]
 
 mod holding;

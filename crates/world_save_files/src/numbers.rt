@@ -1,4 +1,4 @@
-//! Whether a number in a text stands as the libraries `itoa` and `ryu` write it.
+//! The test that a number stands as the libraries `itoa` and `ryu` write it.
 
 ghost use Rattle.std.specs.Prelude.{IsTrue};
 ghost use Rattle.json.specs.Token.{number as number_token};

@@ -1,4 +1,4 @@
-//! A value in the compact form.
+//! The compact form of a JSON value.
 
 ghost use Rattle.std.specs.Prelude.{IsTrue, IfOk, All};
 ghost use Rattle.json.specs.Lex.{tokens};

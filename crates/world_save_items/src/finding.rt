@@ -1,4 +1,4 @@
-//! The items from the root down, with a stack of what is still to be done.
+//! The traversal of items from the root down, with an explicit stack.
 
 ghost use Rattle.std.specs.Prelude.{◌≡◌, ◌+◌, ◌<◌, ◌≤◌, ℕ, List, ◌∷◌, [], ◌++◌, length, map, take, IfOk, OnOk};
 ghost use Rattle.json.specs.Print.{escape};

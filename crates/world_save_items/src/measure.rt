@@ -1,4 +1,4 @@
-//! How many bytes a text takes in a document.
+//! The number of bytes that a text takes in a document.
 
 ghost use Rattle.std.specs.Prelude.{◌≡◌, ◌+◌, ◌≤◌, length};
 ghost use Rattle.json.specs.Print.{escape, escape_letter};

@@ -1,8 +1,8 @@
-//! The files and directories at the end of a run from a document can be saved and made again, in proofs alone.
+//! The law that a run's last files and directories can be saved and made again.
 //!
-//! That they are sound and a forest is said where worlds are valid and in `world_forest_laws`. Here is added what a document
-//! can say of them: no file has more bytes than a file may have, and no home that is counted has made nothing. So it is at
-//! every start from a document, and each turn keeps it (`specs/EndLaws`).
+//! They are sound and a forest by the laws of valid worlds and of `world_forest_laws`. This law adds what a document
+//! can say of them. No file has more bytes than a file may have, and no home that is counted has made nothing. So it is
+//! at every start from a document, and each turn keeps it (`specs/EndLaws`). All of it is in proofs alone.
 
 ghost use Rattle.lam_bytecode.specs.Codes.{CodeTree};
 ghost use Rattle.world_save_laws.specs.EndLaws.{StartsAreSmall, EndsAreWhole};

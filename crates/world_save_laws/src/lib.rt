@@ -1,12 +1,12 @@
-//! Laws of saved worlds, in proofs alone: the document that `next` writes is read as the start of the next run.
+//! The laws of saved worlds: a written document is read back, in proofs alone.
 //!
 //! - `text_laws`: the text of a document is read as the document, member by member (`specs/Plain`).
 //! - `list_laws`: its lists say the tags, the counters and the items that were saved (`specs/ListLaws`).
 //! - `tree_laws`: the items make again the files and directories that the root reached (`specs/TreeLaws`).
 //! - `end_laws`: the end of every run from a document can be saved and made again (`specs/EndLaws`).
 //! - `read_laws`: these four as one law (`specs/Saved`), and the same of two runs (`specs/Runs`).
-//! - `run_laws`: runs that an observer cannot tell apart leave starts that it cannot tell apart, where each visible file and
-//!   directory is named in a visible directory (`specs/Agreeing`).
+//! - `run_laws`: runs that look the same to an observer leave starts that do. Each visible file and directory must be
+//!   named in a visible directory (`specs/Agreeing`).
 #![tactic(auto)]
 
 mod end_laws;

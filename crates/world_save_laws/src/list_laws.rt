@@ -1,9 +1,9 @@
-//! What the lists of a saved world's document say, in proofs alone.
+//! The laws of the lists in a saved world's document, in proofs alone.
 //!
-//! `world_save_terms` writes the tags, the counters, and the files and directories of a saved world as JSON values, with
-//! labels by their texts. Here is shown what is read of each list (`specs/ListLaws`): the tags with their kinds, as those that
-//! made public what is public; the counters, of each home its own; and the items, each with its path, its name and its
-//! content. It needs that each label is of tags that have names.
+//! `world_save_terms` writes the tags, the counters, and the files and directories of a saved world as JSON values,
+//! with labels by their texts. These laws say what is read of each list (`specs/ListLaws`). The tags come with their
+//! kinds, as those that made public what is public. The counters are of each home its own. The items have their paths,
+//! names and contents. It needs that each label is of tags that have names.
 
 ghost use Rattle.world_save_laws.specs.ListLaws.{TagsAreRead, CountersAreSaid, ItemsAreSaid};
 

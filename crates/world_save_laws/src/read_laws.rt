@@ -1,9 +1,10 @@
-//! A saved text is read back: the start of the next run has what the root reached at the end of this one, in proofs alone.
+//! The law that a saved text is read back as the next run's start.
 //!
-//! The text is read as its document (`text_laws`), its lists say the tags, the counters and the items (`list_laws`), and the
-//! items make the files and directories again (`tree_laws`), as those at the end of each run can be (`end_laws`). Pipes and
-//! threads are those of the older document, and are read from its own values. Here the parts are one law (`specs/Saved`), and
-//! with what an observer can tell of two runs (`run_laws`) another (`specs/Runs`).
+//! The start has what the root reached at the end of this run. The text is read as its document (`text_laws`), and its
+//! lists say the tags, the counters and the items (`list_laws`). The items make the files and directories again
+//! (`tree_laws`), as those at the end of each run can be (`end_laws`). Pipes and threads are those of the older
+//! document, and are read from its own values. The parts are one law here (`specs/Saved`), and with what an observer
+//! can tell of two runs (`run_laws`) another (`specs/Runs`). All of it is in proofs alone.
 
 ghost use Rattle.flow_labels.specs.declared.Label.{Label};
 ghost use Rattle.lam_bytecode.specs.Codes.{CodeTree};

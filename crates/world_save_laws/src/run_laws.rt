@@ -1,9 +1,9 @@
-//! What an observer can tell of the starts that two runs leave behind, in proofs alone.
+//! Isolation of the starts that two runs leave behind, in proofs alone.
 //!
-//! Two runs that an observer cannot tell apart may end with files and directories that it does not see. The starts that go
-//! on from them are made again by their paths, so an observer could tell them apart by what stands where it does not look:
-//! a seen file in a directory that is not seen is there or not. Where each seen file and directory is named in a seen
-//! directory, it cannot (`specs/Agreeing`).
+//! Two runs that an observer cannot tell apart may end with files and directories that it does not see. The next starts
+//! make them again by their paths. So an observer could tell the starts apart by a visible file in an invisible
+//! directory, which is there or not. If every visible file and directory is named in a visible directory, it cannot
+//! (`specs/Agreeing`).
 
 ghost use Rattle.lam_bytecode.specs.Codes.{CodeTree};
 ghost use Rattle.flow_labels.specs.declared.Label.{Label};

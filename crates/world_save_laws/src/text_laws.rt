@@ -1,8 +1,8 @@
-//! The text of a saved world is read as its document, in proofs alone.
+//! The law that a saved world's text is read as its document.
 //!
-//! `world_save_terms` says which texts spell a document: its lists in the compact form, and between them texts of two values
-//! that come from an older document, in which the digits of numbers that are no whole ones are the writer's. Here is shown
-//! that JSON reads each such text as the document, member by member (`specs/Plain`).
+//! `world_save_terms` says which texts spell a document: its lists in the compact form, and between them texts of two
+//! values from an older document. In those the digits of numbers that are no whole ones are the writer's. JSON reads
+//! each such text as the document, member by member (`specs/Plain`). All of it is in proofs alone.
 
 ghost use Rattle.world_save_laws.specs.Longest.{TextsAreBounded, SpelledTextsAreBounded};
 ghost use Rattle.world_save_laws.specs.Plain.{SpelledDocumentsAreRead};

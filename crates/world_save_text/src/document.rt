@@ -1,4 +1,4 @@
-//! The document, piece after piece.
+//! The whole document, piece after piece.
 
 ghost use Rattle.std.specs.Prelude.{◌≡◌, ℕ, List, Some, map, length, IsPermutation, IfOk, OnOk};
 ghost use Rattle.serde_json.specs.Data.{Data};

@@ -1,15 +1,16 @@
 //! The text of a saved world's document, written or only counted by a [`JsonWriter`].
 //!
-//! A text that is too long is not built: [`count_document`] says how long it would be, and takes memory for one row and one
-//! file at a time. Its rows are in the order of the list of homes, since the length is the same in each order.
+//! A text that is too long is not built: [`count_document`] says how long it would be, and takes memory for one row and
+//! one file at a time. It takes the rows in the order of the list of homes, since the length is the same in each order.
 //! [`write_document`] writes the text, of rows in order.
 //!
-//! - `writer` has the writer, which keeps a text or its length alone, and `values` the JSON values that are written.
-//! - `paths` has the first item whose path is no text. An item comes after its directory, so it is the first whose own
+//! - `writer`: the writer, which keeps a text or its length alone.
+//! - `values`: the JSON values that are written.
+//! - `paths`: the first item whose path is no text. An item comes after its directory, so it is the first whose own
 //!   entry is none.
-//! - `rows` has the list of counters, `tags` that of tags, and `tree` that of files and directories: the path of each is
-//!   made from the path before it, and counted by the length that its step says.
-//! - `document` puts them together.
+//! - `rows`, `tags`, `tree`: the lists of counters, of tags, and of files and directories. The path of each is made
+//!   from the path before it, and counted by the length that its step says.
+//! - `document`: all of them together.
 #![tactic(auto)]
 
 mod document;

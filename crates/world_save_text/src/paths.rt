@@ -1,4 +1,4 @@
-//! The first path that is no text.
+//! The search for the first path that is no text.
 
 ghost use Rattle.std.specs.Prelude.{◌≡◌, map, not, position};
 ghost use Rattle.std.specs.Str.{is_utf8};

@@ -1,4 +1,4 @@
-//! The writer.
+//! The writer of a text, or of its length alone.
 
 ghost use Rattle.std.specs.Prelude.{◌≡◌, [], Some, None, OnOk, option_map};
 ghost use Rattle.world_save_text.specs.Writing.{Wrote, kept, lengthened};

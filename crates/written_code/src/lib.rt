@@ -1,8 +1,8 @@
-//! Code that is written by hand, for worked examples: of the machine and of the verifier, which take code that no compiler
-//! made.
+//! Hand-written code for worked examples of the machine and of the verifier.
 //!
-//! A code is written down as a constant of Rust's plain slices and texts; `code_of` makes it into what runs and is
-//! verified, where it is what every code is. No program is parsed or compiled here, and the tool does not stand on it.
+//! Both take code that no compiler made. A code is written down as a constant of Rust's plain slices and texts.
+//! `code_of` makes it into what runs and is verified, where it is what every code is. No program is parsed or compiled
+//! here, and the tool does not depend on it.
 #![tactic(auto)]
 
 ghost use Rattle.std.specs.Prelude.{◌≡◌, ◌<◌, ◌^◌, true, map, IfOk};
