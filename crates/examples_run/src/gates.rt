@@ -2,6 +2,7 @@
 
 use lam_io::{Gate, OpenGate, TableGate};
 use std::sync::atomic::{AtomicU64, Ordering};
+use std::thread::yield_now;
 
 /// The hook of an example. All hooks are one type, so that the tool is compiled once for all examples.
 #[derive(Clone, Copy)]
@@ -18,12 +19,14 @@ pub enum Hook<'a> {
     Meets(&'a Meets),
     /// A thread that depends on the worker, and is noted.
     Notes(&'a Notes),
+    /// As the one that the program has for one worker, by workers that all meet again and again.
+    Gathers(&'a Gathers),
 }
 
 impl<'a> Gate for Hook<'a> {
     fn pick(&self, worker: u64, turn: u64, ready: &[u32]) -> u64 {
         match self {
-            Hook::Open => OpenGate.pick(worker, turn, ready),
+            Hook::Open | Hook::Gathers(_) => OpenGate.pick(worker, turn, ready),
             Hook::Table(table) => table.pick(worker, turn, ready),
             Hook::InTurn | Hook::Meets(_) => turn,
             Hook::Mixes => mixed(worker, turn),
@@ -32,8 +35,10 @@ impl<'a> Gate for Hook<'a> {
     }
 
     fn between(&self, worker: u64, _thread: u32) {
-        if let Hook::Meets(meets) = self {
-            meets.wait(worker);
+        match self {
+            Hook::Meets(meets) => meets.wait(worker),
+            Hook::Gathers(gathers) => gathers.wait(),
+            _ => {}
         }
     }
 }
@@ -72,6 +77,42 @@ impl Meets {
             if other.load(Ordering::SeqCst) == 1 {
                 return;
             }
+        }
+        self.late.store(1, Ordering::SeqCst);
+    }
+}
+
+/// How often a worker yields to the others before it goes on alone.
+const YIELDS: u64 = 2_000_000;
+
+/// In each of its first calls between turns a worker waits until all of so many workers have called: so each call of a round is
+/// of another worker, and a round ends only where each of them goes on. `late` is 1 where one waited in vain, and `calls`
+/// counts the calls.
+#[derive(Drop)]
+pub struct Gathers {
+    pub workers: u64,
+    pub rounds: u64,
+    pub calls: AtomicU64,
+    pub late: AtomicU64,
+}
+
+impl Gathers {
+    fn wait(&self) {
+        let before = self.calls.fetch_add(1, Ordering::SeqCst);
+        let Some(round) = before.checked_div(self.workers) else {
+            return;
+        };
+        if round < self.rounds {
+            self.wait_for(round.saturating_add(1).saturating_mul(self.workers));
+        }
+    }
+
+    fn wait_for(&self, calls: u64) {
+        for _ in 0..YIELDS {
+            if self.calls.load(Ordering::SeqCst) >= calls || self.late.load(Ordering::SeqCst) == 1 {
+                return;
+            }
+            yield_now();
         }
         self.late.store(1, Ordering::SeqCst);
     }

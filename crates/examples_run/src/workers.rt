@@ -1,7 +1,7 @@
 //! Concurrent workers, with the gate's picks, and the book that replays their run.
 
-use crate::call::{Calls, Told, WIDE, Wanted, book_in, comes_to, store, tell};
-use crate::gates::{Hook, Meets, Notes};
+use crate::call::{Calls, Given, Told, WIDE, Wanted, book_in, comes_to, store, tell};
+use crate::gates::{Gathers, Hook, Meets, Notes};
 use lam_io::MemShelf;
 use lam_main::Status;
 use std::sync::atomic::{AtomicU64, Ordering};
@@ -32,7 +32,128 @@ const SIXTEEN_WORKERS: [&str; 9] = [
 const ONE_WORKER: [&str; 7] = ["run", "P", "W", "{}/{}", "B", "--workers", "1"];
 
 /// The most turns that a worker checks in at once.
-const STRETCH: u64 = 64;
+const STRETCH: u64 = 4_096;
+
+/// A thread that speaks in a region, where nobody hears it.
+const SPEAKER: Given<'static> = Given {
+    program: "fn main(a: tag): int { region (label{a;}, caps{}) [] { while (true) { say(\"a\"); } } catch (e) { } return 0; }",
+    world: "{\"version\":1,\"tags\":[\"a\"],\"tree\":[],\"pipes\":[],\"threads\":[{\"run\":\"main\",\"args\":[{\"tag\":\"a\"}],\"caps\":{\"plus\":[\"a\"],\"minus\":[]}}]}",
+};
+
+/// Two threads that compute.
+const COMPUTERS: Given<'static> = Given {
+    program: "fn main(): int { while (true) { } return 0; }",
+    world: "{\"version\":1,\"tags\":[],\"tree\":[],\"pipes\":[],\"threads\":[{\"run\":\"main\",\"args\":[],\"caps\":{\"plus\":[],\"minus\":[]}},{\"run\":\"main\",\"args\":[],\"caps\":{\"plus\":[],\"minus\":[]}}]}",
+};
+
+/// A run by workers of which none goes on before all have taken turns, a number of times.
+#[derive(Clone, Copy)]
+struct Gathering {
+    shows: &'static str,
+    given: Given<'static>,
+    workers: u64,
+    words: [&'static str; 9],
+    rounds: u64,
+}
+
+const GATHERINGS: [Gathering; 4] = [
+    Gathering {
+        shows: "three workers, a thread that speaks",
+        given: SPEAKER,
+        workers: 3,
+        words: [
+            "run",
+            "P",
+            "W",
+            "{}/{}",
+            "B",
+            "--workers",
+            "3",
+            "--turns",
+            "20000",
+        ],
+        rounds: 300,
+    },
+    Gathering {
+        shows: "sixteen workers, a thread that speaks",
+        given: SPEAKER,
+        workers: 16,
+        words: [
+            "run",
+            "P",
+            "W",
+            "{}/{}",
+            "B",
+            "--workers",
+            "16",
+            "--turns",
+            "20000",
+        ],
+        rounds: 50,
+    },
+    Gathering {
+        shows: "three workers, two threads that compute",
+        given: COMPUTERS,
+        workers: 3,
+        words: [
+            "run",
+            "P",
+            "W",
+            "{}/{}",
+            "B",
+            "--workers",
+            "3",
+            "--turns",
+            "400000",
+        ],
+        rounds: 20,
+    },
+    Gathering {
+        shows: "sixteen workers, two threads that compute",
+        given: COMPUTERS,
+        workers: 16,
+        words: [
+            "run",
+            "P",
+            "W",
+            "{}/{}",
+            "B",
+            "--workers",
+            "16",
+            "--turns",
+            "400000",
+        ],
+        rounds: 4,
+    },
+];
+
+/// No worker sleeps for good while there is something to take: in each round every one of them takes turns.
+#[test]
+fn workers_gather(rt: HostRuntime) -> Result<(), Fail> {
+    for gathering in &GATHERINGS {
+        gathers(&rt, gathering)?;
+    }
+    Ok(())
+}
+
+fn gathers<R: Calls>(rt: &R, gathering: &Gathering) -> Result<(), Fail> {
+    let gate = Gathers {
+        workers: gathering.workers,
+        rounds: gathering.rounds,
+        calls: AtomicU64::new(0),
+        late: AtomicU64::new(0),
+    };
+    let mut shelf = store(rt, &gathering.given.files(), &[])?;
+    let status = ends(rt, &mut shelf, &gathering.words, Hook::Gathers(&gate));
+    drop(shelf);
+    let late = gate.late.load(Ordering::SeqCst);
+    let calls = gate.calls.load(Ordering::SeqCst);
+    let shows = gathering.shows;
+    if status? == Status::Budget && late == 0 && calls >= gathering.workers {
+        return Ok(());
+    }
+    Err(Fail::new(format_args!("{shows}: {calls} calls, and a worker waited in vain")))
+}
 
 /// A store with the program and the world of four threads that seed 1 makes.
 fn four<R: Calls>(rt: &R) -> Result<MemShelf, Fail> {

@@ -4,11 +4,12 @@
 //! it ends with 1.
 #![tactic(auto)]
 
-use lam_io::{DirShelf, OpenGate, StdSink};
+use lam_io::{DirShelf, StdSink};
 use lam_main::Status;
 use std::alloc::AllocError;
 use std::env::{Env, FillError};
 use std::process::ExitCode;
+use thread_host_pace::SpreadGate;
 
 fn main(rt: HostRuntime) -> ExitCode {
     let Ok(words) = words_of(&rt) else {
@@ -22,7 +23,7 @@ fn main(rt: HostRuntime) -> ExitCode {
         words.as_slice(),
         &mut shelf,
         &mut out,
-        &OpenGate,
+        &SpreadGate,
     ))
 }
 

@@ -19,15 +19,25 @@ use lam_bytecode::Code;
 use lam_machine_equal::copy_code;
 use lam_machine_world::{World, let_go_code, let_go_world};
 use std::alloc::Global;
+use std::hint::spin_loop;
 use std::sync::Wait;
+use std::sync::atomic::{AtomicU64, Ordering};
 use std::thread;
 use thread_host_run::{Run, let_go_verified};
 use want_of_memory::NoMemory;
 
-/// The ticket word, the serving word, and the slot with the book.
+/// How often a caller that waits looks at once for its ticket to be served.
+const LOOKS: u64 = 400;
+
+/// How often it has looked once it has also let others run in between. From then on it sleeps until a turn has ended.
+const LOOKS_AND_YIELDS: u64 = 410;
+
+/// The ticket word, the serving word, and the slot with the book. Beside them stands how many callers sleep until the serving
+/// word changes; no clause speaks of that.
 #[derive(Drop)]
 pub(crate) struct SeatTable {
     pub(crate) table: Table<Book, View, Given, Law, Global>,
+    pub(crate) asleep: AtomicU64,
     pub(crate) ghost counts: { (table.shared.table_id.words ≡ 2) × (table.shared.table_id.slots ≡ 1) },
 }
 
@@ -77,7 +87,7 @@ impl SeatTable {
         ensures err { IfErr result (StaysOpen (sitting pass.table_id pass.me.0)) }
         ensures exact { ClosesExactly (sitting pass.table_id pass.me.0) result }
     {
-        let SeatTable { table } = self;
+        let SeatTable { table, .. } = self;
         let mut closed = table.close_with(pass);
         let drawn = closed.word(0);
         let served = closed.word(1);
@@ -116,13 +126,42 @@ impl SeatTable {
         ensures own { pass.new.table_id ≡ pass.old.table_id }
         ensures came { Came pass.old.me pass.new.me }
     {
+        let mut looks = 0u64;
         for _ in rt.forever() {
-            if self.table.shared.load::<Serve>(pass, 1) == ticket {
+            let serving = self.table.shared.load::<Serve>(pass, 1);
+            if serving == ticket {
                 return;
             }
-            thread::yield_now();
+            self.rest(rt, looks, serving);
+            looks = looks.saturating_add(1);
         }
         unreachable!()
+    }
+
+    /// Between two looks at the serving word: at first nothing, then others run, and then the caller sleeps until the word is
+    /// another one.
+    fn rest<W: Wait>(&self, rt: &W, looks: u64, serving: u64) {
+        if looks < LOOKS {
+            spin_loop();
+            return;
+        }
+        if looks < LOOKS_AND_YIELDS {
+            thread::yield_now();
+            return;
+        }
+        self.asleep.fetch_add(1, Ordering::SeqCst);
+        self.table
+            .shared
+            .park(rt, 1, (serving & 0xffff_ffff) as u32);
+        self.asleep.fetch_sub(1, Ordering::SeqCst);
+    }
+
+    /// Wakes those that sleep. A caller counts itself before it sleeps, and sleeps only where the word is still what it saw; so
+    /// after the word has changed nobody that it concerns is left asleep.
+    fn wake(&self) {
+        if self.asleep.load(Ordering::SeqCst) != 0 {
+            self.table.shared.wake_all(1);
+        }
     }
 
     /// One more place in the book that is out with this pass.
@@ -155,6 +194,7 @@ impl SeatTable {
         self.wait_turn(rt, pass, ticket);
         let answer = self.act(pass, seen, thread);
         self.table.shared.store::<Finish>(pass, 1, ticket + 1);
+        self.wake();
         answer
     }
 }
@@ -225,7 +265,13 @@ fn laid(alloc: Global, given: &Given, run: Run) -> Result<(SeatTable, Pass), NoM
 {
     let slots = one_slot(alloc, Book::new(alloc, run))?;
     match Table::new(alloc, &[0, 0], slots, given) {
-        Ok((table, pass)) => Ok((SeatTable { table }, pass)),
+        Ok((table, pass)) => {
+            let table_of_seats = SeatTable {
+                table,
+                asleep: AtomicU64::new(0),
+            };
+            Ok((table_of_seats, pass))
+        }
         Err(refused) => {
             let_go_refused(refused);
             Err(NoMemory)

@@ -1,11 +1,14 @@
-//! Stretches, batches of private turns taken on a copy of one thread.
+//! Private turns of one thread in a row: in place, or on a copy of it, as a stretch.
 //!
 //! A private turn reads and changes its thread alone. So a worker that shares a world can take many of them on a copy,
 //! and needs the world only to put the result back. A [`Stretch`] knows its thread before, its thread after so many
 //! private turns, and their number. `specs/Stretches` says when that is so of a code; each step keeps it.
+//! [`go_privately`] takes such turns of a thread itself.
 #![tactic(auto)]
 
+mod privately;
 mod stretch;
 
+pub use privately::go_privately;
 pub use stretch::{STRETCH_LIMIT, Stretch, let_go_stretch};
 pub use thread_core::{Standing, Waits, standing as thread_core_standing, waits_for};

@@ -3,12 +3,13 @@
 ghost use Rattle.std.specs.Prelude.{◌≡◌, false, IfOk, OnOk, OnErr};
 ghost use Rattle.thread_core_stretches.specs.Stretches.{StretchStands, begun, goes_further, further, IsFurther, HasGone};
 
+use crate::privately::go_privately;
 use guarded_code::Verified;
 use thread_core::{Standing, go_on};
 use thread_core_state::LamThread;
 use want_of_memory::NoMemory;
 
-/// The most private turns of a stretch.
+/// The most private turns to which [`Stretch::step`] and [`Stretch::go`] take a stretch.
 pub const STRETCH_LIMIT: u64 = 64;
 
 /// A thread by its number, what it was when the stretch began, what it is after so many private turns, and how many.
@@ -93,6 +94,23 @@ impl Stretch {
                 return Ok(());
             }
         }
+        Ok(())
+    }
+
+    /// Takes as many private turns as there are, up to so many more.
+    ///
+    /// # Errors
+    ///
+    /// `NoMemory` where memory is refused for the first of them; the stretch is then as it was. Where it is refused for a
+    /// later one, the stretch stands as far as it came.
+    pub fn go_for(&mut self, code: &Verified, most: u64) -> Result<(), NoMemory>
+        ensures same { (self.new.thread ≡ self.old.thread) × (self.new.before ≡ self.old.before) }
+        ensures stands { StretchStands code.now self.old → StretchStands code.now self.new }
+        ensures err { OnErr result (self.new ≡ self.old) }
+    {
+        let left = u64::MAX - self.count;
+        let taken = go_privately(&mut self.after, code, most.min(left))?;
+        self.count += taken;
         Ok(())
     }
 }

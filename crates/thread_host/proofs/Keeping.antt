@@ -13,7 +13,7 @@ use Rattle.thread_host_run.specs.Courses.{Progress, IsCourse, one_more, TookTurn
 use Rattle.thread_host_run.proofs.CourseLemmas.{took_turn, course_grows}
 use Rattle.thread_core_stretches.specs.declared.stretch.Stretch.{Stretch}
 use Rattle.thread_core_stretches.specs.Stretches.{StretchStands}
-use Rattle.thread_host_run.specs.Stretched.{checked_in}
+use Rattle.thread_host_run.specs.Stretched.{WentOn, checked_in}
 use Rattle.thread_host_run.proofs.StretchLemmas.{stretch_keeps}
 use Rattle.thread_host.specs.Stretching.{StretchKeepsTo}
 use Rattle.thread_host.specs.Sharing.{Unless, IsShared, KeepsTaken, Agree}
@@ -103,3 +103,17 @@ pub shared_stretch : {X : Type 0} (AreKept : List Moment → X → Type 0) → L
 shared_stretch AreKept leaves code start budget p kept s stands keeps few shared =
     stretch_keeps code s stands p keeps.2.1 budget (λ q. IsShared AreKept code start budget q false kept)
     (λ q after left turn h. shared_more AreKept code start budget q kept h (length q.turns) s.thread None after kept refl turn left few false (leaves, refl)) keeps.1 shared
+
+-- ---- private turns in place, of which nothing is kept
+
+pub within_budget : (p : Progress) (n most budget : ℕ) → n ≤ most → length p.turns + most ≤ budget → length p.turns + n ≤ budget
+within_budget p n most budget h k = omega (arith, h, k)
+
+pub shared_along : {X : Type 0} (AreKept : List Moment → X → Type 0) → LeavesPrivate AreKept → (code : CodeTree) (start : World) (budget : ℕ) (p : Progress) (kept : X) (t n : ℕ) (q : Progress) → WentOn code t n p q → length p.turns + n ≤ budget → budget ≤ 1000000
+    → IsShared AreKept code start budget p false kept → IsShared AreKept code start budget q false kept
+shared_along AreKept leaves code start budget p kept t n q went within few shared =
+    let s = went.stretch in
+    let room = subst (λ (k : ℕ). length p.turns + k ≤ budget) (sym went.count) within in
+    subst (λ (x : Progress). IsShared AreKept code start budget x false kept) (sym went.after)
+    (stretch_keeps code s went.stands p went.there budget (λ x. IsShared AreKept code start budget x false kept)
+    (λ x after left turn h. shared_more AreKept code start budget x kept h (length x.turns) s.thread None after kept refl turn left few false (leaves, refl)) room shared)

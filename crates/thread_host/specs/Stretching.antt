@@ -6,7 +6,7 @@ use Rattle.lam_machine_terms.specs.Turns as turns
 use Rattle.thread_core_stretches.specs.declared.stretch.Stretch.{Stretch}
 use Rattle.thread_core_stretches.specs.Stretches.{StretchStands}
 use Rattle.thread_host_run.specs.Courses.{Progress}
-use Rattle.thread_host_run.specs.Stretched.{StretchFits, checked_in}
+use Rattle.thread_host_run.specs.Stretched.{StretchFits, WentOn, checked_in}
 use Rattle.thread_host.specs.declared.visits.Visit.{Visit}
 use Rattle.thread_host.specs.declared.visits.Visit.TheVariants as visit
 use Rattle.thread_host.specs.declared.stretching.Opening.{Opening}
@@ -24,17 +24,27 @@ pub record GoesOut (code : CodeTree) (budget : ℕ) (p q : Progress) (s : Stretc
   pub left : length p.turns < budget
   pub of : StretchOf code p s
 
--- private turns of a thread are to be taken, or a turn was taken, or there is nothing to do now, or the run had ended
+-- a thread was ready and took private turns, within the budget
+pub record WentReady (code : CodeTree) (budget : ℕ) (p q : Progress) (t : ℕ) : Type 0 where
+  pub ready : turns.ready code p.world t ≡ true
+  pub count : ℕ
+  pub within : length p.turns + count ≤ budget
+  pub went : WentOn code t count p q
+
+-- private turns of a thread are to be taken, or a turn was taken, or private turns were, or there is nothing to do now, or the
+-- run had ended
 abbrev pub Begins : CodeTree → ℕ → Progress → Progress → Opening → Type 0
-Begins code budget p q (opening.Out s) = GoesOut code budget p q s
+Begins code budget p q (opening.Out s most) = GoesOut code budget p q s
 Begins code budget p q (opening.Took t) = TookReady code budget p q t
+Begins code budget p q (opening.Along t) = WentReady code budget p q t
 Begins code budget p q opening.Away = q ≡ p
 Begins code budget p q (opening.Ended how) = (q ≡ p) × EndsAs code budget p how
 
 -- where private turns are to be taken, it is by this code
 abbrev pub GoesBy : CodeTree → Opening → Type 0
-GoesBy code (opening.Out s) = StretchStands code s
+GoesBy code (opening.Out s most) = StretchStands code s
 GoesBy code (opening.Took t) = Unit {0}
+GoesBy code (opening.Along t) = Unit {0}
 GoesBy code opening.Away = Unit {0}
 GoesBy code (opening.Ended how) = Unit {0}
 

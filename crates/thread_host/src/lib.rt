@@ -1,10 +1,10 @@
 //! A run whose turns several workers take, under one lock.
 //!
 //! [`run_on`] starts the workers. Each takes the lock and asks the scheduler's hook (a `Gate` of `lam_io`) for a ready
-//! thread. If the thread's next turn is private and its copy costs little (`lightness`), the worker releases the lock.
-//! It takes up to 64 private turns of a copy, and checks them in under the lock, if the thread is still what it was.
-//! Else it takes one turn under the lock. Then it releases the lock and tells the hook; it stops where the run has
-//! ended.
+//! thread. If the thread's next turn is private, its copy costs little (`lightness`) and pays (`thread_host_pace`), the
+//! worker releases the lock. It takes up to 4,096 private turns of a copy, and checks them in under the lock, if the
+//! thread is still what it was. Else it takes private turns in place, or one other turn, under the lock. Then it releases
+//! the lock and tells the hook. It stops where the run has ended, and sleeps where there is nothing to take.
 //!
 //! What is checked in is whole under the lock, so the turns stand in one order. What the workers leave is a run like
 //! any other, and that order and the start tell all of it. The hook's picks decide the order, and no contract rests on
@@ -16,7 +16,7 @@
 //! is known to be a course of them, and nothing is copied or compared to find that out.
 //!
 //! - `visits`: one visit of the shared course.
-//! - `stretching`: how private turns begin and come back.
+//! - `stretching`: private turns in place, and how those of a copy begin and come back.
 //! - `workers`: the workers; `running`: the runs.
 #![tactic(auto)]
 

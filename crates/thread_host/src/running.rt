@@ -39,12 +39,13 @@ pub struct FinishedKept<Kept: Drop> {
 /// The run of a code from a start by so many workers at once, with at most so many turns, and how it ended: every thread
 /// has ended, else no thread is ready, else the turns are used up. No run ends in two of these ways.
 ///
-/// The hook is asked under the lock, once for each turn that is served and for up to 64 private turns of one thread, or for
-/// one of a thread that holds many values, with the number of turns so far and the ready threads in increasing order; its
-/// answer is taken modulo their number. After each check-in it is called outside the lock. If the chosen thread is on loan to
-/// another worker, the next ready one that is not is taken; a worker sleeps only while all are. Private turns that would pass
-/// `turns`, or whose thread has changed, are not taken; the hook is asked anew for one turn. Once the workers have stopped,
-/// the caller goes on as worker 0, where something is left. A turn takes no memory for its list of ready threads.
+/// The hook is asked under the lock, with the number of turns so far and the ready threads in increasing order; its answer is
+/// taken modulo their number. It is asked once for each turn that is served, and once for a number of private turns of one
+/// thread: up to 64 of them with one worker, up to 4,096 with more. After each check-in it is called outside the lock, and may
+/// wait there for other workers. If the chosen thread is on loan to another worker, the next ready one that is not is taken. A
+/// worker that finds nothing to take sleeps until another one leaves something. Private turns that would pass `turns`, or whose
+/// thread has changed, are not taken; the hook is asked anew for one turn. Once the workers have stopped, the caller goes on as
+/// worker 0, where something is left. A turn takes no memory for its list of ready threads.
 ///
 /// # Errors
 ///

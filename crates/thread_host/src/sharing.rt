@@ -9,35 +9,39 @@ ghost use Rattle.thread_host_run.specs.Courses.{IsCourse};
 ghost use Rattle.thread_host.specs.Sharing.{Agree};
 ghost use Rattle.thread_core_stretches.specs.Stretches.{StretchStands};
 ghost use Rattle.thread_host_run.specs.Stretched.{checked_in};
-ghost use Rattle.thread_host.specs.Stretching.{StretchOf, StretchKeepsTo, Begins, EndsStretch};
+ghost use Rattle.thread_host.specs.Stretching.{StretchOf, StretchKeepsTo, WentReady, Begins, EndsStretch};
 ghost use Rattle.thread_host.specs.Visits.{GoesOn, EndsAs, TookReady, Visits};
 ghost use Rattle.turn_book.specs.Limits.{most_turns};
 ghost use Rattle.lam_machine_terms.specs.Limits.{most_threads};
 
 use crate::origins::Origin;
-use crate::stretching::{Opening, keeps_to, stretch_of, take_stretch};
+use crate::stretching::{Opening, keeps_to, stretch_of, take_along, take_stretch, turns_in_place};
 use crate::visits::{Visit, how_it_stands, picked, take_turn};
 use guarded_code::Verified;
 use lam_io::Gate;
+use lam_machine_effects::THREAD_LIMIT;
 use lam_machine_replay::{Keeps, World};
 use lam_machine_runs::How;
 use std::alloc::Global;
 use std::marker::{Model, PhantomData};
 use thread_core_stretches::{Stretch, let_go_stretch};
+use thread_host_pace::{Pace, Wakes};
 use thread_host_run::{Course, let_go_course, list_ready, roomy_list};
 use want_of_memory::NoMemory;
 
+/// The most private turns that a worker takes outside the lock before it comes back.
+const LONGEST: u64 = 4_096;
+
 /// A course of its origin within the budget, the list of its ready threads, and what is kept of its moments so far; that is
-/// lost where memory was refused. Contracts see the course. Beside it stand the threads that are away, of which workers take
-/// private turns outside the lock, and how many workers sleep until one of them is back; no contract speaks of those.
+/// lost where memory was refused. Contracts see the course. Beside it stands who takes which turns (`Pace`): no contract speaks
+/// of that.
 #[derive(Drop)]
 pub struct Shared<J: Origin<Kept>, Kept: Drop> {
     course: Course,
     ready: Vec<u32>,
     kept: Kept,
     lost: bool,
-    away: Vec<u32>,
-    asleep: u64,
+    pace: Pace,
     of: PhantomData<J>,
 }
 
@@ -58,7 +62,7 @@ impl<J: Origin<Kept>, Kept: Drop> Model for Shared<J, Kept> {
 }
 
 impl<J: Origin<Kept>, Kept: Drop> Shared<J, Kept> {
-    /// No turn yet, and what is kept of none.
+    /// No turn yet, and what is kept of none, for so many workers.
     ///
     /// # Errors
     ///
@@ -68,6 +72,7 @@ impl<J: Origin<Kept>, Kept: Drop> Shared<J, Kept> {
         code: &Verified,
         start: &World,
         nothing: Kept,
+        workers: u64,
     ) -> Result<Shared<J, Kept>, NoMemory>
         requires of { (code.now ≡ J.code) × (start.now ≡ J.start) }
         requires sound { IsSound code.now start.now }
@@ -75,6 +80,7 @@ impl<J: Origin<Kept>, Kept: Drop> Shared<J, Kept> {
         ensures { IfOk result (λ s. s ≡ record { turns = []; world = start.now }) }
     {
         let mut ready = roomy_list(alloc)?;
+        let pace = Pace::new(alloc, workers, THREAD_LIMIT as usize, LONGEST)?;
         let course = Course::new(alloc, start)?;
         list_ready(&mut ready, course.world(), code);
         Ok(Shared {
@@ -82,8 +88,7 @@ impl<J: Origin<Kept>, Kept: Drop> Shared<J, Kept> {
             ready,
             kept: nothing,
             lost: false,
-            away: Vec::new(alloc),
-            asleep: 0,
+            pace,
             of: PhantomData,
         })
     }
@@ -118,8 +123,9 @@ impl<J: Origin<Kept>, Kept: Drop> Shared<J, Kept> {
         Ok(Visit::Took(thread))
     }
 
-    /// Asks the hook for a thread, unless the run has ended, and copies it where its next turn is private and a copy costs
-    /// little; else takes a turn of it. Where another worker takes turns of it there is nothing to do now.
+    /// Asks the hook for a thread, unless the run has ended, and copies it where its next turn is private and a copy pays; else
+    /// takes private turns of it, or a turn, in place. Where other workers take turns of all that are ready, have all that the
+    /// budget leaves, or have a thread for long that nobody is to overtake further, there is nothing to do now.
     ///
     /// # Errors
     ///
@@ -145,17 +151,43 @@ impl<J: Origin<Kept>, Kept: Drop> Shared<J, Kept> {
             return Ok(Opening::Ended(how));
         }
         let thread = self.picked(code, worker, gate);
-        if self.is_away(thread) {
+        let spare = self.spare(budget);
+        if spare == 0 || !self.is_free(thread, worker) {
             return Ok(Opening::Away);
         }
-        let away = self.goes_away(code, thread)?;
+        let most = self.pace.turns_away(thread, spare);
+        let away = self.goes_away(code, thread, most, worker)?;
         match away {
-            Some(stretch) => Ok(Opening::Out(stretch)),
-            None => {
-                self.turn(alloc, code, who, thread, budget)?;
-                Ok(Opening::Took(thread))
-            }
+            Some(stretch) => Ok(Opening::Out(stretch, most)),
+            None => self.goes_here(alloc, code, who, thread, worker, budget, spare),
         }
+    }
+
+    /// Takes private turns of a thread that is ready, or a turn of it, in place.
+    fn goes_here<K: Keeps<Kept>>(
+        &mut self,
+        alloc: Global,
+        code: &Verified,
+        who: &K,
+        thread: u32,
+        worker: u64,
+        budget: u64,
+        spare: u64,
+    ) -> Result<Opening, NoMemory>
+        requires few { budget ≤ most_turns }
+        requires of { (code.now ≡ J.code) × (budget ≡ J.budget) }
+        requires keeps { Agree (K.AreKept who.now) J.AreKept }
+        requires ready { turns.ready code.now self.old.world thread ≡ true }
+        requires left { length self.old.turns < budget }
+        ensures { IfOk result (Begins code.now budget self.old self.new) }
+    {
+        let most = self.turns_here(code, thread, worker, spare);
+        if most > 0 {
+            self.along(code, who, thread, most, budget)?;
+            return Ok(Opening::Along(thread));
+        }
+        self.turn(alloc, code, who, thread, budget)?;
+        Ok(Opening::Took(thread))
     }
 
     /// Checks a stretch in, where it has some turns, its thread is still what it was, and they keep to the budget; else it is
@@ -181,7 +213,7 @@ impl<J: Origin<Kept>, Kept: Drop> Shared<J, Kept> {
         ensures { IfOk result (EndsStretch code.now budget stretch self.old self.new) }
     {
         let thread = stretch.thread;
-        self.comes_back(thread);
+        self.comes_back(thread, stretch.count);
         if self.keeps_to(&stretch, budget) {
             self.check_in(code, who, stretch, budget)?;
             return Ok(Visit::Took(thread));
@@ -190,29 +222,73 @@ impl<J: Origin<Kept>, Kept: Drop> Shared<J, Kept> {
         self.visit(alloc, code, who, worker, budget, gate)
     }
 
-    /// Whether another worker takes turns of a thread.
-    fn is_away(&self, thread: u32) -> bool {
-        self.away.contains(&thread)
+    /// Whether a worker may take turns of a thread now.
+    fn is_free(&self, thread: u32, worker: u64) -> bool {
+        let turn = self.course.turns().len() as u64;
+        self.pace.is_free(thread, worker) && !self.pace.is_overtaken(turn)
     }
 
-    /// A thread whose next turn is private goes away with a worker.
-    fn goes_away(&mut self, code: &Verified, thread: u32) -> Result<Option<Stretch>, NoMemory>
+    /// How many turns the budget leaves to those that are not away.
+    fn spare(&self, budget: u64) -> u64 {
+        let taken = self.course.turns().len() as u64;
+        self.pace.spare(budget.saturating_sub(taken))
+    }
+
+    /// A thread whose next turn is private goes away with a worker, for so many turns; none does for no turn.
+    fn goes_away(
+        &mut self,
+        code: &Verified,
+        thread: u32,
+        most: u64,
+        worker: u64,
+    ) -> Result<Option<Stretch>, NoMemory>
         ensures same { self.new ≡ self.old }
         ensures of { IfOk result (λ o. IfSome o (λ s. (s.thread ≡ thread) × StretchOf code.now self.old s)) }
     {
-        self.away.reserve(1)?;
+        if most == 0 {
+            return Ok(None);
+        }
+        self.pace.make_room()?;
         let stretch = stretch_of(&self.course, code, thread)?;
         if stretch.is_some() {
-            self.away.push_reserved(thread);
+            let turn = self.course.turns().len() as u64;
+            self.pace.goes_away(thread, most, worker, turn);
         }
         Ok(stretch)
     }
 
-    /// A thread is back.
-    fn comes_back(&mut self, thread: u32)
+    /// A thread is back, with so many turns.
+    fn comes_back(&mut self, thread: u32, count: u64)
         ensures { self.new ≡ self.old }
     {
-        self.away.retain(|other| *other != thread);
+        let turn = self.course.turns().len() as u64;
+        self.pace.comes_back(thread, count, turn);
+    }
+
+    /// How many private turns of a thread a worker is to take in place, and 0 where its next turn is not private. The worker
+    /// leads then. Where there is one worker and the hook has a choice, of a thread that holds much it takes one.
+    fn turns_here(&mut self, code: &Verified, thread: u32, worker: u64, spare: u64) -> u64
+        ensures { self.new ≡ self.old }
+    {
+        self.pace.leads(worker);
+        if self.pace.asks(thread) {
+            return 0;
+        }
+        let most = self.pace.turns_here(spare);
+        let chooses = self.pace.is_alone() && self.ready.len() > 1;
+        turns_in_place(&self.course, code, thread, chooses, most)
+    }
+
+    /// What is known of the leader's hook: the leader that was called and had not come back, plus one, or 0.
+    pub fn hears(&mut self, beyond: u64)
+        ensures { self.new ≡ self.old }
+    {
+        self.pace.hears(beyond);
+    }
+
+    /// Whether a worker takes turns in place.
+    pub fn is_leader(&self, worker: u64) -> bool {
+        self.pace.is_leader(worker)
     }
 
     /// A worker that has memory refused lets what it took go: every later visit answers so too.
@@ -222,23 +298,26 @@ impl<J: Origin<Kept>, Kept: Drop> Shared<J, Kept> {
         self.lost = true;
     }
 
-    /// One worker more sleeps.
-    pub fn falls_asleep(&mut self)
+    /// A worker sleeps.
+    pub fn falls_asleep(&mut self, worker: u64)
         ensures { self.new ≡ self.old }
     {
-        self.asleep = self.asleep.saturating_add(1);
+        self.pace.falls_asleep(worker);
     }
 
-    /// One worker less sleeps.
+    /// A worker that slept looks again.
     pub fn wakes_up(&mut self)
         ensures { self.new ≡ self.old }
     {
-        self.asleep = self.asleep.saturating_sub(1);
+        self.pace.wakes_up();
     }
 
-    /// Whether a worker that sleeps is to be woken: some thread can be taken, or none is ready any more.
-    pub fn is_to_wake(&self) -> bool {
-        self.asleep > 0 && (self.ready.is_empty() || self.ready.len() > self.away.len())
+    /// How many workers that sleep are to be woken now; they count as woken then.
+    pub fn wakes(&mut self) -> Wakes
+        ensures { self.new ≡ self.old }
+    {
+        let ready = self.ready.len();
+        self.pace.wakes(ready)
     }
 
     fn keeps_to(&self, stretch: &Stretch, budget: u64) -> bool
@@ -279,6 +358,40 @@ impl<J: Origin<Kept>, Kept: Drop> Shared<J, Kept> {
         Ok(())
     }
 
+    /// Takes private turns of a thread that is ready in place, up to so many.
+    fn along<K: Keeps<Kept>>(
+        &mut self,
+        code: &Verified,
+        who: &K,
+        thread: u32,
+        most: u64,
+        budget: u64,
+    ) -> Result<(), NoMemory>
+        requires few { budget ≤ most_turns }
+        requires of { (code.now ≡ J.code) × (budget ≡ J.budget) }
+        requires keeps { Agree (K.AreKept who.now) J.AreKept }
+        requires ready { turns.ready code.now self.old.world thread ≡ true }
+        requires left { length self.old.turns < budget }
+        ensures { OnOk result (WentReady code.now budget self.old self.new thread) }
+    {
+        if self.lost {
+            return Err(NoMemory);
+        }
+        let left = budget - self.course.turns().len() as u64;
+        let taken = take_along::<J, Kept, K>(
+            code,
+            who,
+            &mut self.course,
+            &mut self.ready,
+            &self.kept,
+            thread,
+            most.min(left),
+            budget,
+        )?;
+        self.pace.went_along(thread, taken, most);
+        Ok(())
+    }
+
     fn how_it_stands(&self, code: &Verified, budget: u64) -> Option<How>
         requires { (code.now ≡ J.code) × (budget ≡ J.budget) }
         ensures { MatchOption result (GoesOn code.now budget self.now) (EndsAs code.now budget self.now) }
@@ -297,7 +410,7 @@ impl<J: Origin<Kept>, Kept: Drop> Shared<J, Kept> {
             self.ready.as_slice(),
             worker,
             gate,
-            self.away.as_slice(),
+            &self.pace,
         )
     }
 

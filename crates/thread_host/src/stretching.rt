@@ -5,9 +5,10 @@ ghost use Rattle.thread_core_stretches.specs.Stretches.{StretchStands, begun};
 ghost use Rattle.thread_host_run.specs.Stretched.{StretchFits, checked_in};
 ghost use Rattle.thread_host_run.specs.ReadyLists.{ready_threads};
 ghost use Rattle.thread_host.specs.Sharing.{IsShared};
-ghost use Rattle.thread_host.specs.Stretching.{StretchOf, StretchKeepsTo};
 ghost use Rattle.turn_book.specs.Limits.{most_turns};
 ghost use Rattle.lam_machine_terms.specs.Limits.{most_threads};
+ghost use Rattle.thread_host.specs.Stretching.{StretchOf, StretchKeepsTo, WentReady};
+ghost use Rattle.lam_machine_terms.specs.Turns as turns;
 
 use crate::lightness::is_light;
 use crate::origins::Origin;
@@ -17,18 +18,20 @@ use lam_machine_runs::How;
 use thread_core::{Standing, standing};
 use thread_core_state::LamThread;
 use thread_core_stretches::Stretch;
-use thread_host_run::{Course, check_in_listed};
+use thread_host_run::{Course, check_in_listed, go_listed};
 use want_of_memory::NoMemory;
 
 /// What a worker found under the lock.
 #[derive(Drop)]
 pub enum Opening {
-    /// The next turn of the thread that the hook picked is private, and the thread is light: turns of it are to be taken
-    /// outside the lock.
-    Out(Stretch),
-    /// It was not: a turn of this thread.
+    /// The next turn of a thread is private, and a copy of it pays: so many turns of it at most are to be taken outside the
+    /// lock.
+    Out(Stretch, u64),
+    /// It was not private: a turn of this thread.
     Took(u32),
-    /// Nothing now: another worker takes turns of the thread that the hook picked.
+    /// It was private, and so many as follow it were: they were taken of this thread, in place.
+    Along(u32),
+    /// Nothing now: other workers take turns of what is ready.
     Away,
     /// Nothing: the run has ended.
     Ended(How),
@@ -68,6 +71,63 @@ fn private_stretch(
         Standing::Stuck => Ok(None),
         Standing::Ended => Ok(None),
     }
+}
+
+/// How many turns of a thread to take in place at most: so many where its next turn is private, and one where light threads
+/// alone are to take more and it is none; none where the next turn is not private.
+pub fn turns_in_place(
+    course: &Course,
+    code: &Verified,
+    thread: u32,
+    light_alone: bool,
+    most: u64,
+) -> u64 {
+    match course.world().threads().get(thread as usize) {
+        None => 0,
+        Some(found) => private_turns(found, code, light_alone, most),
+    }
+}
+
+fn private_turns(found: &LamThread, code: &Verified, light_alone: bool, most: u64) -> u64 {
+    match standing(found, code) {
+        Standing::Private => {
+            if light_alone && !is_light(found) {
+                return most.min(1);
+            }
+            most
+        }
+        Standing::Shared => 0,
+        Standing::Stuck => 0,
+        Standing::Ended => 0,
+    }
+}
+
+/// Takes private turns of a thread that is ready in place, up to so many: how many they were. `list` is that of the ready
+/// threads, and stays so; nothing is kept of private turns.
+pub fn take_along<J: Origin<Kept>, Kept: Drop, K: Keeps<Kept>>(
+    code: &Verified,
+    who: &K,
+    course: &mut Course,
+    list: &mut Vec<u32>,
+    kept: &Kept,
+    thread: u32,
+    most: u64,
+    budget: u64,
+) -> Result<u64, NoMemory>
+    requires ready { turns.ready code.now course.old.world thread ≡ true }
+    requires within { length course.old.turns + most ≤ budget }
+    requires few { budget ≤ most_turns }
+    requires list { list.old.items ≡ ready_threads code.now course.old.world }
+    requires room { most_threads ≤ vec_capacity list.old }
+    requires shared { IsShared (K.AreKept who.now) code.now J.start budget course.old false kept.now }
+    ensures list { list.new.items ≡ ready_threads code.now course.new.world }
+    ensures room { most_threads ≤ vec_capacity list.new }
+    ensures shared { IsShared (K.AreKept who.now) code.now J.start budget course.new false kept.now }
+    ensures ok { OnOk result (WentReady code.now budget course.old course.new thread) }
+{
+    who.leaves_private();
+    let taken = go_listed(course, list, code, thread, most)?;
+    Ok(taken)
 }
 
 /// Whether a stretch can be checked in within the budget.

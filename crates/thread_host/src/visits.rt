@@ -17,6 +17,7 @@ use lam_io::Gate;
 use lam_machine_replay::{Keeps, World};
 use lam_machine_runs::How;
 use std::alloc::Global;
+use thread_host_pace::Pace;
 use thread_host_run::{Course, list_after, living_in, was_quiet};
 use want_of_memory::NoMemory;
 
@@ -47,14 +48,14 @@ pub fn how_it_stands(code: &Verified, course: &Course, ready: &[u32], budget: u6
     None
 }
 
-/// The thread among the ready ones that the hook picks, or the next one of which no worker takes turns.
+/// The thread among the ready ones that the hook picks, or the next one that the worker may take.
 pub fn picked<G: Gate>(
     code: &Verified,
     course: &Course,
     ready: &[u32],
     worker: u64,
     gate: &G,
-    away: &[u32],
+    pace: &Pace,
 ) -> u32
     requires list { ready.now ≡ ready_threads code.now course.now.world }
     requires some { 0 < length ready.now }
@@ -62,27 +63,8 @@ pub fn picked<G: Gate>(
 {
     let turn = course.turns().len() as u64;
     let place = gate.pick(worker, turn, ready) % ready.len() as u64;
-    let at = place_from(ready, place as usize, away);
+    let at = pace.place_from(ready, place as usize, worker);
     ready[at]
-}
-
-/// The place of the first thread from there on, and again from the first one, that is not away; the place itself where all
-/// are away.
-fn place_from(ready: &[u32], place: usize, away: &[u32]) -> usize
-    requires { place < length ready.now }
-    ensures { result < length ready.now }
-{
-    for at in place..ready.len() {
-        if !away.contains(&ready[at]) {
-            return at;
-        }
-    }
-    for at in 0..place {
-        if !away.contains(&ready[at]) {
-            return at;
-        }
-    }
-    place
 }
 
 /// A turn of a thread that is ready, and what is kept of it. `list` is that of the ready threads, and stays so. Where memory

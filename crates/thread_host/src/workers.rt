@@ -19,10 +19,12 @@ use lam_io::Gate;
 use lam_machine_replay::{Keeps, World};
 use lam_machine_runs::How;
 use std::alloc::Global;
+use std::sync::atomic::{AtomicU64, Ordering};
 use std::sync::{Condvar, Mutex, Wait};
 use std::thread;
 use std::thread::Threads;
 use thread_core_stretches::{Stretch, let_go_stretch};
+use thread_host_pace::Wakes;
 use thread_host_run::Course;
 use want_of_memory::NoMemory;
 
@@ -41,11 +43,13 @@ pub struct Ending<Kept: Drop> {
     pub kept: Kept,
 }
 
-/// What workers share: a course under its lock, and where they sleep while every ready thread is away.
+/// What workers share: a course under its lock, where they sleep until there is something to take, and the worker that takes
+/// turns in place, plus one, while its hook is called.
 #[derive(Drop)]
 struct Desk<J: Origin<Kept>, Kept: Drop> {
     shared: Mutex<Shared<J, Kept>>,
-    back: Condvar,
+    more: Condvar,
+    beyond: AtomicU64,
 }
 
 /// Takes turns of the shared course until its run has ended, and wakes whoever sleeps then.
@@ -67,7 +71,7 @@ fn work<J: Origin<Kept>, Kept: Drop, K: Keeps<Kept>, R: Wait, G: Gate>(
     if ended.is_err() {
         desk.shared.lock(rt).lose();
     }
-    desk.back.notify_all();
+    desk.more.notify_all();
     ended
 }
 
@@ -91,23 +95,35 @@ fn take_turns<J: Origin<Kept>, Kept: Drop, K: Keeps<Kept>, R: Wait, G: Gate>(
         let outcome = match opening {
             Opening::Away => None,
             Opening::Took(thread) => Some(Visit::Took(thread)),
+            Opening::Along(thread) => Some(Visit::Took(thread)),
             Opening::Ended(how) => Some(Visit::Ended(how)),
-            Opening::Out(stretch) => {
-                let gone = gone_out(stretch, code)?;
+            Opening::Out(stretch, most) => {
+                let gone = gone_out(stretch, code, most)?;
                 Some(ended(rt, alloc, desk, code, who, gone, worker, budget, gate)?)
             }
         };
         match outcome {
             None => {}
-            Some(Visit::Took(thread)) => gate.between(worker, thread),
+            Some(Visit::Took(thread)) => {
+                gate.between(worker, thread);
+                comes_from_hook(&desk.beyond, worker);
+            }
             Some(Visit::Ended(_)) => return Ok(()),
         }
     }
     unreachable!()
 }
 
-/// What a worker finds under the lock. It sleeps only where every ready thread is away. Else it wakes another one, if there is
-/// more to take: so the sleepers are woken one by one as long as there is something for them.
+/// A worker whose hook was called is on its way again.
+fn comes_from_hook(beyond: &AtomicU64, worker: u64) {
+    let own = worker.saturating_add(1);
+    if beyond.load(Ordering::SeqCst) == own {
+        let _ = beyond.compare_exchange(own, 0, Ordering::SeqCst, Ordering::SeqCst);
+    }
+}
+
+/// What a worker finds under the lock. Where there is nothing to take it sleeps until somebody wakes it; else it wakes another
+/// one where more can be taken: so the sleepers are woken one by one as long as there is something for them.
 fn opened<J: Origin<Kept>, Kept: Drop, K: Keeps<Kept>, R: Wait, G: Gate>(
     rt: &R,
     alloc: Global,
@@ -124,26 +140,39 @@ fn opened<J: Origin<Kept>, Kept: Drop, K: Keeps<Kept>, R: Wait, G: Gate>(
     ensures { IfOk result (GoesBy code.now) }
 {
     let mut held = desk.shared.lock(rt);
+    held.hears(desk.beyond.load(Ordering::SeqCst));
     let opening = held.begin(alloc, code, who, worker, budget, gate)?;
     if is_away(&opening) {
-        held.falls_asleep();
-        let mut woken = desk.back.wait(rt, held);
+        held.falls_asleep(worker);
+        let mut woken = desk.more.wait(rt, held);
         woken.wakes_up();
         return Ok(opening);
     }
-    let wakes = held.is_to_wake();
-    drop(held);
-    if wakes {
-        desk.back.notify_one();
+    if held.is_leader(worker) {
+        desk.beyond
+            .store(worker.saturating_add(1), Ordering::SeqCst);
     }
+    let wakes = held.wakes();
+    drop(held);
+    wake(&desk.more, wakes);
     Ok(opening)
+}
+
+/// Wakes those that sleep, as many as are to be woken.
+fn wake(more: &Condvar, wakes: Wakes) {
+    match wakes {
+        Wakes::Nobody => {}
+        Wakes::One => more.notify_one(),
+        Wakes::All => more.notify_all(),
+    }
 }
 
 fn is_away(opening: &Opening) -> bool {
     matches!(opening, Opening::Away)
 }
 
-/// A stretch comes back, and one worker that sleeps is woken where there is something to take.
+/// A stretch comes back, and a worker that sleeps is woken where something can be taken, or all are that waited for one to be
+/// back.
 fn ended<J: Origin<Kept>, Kept: Drop, K: Keeps<Kept>, R: Wait, G: Gate>(
     rt: &R,
     alloc: Global,
@@ -162,21 +191,19 @@ fn ended<J: Origin<Kept>, Kept: Drop, K: Keeps<Kept>, R: Wait, G: Gate>(
 {
     let mut held = desk.shared.lock(rt);
     let visit = held.end(alloc, code, who, stretch, worker, budget, gate)?;
-    let wakes = held.is_to_wake();
+    let wakes = held.wakes();
     drop(held);
-    if wakes {
-        desk.back.notify_one();
-    }
+    wake(&desk.more, wakes);
     Ok(visit)
 }
 
-/// As many private turns as a stretch can have, taken outside the lock.
-fn gone_out(from: Stretch, code: &Verified) -> Result<Stretch, NoMemory>
+/// As many private turns as there are, up to so many, taken outside the lock.
+fn gone_out(from: Stretch, code: &Verified, most: u64) -> Result<Stretch, NoMemory>
     requires { StretchStands code.now from }
     ensures { IfOk result (StretchStands code.now) }
 {
     let mut stretch = from;
-    match stretch.go(code) {
+    match stretch.go_for(code, most) {
         Ok(()) => Ok(stretch),
         Err(error) => {
             let_go_stretch(stretch);
@@ -234,8 +261,9 @@ pub fn by_workers<
 {
     let mut workers = new_workers(alloc, count)?;
     let desk: Desk<J, Kept> = Desk {
-        shared: Mutex::new(Shared::new(alloc, code, start, nothing)?),
-        back: Condvar::new(),
+        shared: Mutex::new(Shared::new(alloc, code, start, nothing, count)?),
+        more: Condvar::new(),
+        beyond: AtomicU64::new(0),
     };
     let at = &desk;
     thread::for_each_mut(

@@ -7,4 +7,5 @@ pub mod ListedReady
 mod Others
 mod Kept
 pub mod StretchLemmas
+pub mod GoingLemmas
 mod BookLemmas

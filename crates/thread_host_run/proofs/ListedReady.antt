@@ -16,6 +16,12 @@ past_all : (code : CodeTree) (w : World) (t : ℕ) → length w.threads ≤ t �
 unfolding ready step
 past_all code w t h = ap (λ o. is_some (turn_in code w t o)) (slice_get_past w.threads t h)
 
+pub ready_within : (code : CodeTree) (w : World) (t : ℕ) → ready code w t ≡ true → t < length w.threads
+ready_within code w t e = there (λ h. true≢false (sym e ∙ past_all code w t h))
+  where
+    there : (length w.threads ≤ t → ⊥) → t < length w.threads
+    there n = omega arith
+
 -- ---- a filtered list
 
 passes_at : (p : ℕ → Bool) (x : ℕ) (rest : List ℕ) (b : Bool) → p x ≡ b → ((k d : ℕ) → k < length rest → p (get_or rest k d) ≡ true) → (k d : ℕ) → k < length (cond b (x ∷ rest) rest) → p (get_or (cond b (x ∷ rest) rest) k d) ≡ true

@@ -1,6 +1,6 @@
 //! Courses, which are the parts of runs that move.
 
-ghost use Rattle.std.specs.Prelude.{◌≡◌, ◌↔◌, ◌<◌, true, [], length, IsTrue, IfOk, OnOk, OnErr};
+ghost use Rattle.std.specs.Prelude.{◌≡◌, ◌↔◌, ◌<◌, ◌≤◌, true, [], length, IsTrue, IfOk, OnOk, OnErr};
 ghost use Rattle.lam_bytecode.specs.Codes.{CodeTree};
 ghost use Rattle.lam_machine_terms.specs.Worlds.{World as Plain};
 ghost use Rattle.lam_machine_terms.specs.Turns as turns;
@@ -8,11 +8,11 @@ ghost use Rattle.lam_machine.specs.Worlds.{IsSound};
 ghost use Rattle.lam_machine_laws.specs.Turned.{IsTurn};
 ghost use Rattle.thread_core_stretches.specs.Stretches.{StretchStands};
 ghost use Rattle.thread_host_run.specs.Courses.{IsCourse, one_more, TookTurn};
-ghost use Rattle.thread_host_run.specs.Stretched.{StretchFits, checked_in};
+ghost use Rattle.thread_host_run.specs.Stretched.{StretchFits, WentOn, checked_in};
 ghost use Rattle.turn_book.specs.Limits.{most_turns};
 
-use crate::stretches;
 use crate::taking::{go_turn, take_turn};
+use crate::{going, stretches};
 use guarded_code::Verified;
 use lam_asks::Event;
 use lam_machine::{World, let_go_world};
@@ -108,6 +108,22 @@ impl Course {
         ensures course { OnOk result ((start : Plain) → IsCourse code.now start self.old → IsCourse code.now start self.new) }
     {
         let taken = go_turn(&mut self.turns, &mut self.world, code, thread)?;
+        Ok(taken)
+    }
+
+    /// Takes private turns of a thread that is there, as many as there are in a row, up to so many: how many they were. They
+    /// are taken in place, and each is a turn of the course, of whatever code it is one.
+    ///
+    /// # Errors
+    ///
+    /// `NoMemory` where memory is refused for the first of them; the course is then as it was.
+    pub fn go_along(&mut self, code: &Verified, thread: u32, most: u64) -> Result<u64, NoMemory>
+        requires { thread < length self.old.world.threads }
+        ensures few { IfOk result (λ n. n ≤ most) }
+        ensures ok { IfOk result (λ n. WentOn code.now thread n self.old self.new) }
+        ensures err { OnErr result (self.new ≡ self.old) }
+    {
+        let taken = going::go_along(&mut self.turns, &mut self.world, code, thread, most)?;
         Ok(taken)
     }
 

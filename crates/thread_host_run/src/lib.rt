@@ -12,10 +12,11 @@
 //!
 //! Private turns of one thread can be taken on a copy of it and checked in as a whole (`Stretch` of
 //! `thread_core_stretches`, [`Course::check_in`], [`Run::check_in`]). Where the thread is still what it was when the
-//! stretch began, its turns are turns of the run.
+//! stretch began, its turns are turns of the run. Or they are taken in place, of the thread itself ([`go_listed`]).
 //!
 //! - `readiness`: whether a thread is ready, without memory.
 //! - `course` and `run`: the types; `taking`: one turn; `stretches`: how stretches come back.
+//! - `going`: private turns in a row, in place.
 //! - `seeking`: the search for a thread that is ready or lives.
 //! - `listing`: the list of the ready threads, kept from turn to turn.
 //! - `books`: the run of a book of turns, or the turn at which they stop to be one.
@@ -23,6 +24,7 @@
 
 mod books;
 mod course;
+mod going;
 mod listing;
 mod readiness;
 mod run;
@@ -32,6 +34,7 @@ mod taking;
 
 pub use books::{RunOf, run_of};
 pub use course::{Course, let_go_course};
+pub use going::go_listed;
 pub use listing::{check_in_listed, list_after, list_ready, relist, roomy_list, turn_listed};
 pub use readiness::ready;
 pub use run::{Run, RunParts, let_go_run, let_go_verified};

@@ -125,7 +125,7 @@ pub fn turn_listed(run: &mut Run, list: &mut Vec<u32>, thread: u32) -> Result<()
 }
 
 /// After a quiet turn of a thread: it leaves the list where it is no longer ready.
-fn after_quiet(list: &mut Vec<u32>, world: &World, code: &Verified, thread: u32)
+pub fn after_quiet(list: &mut Vec<u32>, world: &World, code: &Verified, thread: u32)
     requires sound { IsSound code.now world.now }
     ensures list { list.new.items ≡ kept_list (turns.ready code.now world.now thread) thread list.old.items }
     ensures room { vec_capacity list.new ≡ vec_capacity list.old }

@@ -64,7 +64,7 @@ pub fn check_in(turns: &mut Vec<u32>, world: &mut World, stretch: Stretch) -> Re
 }
 
 /// So many turns of a thread more. There is room for them.
-fn push_again(turns: &mut Vec<u32>, thread: u32, count: u64)
+pub fn push_again(turns: &mut Vec<u32>, thread: u32, count: u64)
     requires { vec_len turns.old + count ≤ vec_capacity turns.old }
     ensures { turns.new.items ≡ turns.old.items ++ replicate count thread }
 {

@@ -6,8 +6,8 @@ use Rattle.seat_host.specs.Places.{Shared}
 use Rattle.seat_host.proofs.Moves.{serves}
 use Rattle.seat_host.proofs.seat_table.SeatTable.wait_turn.Goals as goal
 
-pub load-requires : goal.load-requires
-load-requires g c =
+pub load-serving-requires : goal.load-serving-requires
+load-serving-requires g c =
     let i = c.loop.invariant in
     let w = c.requires.waits in (
       i.2 ∙ c.requires.own,
