@@ -1,12 +1,14 @@
 -- Laws of lists of the homes that are counted: each home stands once, and where it stands.
-use Rattle.std.proofs.Common.{◌≡◌, ℕ, ◌+◌, ◌-◌, ◌≤◌, Bool, true, false, cond, List, [], ◌∷◌, ◌++◌, map, length, drop, slice_get, Some, None, suc, zero, refl, sym, ap, subst, ◌∙◌, arith, add-one}
+use Rattle.std.proofs.Common.{◌≡◌, ℕ, ◌+◌, ◌-◌, ◌≤◌, Bool, true, false, cond, List, [], ◌∷◌, ◌++◌, map, length, drop, take, slice_get, Some, None, suc, zero, refl, sym, ap, subst, ◌∙◌, arith, add-one}
 use Rattle.std.specs.Prelude.{◌&&◌}
+use Rattle.std.specs.Borrow.{Bor}
+use Rattle.std.proofs.lemmas.List.{append-nil, append_assoc, map-append}
 use Rattle.std.specs.Map.{lookup, keys_of}
 use Rattle.std.specs.HashMap.{HashMap, IsUnique}
 use Rattle.std.specs.List.{IsDistinct, AllByRecursion}
 use Rattle.std.specs.FinMap.{get}
 use Rattle.flow_labels.specs.declared.Label.{Label}
-use Rattle.lam_value_homes.specs.Homes.{Home, home_of, label_eq, home_eq, homes_in, Counts, IsListing}
+use Rattle.lam_value_homes.specs.Homes.{Home, home_of, label_eq, home_eq, homes_in, homes_of, listed_home, Counts, IsListing}
 use Rattle.lam_value_homes.proofs.Keys.{label_exact, label_total, label_ties, home_exact, home_total, home_ties}
 use Rattle.lam_value_homes.proofs.Rows.{itself, is_same, label_same, absent, get_same}
 
@@ -56,6 +58,41 @@ module _ {S : Type 0} (rows : List (Label × HashMap Label ℕ S)) (at : ℕ) (m
   place_later le =
       sym (ap (λ rs. slice_get (homes_in rs) rest) (from rows at (maker, row) is)
       ∙ after (map {B = Home × ℕ} (λ (e : Label × ℕ). (home_of maker e.0, e.1)) row.entries) (homes_in (drop (at + 1) rows)) rest (rest - length row.entries) (omega (arith, le, length_row maker row.entries)))
+
+-- ---- a list made home by home and maker by maker
+through : {X : Type 0} (xs : List X) (i : ℕ) (x : X) → slice_get xs i ≡ Some x → take (i + 1) xs ≡ take i xs ++ x ∷ []
+through xs i x at = ap (λ n. take n xs) (add-one i) ∙ by xs i at
+  where
+    by : (ys : List _) (j : ℕ) → slice_get ys j ≡ Some x → take (suc j) ys ≡ take j ys ++ x ∷ []
+    by [] j e = cc
+    by (y ∷ ys) zero e = let same : y ≡ x = cc in ap (λ z. z ∷ []) same
+    by (y ∷ ys) (suc j) e = ap (λ zs. y ∷ zs) (by ys j e)
+
+of_append : (m : Label) (es fs : List (Label × ℕ)) → homes_of m (es ++ fs) ≡ homes_of m es ++ homes_of m fs
+of_append m [] fs = refl
+of_append m (e ∷ es) fs = λ j. (home_of m e.0, e.1) ∷ of_append m es fs j
+
+-- a maker's next home, at the end
+pub one_home_more : (maker own : Bor Label) (n : ℕ) (es : List (Label × ℕ)) (i : ℕ) → slice_get es i ≡ Some (own.now, n) → (first old new : List (Bor Label × Bor Label × ℕ)) → new ≡ old ++ (maker, own, n) ∷ []
+    → map listed_home old ≡ map listed_home first ++ homes_of maker.now (take i es) → map listed_home new ≡ map listed_home first ++ homes_of maker.now (take (i + 1) es)
+one_home_more maker own n es i at first old new more so_far =
+    ap (map listed_home) more ∙ map-append listed_home old ((maker, own, n) ∷ [])
+    ∙ ap (λ hs. hs ++ (home_of maker.now own.now, n) ∷ []) so_far
+    ∙ append_assoc (map listed_home first) (homes_of maker.now (take i es)) ((home_of maker.now own.now, n) ∷ [])
+    ∙ ap (λ hs. map listed_home first ++ hs) (sym (ap (homes_of maker.now) (through es i (own.now, n) at) ∙ of_append maker.now (take i es) ((own.now, n) ∷ [])))
+
+module _ {S : Type 0} where
+  in_append : (rows more : List (Label × HashMap Label ℕ S)) → homes_in (rows ++ more) ≡ homes_in rows ++ homes_in more
+  in_append [] more = refl
+  in_append (row ∷ rows) more = ap (λ hs. homes_of row.0 row.1.entries ++ hs) (in_append rows more) ∙ sym (append_assoc (homes_of row.0 row.1.entries) (homes_in rows) (homes_in more))
+
+  -- the next maker's homes, at the end
+  pub one_maker_more : (rows : List (Label × HashMap Label ℕ S)) (i : ℕ) (maker : Label) (row : HashMap Label ℕ S) → slice_get rows i ≡ Some (maker, row) → (old new : List (Home × ℕ)) → old ≡ homes_in (take i rows)
+      → new ≡ old ++ homes_of maker row.entries → new ≡ homes_in (take (i + 1) rows)
+  one_maker_more rows i maker row at old new so_far more =
+      more ∙ ap (λ hs. hs ++ homes_of maker row.entries) so_far
+      ∙ ap (λ hs. homes_in (take i rows) ++ hs) (sym (append-nil (homes_of maker row.entries)))
+      ∙ sym (ap (λ rs. homes_in rs) (through rows i (maker, row) at) ∙ in_append (take i rows) ((maker, row) ∷ []))
 
 -- ---- each home stands once
 never : (b : Bool) → b && false ≡ false

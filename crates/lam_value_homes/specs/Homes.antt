@@ -1,5 +1,6 @@
 -- A home is a pair of a maker's label and an own label, and things are numbered home by home.
 use Rattle.std.specs.Prelude.{ℕ, false, refl, ◌+◌, ◌++◌, ◌&&◌, ◌≡◌, ◌<◌, ◌≤◌, Bool, cond, IsTrue, nat_eq, nat_lt, List, [], ◌∷◌, map, Option, unwrap_or, option_and_then, Some, length}
+use Rattle.std.specs.Borrow.{Bor}
 use Rattle.std.specs.Coded.{Coded, code_by, coded×, coded_ℕ}
 use Rattle.std.specs.Ordering.{ordering_then}
 use Rattle.std.specs.declared.cmp.Ordering.{Ordering}
@@ -82,6 +83,14 @@ two_homes h k apart = record { each = refl; once = ((apart, tt), (tt, tt)) }
 abbrev pub homes_in : {S : Type 0} → List (Label × HashMap Label ℕ S) → List (Home × ℕ)
 homes_in [] = []
 homes_in (row ∷ rows) = map (λ (e : Label × ℕ). (home_of row.0 e.0, e.1)) row.1.entries ++ homes_in rows
+
+-- the homes of one maker, each with its number
+abbrev pub homes_of : Label → List (Label × ℕ) → List (Home × ℕ)
+homes_of m es = map (λ (e : Label × ℕ). (home_of m e.0, e.1)) es
+
+-- a home with its counter, as a list in code has it: the maker's label, the own label, the counter
+abbrev pub listed_home : Bor Label × Bor Label × ℕ → Home × ℕ
+listed_home e = (home_of e.0.now e.1.now, e.2)
 
 -- the number of a home, if there is one: that of the own label in the maker's map
 abbrev pub home_in : {S : Type 0} → List (Label × HashMap Label ℕ S) → Home → Option ℕ

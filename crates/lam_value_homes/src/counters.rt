@@ -1,11 +1,11 @@
 //! Allocation counters by home.
 
-ghost use Rattle.std.specs.Prelude.{◌≡◌, ◌+◌, ◌^◌, ◌<◌, ◌↔◌, IsTrue, cond, Some, None, unwrap_or, slice_get, IfOk, OnOk, OnErr};
+ghost use Rattle.std.specs.Prelude.{◌≡◌, ◌+◌, ◌++◌, map as map_list, ◌^◌, ◌<◌, ◌↔◌, IsTrue, cond, Some, None, unwrap_or, slice_get, IfOk, OnOk, OnErr};
 ghost use Rattle.std.specs.Option.{option_map};
 ghost use Rattle.std.specs.FinMap as map;
 ghost use Rattle.std.specs.HashMap.{IsUnique, get as at_key};
 ghost use Rattle.flow_labels.specs.declared.Label.{Label};
-ghost use Rattle.lam_value_homes.specs.Homes.{Home, home_of, count_in, counted, raised, IsAboveZero, IsListing, AreSeenAlike, label_eq, home_eq, homes_in, home_in, AreHomes};
+ghost use Rattle.lam_value_homes.specs.Homes.{Home, home_of, count_in, counted, raised, IsAboveZero, IsListing, AreSeenAlike, label_eq, home_eq, homes_in, homes_of, listed_home, home_in, AreHomes};
 
 use crate::sameness::{Same, Whole, same_maps};
 use flow_labels::{Label, NoMemory};
@@ -159,6 +159,17 @@ impl<'a> HomeCounts<'a> {
     {
         home_at(self.rows, at as usize)
     }
+
+    /// The whole list, each home as [`HomeCounts::get`] gives it. It takes time and memory by the number of homes.
+    ///
+    /// # Errors
+    ///
+    /// `NoMemory` where memory is refused.
+    pub fn list(&self, alloc: Global) -> Result<Vec<(&'a Label, &'a Label, u64)>, NoMemory>
+        ensures { IfOk result (λ hs. map_list listed_home hs.items ≡ self.now) }
+    {
+        all_homes(alloc, self.rows)
+    }
 }
 
 impl Same<Whole> for Row {
@@ -199,6 +210,40 @@ fn home_at(rows: &Rows, at: usize) -> Option<(&Label, &Label, u64)>
         rest -= row.len();
     }
     None
+}
+
+/// The homes of all makers, one maker's after another's, with their counters.
+fn all_homes<'a>(
+    alloc: Global,
+    rows: &'a Rows,
+) -> Result<Vec<(&'a Label, &'a Label, u64)>, NoMemory>
+    ensures { IfOk result (λ hs. map_list listed_home hs.items ≡ homes_in rows.now.entries) }
+{
+    let mut homes: Vec<(&'a Label, &'a Label, u64)> = Vec::new(alloc);
+    for place in 0..rows.len() {
+        let Some((maker, row)) = rows.get_index(place) else {
+            unreachable!()
+        };
+        push_row(&mut homes, maker, row)?;
+    }
+    Ok(homes)
+}
+
+/// Puts the homes of a maker, with their counters, at the end of a list.
+fn push_row<'a>(
+    homes: &mut Vec<(&'a Label, &'a Label, u64)>,
+    maker: &'a Label,
+    row: &'a Row,
+) -> Result<(), NoMemory>
+    ensures { OnOk result (map_list listed_home homes.new.items ≡ map_list listed_home homes.old.items ++ homes_of maker.now row.now.entries) }
+{
+    for at in 0..row.len() {
+        let Some((own, count)) = row.get_index(at) else {
+            unreachable!()
+        };
+        homes.push((maker, own, *count))?;
+    }
+    Ok(())
 }
 
 /// Sets the counter of a home.
