@@ -107,6 +107,17 @@ def mebibyte():
     return {'P': ''.join(parts)}
 
 
+def own_labels(count):
+    """Files with a label each, so that there are as many homes."""
+    tree = []
+    for n in range(count):
+        if n % 4_000 == 0:
+            tree.append({'path': f'd{n // 4_000}', 'label': '{}/{}', 'dir': True})
+        tree.append({'path': f'd{n // 4_000}/f{n}', 'label': f'{{t{n}}}/{{}}', 'text': 'x'})
+    given = bare('fn main(): int { return 0; }\n')
+    return {**given, 'W': world([thread()], [f't{n}' for n in range(count)], tree), 'B': 'lam book 1\n0 2\n'}
+
+
 def run(turns=MILLION):
     return ['run', 'P', 'W', '{}/{}', 'B', '--workers', '1', '--turns', turns]
 
@@ -127,6 +138,9 @@ ROWS = [
     ('200 frames with 60 byte values of 64 KB, and then a loop, 1,000,000 turns',
      lambda: byte_frames('while (true) { n = n + 1; } return 0;'), run()),
     ('removing and making the first of 4,090 entries, 1,000,000 turns', removing, run()),
+    ('`next` of 16,000 files, each with a label of its own', lambda: own_labels(16_000), ['next', 'P', 'W', 'B', 'N']),
+    ('`next` of 32,000 of them', lambda: own_labels(32_000), ['next', 'P', 'W', 'B', 'N']),
+    ('`next` of 64,000 of them', lambda: own_labels(64_000), ['next', 'P', 'W', 'B', 'N']),
     ('`check` of a mebibyte', mebibyte, ['check', 'P']),
     ('`format` of a mebibyte', mebibyte, ['format', 'P']),
 ]

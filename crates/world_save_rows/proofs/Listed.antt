@@ -1,45 +1,29 @@
 -- The lists that are made home by home.
-use Rattle.std.proofs.Common.{◌≡◌, ◌≤◌, ◌<◌, ◌+◌, ◌-◌, ℕ, zero, suc, List, [], ◌∷◌, ◌++◌, map, length, take, get_or, slice_get, Option, Some, None, refl, sym, ap, ◌∙◌, subst, arith, add-one, length-append}
-use Rattle.std.specs.Prelude.{option_map}
+use Rattle.std.proofs.Common.{◌≡◌, ◌≤◌, ◌<◌, ◌+◌, ℕ, List, [], ◌∷◌, ◌++◌, map, length, take, get_or, refl, sym, ap, ◌∙◌}
+use Rattle.std.specs.Borrow.{Bor}
 use Rattle.std.proofs.lemmas.List.{take_more, take_all, map-append}
 use Rattle.flow_labels.specs.TwoLists.{Text}
-use Rattle.lam_value.specs.Homes.{Home, Counts, IsListing}
-use Rattle.lam_value.proofs.Listings.{ends}
+use Rattle.lam_value.specs.Label.{Label}
+use Rattle.lam_value.specs.Homes.{listed_home}
 use Rattle.world_save_terms.specs.Rows as terms
 use Rattle.world_save_rows.specs.declared.listing.HomeCount.{HomeCount}
 use Rattle.world_save_rows.specs.declared.ordering.Row.{Row}
 use Rattle.world_save_rows.specs.Seen.{home_seen, row_seen}
 
-within : {X : Type 0} (xs : List X) (n : ℕ) (x : X) → Some x ≡ slice_get xs n → n < length xs
-within [] n x e = absurd cc
-within (y ∷ xs) zero x e = omega arith
-within (y ∷ xs) (suc n) x e = let k = within xs n x e in omega arith
-
-place : {X : Type 0} (xs : List X) (n : ℕ) (x : X) → Some x ≡ slice_get xs n → take (suc n) xs ≡ take n xs ++ x ∷ []
-place [] n x e = absurd cc
-place (y ∷ xs) zero x e = let same : y ≡ x = cc in ap (λ z. z ∷ []) same
-place (y ∷ xs) (suc n) x e = ap (λ zs. y ∷ zs) (place xs n x e)
-
 -- ---- homes
 
-module _ (listed : List (Home × ℕ)) (old new : List HomeCount) (h : HomeCount) (more : new ≡ old ++ h ∷ []) (at : Some (home_seen h) ≡ slice_get listed (length old)) where
-  longer : length new ≡ suc (length old)
-  longer = let e = ap length more in let n = length-append old (h ∷ []) in omega (arith, e, n)
+-- what a list in code has of each home: its maker's label, its own label, its counter
+abbrev Entry : Type 0
+Entry = Bor Label × Bor Label × ℕ
 
-  pub one_more : map home_seen old ≡ take (length old) listed → map home_seen new ≡ take (length new) listed
-  one_more e =
-      ap (map home_seen) more ∙ map-append home_seen old (h ∷ []) ∙ ap (λ zs. zs ++ home_seen h ∷ []) e ∙ sym (place listed (length old) (home_seen h) at)
-      ∙ ap (λ n. take n listed) (sym longer)
+pub one_home_more : (i : ℕ) (listed : List Entry) (e : Entry) → i < length listed → e ≡ get_or listed i e → (old new : List HomeCount) (h : HomeCount) → new ≡ old ++ h ∷ [] → home_seen h ≡ listed_home e →
+    map home_seen old ≡ map listed_home (take i listed) → map home_seen new ≡ map listed_home (take (i + 1) listed)
+one_home_more i listed e less is old new h more same so_far =
+    ap (map home_seen) more ∙ map-append home_seen old (h ∷ []) ∙ (λ j. so_far j ++ same j ∷ []) ∙ sym (map-append listed_home (take i listed) (e ∷ []))
+    ∙ ap (map listed_home) (sym (take_more listed i e less ∙ ap (λ k. take i listed ++ k ∷ []) (sym is)))
 
-  pub one_less : length listed - length new < length listed - length old
-  one_less = let n = longer in let k = within listed (length old) (home_seen h) at in omega (arith, n, k)
-
--- nothing stands where a reader found nothing
-pub nothing_at : {A B : Type 0} (f : A → B) (o : Option A) (xs : List B) (i j : ℕ) → o ≡ None → option_map f o ≡ slice_get xs i → i ≡ j → None ≡ slice_get xs j
-nothing_at f o xs i j none e same = sym (ap (option_map f) none) ∙ e ∙ ap (slice_get xs) same
-
-pub all_listed : (listed : List (Home × ℕ)) (hs : List HomeCount) (counts : Counts) → map home_seen hs ≡ take (length hs) listed → None ≡ slice_get listed (length hs) → IsListing listed counts → IsListing (map home_seen hs) counts
-all_listed listed hs counts e past is = subst (λ xs. IsListing xs counts) (sym (e ∙ take_all (length hs) listed (ends listed (length hs) past))) is
+pub all_homes : (i : ℕ) (listed : List Entry) → length listed ≤ i → (hs : List HomeCount) → map home_seen hs ≡ map listed_home (take i listed) → map home_seen hs ≡ map listed_home listed
+all_homes i listed past hs e = e ∙ ap (map listed_home) (take_all i listed past)
 
 -- ---- rows
 

@@ -1,7 +1,7 @@
 //! The counters of a saved world as sorted rows, and its unnamed tags.
 //!
-//! [`homes`] lists the homes once, since a list of them is slow to look into at a place far back. Their labels' texts
-//! may be far longer than the labels. So [`rows`] is called only where it is known that all rows fit into a document.
+//! [`homes`] lists the homes once, in one pass. Their labels' texts may be far longer than the labels. So [`rows`] is
+//! called only where it is known that all rows fit into a document.
 //!
 //! - `listing`: the list.
 //! - `unnamed`: the least tag of a label that would be written and has no name. All labels of files and directories are
