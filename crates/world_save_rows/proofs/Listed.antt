@@ -4,7 +4,7 @@ use Rattle.std.specs.Borrow.{Bor}
 use Rattle.std.proofs.lemmas.List.{take_more, take_all, map-append}
 use Rattle.flow_labels.specs.TwoLists.{Text}
 use Rattle.lam_value.specs.Label.{Label}
-use Rattle.lam_value.specs.Homes.{listed_home}
+use Rattle.lam_value_homes.specs.Homes.{listed_home}
 use Rattle.world_save_terms.specs.Rows as terms
 use Rattle.world_save_rows.specs.declared.listing.HomeCount.{HomeCount}
 use Rattle.world_save_rows.specs.declared.ordering.Row.{Row}

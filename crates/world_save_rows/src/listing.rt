@@ -1,7 +1,8 @@
 //! The homes that have made files or directories, as a list.
 
 ghost use Rattle.std.specs.Prelude.{◌≡◌, map, IfOk};
-ghost use Rattle.lam_value.specs.Homes.{IsListing, listed_home};
+ghost use Rattle.lam_value.specs.Homes.{IsListing};
+ghost use Rattle.lam_value_homes.specs.Homes.{listed_home};
 ghost use Rattle.world_save_rows.specs.Seen.{home_seen};
 
 use flow_labels::{Label, NoMemory};

@@ -1,5 +1,5 @@
 use Rattle.std.proofs.Common.{◌≡◌, map, take}
-use Rattle.lam_value.specs.Homes.{listed_home}
+use Rattle.lam_value_homes.specs.Homes.{listed_home}
 use Rattle.world_save_rows.specs.Seen.{home_seen}
 use Rattle.world_save_rows.proofs.listing.home_counts.Given as goal
 

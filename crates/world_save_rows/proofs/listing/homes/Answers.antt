@@ -1,5 +1,6 @@
 use Rattle.std.proofs.Common.{◌∙◌, ap, sym, subst, map}
-use Rattle.lam_value.specs.Homes.{IsListing, listed_home}
+use Rattle.lam_value.specs.Homes.{IsListing}
+use Rattle.lam_value_homes.specs.Homes.{listed_home}
 use Rattle.world_save_rows.proofs.listing.homes.Goals as goal
 
 pub returns : goal.returns
