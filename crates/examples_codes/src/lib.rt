@@ -1,4 +1,4 @@
-//! Worked examples of the verifier of guarded code, and of numbered labels.
+//! Worked examples of the verifier of guarded code, of redundant barriers, and of numbered labels.
 //!
 //! The codes are written by hand. The expected breaks, marks and numbers come from the definitions, never from the
 //! code. Most codes here stand beside those definitions too, where their breaks are computed.
@@ -10,3 +10,5 @@ mod breaks;
 mod marks;
 #[cfg(test)]
 mod numbers;
+#[cfg(test)]
+mod thinned;

@@ -42,6 +42,12 @@ fn is_remembered(table: &LabelTable, low: &Label, high: &Label) -> Option<bool> 
     Some(up & table.recall(high, low).is_none() & (table.remembered() == 1))
 }
 
+/// Whether the number of a label is that of an equal label.
+fn names_its_own(table: &LabelTable, label: &Label) -> Option<bool> {
+    let number = table.find(label)?;
+    Some(*table.label(number) == *label)
+}
+
 /// Asks of two labels both ways, and once more.
 fn asked_twice(table: &mut LabelTable, low: &Label, high: &Label) -> Option<bool> {
     let once = only_up(table, low, high)?;
@@ -53,7 +59,8 @@ fn asked_twice(table: &mut LabelTable, low: &Label, high: &Label) -> Option<bool
 fn public_and_secret(table: &mut LabelTable, alloc: Global) -> Option<bool> {
     let low = Label::public(alloc);
     let high = secret(alloc, TagId(0));
-    asked_twice(table, &low, &high)
+    let own = names_its_own(table, &low)? & names_its_own(table, &high)?;
+    Some(own & asked_twice(table, &low, &high)?)
 }
 
 /// Whether a secret that never came has no number.
@@ -76,7 +83,8 @@ fn asked_anew(alloc: Global) -> Option<bool> {
     asked_in(&mut table, alloc)
 }
 
-/// A label that comes again has the number that it got, and the first pair that is asked takes the room that there is.
+/// A label that comes again has the number that it got, which gives an equal label. The first pair that is asked takes the
+/// room that there is.
 #[test]
 fn interned_label_has_one_number(rt: HostRuntime) {
     assert!(rt; asked_anew(rt.alloc()) == Some(true));

@@ -33,11 +33,11 @@ fn main(p: pipe): int {
 const WORLD: &str =
     "{\"version\":1,\"tags\":[],\"tree\":[],\"pipes\":[{\"name\":\"p\",\"label\":\"{}/{}\"}],\"threads\":[{\"run\":\"main\",\"args\":[{\"pipe\":\"p\"}],\"caps\":{\"plus\":[],\"minus\":[]}}]}";
 
-/// How often the callers try to make another book.
+/// How many more books the callers make at most.
 const TRIES: u32 = 20;
 
-/// Sixteen callers take turns until they have made two books that differ, or have tried it often. Each book shows what its
-/// callers saw, and lists their calls.
+/// The book of sixteen callers shows what they saw, and has a place for each of their calls. More books are made until one
+/// differs from the first, and each is tested so; that one differs is not tested.
 #[test]
 fn sixteen_share_a_book(rt: HostRuntime) -> Result<(), Fail> {
     let first = book_of_sixteen(&rt)?;

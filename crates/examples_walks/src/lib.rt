@@ -7,8 +7,11 @@
 //! - `written`: asks and answers as constants.
 //! - `tables`: what a thread did by a table of them, with the asks in whose place it would depart.
 //! - `things`, `regions`, `files`, `pipes` and `threads`: the tables. Together they have each kind of ask.
+//! - `answers`: answers that do not suit their ask.
 #![tactic(auto)]
 
+#[cfg(test)]
+mod answers;
 #[cfg(test)]
 mod files;
 #[cfg(test)]

@@ -106,3 +106,20 @@ pub fn departs_at_each(rt: &HostRuntime, thread: Thread) -> Result<(), Fail> {
     }
     Ok(())
 }
+
+/// Fails unless a thread that did what its table says keeps to its source up to its last ask, and departs there.
+pub fn departs_at_last(rt: &HostRuntime, thread: Thread) -> Result<(), Fail> {
+    let alloc = rt.alloc();
+    let asked = thread.lines.len();
+    if asked == 0 {
+        return Err(Fail::new("no ask"));
+    }
+    let last = asked - 1;
+    departs(alloc, thread, asked, None, Some(last as u64))?;
+    let before = Thread {
+        text: thread.text,
+        begins: thread.begins,
+        lines: &thread.lines[..last],
+    };
+    departs(alloc, before, asked, None, None)
+}

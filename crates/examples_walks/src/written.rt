@@ -7,7 +7,8 @@ use lam_value::{ByteText, Kind, Name, Shape, Value, Values};
 use std::alloc::Global;
 use want_of_memory::NoMemory;
 
-/// Tags by their numbers, in a label those of secrecy. No label here has a tag of integrity.
+/// Tags by their numbers. A label has either tags of secrecy or tags of integrity here, and those of secrecy unless its
+/// variant says otherwise.
 pub type Tags = &'static [u64];
 
 /// Capabilities: the tags whose plus is held, and those whose minus is.
@@ -33,6 +34,8 @@ pub enum Is {
     Bool(bool),
     Bytes(&'static str),
     Obj(Tags, u64),
+    /// An object with tags of integrity.
+    Trusted(Tags, u64),
     Arr(Tags, u64, u64),
     File(u64),
     Dir(u64),
@@ -50,10 +53,14 @@ pub enum Asks {
     Read(Is, u64),
     Write(Is, u64, Is),
     CopyTo(Is, Tags),
+    /// To a label with tags of integrity.
+    CopyToTrusted(Is, Tags),
     MonEnter(Is),
     MonLeave(Is),
     Mint,
     Enter(Tags, Held, u32, &'static [Is]),
+    /// At a label with tags of integrity.
+    EnterTrusted(Tags, Held, u32, &'static [Is]),
     Leave,
     Barred(Rule, u64),
     Caught(Fault),
@@ -97,9 +104,17 @@ fn set_of(alloc: Global, tags: Tags) -> Result<TagSet, NoMemory> {
     Ok(set)
 }
 
+/// The label with these tags of secrecy.
 fn label_of(alloc: Global, tags: Tags) -> Result<Label, NoMemory> {
     let s = set_of(alloc, tags)?;
     let i = TagSet::empty(alloc);
+    Ok(Label { s, i })
+}
+
+/// The label with these tags of integrity.
+fn trusted_of(alloc: Global, tags: Tags) -> Result<Label, NoMemory> {
+    let s = TagSet::empty(alloc);
+    let i = set_of(alloc, tags)?;
     Ok(Label { s, i })
 }
 
@@ -117,6 +132,12 @@ fn denied_by(rule: Rule, tag: u64) -> Denied {
 /// The name with this number of a thing with this label.
 fn name_of(alloc: Global, own: Tags, n: u64) -> Result<Name, NoMemory> {
     let own = label_of(alloc, own)?;
+    Name::new(Label::public(alloc), own, n)
+}
+
+/// The name with this number of a thing with these tags of integrity.
+fn trusted_name(alloc: Global, own: Tags, n: u64) -> Result<Name, NoMemory> {
+    let own = trusted_of(alloc, own)?;
     Name::new(Label::public(alloc), own, n)
 }
 
@@ -144,6 +165,7 @@ fn value_of(alloc: Global, value: Is) -> Result<Value, NoMemory> {
         Is::Bool(b) => Ok(Value::Bool(b)),
         Is::Bytes(text) => Ok(Value::Bytes(text_of(alloc, text)?)),
         Is::Obj(own, n) => Ok(Value::Obj(name_of(alloc, own, n)?)),
+        Is::Trusted(own, n) => Ok(Value::Obj(trusted_name(alloc, own, n)?)),
         Is::Arr(own, n, len) => array_of(alloc, own, n, len),
         Is::File(n) => Ok(Value::File(public_name(alloc, n)?)),
         Is::Dir(n) => Ok(Value::Dir(public_name(alloc, n)?)),
@@ -168,20 +190,18 @@ fn write(alloc: Global, r: Is, at: u64, v: Is) -> Result<Ask, NoMemory> {
     Ok(Ask::Write { r, at, v })
 }
 
-fn copy_to(alloc: Global, r: Is, own: Tags) -> Result<Ask, NoMemory> {
+fn copy_to(alloc: Global, r: Is, own: Label) -> Result<Ask, NoMemory> {
     let r = value_of(alloc, r)?;
-    let own = label_of(alloc, own)?;
     Ok(Ask::CopyTo { r, own })
 }
 
 fn enter(
     alloc: Global,
-    label: Tags,
+    label: Label,
     held: Held,
     region: u32,
     args: &[Is],
 ) -> Result<Ask, NoMemory> {
-    let label = label_of(alloc, label)?;
     let caps = caps_of(alloc, held)?;
     let args = values_of(alloc, args)?;
     Ok(Ask::Enter {
@@ -240,7 +260,8 @@ pub fn ask_of(alloc: Global, asks: Asks) -> Result<Ask, NoMemory> {
             Ok(Ask::Read { r, at })
         }
         Asks::Write(r, at, v) => write(alloc, r, at, v),
-        Asks::CopyTo(r, own) => copy_to(alloc, r, own),
+        Asks::CopyTo(r, own) => copy_to(alloc, r, label_of(alloc, own)?),
+        Asks::CopyToTrusted(r, own) => copy_to(alloc, r, trusted_of(alloc, own)?),
         Asks::MonEnter(r) => {
             let r = value_of(alloc, r)?;
             Ok(Ask::MonEnter { r })
@@ -250,7 +271,12 @@ pub fn ask_of(alloc: Global, asks: Asks) -> Result<Ask, NoMemory> {
             Ok(Ask::MonLeave { r })
         }
         Asks::Mint => Ok(Ask::Mint),
-        Asks::Enter(label, held, region, args) => enter(alloc, label, held, region, args),
+        Asks::Enter(label, held, region, args) => {
+            enter(alloc, label_of(alloc, label)?, held, region, args)
+        }
+        Asks::EnterTrusted(label, held, region, args) => {
+            enter(alloc, trusted_of(alloc, label)?, held, region, args)
+        }
         Asks::Leave => Ok(Ask::Leave),
         Asks::Barred(rule, tag) => Ok(Ask::Barred(denied_by(rule, tag))),
         Asks::Caught(fault) => Ok(Ask::Caught(fault)),

@@ -1,0 +1,2 @@
+mod FirstThread
+mod PrivateTurns
