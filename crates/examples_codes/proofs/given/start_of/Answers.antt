@@ -2,7 +2,7 @@ use Rattle.std.proofs.Common.{◌≡◌, Ok, subst}
 use Rattle.lam_bytecode.specs.Codes.{CodeTree}
 use Rattle.guarded_code.specs.Breaks.{IsGuarded}
 use Rattle.world_doc_terms.specs.Start.{start_of}
-use Rattle.examples_over_runs.proofs.given.start_of.Goals as goal
+use Rattle.examples_codes.proofs.given.start_of.Goals as goal
 
 pub returns-in-Ok : goal.returns-in-Ok
 returns-in-Ok c =

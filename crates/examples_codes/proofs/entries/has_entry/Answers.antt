@@ -1,5 +1,5 @@
-use Rattle.examples_over_runs.proofs.FirstThread.{entry}
-use Rattle.examples_over_runs.proofs.entries.has_entry.Goals as goal
+use Rattle.examples_codes.proofs.FirstThread.{entry}
+use Rattle.examples_codes.proofs.entries.has_entry.Goals as goal
 
 pub returns-then-is_empty : goal.returns-then-is_empty
 returns-then-is_empty c =

@@ -17,7 +17,7 @@ use Rattle.thread_steps.specs.Next.{started}
 use Rattle.lam_meaning_typed.specs.Kinds.{AreOf}
 use Rattle.lam_machine_terms.specs.Worlds.{World}
 use Rattle.source_walk_terms.specs.Walks.{IsEntry, StandsAtEntry, ThreadsAtEntries}
-use Rattle.examples_over_runs.specs.Starts.{IsFirst}
+use Rattle.examples_codes.specs.Starts.{IsFirst}
 
 none_there : (ts : List ValueType) → (length ts == 0) ≡ true → ts ≡ []
 none_there ts e = nil_from_length ts (eqb-true (length ts) 0 e)

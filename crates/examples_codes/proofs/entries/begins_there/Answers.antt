@@ -1,8 +1,8 @@
 use Rattle.lam_resolve_tree.specs.Tree.{resolved_tree}
 use Rattle.region_check.specs.Seen.{checked_tree}
 use Rattle.lam_resolve_laws.specs.Resolved.{resolved}
-use Rattle.examples_over_runs.proofs.FirstThread.{begins}
-use Rattle.examples_over_runs.proofs.entries.begins_there.Goals as goal
+use Rattle.examples_codes.proofs.FirstThread.{begins}
+use Rattle.examples_codes.proofs.entries.begins_there.Goals as goal
 
 pub returns : goal.returns
 returns c = λ t r is.

@@ -6,7 +6,7 @@ ghost use Rattle.region_check.specs.Seen.{checked_tree};
 ghost use Rattle.lam_resolve_tree.specs.Tree.{ResolvedTree, resolved_tree, option_type_tree};
 ghost use Rattle.lam_resolve_laws.specs.Resolved.{resolved};
 ghost use Rattle.source_walk_terms.specs.Walks.{IsEntry, ThreadsAtEntries};
-ghost use Rattle.examples_over_runs.specs.Starts.{IsFirst};
+ghost use Rattle.examples_codes.specs.Starts.{IsFirst};
 
 use capabilities::Caps;
 use guarded_code::Verified;
