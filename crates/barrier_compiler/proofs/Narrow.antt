@@ -12,7 +12,7 @@ use Rattle.lam_builtins.specs.Types.{int}
 use Rattle.lam_builtins.specs.Operators.{operand}
 use Rattle.lam_builtins.specs.Builtins.{row_by}
 use Rattle.lam_resolve_tree.specs.Tree.{ResolvedType, ResolvedGiven, ResolvedPlace, CapSlot, Expression, number_value, text_value, bool_value, null_value, local_value, unary_of, binary_of, field_of, element_of, call_of, builtin_of, new_object, new_array, label_of, caps_of, spawn_of, Expressions, args_end, args_more, Statement, let_slot, if_block, while_block, return_value, throw_value, sync_block, region_block, do_value, set_local, set_field, set_element, Block, block_end, block_more, OtherBlock, no_other, other_block, ResolvedFunction, ResolvedTree}
-use Rattle.lam_resolve_tree.specs.Typing.{Heads, head_of, heads_of, IsField, Use, a_local, a_monitor, Scope, with_use, local_if, locals_of, exact_places, Operates, AreTags, Gives, AreArgs, AreRest, AreTagArgs, Returning, in_region, in_function, Returns, AreCaptured, use_of, after, IsStatement, IsBlock, IsOther, AreFunctions, IsTypedTree}
+use Rattle.lam_resolve_tree.specs.Typing.{ResolvedSignatures, head_of, heads_of, IsField, Use, a_local, a_monitor, Scope, with_use, local_if, locals_of, exact_places, Operates, AreTags, Gives, AreArgs, AreRest, AreTagArgs, Returning, in_region, in_function, Returns, AreCaptured, use_of, after, IsStatement, IsBlock, IsOther, AreFunctions, IsTypedTree}
 use Rattle.lam_resolve_tree.specs.Regions as tree
 use Rattle.lam_resolve_tree.specs.Regions.{count_up, function_regions, AreNumbered}
 use Rattle.lam_resolve_tree.specs.Limits.{RegionsFit, BlockFits, OtherFits, AllUnitsFit, AllFieldsFit, WithinLimits}
@@ -71,7 +71,7 @@ below_used : (n m : ℕ) (env : Scope) (o : Option ResolvedType) → m < n → B
 below_used n m env None lt h = h
 below_used n m env (Some t) lt h = below_with n m env (a_local t) lt h
 
-below_after : (slots : List ResolvedType) (env : Scope) (s : Statement) (p : Heads) (ret : Returning) → Below (length slots) env → IsStatement p slots ret env s → Below (length slots) (after slots env s)
+below_after : (slots : List ResolvedType) (env : Scope) (s : Statement) (p : ResolvedSignatures) (ret : Returning) → Below (length slots) env → IsStatement p slots ret env s → Below (length slots) (after slots env s)
 below_after slots env (let_slot m e) p ret h (t, k, f) = below_used (length slots) m env (slice_get slots m) (get_below slots m t k.0) h
 below_after slots env (if_block e body other) p ret h k = h
 below_after slots env (while_block e body) p ret h k = h
@@ -148,7 +148,7 @@ captured_below env n [] (t ∷ ts) few h k = absurd k
 captured_below env n (x ∷ from) [] few h k = absurd k
 captured_below env n (x ∷ from) (t ∷ ts) few h (e, k) = let r = captured_below env n from ts few h k in ((omega (arith, few, h x _ e), r.0), ap suc r.1)
 
-module _ (p : Heads) (classes : length p.classes ≤ most_classes) (functions : length p.functions ≤ most_functions) (fit : AllFieldsFit p.classes) where
+module _ (p : ResolvedSignatures) (classes : length p.classes ≤ most_classes) (functions : length p.functions ≤ most_functions) (fit : AllFieldsFit p.classes) where
   field_below : (c f : ℕ) (t : ResolvedType) → IsField p c f t → f < 2 ^ 32
   field_below c f t (fields, e, g) = omega (arith, fields_below p.classes c fields fit e, get_below fields f t g)
 

@@ -41,6 +41,6 @@ again_by (Some op) None = false
 again_by (Some op) (Some None) = false
 again_by (Some op) (Some (Some d)) = tests_again op d
 
--- whether a barrier stands at an address, and its operand has the mark of its rule already
+-- whether a barrier stands at an address, and its operand was tested by its rule already
 abbrev pub tests_again_at : CodeTree → List (Option (Table Description)) → ℕ → ℕ → Bool
 tests_again_at code tables n a = again_by (op_in (slice_get code.units n) a) (row_in (slice_get tables n) a)

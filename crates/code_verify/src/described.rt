@@ -67,7 +67,7 @@ impl Described {
         Described { tables }
     }
 
-    /// Whether a barrier of the code stands at an address of a unit, and its operand has the mark of the barrier's rule
+    /// Whether a barrier of the code stands at an address of a unit, and its operand was tested by the barrier's rule
     /// there already. False where the address has no description.
     pub fn tested(&self, code: &Code, unit: u32, at: u32) -> bool
         ensures { result ≡ tests_again_at code.now self.now unit at }

@@ -8,7 +8,7 @@ use Rattle.code_verify_tables.specs.declared.packed.KnownState.{KnownState}
 use Rattle.code_verify_tables.specs.declared.packed.KnownState.TheVariants as state
 use Rattle.code_verify_tables.specs.declared.packed.PackedKnown.TheInside.{Inside}
 
--- the state with these marks
+-- the state with these facts
 abbrev pub chosen : Bool → Bool → KnownState → KnownState → KnownState → KnownState → KnownState
 chosen read write neither by_read by_write both =
     if read then (if write then both else by_read) else (if write then by_write else neither)
@@ -22,26 +22,26 @@ state_for Unknown read write = chosen read write state.Unknown state.UnknownRead
 abbrev pub state_of : Known → KnownState
 state_of k = state_for k.kind k.read k.write
 
-abbrev pub marked : ValueKind → Bool → Bool → Known
-marked kind read write = record { kind = kind; read = read; write = write }
+abbrev pub known_with : ValueKind → Bool → Bool → Known
+known_with kind read write = record { kind = kind; read = read; write = write }
 
 abbrev pub known_of : KnownState → Known
-known_of state.Number = marked Number false false
-known_of state.NumberRead = marked Number true false
-known_of state.NumberWrite = marked Number false true
-known_of state.NumberBoth = marked Number true true
-known_of state.Truth = marked Truth false false
-known_of state.TruthRead = marked Truth true false
-known_of state.TruthWrite = marked Truth false true
-known_of state.TruthBoth = marked Truth true true
-known_of state.Other = marked Other false false
-known_of state.OtherRead = marked Other true false
-known_of state.OtherWrite = marked Other false true
-known_of state.OtherBoth = marked Other true true
-known_of state.Unknown = marked Unknown false false
-known_of state.UnknownRead = marked Unknown true false
-known_of state.UnknownWrite = marked Unknown false true
-known_of state.UnknownBoth = marked Unknown true true
+known_of state.Number = known_with Number false false
+known_of state.NumberRead = known_with Number true false
+known_of state.NumberWrite = known_with Number false true
+known_of state.NumberBoth = known_with Number true true
+known_of state.Truth = known_with Truth false false
+known_of state.TruthRead = known_with Truth true false
+known_of state.TruthWrite = known_with Truth false true
+known_of state.TruthBoth = known_with Truth true true
+known_of state.Other = known_with Other false false
+known_of state.OtherRead = known_with Other true false
+known_of state.OtherWrite = known_with Other false true
+known_of state.OtherBoth = known_with Other true true
+known_of state.Unknown = known_with Unknown false false
+known_of state.UnknownRead = known_with Unknown true false
+known_of state.UnknownWrite = known_with Unknown false true
+known_of state.UnknownBoth = known_with Unknown true true
 
 -- both ways, nothing is lost
 pub state_again : (s : KnownState) → state_of (known_of s) ≡ s
@@ -65,7 +65,7 @@ state_again state.UnknownBoth = refl
 pub state_back : (p : Inside) → record { state = state_of (known_of p.state) } ≡ p
 state_back p = ap (λ (s : KnownState). let q : Inside = record { state = s } in q) (state_again p.state)
 
-pub known_again : (kind : ValueKind) (read write : Bool) → known_of (state_for kind read write) ≡ marked kind read write
+pub known_again : (kind : ValueKind) (read write : Bool) → known_of (state_for kind read write) ≡ known_with kind read write
 known_again Number true true = refl
 known_again Number true false = refl
 known_again Number false true = refl

@@ -1,4 +1,4 @@
-//! Tests that operands suit their operation, and that an access has its rule's mark.
+//! Tests that operands suit their operation, and that an access was tested by its rule.
 
 ghost use Rattle.std.specs.Prelude.{◌≡◌, ◌∷◌, slice_get, Some, None};
 ghost use Rattle.guarded_code.specs.Descriptions.{is_tested};
@@ -103,7 +103,7 @@ fn is_tested_at(access: Access, stack: &[Operand], at: usize) -> bool
     }
 }
 
-/// Whether the operation is no access, or an access that finds the mark of its rule on its reference.
+/// Whether the operation is no access, or an access that finds its reference tested by its rule.
 pub fn is_guarded(op: Op, description: &Description) -> bool
     ensures { result ≡ is_guarded op description.now }
 {
@@ -117,7 +117,7 @@ pub fn is_guarded(op: Op, description: &Description) -> bool
     }
 }
 
-/// Whether the operation is a barrier whose operand has the mark of its rule already.
+/// Whether the operation is a barrier whose operand was tested by its rule already.
 pub fn tests_again(op: Op, description: &Description) -> bool
     ensures { result ≡ tests_again op description.now }
 {

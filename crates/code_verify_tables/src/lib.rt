@@ -6,7 +6,7 @@
 //! - `changes`: the table of what each operation takes and gives.
 //! - `description`: a description, and what an operation leaves of it.
 //! - `meeting`: what two paths leave where they meet.
-//! - `kinds`: whether an operation finds operands that it takes, and an access the mark of its rule.
+//! - `kinds`: whether an operation finds operands that it takes, and an access a tested reference.
 //!
 //! `guarded_code` defines all of it; this crate computes it.
 #![tactic(auto)]

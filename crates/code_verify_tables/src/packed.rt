@@ -116,7 +116,7 @@ fn state_for(kind: ValueKind, read: bool, write: bool) -> KnownState
     }
 }
 
-/// The state with these marks.
+/// The state with these facts.
 fn chosen(
     read: bool,
     write: bool,
@@ -140,26 +140,26 @@ fn known_of(state: KnownState) -> Known
     ensures { result ≡ known_of state }
 {
     match state {
-        KnownState::Number => marked(ValueKind::Number, false, false),
-        KnownState::NumberRead => marked(ValueKind::Number, true, false),
-        KnownState::NumberWrite => marked(ValueKind::Number, false, true),
-        KnownState::NumberBoth => marked(ValueKind::Number, true, true),
-        KnownState::Truth => marked(ValueKind::Truth, false, false),
-        KnownState::TruthRead => marked(ValueKind::Truth, true, false),
-        KnownState::TruthWrite => marked(ValueKind::Truth, false, true),
-        KnownState::TruthBoth => marked(ValueKind::Truth, true, true),
-        KnownState::Other => marked(ValueKind::Other, false, false),
-        KnownState::OtherRead => marked(ValueKind::Other, true, false),
-        KnownState::OtherWrite => marked(ValueKind::Other, false, true),
-        KnownState::OtherBoth => marked(ValueKind::Other, true, true),
-        KnownState::Unknown => marked(ValueKind::Unknown, false, false),
-        KnownState::UnknownRead => marked(ValueKind::Unknown, true, false),
-        KnownState::UnknownWrite => marked(ValueKind::Unknown, false, true),
-        KnownState::UnknownBoth => marked(ValueKind::Unknown, true, true),
+        KnownState::Number => known_with(ValueKind::Number, false, false),
+        KnownState::NumberRead => known_with(ValueKind::Number, true, false),
+        KnownState::NumberWrite => known_with(ValueKind::Number, false, true),
+        KnownState::NumberBoth => known_with(ValueKind::Number, true, true),
+        KnownState::Truth => known_with(ValueKind::Truth, false, false),
+        KnownState::TruthRead => known_with(ValueKind::Truth, true, false),
+        KnownState::TruthWrite => known_with(ValueKind::Truth, false, true),
+        KnownState::TruthBoth => known_with(ValueKind::Truth, true, true),
+        KnownState::Other => known_with(ValueKind::Other, false, false),
+        KnownState::OtherRead => known_with(ValueKind::Other, true, false),
+        KnownState::OtherWrite => known_with(ValueKind::Other, false, true),
+        KnownState::OtherBoth => known_with(ValueKind::Other, true, true),
+        KnownState::Unknown => known_with(ValueKind::Unknown, false, false),
+        KnownState::UnknownRead => known_with(ValueKind::Unknown, true, false),
+        KnownState::UnknownWrite => known_with(ValueKind::Unknown, false, true),
+        KnownState::UnknownBoth => known_with(ValueKind::Unknown, true, true),
     }
 }
 
-fn marked(kind: ValueKind, read: bool, write: bool) -> Known
+fn known_with(kind: ValueKind, read: bool, write: bool) -> Known
     ensures { result ≡ record { kind = kind; read = read; write = write } }
 {
     Known { kind, read, write }

@@ -16,7 +16,7 @@ use Rattle.lam_bytecode.specs.declared.op.Op.{Op}
 use Rattle.lam_bytecode.specs.declared.op.Op.TheVariants.{Load, Add, Sub, Mul, Div, Rem, Eq, Ne, Lt, Le, Gt, Ge, Call, ReadBarrier, GetField, GetElement, NewObject, MakeLabel, System, Spawn}
 use Rattle.thread_steps.specs.Ops.{function_takes}
 use Rattle.lam_resolve_tree.specs.Tree.{ResolvedType, ResolvedGiven, ResolvedPlace, CapSlot, Expression, number_value, text_value, bool_value, null_value, local_value, unary_of, binary_of, field_of, element_of, call_of, builtin_of, new_object, new_array, label_of, caps_of, spawn_of, Expressions, args_end, args_more, ResolvedFunction, ResolvedTree}
-use Rattle.lam_resolve_tree.specs.Typing.{Head, head_of, heads_of, given_by, exact_places, Use, a_local, Scope, FitsBy, Operates, AreTags, Gives, AreRest, AreTagArgs}
+use Rattle.lam_resolve_tree.specs.Typing.{ResolvedSignature, head_of, heads_of, given_by, exact_places, Use, a_local, Scope, FitsBy, Operates, AreTags, Gives, AreRest, AreTagArgs}
 use Rattle.lam_meaning.specs.Scheme.{is_int, count, prefix_op, sign_op, scheme}
 use Rattle.lam_meaning_laws.specs.Nested.{Nested, does, puts, both, either, operator_code, signs_code, expression_code, expressions_code}
 use Rattle.lam_meaning_laws.proofs.Units.{function_unit, takes_params, class_kinds}
@@ -25,7 +25,7 @@ use Rattle.guarded_code.specs.declared.known.ValueKind.TheVariants.{Number, Trut
 use Rattle.guarded_code.specs.declared.known.Access.TheVariants.{Reading}
 use Rattle.guarded_code.specs.Changes.{Place, Any, Only, Trades, kind_of_type, kind_of_place, kind_of_value, kind_of_answer, result_kind, places_of, anything}
 use Rattle.guarded_code.proofs.Tables.{some_inj}
-use Rattle.compiled_code_guarded.specs.Layouts.{marked, IsOfKind, TakesKinds, IsKnown, Follows}
+use Rattle.compiled_code_guarded.specs.Layouts.{fact_of, IsOfKind, TakesKinds, IsKnown, Follows}
 use Rattle.compiled_code_guarded.proofs.Runs.{lt_test, slots_same, Branches, Steps, Runs}
 use Rattle.compiled_code_guarded.proofs.Operands.{kind_of_given, slot_kind, slots_of, at, of_same, kind_known, fits_kind, compare_kinds, onto, drop_onto, EachTakes, same_onto, any_each, place_kinds, exact_long, args_taken, args_long, rest_of, same_places, answer_kind}
 
@@ -35,7 +35,7 @@ IsWithin locals env = (n : ℕ) (u : Use) → env n ≡ Some u → n < locals
 
 -- ---- what the program declares
 
-pub function_there : (fs : List ResolvedFunction) (f : ℕ) (h : Head) → slice_get (map head_of fs) f ≡ Some h → (fn : ResolvedFunction) × (slice_get fs f ≡ Some fn) × (head_of fn ≡ h)
+pub function_there : (fs : List ResolvedFunction) (f : ℕ) (h : ResolvedSignature) → slice_get (map head_of fs) f ≡ Some h → (fn : ResolvedFunction) × (slice_get fs f ≡ Some fn) × (head_of fn ≡ h)
 function_there [] f h e = absurd cc
 function_there (fn ∷ fs) zero h e = (fn, refl, some_inj e)
 function_there (fn ∷ fs) (suc f) h e = function_there fs f h e
@@ -172,18 +172,18 @@ module _ (r : ResolvedTree) (locals : ℕ) (env : Scope) (within : IsWithin loca
   prefix_step unary.Neg st =
       (record { names = refl; takes = (refl, tt); compares = tt; behind = tt }, λ at. (refl, gives_put env (Only Number ∷ []) Number Number (Number ∷ st) st refl refl, tt))
 
-  -- ---- accesses: the barrier's mark stands until the next operation
+  -- ---- accesses: the barrier's fact stands until the next operation
 
   reads_field : (f : ℕ) (k : ValueKind) (st : List ValueKind) → Leads (both (does (ReadBarrier 0)) (does (GetField f))) (Other ∷ st) (k ∷ st)
   reads_field f k st = (
-    record { stack = Other ∷ st; slots = slots_of env; mark = marked Reading 0 },
+    record { stack = Other ∷ st; slots = slots_of env; fact = fact_of Reading 0 },
     (record { names = refl; takes = (refl, tt); compares = tt; behind = tt }, λ at. (refl, (refl, slots_same (slots_of env), refl), tt)),
     (record { names = refl; takes = (refl, tt); compares = tt; behind = refl }, λ at. (refl, ((k, refl, refl), slots_same (slots_of env), tt), tt)),
   )
 
   reads_element : (k : ValueKind) (st : List ValueKind) → Leads (both (does (ReadBarrier 1)) (does GetElement)) (Number ∷ Other ∷ st) (k ∷ st)
   reads_element k st = (
-    record { stack = Number ∷ Other ∷ st; slots = slots_of env; mark = marked Reading 1 },
+    record { stack = Number ∷ Other ∷ st; slots = slots_of env; fact = fact_of Reading 1 },
     (record { names = refl; takes = (tt, (refl, tt)); compares = tt; behind = tt }, λ at. (refl, (refl, slots_same (slots_of env), refl), tt)),
     (record { names = refl; takes = (refl, (refl, tt)); compares = tt; behind = refl }, λ at. (refl, ((k, refl, refl), slots_same (slots_of env), tt), tt)),
   )
@@ -281,8 +281,8 @@ module _ (r : ResolvedTree) (locals : ℕ) (env : Scope) (within : IsWithin loca
     expression_runs (call_of f args) g h st =
         let there = function_there r.functions f h.0 h.2 in
         let ws = exact_places h.0.params in
-        let long = exact_long h.0.params ∙ ap (λ (x : Head). length x.params) (sym there.2) in
-        let result = h.4 ∙ ap (λ (x : Head). given_by x.result) (sym there.2) in
+        let long = exact_long h.0.params ∙ ap (λ (x : ResolvedSignature). length x.params) (sym there.2) in
+        let result = h.4 ∙ ap (λ (x : ResolvedSignature). given_by x.result) (sym there.2) in
         given (expression_code (call_of f args)) st g (given_by there.0.result) result
         (at env (onto (place_kinds ws) st), arguments_run args ws st (rest_of (heads_of r) env ws args h.1 h.3), call_step f there.0 (place_kinds ws) st there.1 long)
     expression_runs (builtin_of b args t) g h st =
@@ -312,7 +312,7 @@ module _ (r : ResolvedTree) (locals : ℕ) (env : Scope) (within : IsWithin loca
     expression_runs (spawn_of c f args) g h st =
         let there = function_there r.functions f h.0 h.3 in
         let ws = exact_places h.0.params in
-        let long = exact_long h.0.params ∙ ap (λ (x : Head). length x.params) (sym there.2) in
+        let long = exact_long h.0.params ∙ ap (λ (x : ResolvedSignature). length x.params) (sym there.2) in
         given (expression_code (spawn_of c f args)) st g (a_value thread) h.6 (
           at env (Other ∷ st),
           fit (expression_code c) (exactly caps) (Typed c) h.2 (expression_runs c) st,

@@ -15,7 +15,7 @@ use Rattle.guarded_code.specs.Breaks.{is_tested_at}
 use Rattle.guarded_code.specs.Says.{Pairwise}
 use Rattle.guarded_code.proofs.Tables.{none_some, some_inj, get_set_other}
 use Rattle.guarded_code.proofs.Lists.{each_drop, each_long_same, long_place}
-use Rattle.compiled_code_guarded.specs.Layouts.{Mark, Shape, marked, IsOfKind, OperandFits, HasMark, Fits, TakesKinds, SlotsSay, MarkSays, IsPut, with_slot, Follows}
+use Rattle.compiled_code_guarded.specs.Layouts.{Fact, Shape, fact_of, IsOfKind, OperandFits, HasFact, Fits, TakesKinds, SlotsSay, FactSays, IsPut, with_slot, Follows}
 use Rattle.compiled_code_guarded.proofs.OfKinds.{met_of_kind, of_less, met_tested}
 
 -- ---- meeting
@@ -58,9 +58,9 @@ met_locals (x ∷ xs) (y ∷ ys) e =
     at zs f zero = refl
     at zs f (suc n) = f n
 
-met_mark : (m : Option Mark) (os ps qs : List Operand) → ((access : Access) (i : ℕ) → TestedAt access i os → TestedAt access i ps → TestedAt access i qs) → HasMark m os → HasMark m ps → HasMark m qs
-met_mark None os ps qs f a b = tt
-met_mark (Some m) os ps qs f a b = f m.access m.depth a b
+met_fact : (m : Option Fact) (os ps qs : List Operand) → ((access : Access) (i : ℕ) → TestedAt access i os → TestedAt access i ps → TestedAt access i qs) → HasFact m os → HasFact m ps → HasFact m qs
+met_fact None os ps qs f a b = tt
+met_fact (Some m) os ps qs f a b = f m.access m.depth a b
 
 -- what fits a shape meets, and then it fits
 pub fits_meet : (locals : ℕ) (d e : Description) (s : Shape) → Fits locals d s → Fits locals e s → (m : Description) × (meet d e ≡ Some m) × Fits locals m s
@@ -73,7 +73,7 @@ fits_meet locals d e s h i =
         stack = os.2;
         slots = λ n. subst (λ k. IsOfKind k.kind (s.slots n)) (sym (ks.3 n)) (met_of_kind (known_at d.locals n).kind (known_at e.locals n).kind (s.slots n) (h.slots n) (i.slots n));
         size = ks.2 ∙ h.size;
-        mark = met_mark s.mark d.stack e.stack os.0 os.3 h.mark i.mark;
+        fact = met_fact s.fact d.stack e.stack os.0 os.3 h.fact i.fact;
       },
     )
 
@@ -82,9 +82,9 @@ fits_meet locals d e s h i =
 slots_fit : (ks : List Known) (f g : ℕ → ValueKind) → ((n : ℕ) → IsOfKind (known_at ks n).kind (f n)) → SlotsSay f g → (n : ℕ) → IsOfKind (known_at ks n).kind (g n)
 slots_fit ks f g h s n = of_less (known_at ks n).kind (f n) (g n) (h n) (s n)
 
-no_mark : (m : Option Mark) (os : List Operand) → MarkSays None m → HasMark m os
-no_mark None os h = tt
-no_mark (Some m) os h = none_some h
+no_fact : (m : Option Fact) (os : List Operand) → FactSays None m → HasFact m os
+no_fact None os h = tt
+no_fact (Some m) os h = none_some h
 
 -- a load
 loads_fit : (locals n : ℕ) (d : Description) (s t : Shape) → Fits locals d s → Follows (Loads n) s t → Fits locals (loaded n d) t
@@ -92,7 +92,7 @@ loads_fit locals n d s t h f = record {
   stack = subst (Pairwise OperandFits (loaded n d).stack) (sym f.0) (h.slots n, h.stack);
   slots = slots_fit d.locals s.slots t.slots h.slots f.1;
   size = h.size;
-  mark = no_mark t.mark (loaded n d).stack f.2;
+  fact = no_fact t.fact (loaded n d).stack f.2;
 }
 
 -- a store
@@ -114,13 +114,13 @@ set_fits ks f n x k h is m = by (nat_eq m n) refl
     by true e = subst (λ i. IsOfKind (known_at (slice_set ks n x) i).kind k) (sym (eqb-true m n e)) (set_here ks n x k is)
     by false e = subst (λ o. IsOfKind (unwrap_or o (untested Unknown)).kind (f m)) (sym (get_set_other ks n m x (eqb-false m n e))) (h m)
 
-stores_fit : (locals n : ℕ) (os : List Operand) (ks : List Known) (k : ValueKind) (s t : Shape) → Pairwise OperandFits os (k ∷ t.stack) → ((m : ℕ) → IsOfKind (known_at ks m).kind (s.slots m)) → length ks ≡ locals → SlotsSay (with_slot s.slots n k) t.slots → MarkSays None t.mark → Fits locals (stored_from n os ks) t
-stores_fit locals n [] ks k s t h slots size say mark = absurd h
-stores_fit locals n (o ∷ os) ks k s t h slots size say mark = record {
+stores_fit : (locals n : ℕ) (os : List Operand) (ks : List Known) (k : ValueKind) (s t : Shape) → Pairwise OperandFits os (k ∷ t.stack) → ((m : ℕ) → IsOfKind (known_at ks m).kind (s.slots m)) → length ks ≡ locals → SlotsSay (with_slot s.slots n k) t.slots → FactSays None t.fact → Fits locals (stored_from n os ks) t
+stores_fit locals n [] ks k s t h slots size say fact = absurd h
+stores_fit locals n (o ∷ os) ks k s t h slots size say fact = record {
   stack = forgotten_fit n os t.stack h.1;
   slots = slots_fit (slice_set ks n o.known) (with_slot s.slots n k) t.slots (set_fits ks s.slots n o.known k slots h.0) say;
   size = length-set ks n o.known ∙ size;
-  mark = no_mark t.mark (map (forgotten n) os) mark;
+  fact = no_fact t.fact (map (forgotten n) os) fact;
 }
 
 -- a barrier
@@ -176,9 +176,9 @@ place_tested access i [] lt = absurd (omega (arith, lt))
 place_tested access zero (o ∷ os) lt = is_tested_now access o.known
 place_tested access (suc i) (o ∷ os) lt = place_tested access i os (omega (arith, lt))
 
-has_mark : (access : Access) (i : ℕ) (m : Option Mark) (os : List Operand) → MarkSays (marked access i) m → TestedAt access i os → HasMark m os
-has_mark access i None os h t = tt
-has_mark access i (Some m) os h t = subst (λ x. IsTrue (is_tested_at x.access (slice_get os x.depth))) (some_inj h) t
+has_fact : (access : Access) (i : ℕ) (m : Option Fact) (os : List Operand) → FactSays (fact_of access i) m → TestedAt access i os → HasFact m os
+has_fact access i None os h t = tt
+has_fact access i (Some m) os h t = subst (λ x. IsTrue (is_tested_at x.access (slice_get os x.depth))) (some_inj h) t
 
 tests_fit : (locals : ℕ) (access : Access) (depth : ℕ) (c : Option ℕ) (d : Description) (s t : Shape) → depth < length d.stack → Fits locals d s → Follows (Tests access depth) s t → Fits locals (barred access depth c d) t
 tests_fit locals access depth c d s t lt h f =
@@ -187,7 +187,7 @@ tests_fit locals access depth c d s t lt h f =
       stack = place_fits access depth os t.stack (copies_fit access c d.stack t.stack (subst (Pairwise OperandFits d.stack) (sym f.0) h.stack));
       slots = slots_fit (tested_local access c d.locals) s.slots t.slots (λ n. subst (λ k. IsOfKind k (s.slots n)) (sym (local_known access c d.locals n)) (h.slots n)) f.1;
       size = local_long access c d.locals ∙ h.size;
-      mark = has_mark access depth t.mark (at_place (tested_operand access) depth os) f.2 (place_tested access depth os (omega (arith, lt, length-map d.stack (tested_copy access c))));
+      fact = has_fact access depth t.fact (at_place (tested_operand access) depth os) f.2 (place_tested access depth os (omega (arith, lt, length-map d.stack (tested_copy access c))));
     }
 
 -- all others
@@ -200,7 +200,7 @@ trades_fit locals takes gives d s t h f = record {
   stack = put_fits gives (drop (length takes) d.stack) (drop (length takes) s.stack) t.stack (each_drop OperandFits (length takes) d.stack s.stack h.stack) f.0;
   slots = slots_fit d.locals s.slots t.slots h.slots f.1;
   size = h.size;
-  mark = no_mark t.mark (put gives (drop (length takes) d.stack)) f.2;
+  fact = no_fact t.fact (put gives (drop (length takes) d.stack)) f.2;
 }
 
 pub taken_long : (ps : List Place) (ks : List ValueKind) → TakesKinds ps ks → length ps ≤ length ks

@@ -18,7 +18,7 @@ use Rattle.guarded_code.specs.Says.{Pairwise}
 use Rattle.guarded_code.specs.Facts.{IsUnitGuarded}
 use Rattle.guarded_code.proofs.Tables.{some_inj, get_within}
 use Rattle.guarded_code.proofs.Lists.{each_long_same}
-use Rattle.compiled_code_guarded.specs.Layouts.{Mark, Shape, OperandFits, HasMark, Fits, TakesKinds, TwoAgree, Compares, IsBehind, AllLead, StartsFit, IsLegal, IsLayout, LaidOutIsGuarded}
+use Rattle.compiled_code_guarded.specs.Layouts.{Fact, Shape, OperandFits, HasFact, Fits, TakesKinds, TwoAgree, Compares, IsBehind, AllLead, StartsFit, IsLegal, IsLayout, LaidOutIsGuarded}
 use Rattle.compiled_code_guarded.proofs.Surely.{AllBound, Surely, Within, after_within}
 use Rattle.compiled_code_guarded.proofs.OfKinds.{both_agree, all_taken_fit}
 use Rattle.compiled_code_guarded.proofs.Fitting.{fits_meet, fits_left, taken_long}
@@ -112,7 +112,7 @@ module _ (code : CodeTree) (u : CodeUnit) (ss : List Shape) (lay : IsLayout code
       ap (λ b. if b then first_failing_op (is_well_targeted code u) 0 u.ops else Some 0) (starts_within (starts u) lay.started) ∙
       none_failing (is_well_targeted code u) 0 u.ops (λ i op e. let z : i ≡ 0 + i = omega arith in subst (λ k. is_well_targeted code u k op ≡ true) z (well_targeted i op e))
 
-  -- ---- kinds and marks
+  -- ---- kinds and facts
 
   two_agree_by : (os : List Operand) (ks : List ValueKind) → Pairwise OperandFits os ks → TwoAgree ks → two_agree os ≡ true
   two_agree_by [] ks h t = refl
@@ -131,11 +131,11 @@ module _ (code : CodeTree) (u : CodeUnit) (ss : List Shape) (lay : IsLayout code
   takes_by op d s h takes two =
       and_from _ (compares op d.stack) (all_taken_fit (wanted (change code op)) d.stack s.stack takes h.stack) (compares_by op d.stack s.stack h.stack two)
 
-  guarded_by : (op : Op) (d : Description) (m : Option Mark) → HasMark m d.stack → IsBehind op m → IsTrue (is_guarded op d)
-  guarded_by (GetField f) d m h b = subst (λ x. HasMark x d.stack) b h
-  guarded_by (PutField f) d m h b = subst (λ x. HasMark x d.stack) b h
-  guarded_by GetElement d m h b = subst (λ x. HasMark x d.stack) b h
-  guarded_by PutElement d m h b = subst (λ x. HasMark x d.stack) b h
+  guarded_by : (op : Op) (d : Description) (m : Option Fact) → HasFact m d.stack → IsBehind op m → IsTrue (is_guarded op d)
+  guarded_by (GetField f) d m h b = subst (λ x. HasFact x d.stack) b h
+  guarded_by (PutField f) d m h b = subst (λ x. HasFact x d.stack) b h
+  guarded_by GetElement d m h b = subst (λ x. HasFact x d.stack) b h
+  guarded_by PutElement d m h b = subst (λ x. HasFact x d.stack) b h
   guarded_by op d m h b = refl
 
   guarded_with : (o : Found Description) → descriptions code u ≡ o → OnFound ⊥ o (Within Description meet (passes code u.ops) Bound (length u.ops)) → IsUnitGuarded code u
@@ -148,7 +148,7 @@ module _ (code : CodeTree) (u : CodeUnit) (ss : List Shape) (lay : IsLayout code
         let legal = lay.legal a op p.0 at_op p.1 in
         takes_by op d p.0 p.2 legal.finds.takes legal.finds.compares;
     guarded = λ a op d at_op at_d. let p = h.bounds a d at_d in
-        guarded_by op d p.0.mark p.2.mark (lay.legal a op p.0 at_op p.1).finds.behind;
+        guarded_by op d p.0.fact p.2.fact (lay.legal a op p.0 at_op p.1).finds.behind;
   }
 
   unit_guarded : IsUnitGuarded code u

@@ -7,7 +7,7 @@ use Rattle.lam_builtins.specs.declared.Builtin.{Builtin}
 use Rattle.lam_builtins.specs.declared.Builtin.TheVariants as call
 use Rattle.lam_builtins.specs.Builtins.{answered, row, row_by}
 use Rattle.lam_resolve_tree.specs.Tree.{ResolvedType, ResolvedGiven, ResolvedPlace, Expressions, args_end, args_more}
-use Rattle.lam_resolve_tree.specs.Typing.{Heads, exact_places, Use, a_local, a_monitor, Scope, is_object, is_labelled, Takes, TakesNull, Fits, Compare, AreArgs, AreRest}
+use Rattle.lam_resolve_tree.specs.Typing.{ResolvedSignatures, exact_places, Use, a_local, a_monitor, Scope, is_object, is_labelled, Takes, TakesNull, Fits, Compare, AreArgs, AreRest}
 use Rattle.guarded_code.specs.declared.known.ValueKind.{ValueKind}
 use Rattle.guarded_code.specs.declared.known.ValueKind.TheVariants.{Number, Truth, Other, Unknown}
 use Rattle.guarded_code.specs.Changes.{Place, Any, Only, kind_of_type, kind_of_place, kind_of_answer, places_of}
@@ -31,7 +31,7 @@ slots_of env n = slot_kind (env n)
 
 -- operands of these kinds, and the slots in scope
 abbrev pub at : Scope → List ValueKind → Shape
-at env stack = record { stack = stack; slots = slots_of env; mark = None }
+at env stack = record { stack = stack; slots = slots_of env; fact = None }
 
 pub of_same : (k : ValueKind) → IsOfKind k k
 of_same Number = refl
@@ -162,13 +162,13 @@ kinds_long (w ∷ ws) = ap suc (kinds_long ws)
 pub args_long : {C : Type 0} (ws : List (PlaceBy C)) → length (place_kinds ws) ≡ length (reverse (places_of ws))
 args_long ws = omega (arith, kinds_long ws, back_long (places_of ws) [])
 
-pub rest_of : (p : Heads) (env : Scope) (ws : List ResolvedPlace) (args : Expressions) (first : ResolvedGiven) → AreArgs p env ws args first → AreRest p env ws args
+pub rest_of : (p : ResolvedSignatures) (env : Scope) (ws : List ResolvedPlace) (args : Expressions) (first : ResolvedGiven) → AreArgs p env ws args first → AreRest p env ws args
 rest_of p env [] args_end first h = tt
 rest_of p env [] (args_more e rest) first h = absurd h
 rest_of p env (w ∷ ws) args_end first h = absurd h
 rest_of p env (w ∷ ws) (args_more e rest) first h = ((first, h.0, h.1), h.2)
 
-pub first_fits : (p : Heads) (env : Scope) (w : ResolvedPlace) (ws : List ResolvedPlace) (args : Expressions) (first : ResolvedGiven) → AreArgs p env (w ∷ ws) args first → Fits w first
+pub first_fits : (p : ResolvedSignatures) (env : Scope) (w : ResolvedPlace) (ws : List ResolvedPlace) (args : Expressions) (first : ResolvedGiven) → AreArgs p env (w ∷ ws) args first → Fits w first
 first_fits p env w ws args_end first h = absurd h
 first_fits p env w ws (args_more e rest) first h = h.1
 
@@ -206,7 +206,7 @@ same_places call.ReceiveCaps = refl
 same_places call.Join = refl
 
 -- a copy is of a reference
-pub answer_kind : (p : Heads) (env : Scope) (b : Builtin) (args : Expressions) (first : ResolvedGiven) → AreArgs p env (row_by ℕ b).signature.takes args first → kind_of_answer (row b).signature.answer ≡ kind_of_given (answered (row_by ℕ b).signature.answer first)
+pub answer_kind : (p : ResolvedSignatures) (env : Scope) (b : Builtin) (args : Expressions) (first : ResolvedGiven) → AreArgs p env (row_by ℕ b).signature.takes args first → kind_of_answer (row b).signature.answer ≡ kind_of_given (answered (row_by ℕ b).signature.answer first)
 answer_kind p env call.Len args first h = refl
 answer_kind p env call.Size args first h = refl
 answer_kind p env call.Byte args first h = refl

@@ -12,7 +12,7 @@ use Rattle.guarded_code.specs.Changes.{Only, Change, Loads, Stores, Tests, Trade
 use Rattle.guarded_code.specs.Says.{KindSays}
 use Rattle.guarded_code.proofs.Tables.{none_some}
 use Rattle.guarded_code.proofs.Order.{kind_same}
-use Rattle.compiled_code_guarded.specs.Layouts.{Mark, Shape, marked, TakesKinds, Finds, SlotsSay, MarkSays, IsPut, Follows}
+use Rattle.compiled_code_guarded.specs.Layouts.{Fact, Shape, fact_of, TakesKinds, Finds, SlotsSay, FactSays, IsPut, Follows}
 
 pub lt_test : (a b : ℕ) → a < b → nat_lt a b ≡ true
 lt_test a b h = grind (arith, nat_tests)
@@ -23,7 +23,7 @@ lt_test a b h = grind (arith, nat_tests)
 pub record Weakens (s t : Shape) : Type 0 where
   pub stack : t.stack ≡ s.stack
   pub slots : SlotsSay s.slots t.slots
-  pub mark : MarkSays s.mark t.mark
+  pub fact : FactSays s.fact t.fact
 
 say_trans : (k m z : ValueKind) → KindSays k m → KindSays m z → KindSays k z
 say_trans k m Unknown a b = tt
@@ -37,24 +37,24 @@ slots_same f n = kind_same (f n)
 pub slots_trans : (f g h : ℕ → ValueKind) → SlotsSay f g → SlotsSay g h → SlotsSay f h
 slots_trans f g h a b n = say_trans (f n) (g n) (h n) (a n) (b n)
 
-mark_same : (m : Option Mark) → MarkSays m m
-mark_same None = tt
-mark_same (Some m) = refl
+fact_same : (m : Option Fact) → FactSays m m
+fact_same None = tt
+fact_same (Some m) = refl
 
-mark_trans : (m n z : Option Mark) → MarkSays m n → MarkSays n z → MarkSays m z
-mark_trans m n None a b = tt
-mark_trans m None (Some z) a b = none_some b
-mark_trans m (Some n) (Some z) a b = a ∙ b
+fact_trans : (m n z : Option Fact) → FactSays m n → FactSays n z → FactSays m z
+fact_trans m n None a b = tt
+fact_trans m None (Some z) a b = none_some b
+fact_trans m (Some n) (Some z) a b = a ∙ b
 
 pub weakens_same : (s : Shape) → Weakens s s
-weakens_same s = record { stack = refl; slots = slots_same s.slots; mark = mark_same s.mark }
+weakens_same s = record { stack = refl; slots = slots_same s.slots; fact = fact_same s.fact }
 
 -- what follows a shape may say less
 pub follows_less : (c : Change) (s t x : Shape) → Follows c s t → Weakens t x → Follows c s x
-follows_less (Loads n) s t x f w = (w.stack ∙ f.0, slots_trans s.slots t.slots x.slots f.1 w.slots, mark_trans None t.mark x.mark f.2 w.mark)
-follows_less (Stores n) s t x f w = (f.0, f.1 ∙ ap (λ ks. f.0 ∷ ks) (sym w.stack), slots_trans _ t.slots x.slots f.2 w.slots, mark_trans None t.mark x.mark f.3 w.mark)
-follows_less (Tests access depth) s t x f w = (w.stack ∙ f.0, slots_trans s.slots t.slots x.slots f.1 w.slots, mark_trans (marked access depth) t.mark x.mark f.2 w.mark)
-follows_less (Trades takes gives) s t x f w = (put_less gives (drop (length takes) s.stack) f.0, slots_trans s.slots t.slots x.slots f.1 w.slots, mark_trans None t.mark x.mark f.2 w.mark)
+follows_less (Loads n) s t x f w = (w.stack ∙ f.0, slots_trans s.slots t.slots x.slots f.1 w.slots, fact_trans None t.fact x.fact f.2 w.fact)
+follows_less (Stores n) s t x f w = (f.0, f.1 ∙ ap (λ ks. f.0 ∷ ks) (sym w.stack), slots_trans _ t.slots x.slots f.2 w.slots, fact_trans None t.fact x.fact f.3 w.fact)
+follows_less (Tests access depth) s t x f w = (w.stack ∙ f.0, slots_trans s.slots t.slots x.slots f.1 w.slots, fact_trans (fact_of access depth) t.fact x.fact f.2 w.fact)
+follows_less (Trades takes gives) s t x f w = (put_less gives (drop (length takes) s.stack) f.0, slots_trans s.slots t.slots x.slots f.1 w.slots, fact_trans None t.fact x.fact f.2 w.fact)
   where
     put_less : (o : Option ValueKind) (rest : List ValueKind) → IsPut o rest t.stack → IsPut o rest x.stack
     put_less None rest e = w.stack ∙ e
@@ -66,15 +66,15 @@ follows_less (Trades takes gives) s t x f w = (put_less gives (drop (length take
 abbrev pub Joins : Shape → Shape → Type 0
 Joins s t = Follows (Trades [] None) s t
 
-mark_joins : (m n : Option Mark) → MarkSays None n → MarkSays m n
-mark_joins m None h = tt
-mark_joins m (Some n) h = none_some h
+fact_joins : (m n : Option Fact) → FactSays None n → FactSays m n
+fact_joins m None h = tt
+fact_joins m (Some n) h = none_some h
 
 pub joins_weakens : (s t : Shape) → Joins s t → Weakens s t
-joins_weakens s t h = record { stack = h.0; slots = h.1; mark = mark_joins s.mark t.mark h.2 }
+joins_weakens s t h = record { stack = h.0; slots = h.1; fact = fact_joins s.fact t.fact h.2 }
 
 pub weakens_trans : (s t x : Shape) → Weakens s t → Weakens t x → Weakens s x
-weakens_trans s t x a b = record { stack = b.stack ∙ a.stack; slots = slots_trans s.slots t.slots x.slots a.slots b.slots; mark = mark_trans s.mark t.mark x.mark a.mark b.mark }
+weakens_trans s t x a b = record { stack = b.stack ∙ a.stack; slots = slots_trans s.slots t.slots x.slots a.slots b.slots; fact = fact_trans s.fact t.fact x.fact a.fact b.fact }
 
 -- a truth value is taken, and t is left
 abbrev pub Branches : Shape → Shape → Type 0

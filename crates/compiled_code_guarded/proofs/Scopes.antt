@@ -3,7 +3,7 @@ use Rattle.std.proofs.Common.{◌≡◌, ℕ, suc, ◌<◌, Bool, true, false, i
 use Rattle.std.proofs.lemmas.Bool.{eqb-true, eq-eqb}
 use Rattle.std.proofs.lemmas.Option.{slice_get_within}
 use Rattle.lam_resolve_tree.specs.Tree.{ResolvedType, Statement, let_slot, if_block, while_block, return_value, throw_value, sync_block, region_block, do_value, set_local, set_field, set_element, Block, block_end, block_more}
-use Rattle.lam_resolve_tree.specs.Typing.{Heads, Use, a_local, a_monitor, Scope, with_use, local_if, locals_of, IsFree, Returning, use_of, after, IsStatement, IsBlock, AreCaptured}
+use Rattle.lam_resolve_tree.specs.Typing.{ResolvedSignatures, Use, a_local, a_monitor, Scope, with_use, local_if, locals_of, IsFree, Returning, use_of, after, IsStatement, IsBlock, AreCaptured}
 use Rattle.guarded_code.specs.Says.{KindSays}
 use Rattle.guarded_code.proofs.Tables.{none_some}
 use Rattle.guarded_code.proofs.Order.{kind_same}
@@ -91,7 +91,7 @@ at_end slots env (block_more s rest) = at_end slots (after slots env s) rest
 let_keeps : (slots : List ResolvedType) (env : Scope) (n : ℕ) (t : ResolvedType) (P : Scope → Type 0) → IsFree slots env n t → P (with_use env n (a_local t)) → P (use_of (slice_get slots n) env n)
 let_keeps slots env n t P free h = subst (λ o. P (use_of o env n)) (sym free.0) h
 
-module _ (p : Heads) (slots : List ResolvedType) (ret : Returning) where
+module _ (p : ResolvedSignatures) (slots : List ResolvedType) (ret : Returning) where
   pub open_after : (env : Scope) (os : List ℕ) (s : Statement) → IsStatement p slots ret env s → IsOpen (length slots) env os → IsOpen (length slots) (after slots env s) os
   open_after env os (let_slot n e) h o =
       let_keeps slots env n h.0 (λ env. IsOpen (length slots) env os) h.1 (open_more (length slots) env n (a_local h.0) os (slice_get_within slots n h.0 h.1.0) h.1.1 o)

@@ -15,7 +15,7 @@ use Rattle.guarded_code.specs.declared.known.ValueKind.{ValueKind}
 use Rattle.guarded_code.specs.declared.known.ValueKind.TheVariants.{Number, Truth, Other}
 use Rattle.guarded_code.specs.declared.known.Access.TheVariants.{Writing}
 use Rattle.guarded_code.specs.Changes.{Any, Only, kind_of_type, anything}
-use Rattle.compiled_code_guarded.specs.Layouts.{marked, TakesKinds, SlotsSay, with_slot}
+use Rattle.compiled_code_guarded.specs.Layouts.{fact_of, TakesKinds, SlotsSay, with_slot}
 use Rattle.compiled_code_guarded.proofs.Runs.{lt_test, slots_same, slots_trans, Joins, Steps, Runs}
 use Rattle.compiled_code_guarded.proofs.Operands.{kind_of_given, slots_of, at, object_kind, onto, drop_onto, same_onto, any_each}
 use Rattle.compiled_code_guarded.proofs.Expressions.{as_long, gives_none, branch, puts_runs, load_step, expression_runs, stands_run}
@@ -67,14 +67,14 @@ module _ (r : ResolvedTree) (slots : List ResolvedType) where
 
     writes_field : (f : ℕ) (k : ValueKind) → Goes (both (does (WriteBarrier 1)) (does (PutField f))) env (k ∷ Other ∷ []) env []
     writes_field f k = (
-      record { stack = k ∷ Other ∷ []; slots = slots_of env; mark = marked Writing 1 },
+      record { stack = k ∷ Other ∷ []; slots = slots_of env; fact = fact_of Writing 1 },
       (record { names = refl; takes = (tt, (refl, tt)); compares = tt; behind = tt }, λ a. (refl, (refl, slots_same (slots_of env), refl), tt)),
       (record { names = refl; takes = (tt, (refl, tt)); compares = tt; behind = refl }, λ a. (refl, (refl, slots_same (slots_of env), tt), tt)),
     )
 
     writes_element : (k : ValueKind) → Goes (both (does (WriteBarrier 2)) (does PutElement)) env (k ∷ Number ∷ Other ∷ []) env []
     writes_element k = (
-      record { stack = k ∷ Number ∷ Other ∷ []; slots = slots_of env; mark = marked Writing 2 },
+      record { stack = k ∷ Number ∷ Other ∷ []; slots = slots_of env; fact = fact_of Writing 2 },
       (record { names = refl; takes = (tt, (tt, (refl, tt))); compares = tt; behind = tt }, λ a. (refl, (refl, slots_same (slots_of env), refl), tt)),
       (record { names = refl; takes = (tt, (refl, (refl, tt))); compares = tt; behind = refl }, λ a. (refl, (refl, slots_same (slots_of env), tt), tt)),
     )

@@ -32,7 +32,7 @@ use Rattle.guarded_code.specs.Says.{Pairwise}
 use Rattle.guarded_code.specs.Facts.{IsUnitGuarded}
 use Rattle.guarded_code.proofs.Breaking.{guarded_means}
 use Rattle.guarded_code.proofs.Tables.{none_some, some_inj}
-use Rattle.compiled_code_guarded.specs.Layouts.{Mark, Shape, IsOfKind, OperandFits, HasMark, Fits, MarkSays}
+use Rattle.compiled_code_guarded.specs.Layouts.{Fact, Shape, IsOfKind, OperandFits, HasFact, Fits, FactSays}
 use Rattle.compiled_code_guarded.proofs.OfKinds.{any_kind, of_less}
 use Rattle.compiled_code_guarded.proofs.LaidOut.{laid_out}
 use Rattle.compiled_code_guarded.specs.Compiled.{SchemeIsGuarded, CompiledIsGuarded}
@@ -51,12 +51,12 @@ fits_less locals d s x h w = record {
   stack = subst (λ ks. Pairwise OperandFits d.stack ks) (sym w.stack) h.stack;
   slots = λ n. of_less (known_at d.locals n).kind (s.slots n) (x.slots n) (h.slots n) (w.slots n);
   size = h.size;
-  mark = by s.mark x.mark h.mark w.mark;
+  fact = by s.fact x.fact h.fact w.fact;
 }
   where
-    by : (m n : Option Mark) → HasMark m d.stack → MarkSays m n → HasMark n d.stack
+    by : (m n : Option Fact) → HasFact m d.stack → FactSays m n → HasFact n d.stack
     by m None has says = tt
-    by m (Some n) has says = subst (λ y. HasMark y d.stack) says has
+    by m (Some n) has says = subst (λ y. HasFact y d.stack) says has
 
 entry_long : (given n : ℕ) → length (entry_locals given n) ≡ n
 entry_long given zero = refl
@@ -75,7 +75,7 @@ entered ts given locals e = record {
   stack = tt;
   slots = λ m. subst (λ g. IsOfKind (known_at (entry_locals g locals) m).kind (slot_kind (local_if (slice_get ts m)))) (sym e) (entry_fits ts locals m);
   size = entry_long given locals;
-  mark = tt;
+  fact = tt;
 }
 
 unknown_all : (locals n : ℕ) → (known_at (replicate locals (untested Unknown)) n).kind ≡ Unknown
@@ -88,7 +88,7 @@ caught locals env = record {
   stack = (refl, tt);
   slots = λ n. subst (λ k. IsOfKind k (slots_of env n)) (sym (unknown_all locals n)) refl;
   size = as_long locals (untested Unknown);
-  mark = tt;
+  fact = tt;
 }
 
 -- ---- how long a unit is

@@ -19,7 +19,7 @@ use Rattle.guarded_code.specs.Facts.{IsUnitGuarded}
 -- ---- shapes
 
 -- the reference so far below the top was tested by the operation before
-pub record Mark : Type 0 where
+pub record Fact : Type 0 where
   pub access : Access
   pub depth : ℕ
 
@@ -28,10 +28,10 @@ pub record Mark : Type 0 where
 pub record Shape : Type 0 where
   pub stack : List ValueKind
   pub slots : ℕ → ValueKind
-  pub mark : Option Mark
+  pub fact : Option Fact
 
-abbrev pub marked : Access → ℕ → Option Mark
-marked access depth = Some (record { access = access; depth = depth })
+abbrev pub fact_of : Access → ℕ → Option Fact
+fact_of access depth = Some (record { access = access; depth = depth })
 
 -- ---- a description fits a shape
 
@@ -41,16 +41,16 @@ IsOfKind kind wanted = IsTrue (may_agree kind wanted)
 abbrev pub OperandFits : Operand → ValueKind → Type 0
 OperandFits o kind = IsOfKind o.known.kind kind
 
-abbrev pub HasMark : Option Mark → List Operand → Type 0
-HasMark None os = Unit {0}
-HasMark (Some m) os = IsTrue (is_tested_at m.access (slice_get os m.depth))
+abbrev pub HasFact : Option Fact → List Operand → Type 0
+HasFact None os = Unit {0}
+HasFact (Some m) os = IsTrue (is_tested_at m.access (slice_get os m.depth))
 
 -- with so many locals
 pub record Fits (locals : ℕ) (d : Description) (s : Shape) : Type 0 where
   pub stack : Pairwise OperandFits d.stack s.stack
   pub slots : (n : ℕ) → IsOfKind (known_at d.locals n).kind (s.slots n)
   pub size : length d.locals ≡ locals
-  pub mark : HasMark s.mark d.stack
+  pub fact : HasFact s.fact d.stack
 
 -- ---- what an operation needs
 
@@ -79,27 +79,27 @@ Compares Ne ks = TwoAgree ks
 Compares op ks = Unit {0}
 
 -- an access stands behind the barrier of its reference
-abbrev pub IsBehind : Op → Option Mark → Type 0
-IsBehind (GetField f) m = m ≡ marked Reading 0
-IsBehind (PutField f) m = m ≡ marked Writing 1
-IsBehind GetElement m = m ≡ marked Reading 1
-IsBehind PutElement m = m ≡ marked Writing 2
+abbrev pub IsBehind : Op → Option Fact → Type 0
+IsBehind (GetField f) m = m ≡ fact_of Reading 0
+IsBehind (PutField f) m = m ≡ fact_of Writing 1
+IsBehind GetElement m = m ≡ fact_of Reading 1
+IsBehind PutElement m = m ≡ fact_of Writing 2
 IsBehind op m = Unit {0}
 
 pub record Finds (code : CodeTree) (locals : ℕ) (op : Op) (s : Shape) : Type 0 where
   pub names : IsTrue (names_something code locals op)
   pub takes : TakesKinds (wanted (change code op)) s.stack
   pub compares : Compares op s.stack
-  pub behind : IsBehind op s.mark
+  pub behind : IsBehind op s.fact
 
 -- ---- what follows
 
 abbrev pub SlotsSay : (ℕ → ValueKind) → (ℕ → ValueKind) → Type 0
 SlotsSay f g = (n : ℕ) → KindSays (f n) (g n)
 
-abbrev pub MarkSays : Option Mark → Option Mark → Type 0
-MarkSays m None = Unit {0}
-MarkSays m (Some n) = m ≡ Some n
+abbrev pub FactSays : Option Fact → Option Fact → Type 0
+FactSays m None = Unit {0}
+FactSays m (Some n) = m ≡ Some n
 
 -- a value of the kind that is given is put on the others, or none. Where the kind is not known, it may be any
 abbrev pub IsPut : Option ValueKind → List ValueKind → List ValueKind → Type 0
@@ -111,10 +111,10 @@ with_slot slots n kind m = if nat_eq m n then kind else slots m
 
 -- t says no more than what is left of s after a change
 abbrev pub Follows : Change → Shape → Shape → Type 0
-Follows (Loads n) s t = (t.stack ≡ s.slots n ∷ s.stack) × SlotsSay s.slots t.slots × MarkSays None t.mark
-Follows (Stores n) s t = (k : ValueKind) × (s.stack ≡ k ∷ t.stack) × SlotsSay (with_slot s.slots n k) t.slots × MarkSays None t.mark
-Follows (Tests access depth) s t = (t.stack ≡ s.stack) × SlotsSay s.slots t.slots × MarkSays (marked access depth) t.mark
-Follows (Trades takes gives) s t = IsPut gives (drop (length takes) s.stack) t.stack × SlotsSay s.slots t.slots × MarkSays None t.mark
+Follows (Loads n) s t = (t.stack ≡ s.slots n ∷ s.stack) × SlotsSay s.slots t.slots × FactSays None t.fact
+Follows (Stores n) s t = (k : ValueKind) × (s.stack ≡ k ∷ t.stack) × SlotsSay (with_slot s.slots n k) t.slots × FactSays None t.fact
+Follows (Tests access depth) s t = (t.stack ≡ s.stack) × SlotsSay s.slots t.slots × FactSays (fact_of access depth) t.fact
+Follows (Trades takes gives) s t = IsPut gives (drop (length takes) s.stack) t.stack × SlotsSay s.slots t.slots × FactSays None t.fact
 
 -- ---- layouts
 

@@ -2,7 +2,7 @@
 //!
 //! The scheme puts a barrier right before each access, and its programs are typed, so its code breaks no rule of
 //! guarded code. Every target is good. Operands stand where operations want them, and paths that meet bring as many. No
-//! operand is of a known kind that its operation does not take, and each access finds the mark of its rule. So a
+//! operand is of a known kind that its operation does not take, and each access finds its reference tested by its rule. So a
 //! verifier refuses no code that the compiler makes.
 //!
 //! The proof gives each unit a static layout; a unit that has one is guarded (`laid_out`). At each address operands

@@ -5,10 +5,10 @@ use code_verify::{VerifyFault, is_guarded, verify};
 use lam_bytecode::{ArgKind, Op};
 use std::alloc::Global;
 use std::test::Fail;
-use written_code::{Constant, Head, Unit, Written, code_of};
+use written_code::{Constant, Unit, UnitHead, Written, code_of};
 
 /// A function of one parameter.
-pub const FUNCTION: Head<'static> = Head::Function {
+pub const FUNCTION: UnitHead<'static> = UnitHead::Function {
     name: "f",
     takes: &[ArgKind::Other],
 };
@@ -110,7 +110,7 @@ const CASES: [Case; 14] = [
     Case {
         says: "a catch place stands outside of its unit",
         units: &[Unit {
-            head: Head::Region {
+            head: UnitHead::Region {
                 captures: 1,
                 catch_at: 9,
             },
@@ -122,7 +122,7 @@ const CASES: [Case; 14] = [
     Case {
         says: "in a catch place no local is tested any more",
         units: &[Unit {
-            head: Head::Region {
+            head: UnitHead::Region {
                 captures: 1,
                 catch_at: 1,
             },
@@ -141,7 +141,7 @@ const CASES: [Case; 14] = [
     Case {
         says: "the fault's number stands at a catch place, and nothing at the entry",
         units: &[Unit {
-            head: Head::Region {
+            head: UnitHead::Region {
                 captures: 1,
                 catch_at: 0,
             },

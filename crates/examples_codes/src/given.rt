@@ -15,13 +15,13 @@ use std::test::Fail;
 use thread_host_run::{Run, TURN_LIMIT};
 use world_doc::start;
 use world_doc_laws::starts_are_entered;
-use written_code::{Constant, Head, Unit, Written, code_of};
+use written_code::{Constant, Unit, UnitHead, Written, code_of};
 
 /// Says a word, and returns 0: five turns, of which the second and the last ask. A compiler would let null be returned after
 /// that.
 const SAYS: Written<'static> = Written {
     units: &[Unit {
-        head: Head::Function {
+        head: UnitHead::Function {
             name: "main",
             takes: &[],
         },

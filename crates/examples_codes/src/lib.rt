@@ -16,9 +16,9 @@ mod breaks;
 #[cfg(test)]
 mod entries;
 #[cfg(test)]
-mod given;
+mod facts;
 #[cfg(test)]
-mod marks;
+mod given;
 #[cfg(test)]
 mod numbers;
 #[cfg(test)]

@@ -5,12 +5,12 @@ use code_verify::verify;
 use lam_bytecode::{Op, listing};
 use std::alloc::Global;
 use std::test::Fail;
-use written_code::{Constant, Head, Unit, Written, code_of};
+use written_code::{Constant, Unit, UnitHead, Written, code_of};
 
 /// The code of a function that returns the sum of 1 and 2. Its last two operations would return null.
 const SUM: Written<'static> = Written {
     units: &[Unit {
-        head: Head::Function {
+        head: UnitHead::Function {
             name: "main",
             takes: &[],
         },

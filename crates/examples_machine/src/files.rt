@@ -4,14 +4,14 @@ use crate::run::{Given, ends};
 use lam_builtins::Builtin;
 use lam_bytecode::Op;
 use std::test::Fail;
-use written_code::{Constant, Head, Unit, Written};
+use written_code::{Constant, Unit, UnitHead, Written};
 
 /// Makes a file of 1,048,575 bytes, puts two more behind them, reads its length and its end, cuts it to three, reads
 /// these, and makes it once more. Another thread makes an entry that no name has.
 const FILLS: Written<'static> = Written {
     units: &[
         Unit {
-            head: Head::Function {
+            head: UnitHead::Function {
                 name: "main",
                 takes: &[],
             },
@@ -87,7 +87,7 @@ const FILLS: Written<'static> = Written {
             ],
         },
         Unit {
-            head: Head::Function {
+            head: UnitHead::Function {
                 name: "odd",
                 takes: &[],
             },

@@ -5,12 +5,12 @@ use crate::worlds::{BARE, ONE_PIPE};
 use lam_builtins::Builtin;
 use lam_bytecode::{ArgKind, Op};
 use std::test::Fail;
-use written_code::{Constant, Head, Unit, Written};
+use written_code::{Constant, Unit, UnitHead, Written};
 
 /// Sends the numbers from 0 to 1,024, and then receives for as long as they come in their order: how many came.
 const FILLS: Written<'static> = Written {
     units: &[Unit {
-        head: Head::Function {
+        head: UnitHead::Function {
             name: "main",
             takes: &[ArgKind::Pipe],
         },
@@ -71,7 +71,7 @@ fn pipe_keeps_1024_messages(rt: HostRuntime) -> Result<(), Fail> {
 /// Sends capabilities, and receives bytes and then capabilities.
 const SENDS_CAPS: Written<'static> = Written {
     units: &[Unit {
-        head: Head::Function {
+        head: UnitHead::Function {
             name: "main",
             takes: &[ArgKind::Pipe],
         },
@@ -114,7 +114,7 @@ fn capabilities_wait_for_their_own_call(rt: HostRuntime) -> Result<(), Fail> {
 /// Makes pipes without an end.
 const MAKES: Written<'static> = Written {
     units: &[Unit {
-        head: Head::Function {
+        head: UnitHead::Function {
             name: "main",
             takes: &[],
         },

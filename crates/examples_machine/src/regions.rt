@@ -6,13 +6,13 @@ use lam_builtins::Builtin;
 use lam_bytecode::{ArgKind, Op};
 use lam_value::Kind;
 use std::test::Fail;
-use written_code::{Constant, Head, Unit, Written};
+use written_code::{Constant, Unit, UnitHead, Written};
 
 /// Enters a region at the tag that it is given, with a copy of a number, and returns the number.
 const ENTERS: Written<'static> = Written {
     units: &[
         Unit {
-            head: Head::Function {
+            head: UnitHead::Function {
                 name: "main",
                 takes: &[ArgKind::Tag],
             },
@@ -33,7 +33,7 @@ const ENTERS: Written<'static> = Written {
             ],
         },
         Unit {
-            head: Head::Region {
+            head: UnitHead::Region {
                 captures: 1,
                 catch_at: 4,
             },
@@ -88,7 +88,7 @@ fn exported_tag_is_added_by_all(rt: HostRuntime) -> Result<(), Fail> {
 pub const FAULTS: Written<'static> = Written {
     units: &[
         Unit {
-            head: Head::Function {
+            head: UnitHead::Function {
                 name: "main",
                 takes: &[],
             },
@@ -108,7 +108,7 @@ pub const FAULTS: Written<'static> = Written {
             ],
         },
         Unit {
-            head: Head::Region {
+            head: UnitHead::Region {
                 captures: 1,
                 catch_at: 5,
             },
@@ -150,7 +150,7 @@ fn fault_in_body_then_in_catch(rt: HostRuntime) -> Result<(), Fail> {
 
 /// A region that enters the public one below with a copy of its number.
 const OUTER: Unit<'static> = Unit {
-    head: Head::Region {
+    head: UnitHead::Region {
         captures: 1,
         catch_at: 5,
     },
@@ -171,7 +171,7 @@ const OUTER: Unit<'static> = Unit {
 
 /// A region that says its number.
 const INNER: Unit<'static> = Unit {
-    head: Head::Region {
+    head: UnitHead::Region {
         captures: 1,
         catch_at: 5,
     },
@@ -191,7 +191,7 @@ const INNER: Unit<'static> = Unit {
 const RELEASES: Written<'static> = Written {
     units: &[
         Unit {
-            head: Head::Function {
+            head: UnitHead::Function {
                 name: "main",
                 takes: &[ArgKind::Tag],
             },
@@ -224,7 +224,7 @@ const RELEASES: Written<'static> = Written {
 const LACKS_MINUS: Written<'static> = Written {
     units: &[
         Unit {
-            head: Head::Function {
+            head: UnitHead::Function {
                 name: "main",
                 takes: &[ArgKind::Tag],
             },
@@ -288,7 +288,7 @@ fn declassification_is_released(rt: HostRuntime) -> Result<(), Fail> {
 /// Makes an array of two numbers, copies it to the label of the tag that it is given, and writes past the copy's end.
 const COPIES: Written<'static> = Written {
     units: &[Unit {
-        head: Head::Function {
+        head: UnitHead::Function {
             name: "main",
             takes: &[ArgKind::Tag],
         },

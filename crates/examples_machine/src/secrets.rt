@@ -5,13 +5,13 @@ use lam_builtins::Builtin;
 use lam_bytecode::{ArgKind, Op};
 use lam_value::Kind;
 use std::test::Fail;
-use written_code::{Constant, Head, Unit, Written};
+use written_code::{Constant, Unit, UnitHead, Written};
 
 /// In a region at the tag that it is given, makes as many things as a secret file says, and one more thing after it.
 const SECRET_LOOP: Written<'static> = Written {
     units: &[
         Unit {
-            head: Head::Function {
+            head: UnitHead::Function {
                 name: "main",
                 takes: &[ArgKind::Tag],
             },
@@ -31,7 +31,7 @@ const SECRET_LOOP: Written<'static> = Written {
             ],
         },
         Unit {
-            head: Head::Region {
+            head: UnitHead::Region {
                 captures: 0,
                 catch_at: 20,
             },

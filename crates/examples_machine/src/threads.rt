@@ -6,13 +6,13 @@ use lam_builtins::Builtin;
 use lam_bytecode::{ArgKind, Op};
 use lam_value::Kind;
 use std::test::Fail;
-use written_code::{Constant, Head, Unit, Written};
+use written_code::{Constant, Unit, UnitHead, Written};
 
 /// Starts a thread that joins the thread in a field, puts it into that field, and joins it.
 const JOINS: Written<'static> = Written {
     units: &[
         Unit {
-            head: Head::Function {
+            head: UnitHead::Function {
                 name: "kid",
                 takes: &[ArgKind::Other],
             },
@@ -33,7 +33,7 @@ const JOINS: Written<'static> = Written {
             ],
         },
         Unit {
-            head: Head::Function {
+            head: UnitHead::Function {
                 name: "main",
                 takes: &[],
             },
@@ -79,7 +79,7 @@ fn living_threads_all_wait(rt: HostRuntime) -> Result<(), Fail> {
 const HOLDS: Written<'static> = Written {
     units: &[
         Unit {
-            head: Head::Function {
+            head: UnitHead::Function {
                 name: "kid",
                 takes: &[ArgKind::Other],
             },
@@ -87,7 +87,7 @@ const HOLDS: Written<'static> = Written {
             ops: &[Op::Load(0), Op::EnterMonitor, Op::Const(0), Op::Return],
         },
         Unit {
-            head: Head::Function {
+            head: UnitHead::Function {
                 name: "main",
                 takes: &[],
             },

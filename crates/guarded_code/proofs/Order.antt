@@ -92,7 +92,7 @@ kind_less Unknown Truth = inl refl
 kind_less Unknown Other = inl refl
 kind_less Unknown Unknown = inl refl
 
--- ---- marks
+-- ---- facts
 abbrev TestsSay : Known → Known → Type 0
 TestsSay k l = (access : Access) → IsTrue (is_tested access l) → IsTrue (is_tested access k)
 

@@ -103,7 +103,7 @@ abbrev pub is_tested_at : Access → Option Operand → Bool
 is_tested_at access None = false
 is_tested_at access (Some o) = is_tested access o.known
 
--- an access finds the mark of its rule on its reference
+-- an access finds its reference tested by its rule
 abbrev pub is_guarded : Op → Description → Bool
 is_guarded (GetField f) d = is_tested_at Reading (slice_get d.stack 0)
 is_guarded (PutField f) d = is_tested_at Writing (slice_get d.stack 1)

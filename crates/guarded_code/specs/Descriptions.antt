@@ -18,7 +18,7 @@ pub record Description : Type 0 where
   pub stack : List Operand
   pub locals : List Known
 
--- ---- marks
+-- ---- facts
 
 -- a value of that kind, not tested
 abbrev pub untested : ValueKind → Known

@@ -72,7 +72,7 @@ region_called : first_code_break (code (function (Call 1 ∷ Return ∷ []) ∷ 
 unfolding first_code_break
 region_called = refl
 
--- ---- copies: a barrier on one copy tests the local and its other copies; a store ends that, and the mark stays with the value
+-- ---- copies: a barrier on one copy tests the local and its other copies; a store ends that, and the fact stays with the value
 
 tested_with_its_local : first_code_break (one (Load 0 ∷ Load 0 ∷ ReadBarrier 0 ∷ Pop ∷ GetField 0 ∷ Pop ∷ Load 0 ∷ GetField 0 ∷ Return ∷ [])) ≡ None
 unfolding first_code_break
@@ -91,7 +91,7 @@ no_copy_any_more : first_code_break (one (Load 0 ∷ NewObject 0 ∷ Store 0 ∷
 unfolding first_code_break
 no_copy_any_more = refl
 
--- ---- meetings: a mark of one path alone is lost, and so is a kind
+-- ---- meetings: a fact of one path alone is lost, and so is a kind
 
 one_path_tests : first_code_break (one (Const 0 ∷ JumpIfFalse 5 ∷ Load 0 ∷ ReadBarrier 0 ∷ Pop ∷ Load 0 ∷ GetField 0 ∷ Return ∷ [])) ≡ breaks Unguarded 0 6
 unfolding first_code_break

@@ -52,6 +52,6 @@ AllPass P ops t = (a : ℕ) (op : Op) (d : Description) → slice_get ops a ≡ 
 abbrev pub AllTaken : CodeTree → List Op → Table Description → Type 0
 AllTaken code ops t = AllPass (λ op d. IsTrue (takes_kinds code op d)) ops t
 
--- each access finds the mark of its rule
+-- each access finds its reference tested by its rule
 abbrev pub AllGuarded : List Op → Table Description → Type 0
 AllGuarded ops t = AllPass (λ op d. IsTrue (is_guarded op d)) ops t

@@ -40,7 +40,7 @@ pub fn rounds_end()
 {}
 
 /// A code has no break exactly where each of its units has good targets, descriptions, and operands of the kinds that its
-/// operations take, and each of its accesses finds the mark of its rule.
+/// operations take, and each of its accesses finds its reference tested by its rule.
 pub fn guarded_code_has_no_break()
     ensures { GuardedMeans }
 {}

@@ -32,7 +32,7 @@ AreAtEntries code w = (t : ℕ) (th : Thread) → thread_at w t ≡ Some th → 
 -- descriptions of the code
 pub record IsSound (tree : CodeTree) (w : World) : Type 0 where
   pub code : IsCode tree
-  -- each access finds the mark of its rule
+  -- each access finds its reference tested by its rule
   pub guarded : IsGuarded tree
   -- what is named lives, and threads and monitors fit together
   pub valid : IsValid w

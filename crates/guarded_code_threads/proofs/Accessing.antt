@@ -1,4 +1,4 @@
--- An access of a described context finds what its mark says, and so does what it would without a test of its own.
+-- An access of a described context finds what its fact says, and so does what it would without a test of its own.
 use Rattle.std.proofs.Common.{◌≡◌, ℕ, zero, suc, List, [], ◌∷◌, IsTrue, Option, None, slice_get, refl, ap, ◌∙◌, subst}
 use Rattle.std.proofs.lemmas.Bool.{false≢true}
 use Rattle.flow_labels.specs.declared.Label.{Label}

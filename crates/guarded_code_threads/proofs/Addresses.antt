@@ -26,7 +26,7 @@ use Rattle.guarded_code.specs.Facts.{IsUnitGuarded}
 use Rattle.guarded_code.proofs.Tables.{none_some, some_inj}
 use Rattle.guarded_code.proofs.RoundFacts.{meets_rules}
 use Rattle.guarded_code.proofs.Breaking.{guarded_means}
-use Rattle.guarded_code_threads.specs.Described.{MarksHold, Agrees, found_at, known_in, description_at, FrameAgrees, catch_of, IsBody}
+use Rattle.guarded_code_threads.specs.Described.{FactsHold, Agrees, found_at, known_in, description_at, FrameAgrees, catch_of, IsBody}
 use Rattle.guarded_code_threads.specs.Laws.{TakesAll}
 use Rattle.guarded_code_threads.proofs.Agreeing.{agrees_weaken, untested_holds, fresh_holds}
 
@@ -120,7 +120,7 @@ module _ (code : CodeTree) (guarded : IsGuarded code) where
       stands_comes unit k.it k.table b (left (change code op) d) k.number k.found
       (sent_stand k.table (goes at op) (left (change code op) d) b (subst (λ ps. AllStand Description Says k.table ps) same s.2) i)
 
-  -- an access finds its mark
+  -- an access finds its reference tested
   pub guards_at : (unit at : ℕ) (op : Op) (d : Description) → description_at code unit at ≡ Some d → slice_get (ops_of code unit) at ≡ Some op → IsTrue (is_guarded op d)
   guards_at unit at op d e f =
       let k = known_at code unit at d e in
@@ -152,7 +152,7 @@ module _ (code : CodeTree) (guarded : IsGuarded code) where
 
 -- ---- entries
 
-entry_values : (p : Label) (given n : ℕ) (vs : List Value) → length vs ≡ n → Pairwise (MarksHold p) (entry_locals given n) vs
+entry_values : (p : Label) (given n : ℕ) (vs : List Value) → length vs ≡ n → Pairwise (FactsHold p) (entry_locals given n) vs
 entry_values p given zero [] e = tt
 entry_values p given zero (v ∷ vs) e = absurd (omega (arith, e))
 entry_values p zero (suc n) [] e = absurd (omega (arith, e))
@@ -173,13 +173,13 @@ module _ (code : CodeTree) (guarded : IsGuarded code) where
       comes_agrees code p (entry u) (next.entry code n vs) (entry_comes code guarded n u e)
       (record {
         operands = tt;
-        values = subst (λ x. Pairwise (MarksHold p) (entry_locals (given u.kind) u.locals) (filled x vs)) (sym e) (entry_values p (given u.kind) u.locals (filled (Some u) vs) (filled_long u vs le));
+        values = subst (λ x. Pairwise (FactsHold p) (entry_locals (given u.kind) u.locals) (filled x vs)) (sym e) (entry_values p (given u.kind) u.locals (filled (Some u) vs) (filled_long u vs le));
       })
 
   pub entry_long : (n : ℕ) (u : CodeUnit) (vs : List Value) → slice_get code.units n ≡ Some u → length vs ≤ u.locals → length (next.entry code n vs).locals ≡ u.locals
   entry_long n u vs e le = ap (λ x. length (filled x vs)) e ∙ filled_long u vs le
 
-  nothing_known : (p : Label) (n : ℕ) (vs : List Value) → length vs ≡ n → Pairwise (MarksHold p) (replicate n (untested Unknown)) vs
+  nothing_known : (p : Label) (n : ℕ) (vs : List Value) → length vs ≡ n → Pairwise (FactsHold p) (replicate n (untested Unknown)) vs
   nothing_known p zero [] e = tt
   nothing_known p zero (v ∷ vs) e = absurd (omega (arith, e))
   nothing_known p (suc n) [] e = absurd (omega (arith, e))

@@ -14,7 +14,7 @@ use Rattle.guarded_code.specs.Changes.{known_at, is_copy, loaded, forgotten, sto
 use Rattle.guarded_code.specs.Says.{Pairwise, KnownSays, CopySays, OperandSays, Says}
 use Rattle.guarded_code.proofs.Tables.{none_some, some_inj, get_set_other}
 use Rattle.guarded_code.proofs.Lists.{each_set, each_drop}
-use Rattle.guarded_code_threads.specs.Described.{Allows, MarksHold, CopyHolds, OperandHolds, Agrees}
+use Rattle.guarded_code_threads.specs.Described.{Allows, FactsHold, CopyHolds, OperandHolds, Agrees}
 
 -- ---- two lists
 
@@ -63,12 +63,12 @@ module _ (p : Label) where
   agrees_weaken d e ls vs s h =
       record {
         operands = each_weaken OperandSays (OperandHolds p ls) (λ o q v r a. ((λ access t. a.0 access (r.0.tests access t)), copy_weaken ls v o.copies q.copies r.1 a.1)) d.stack e.stack vs s.stack h.operands;
-        values = each_weaken KnownSays (MarksHold p) (λ k l v r a access t. a access (r.tests access t)) d.locals e.locals ls s.locals h.values;
+        values = each_weaken KnownSays (FactsHold p) (λ k l v r a access t. a access (r.tests access t)) d.locals e.locals ls s.locals h.values;
       }
 
   -- ---- where nothing is tested
 
-  pub untested_holds : (kind : ValueKind) (v : Value) → MarksHold p (untested kind) v
+  pub untested_holds : (kind : ValueKind) (v : Value) → FactsHold p (untested kind) v
   untested_holds kind v Reading e = absurd (false≢true e)
   untested_holds kind v Writing e = absurd (false≢true e)
 
@@ -88,11 +88,11 @@ module _ (p : Label) where
 
   -- ---- loads
 
-  known_holds : (ks : List Known) (ls : List Value) (n : ℕ) (v : Value) → Pairwise (MarksHold p) ks ls → slice_get ls n ≡ Some v → MarksHold p (known_at ks n) v
+  known_holds : (ks : List Known) (ls : List Value) (n : ℕ) (v : Value) → Pairwise (FactsHold p) ks ls → slice_get ls n ≡ Some v → FactsHold p (known_at ks n) v
   known_holds [] [] n v h e = none_some e
   known_holds [] (l ∷ ls) n v h e = absurd h
   known_holds (k ∷ ks) [] n v h e = absurd h
-  known_holds (k ∷ ks) (l ∷ ls) zero v h e = subst (MarksHold p k) (some_inj e) h.0
+  known_holds (k ∷ ks) (l ∷ ls) zero v h e = subst (FactsHold p k) (some_inj e) h.0
   known_holds (k ∷ ks) (l ∷ ls) (suc n) v h e = known_holds ks ls n v h.1 e
 
   pub load_agrees : (n : ℕ) (d : Description) (ls vs : List Value) (v : Value) → Agrees p d ls vs → slice_get ls n ≡ Some v → Agrees p (loaded n d) ls (v ∷ vs)
@@ -108,12 +108,12 @@ module _ (p : Label) where
   forget_holds ls n v w None h = tt
   forget_holds ls n v w (Some m) h = forget_if ls n m v w (nat_eq m n) refl h
 
-  store_by : (n : ℕ) (os : List Operand) (ks : List Known) (ls vs : List Value) (w : Value) → Pairwise (OperandHolds p ls) os (w ∷ vs) → Pairwise (MarksHold p) ks ls → Agrees p (stored_from n os ks) (slice_set ls n w) vs
+  store_by : (n : ℕ) (os : List Operand) (ks : List Known) (ls vs : List Value) (w : Value) → Pairwise (OperandHolds p ls) os (w ∷ vs) → Pairwise (FactsHold p) ks ls → Agrees p (stored_from n os ks) (slice_set ls n w) vs
   store_by n [] ks ls vs w h i = absurd h
   store_by n (o ∷ os) ks ls vs w h i =
       record {
         operands = each_left (OperandHolds p ls) (OperandHolds p (slice_set ls n w)) (forgotten n) (λ q v a. (a.0, forget_holds ls n v w q.copies a.1)) os vs h.1;
-        values = each_set (MarksHold p) ks ls n o.known w h.0.0 i;
+        values = each_set (FactsHold p) ks ls n o.known w h.0.0 i;
       }
 
   pub store_agrees : (n : ℕ) (d : Description) (ls vs : List Value) (w : Value) → Agrees p d ls (w ∷ vs) → Agrees p (stored n d) (slice_set ls n w) vs
@@ -121,7 +121,7 @@ module _ (p : Label) where
 
   -- ---- barriers
 
-  tested_holds : (access : Access) (k : Known) (v : Value) → Allows p access v → MarksHold p k v → MarksHold p (tested access k) v
+  tested_holds : (access : Access) (k : Known) (v : Value) → Allows p access v → FactsHold p k v → FactsHold p (tested access k) v
   tested_holds Reading k v a h Reading e = a
   tested_holds Reading k v a h Writing e = h Writing e
   tested_holds Writing k v a h Reading e = h Reading e
@@ -147,9 +147,9 @@ module _ (p : Label) where
   copy_holds access ls None w o v e a h = h
   copy_holds access ls (Some n) w o v e a h = copy_some access ls o.known o.copies v w n e a h
 
-  local_holds : (access : Access) (ls : List Value) (ks : List Known) (c : Option ℕ) (w : Value) → CopyHolds ls c w → Allows p access w → Pairwise (MarksHold p) ks ls → Pairwise (MarksHold p) (tested_local access c ks) ls
+  local_holds : (access : Access) (ls : List Value) (ks : List Known) (c : Option ℕ) (w : Value) → CopyHolds ls c w → Allows p access w → Pairwise (FactsHold p) ks ls → Pairwise (FactsHold p) (tested_local access c ks) ls
   local_holds access ls ks None w e a h = h
-  local_holds access ls ks (Some n) w e a h = each_there (MarksHold p) (tested access) ks ls n w e (λ k i. tested_holds access k w a i) h
+  local_holds access ls ks (Some n) w e a h = each_there (FactsHold p) (tested access) ks ls n w e (λ k i. tested_holds access k w a i) h
 
   copied_holds : (os : List Operand) (ls vs : List Value) (depth : ℕ) (w : Value) → slice_get vs depth ≡ Some w → Pairwise (OperandHolds p ls) os vs → CopyHolds ls (copied_at (slice_get os depth)) w
   copied_holds os ls vs depth w e h =

@@ -182,7 +182,7 @@ module _ (code : CodeTree) where
               (store_agrees c.label n d f.locals s v (subst (λ x. Agrees c.label d f.locals x) e agrees)) (length-set f.locals n v)
           by false = tt
 
-      -- a barrier that passes leaves its marks
+      -- a barrier that passes leaves its facts
       module _ (access : Access) (depth : ℕ) (op : Op) (at : slice_get (ops_of code f.unit) f.at ≡ Some op) (is_test : change code op ≡ Tests access depth) (n : In (f.at + 1) (changes.goes f.at op)) where
         pass_keeps : (w : Value) → slice_get f.stack depth ≡ Some w → Allows c.label access w → IsDescribedInside code c.label c.phase (past i f.stack)
         pass_keeps w e a =

@@ -1,5 +1,5 @@
 -- When a thread agrees with the descriptions of its code: what is known at the address at which a frame stands holds of
--- its operands and locals. Marks are those of the acting label, which never changes in a context; of kinds nothing is said.
+-- its operands and locals. Facts are those of the acting label, which never changes in a context; of kinds nothing is said.
 use Rattle.std.specs.Prelude.{◌≡◌, ℕ, List, ◌∷◌, IsTrue, Option, Some, None, length, slice_get, unwrap_or}
 use Rattle.std.specs.List.{AllByRecursion}
 use Rattle.flow_labels.specs.declared.Label.{Label}
@@ -36,9 +36,9 @@ Allows p access (Obj n) = rule_of access p n.own ≡ None
 Allows p access (Arr n len) = rule_of access p n.own ≡ None
 Allows p access v = ⊥
 
--- a value with a mark is a reference whose rule holds
-abbrev pub MarksHold : Label → Known → Value → Type 0
-MarksHold p k v = (access : Access) → IsTrue (is_tested access k) → Allows p access v
+-- a value that was tested is a reference whose rule holds
+abbrev pub FactsHold : Label → Known → Value → Type 0
+FactsHold p k v = (access : Access) → IsTrue (is_tested access k) → Allows p access v
 
 -- a copy of a local is equal to it
 abbrev pub CopyHolds : List Value → Option ℕ → Value → Type 0
@@ -46,12 +46,12 @@ CopyHolds locals None v = Unit {0}
 CopyHolds locals (Some n) v = slice_get locals n ≡ Some v
 
 abbrev pub OperandHolds : Label → List Value → Operand → Value → Type 0
-OperandHolds p locals o v = MarksHold p o.known v × CopyHolds locals o.copies v
+OperandHolds p locals o v = FactsHold p o.known v × CopyHolds locals o.copies v
 
 -- a description holds of locals and operands: as many as it says, and each as it says
 pub record Agrees (p : Label) (d : Description) (locals stack : List Value) : Type 0 where
   pub operands : Pairwise (OperandHolds p locals) d.stack stack
-  pub values : Pairwise (MarksHold p) d.locals locals
+  pub values : Pairwise (FactsHold p) d.locals locals
 
 -- ---- frames
 

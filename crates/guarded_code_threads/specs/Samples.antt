@@ -18,7 +18,7 @@ use Rattle.guarded_code_threads.specs.Answers.{Answers}
 abbrev one : List Op → CodeTree
 one ops = record { units = record { kind = Function (codes "f") (OtherArgument ∷ []) false; locals = 2; ops = ops } ∷ []; constants = []; classes = [] }
 
--- behind the barrier the operand has its mark, and so has the local that it is a copy of
+-- behind the barrier the operand is tested, and so is the local that it is a copy of
 behind_a_barrier :
     description_at (one (Load 0 ∷ ReadBarrier 0 ∷ GetField 0 ∷ Return ∷ [])) 0 2
     ≡ Some (record { stack = record { known = tested Reading (untested Unknown); copies = Some 0 } ∷ []; locals = tested Reading (untested Unknown) ∷ untested Other ∷ [] })

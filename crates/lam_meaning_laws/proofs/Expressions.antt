@@ -23,7 +23,7 @@ use Rattle.thread_steps.specs.Ops as ops
 use Rattle.thread_steps.specs.Ops.{Did, calls, wants, effect, on_caps}
 use Rattle.thread_steps.specs.Limits.{frames_limit}
 use Rattle.lam_resolve_tree.specs.Tree.{ResolvedType, ResolvedGiven, ResolvedPlace, CapSlot, Expression, number_value, text_value, bool_value, null_value, local_value, unary_of, binary_of, field_of, element_of, call_of, builtin_of, new_object, new_array, label_of, caps_of, spawn_of, Expressions, args_end, args_more, ResolvedFunction, ResolvedTree}
-use Rattle.lam_resolve_tree.specs.Typing.{Heads, heads_of, exact_places, Use, a_local, Scope, Operates, AreTags, Gives, AreArgs, AreRest, AreTagArgs}
+use Rattle.lam_resolve_tree.specs.Typing.{ResolvedSignatures, heads_of, exact_places, Use, a_local, Scope, Operates, AreTags, Gives, AreArgs, AreRest, AreTagArgs}
 use Rattle.lam_meaning_typed.specs.Trees as tree
 use Rattle.lam_meaning_typed.specs.Trees.{Own, local, asked, Tree, ask_value, nothing_gained, on_truth}
 use Rattle.lam_meaning_typed.specs.Means as means
@@ -51,11 +51,11 @@ Inside size env = (x : ℕ) (u : Use) → env x ≡ Some u → x < size
 -- ---- arguments
 
 -- each is typed
-abbrev pub AreGiven : Heads → Scope → Expressions → Type 0
+abbrev pub AreGiven : ResolvedSignatures → Scope → Expressions → Type 0
 AreGiven hs env args_end = Unit {0}
 AreGiven hs env (args_more e rest) = ((g : ResolvedGiven) × Gives hs env e g) × AreGiven hs env rest
 
-module _ (hs : Heads) (env : Scope) where
+module _ (hs : ResolvedSignatures) (env : Scope) where
   given_rest : (ws : List ResolvedPlace) (args : Expressions) → AreRest hs env ws args → AreGiven hs env args × (count args ≡ length ws)
   given_rest [] args_end h = (tt, refl)
   given_rest (w ∷ ws) (args_more e rest) h = let r = given_rest ws rest h.1 in (((h.0.0, h.0.1), r.0), omega (arith, r.1))

@@ -4,7 +4,7 @@ use Rattle.std.proofs.lemmas.Bool.Decides.{nat_tests}
 use Rattle.std.proofs.lemmas.Option.{slice_get_within}
 use Rattle.std.specs.Prelude.{if◌then◌else◌, nat_eq, slice_get}
 use Rattle.lam_resolve_tree.specs.Tree.{ResolvedType, Statement, let_slot, if_block, while_block, return_value, throw_value, sync_block, region_block, do_value, set_local, set_field, set_element}
-use Rattle.lam_resolve_tree.specs.Typing.{Heads, Use, a_local, a_monitor, Scope, with_use, local_if, locals_of, use_of, after, Returning, IsStatement}
+use Rattle.lam_resolve_tree.specs.Typing.{ResolvedSignatures, Use, a_local, a_monitor, Scope, with_use, local_if, locals_of, use_of, after, Returning, IsStatement}
 use Rattle.lam_meaning_laws.proofs.Lists.{AllApart}
 use Rattle.lam_meaning_laws.proofs.Expressions.{Inside}
 
@@ -69,7 +69,7 @@ inside_head slots ts more same x u e = go (slice_get ts x) refl e
     go (Some t) k e = let a = slice_get_within ts x t k in let b = ap length same ∙ length-append ts more in omega (arith, a, b)
 
 -- after a statement
-pub open_after : (p : Heads) (slots : List ResolvedType) (ret : Returning) (env : Scope) (s : Statement) (os : List ℕ) → IsStatement p slots ret env s → AreOpen env os → AreOpen (after slots env s) os
+pub open_after : (p : ResolvedSignatures) (slots : List ResolvedType) (ret : Returning) (env : Scope) (s : Statement) (os : List ℕ) → IsStatement p slots ret env s → AreOpen env os → AreOpen (after slots env s) os
 open_after p slots ret env (let_slot x e) os h op = subst (λ m. AreOpen (use_of m env x) os) (sym h.1.0) (open_new env x (a_local h.0) os h.1.1 op)
 open_after p slots ret env (if_block e b c) os h op = op
 open_after p slots ret env (while_block e b) os h op = op
@@ -82,7 +82,7 @@ open_after p slots ret env (set_local x e) os h op = op
 open_after p slots ret env (set_field e c f t v) os h op = op
 open_after p slots ret env (set_element e i t v) os h op = op
 
-pub inside_after : (p : Heads) (slots : List ResolvedType) (ret : Returning) (env : Scope) (s : Statement) → IsStatement p slots ret env s → Inside (length slots) env → Inside (length slots) (after slots env s)
+pub inside_after : (p : ResolvedSignatures) (slots : List ResolvedType) (ret : Returning) (env : Scope) (s : Statement) → IsStatement p slots ret env s → Inside (length slots) env → Inside (length slots) (after slots env s)
 inside_after p slots ret env (let_slot x e) h is = subst (λ m. Inside (length slots) (use_of m env x)) (sym h.1.0) (inside_new (length slots) env x (a_local h.0) (slice_get_within slots x h.0 h.1.0) is)
 inside_after p slots ret env (if_block e b c) h is = is
 inside_after p slots ret env (while_block e b) h is = is

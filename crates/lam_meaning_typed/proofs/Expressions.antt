@@ -18,7 +18,7 @@ use Rattle.lam_meaning.specs.Operators.{Pure, operator, prefix, label_from, with
 use Rattle.lam_meaning.specs.Builtins as calls
 use Rattle.lam_meaning.specs.Builtins.{Calls, builtin}
 use Rattle.lam_resolve_tree.specs.Tree.{ResolvedType, ResolvedGiven, ResolvedPlace, CapSlot, Expression, number_value, text_value, bool_value, null_value, local_value, unary_of, binary_of, field_of, element_of, call_of, builtin_of, new_object, new_array, label_of, caps_of, spawn_of, Expressions, args_end, args_more, ResolvedFunction, ResolvedTree}
-use Rattle.lam_resolve_tree.specs.Typing.{Head, head_of, heads_of, given_by, exact_places, a_local, Scope, Fits, FitsBy, Operates, AreTags, Gives, AreArgs, AreRest, AreTagArgs}
+use Rattle.lam_resolve_tree.specs.Typing.{ResolvedSignature, head_of, heads_of, given_by, exact_places, a_local, Scope, Fits, FitsBy, Operates, AreTags, Gives, AreArgs, AreRest, AreTagArgs}
 use Rattle.lam_meaning.specs.Trees.{Own, local, Asked, End, goes, raises, leaves, Tree, and_then, purely, ask_value, asked, gained, nothing_gained}
 use Rattle.lam_meaning.specs.Means.{sort_of, kind_of, At, may_read, Caller, class_fields, makes_array, result_sort, called_in, signed, two, eval, eval_all}
 use Rattle.lam_meaning_typed.proofs.Sorts.{AreBy, Sorts, AsksFor, gives_plain, gives_own, IsWell}
@@ -44,7 +44,7 @@ gained_same ask.Mint (Tag t) o = refl
 gained_same (ask.ReceiveCaps p) (CapV a b) o = refl
 gained_same a v o = refl
 
-pub head_at : (fs : List ResolvedFunction) (f : ℕ) (h : Head) → slice_get (map head_of fs) f ≡ Some h → (fn : ResolvedFunction) × (slice_get fs f ≡ Some fn) × (head_of fn ≡ h)
+pub head_at : (fs : List ResolvedFunction) (f : ℕ) (h : ResolvedSignature) → slice_get (map head_of fs) f ≡ Some h → (fn : ResolvedFunction) × (slice_get fs f ≡ Some fn) × (head_of fn ≡ h)
 head_at [] f h e = absurd cc
 head_at (fn ∷ fs) zero h e = (fn, refl, some_is (head_of fn) h e)
 head_at (fn ∷ fs) (suc f) h e = head_at fs f h e
@@ -147,13 +147,13 @@ module _ {r : ResolvedTree} (S : Sorts r) (size : ℕ) (env : Scope) where
   -- ---- expressions
 
   module _ (call : Caller) (well : CallsWell S call) where
-    call_tree : (G : S.Known) (f : ℕ) (h : Head) (vs : List Value) (p : At) (n : ℕ) (o : Own) → slice_get (map head_of r.functions) f ≡ Some h → AreBy (S.Is G) h.params vs → Fit S G size env o.locals → IsWell S (OfGiven (given_by h.result)) G (call f vs p n o)
+    call_tree : (G : S.Known) (f : ℕ) (h : ResolvedSignature) (vs : List Value) (p : At) (n : ℕ) (o : Own) → slice_get (map head_of r.functions) f ≡ Some h → AreBy (S.Is G) h.params vs → Fit S G size env o.locals → IsWell S (OfGiven (given_by h.result)) G (call f vs p n o)
     call_tree G f h vs p n o e are l =
         let at = head_at r.functions f h e in
         subst (λ res. IsWell S (OfGiven (given_by res)) G (call f vs p n o)) (ap (λ h. h.result) at.2)
         (well f at.0 vs p n size env o G at.1 (subst (λ ts. AreBy (S.Is G) ts vs) (sym (ap (λ h. h.params) at.2)) are) l)
 
-    spawned : (G : S.Known) (f : ℕ) (h : Head) (vs : List Value) (k : Caps) → slice_get (map head_of r.functions) f ≡ Some h → h.result ≡ Some int → AreBy (S.Is G) h.params vs → AsksFor S G (asked numbers (ask.Spawn f vs k)) thread
+    spawned : (G : S.Known) (f : ℕ) (h : ResolvedSignature) (vs : List Value) (k : Caps) → slice_get (map head_of r.functions) f ≡ Some h → h.result ≡ Some int → AreBy (S.Is G) h.params vs → AsksFor S G (asked numbers (ask.Spawn f vs k)) thread
     spawned G f h vs k e res are =
         let at = head_at r.functions f h e in
         gives_plain S G int (asked numbers (ask.Spawn f vs k)) thread refl refl

@@ -7,7 +7,7 @@ use Rattle.std.specs.Prelude.{if◌then◌else◌, nat_eq, slice_get, slice_set,
 use Rattle.lam_value.specs.declared.values.Value.{Value}
 use Rattle.lam_value.specs.declared.values.Value.TheVariants.{Nothing}
 use Rattle.lam_resolve_tree.specs.Tree.{ResolvedType, ResolvedTree, Statement, let_slot, if_block, while_block, return_value, throw_value, sync_block, region_block, do_value, set_local, set_field, set_element}
-use Rattle.lam_resolve_tree.specs.Typing.{Heads, Use, a_local, a_monitor, Scope, with_use, locals_of, local_if, use_of, after, AreCaptured, Returning, IsStatement}
+use Rattle.lam_resolve_tree.specs.Typing.{ResolvedSignatures, Use, a_local, a_monitor, Scope, with_use, locals_of, local_if, use_of, after, AreCaptured, Returning, IsStatement}
 use Rattle.lam_meaning.specs.Trees.{Own, local, value_or_null}
 use Rattle.lam_meaning_typed.specs.Kinds.{AreOf}
 use Rattle.lam_meaning_typed.proofs.Sorts.{AreBy, Sorts}
@@ -71,7 +71,7 @@ within_old env x t some y u e = go (nat_eq y x) refl
 
 -- ---- scopes
 
-pub within_after : (p : Heads) (slots : List ResolvedType) (ret : Returning) (env : Scope) (s : Statement) → IsStatement p slots ret env s → Within env (after slots env s)
+pub within_after : (p : ResolvedSignatures) (slots : List ResolvedType) (ret : Returning) (env : Scope) (s : Statement) → IsStatement p slots ret env s → Within env (after slots env s)
 within_after p slots ret env (let_slot x e) h y u k = subst (λ m. use_of m env x y ≡ Some u) (sym h.1.0) (within_new env x (a_local h.0) h.1.1 y u k)
 within_after p slots ret env (if_block e b c) h y u k = k
 within_after p slots ret env (while_block e b) h y u k = k

@@ -12,7 +12,7 @@ use Rattle.lam_asks.specs.declared.ask.Ask.TheVariants as ask
 use Rattle.lam_asks.specs.Suits as sorts
 use Rattle.lam_asks.specs.Suits.{fits}
 use Rattle.lam_resolve_tree.specs.Tree.{ResolvedType, Block, ResolvedFunction, ResolvedTree}
-use Rattle.lam_resolve_tree.specs.Typing.{Heads, heads_of, given_by, Scope, locals_of, Returning, in_function, IsBlock, block_ends, EndsWith, IsFunction, AreFunctions, IsTypedTree}
+use Rattle.lam_resolve_tree.specs.Typing.{ResolvedSignatures, heads_of, given_by, Scope, locals_of, Returning, in_function, IsBlock, block_ends, EndsWith, IsFunction, AreFunctions, IsTypedTree}
 use Rattle.lam_meaning.specs.Trees.{Own, with_locals, End, goes, raises, leaves, Tree, ends, spent, broken, asks}
 use Rattle.lam_meaning.specs.Means.{At, Does, Caller, calls_limit, call_end, first_locals, body_of, deeper, calls_to, runs, block_runs, last_ask, means}
 use Rattle.lam_meaning.specs.Plays.{how_of, waits, is_broken}
@@ -25,7 +25,7 @@ use Rattle.lam_meaning_typed.proofs.Trees.{end_tree, done_tree, if_tree, spend_t
 use Rattle.lam_meaning_typed.proofs.Expressions.{Values, CallsWell}
 use Rattle.lam_meaning_typed.proofs.Statements.{OfBlock, DoesWell, exec_tree, block_tree}
 
-pub function_at : (p : Heads) (fs : List ResolvedFunction) (f : ℕ) (fn : ResolvedFunction) → AreFunctions p fs → slice_get fs f ≡ Some fn → IsFunction p fn
+pub function_at : (p : ResolvedSignatures) (fs : List ResolvedFunction) (f : ℕ) (fn : ResolvedFunction) → AreFunctions p fs → slice_get fs f ≡ Some fn → IsFunction p fn
 function_at p [] f fn h e = absurd cc
 function_at p (g ∷ fs) zero fn h e = subst (λ g. IsFunction p g) (some_is g fn e) h.0
 function_at p (g ∷ fs) (suc f) fn h e = function_at p fs f fn h.1 e

@@ -10,14 +10,14 @@ use Rattle.lam_parser_tokens.specs.declared.breaks.Break.{Break}
 use Rattle.lam_parser_tokens.specs.declared.marks.Mark.TheVariants.{Let, If, While, Return, Throw, Sync, Region}
 use Rattle.lam_parser_tokens.specs.Reading.{Gives, Fails, Absent}
 use Rattle.lam_parser_parts.specs.Variables.{ReadsPart}
-use Rattle.lam_parser_stmts.specs.declared.stmts.Head.{Head}
+use Rattle.lam_parser_stmts.specs.declared.stmts.RegionHead.{RegionHead}
 
 abbrev pub ReadsStmt : List Token → ℕ → ℕ → Result (Stmt × ℕ) Break → Type 0
 ReadsStmt tokens s i x = ReadsPart Stmt (λ v. stmt_value (stmt_tree v)) tokens stmt s i x
 
-abbrev pub ReadsHead : List Token → ℕ → ℕ → Result Head Break → Type 0
-ReadsHead tokens s i (Ok x) = Gives (slice_get tokens) region_head s i (two_exprs (expr_tree x.label.value) (expr_tree x.caps.value)) x.next s
-ReadsHead tokens s i (Err b) = Fails (slice_get tokens) (rule region_head ∷ []) s i b
+abbrev pub ReadsRegionHead : List Token → ℕ → ℕ → Result RegionHead Break → Type 0
+ReadsRegionHead tokens s i (Ok x) = Gives (slice_get tokens) region_head s i (two_exprs (expr_tree x.label.value) (expr_tree x.caps.value)) x.next s
+ReadsRegionHead tokens s i (Err b) = Fails (slice_get tokens) (rule region_head ∷ []) s i b
 
 -- The token there is no word with which a statement begins.
 pub record NoWord (tokens : List Token) (i : ℕ) : Type 0 where

@@ -9,6 +9,6 @@ mod stmts;
 
 pub use nodes::{Handler, make_if, make_region, make_sync, make_while};
 pub use stmts::{
-    Head, ReadStmt, captures, expression_statement, let_statement, region_head, return_statement,
-    throw_statement,
+    ReadStmt, RegionHead, captures, expression_statement, let_statement, region_head,
+    return_statement, throw_statement,
 };

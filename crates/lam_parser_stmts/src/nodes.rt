@@ -5,7 +5,7 @@
 ghost use Rattle.std.specs.Prelude.{◌≡◌};
 ghost use Rattle.lam_syntax.specs.Tree as view;
 
-use crate::stmts::Head;
+use crate::stmts::RegionHead;
 use lam_parser_tokens::Read;
 use lam_syntax::{Expr, Id, Stmt, StmtKind, Var};
 
@@ -115,7 +115,7 @@ pub struct Handler {
 /// A region, from a position on.
 pub fn make_region(
     at: u64,
-    head: Head,
+    head: RegionHead,
     captures: Vec<Id>,
     body: Vec<Stmt>,
     handler: Handler,

@@ -6,7 +6,7 @@ ghost use Rattle.lam_grammar.specs.Table.{captures, expr};
 ghost use Rattle.lam_grammar.specs.Meaning.{expr_value, is_place};
 ghost use Rattle.lam_parser_tokens.specs.Reading.{Gives, Taken};
 ghost use Rattle.lam_parser_parts.specs.Variables.{ReadsNames};
-ghost use Rattle.lam_parser_stmts.specs.Parts.{ReadsStmt, ReadsHead, NoWord};
+ghost use Rattle.lam_parser_stmts.specs.Parts.{ReadsStmt, ReadsRegionHead, NoWord};
 ghost use Rattle.lam_grammar.specs.Program.{most_depth};
 
 use crate::nodes::{make_assign, make_do, make_let, make_return, make_throw};
@@ -89,17 +89,22 @@ pub fn throw_statement(
 
 /// The head of a region that was read, and the token after it.
 #[derive(Drop)]
-pub struct Head {
+pub struct RegionHead {
     pub label: Box<Expr>,
     pub caps: Box<Expr>,
     pub next: usize,
 }
 
 /// `(label, caps)`
-pub fn region_head(alloc: Global, tokens: &[Token], at: usize, depth: u64) -> Result<Head, Break>
+pub fn region_head(
+    alloc: Global,
+    tokens: &[Token],
+    at: usize,
+    depth: u64,
+) -> Result<RegionHead, Break>
     requires in_range { at ≤ length tokens.now }
     requires bounded { depth ≤ most_depth }
-    ensures reads { ReadsHead tokens.now depth at result }
+    ensures reads { ReadsRegionHead tokens.now depth at result }
     ensures goes_on { IfOk result (λ x. (at < x.next) × (x.next ≤ length tokens.now)) }
 {
     take(tokens, at, depth, Mark::ParenOpen)?;
@@ -107,7 +112,7 @@ pub fn region_head(alloc: Global, tokens: &[Token], at: usize, depth: u64) -> Re
     take(tokens, label.next, depth, Mark::Comma)?;
     let caps = expression(alloc, tokens, label.next + 1, depth)?;
     take(tokens, caps.next, depth, Mark::ParenClose)?;
-    Ok(Head {
+    Ok(RegionHead {
         label: label.expr,
         caps: caps.expr,
         next: caps.next + 1,

@@ -12,24 +12,24 @@ use Rattle.lam_print_laws.proofs.Marks.{ended}
 use Rattle.lam_print.specs.Canon.{operator, sign, weight, left_place, right_place, prefixed, opened, closed, truth, lay, lay_form, lay_stmt, lay_stmt_form}
 
 -- the first kind passes the test
-abbrev pub Head : (TokenKind → Bool) → List TokenKind → Type 0
-Head f [] = ⊥
-Head f (k ∷ ks) = f k ≡ true
+abbrev pub StartsWith : (TokenKind → Bool) → List TokenKind → Type 0
+StartsWith f [] = ⊥
+StartsWith f (k ∷ ks) = f k ≡ true
 
-opened_head : (b : Bool) (ps : List Piece) → Head begins_expr (ended ps) → Head begins_expr (ended (opened b ps))
+opened_head : (b : Bool) (ps : List Piece) → StartsWith begins_expr (ended ps) → StartsWith begins_expr (ended (opened b ps))
 opened_head true ps h = refl
 opened_head false ps h = h
 
-sign_head : (o : UnaryOp) (ps : List Piece) → Head begins_expr (ended (piece (sign o) ∷ ps))
+sign_head : (o : UnaryOp) (ps : List Piece) → StartsWith begins_expr (ended (piece (sign o) ∷ ps))
 sign_head Sign.Not ps = refl
 sign_head Sign.Neg ps = refl
 
-truth_head : (b : Bool) (ps : List Piece) → Head begins_expr (ended (piece (truth b) ∷ ps))
+truth_head : (b : Bool) (ps : List Piece) → StartsWith begins_expr (ended (piece (truth b) ∷ ps))
 truth_head true ps = refl
 truth_head false ps = refl
 
 mutual
-  form_head : (form : ExprForm) (place : ℕ) (ps : List Piece) → Head begins_expr (ended (lay_form form place ps))
+  form_head : (form : ExprForm) (place : ℕ) (ps : List Piece) → StartsWith begins_expr (ended (lay_form form place ps))
   form_head (binary_expr o l r) place ps =
       let b : Bool = nat_lt place (weight o) in
       let right : List Piece = blank ∷ piece (operator o) ∷ blank ∷ lay r (right_place o) (closed b ps) in
@@ -51,7 +51,7 @@ mutual
   form_head (caps_expr cs) place ps = refl
   form_head (spawn_expr e f es) place ps = refl
 
-  expr_head : (e : ExprTree) (place : ℕ) (ps : List Piece) → Head begins_expr (ended (lay e place ps))
+  expr_head : (e : ExprTree) (place : ℕ) (ps : List Piece) → StartsWith begins_expr (ended (lay e place ps))
   expr_head (expr_node at form) place ps = form_head form place ps
 
 pub expr_stmt : (k : TokenKind) → begins_expr k ≡ true → begins_stmt k ≡ true
@@ -64,11 +64,11 @@ expr_stmt Kind.Sync h = refl
 expr_stmt Kind.Region h = refl
 expr_stmt _ h = h
 
-loosened : (ks : List TokenKind) → Head begins_expr ks → Head begins_stmt ks
+loosened : (ks : List TokenKind) → StartsWith begins_expr ks → StartsWith begins_stmt ks
 loosened [] h = h
 loosened (k ∷ ks) h = expr_stmt k h
 
-stmt_form_head : (form : StmtForm) (n : ℕ) (ps : List Piece) → Head begins_stmt (ended (lay_stmt_form form n ps))
+stmt_form_head : (form : StmtForm) (n : ℕ) (ps : List Piece) → StartsWith begins_stmt (ended (lay_stmt_form form n ps))
 stmt_form_head (let_stmt v e) n ps = refl
 stmt_form_head (if_stmt e body other) n ps = refl
 stmt_form_head (while_stmt e body) n ps = refl
@@ -81,7 +81,7 @@ stmt_form_head (assign_stmt p e) n ps =
     let rest : List Piece = blank ∷ piece Kind.Assign ∷ blank ∷ lay e 6 (piece Kind.Semicolon ∷ ps) in
     loosened (ended (lay p 6 rest)) (expr_head p 6 rest)
 
-pub stmt_head : (s : StmtTree) (n : ℕ) (ps : List Piece) → Head begins_stmt (ended (lay_stmt s n ps))
+pub stmt_head : (s : StmtTree) (n : ℕ) (ps : List Piece) → StartsWith begins_stmt (ended (lay_stmt s n ps))
 stmt_head (stmt_node at form) n ps = stmt_form_head form n ps
 
 -- what begins a statement is not `else`
@@ -89,6 +89,6 @@ no_else_begins : (k : TokenKind) → begins_stmt k ≡ true → admits no_else_w
 no_else_begins Kind.Else h = cc
 no_else_begins _ h = refl
 
-pub no_else_stmt : (ks : List TokenKind) → Head begins_stmt ks → Head (admits no_else_word) ks
+pub no_else_stmt : (ks : List TokenKind) → StartsWith begins_stmt ks → StartsWith (admits no_else_word) ks
 no_else_stmt [] h = h
 no_else_stmt (k ∷ ks) h = no_else_begins k h

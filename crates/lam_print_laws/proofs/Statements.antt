@@ -18,7 +18,7 @@ use Rattle.lam_print.specs.Canon.{name, lay, lay_names, lay_stmt_form, lay_stmt,
 use Rattle.lam_print_laws.proofs.Spans.{nothing, token, joins}
 use Rattle.lam_print_laws.proofs.Marks.{tok, ended, Here, Stands, Gives, made, Back, Closing, Closed, brace, bracket, nil}
 use Rattle.lam_print_laws.proofs.Marks as m
-use Rattle.lam_print_laws.proofs.Heads.{expr_stmt, Head, stmt_head, no_else_stmt}
+use Rattle.lam_print_laws.proofs.Heads.{expr_stmt, StartsWith, stmt_head, no_else_stmt}
 use Rattle.lam_print_laws.proofs.Parts.{Named, a_var, Idents, some_names}
 use Rattle.lam_print_laws.proofs.Levels.{Read, in_parens}
 use Rattle.lam_print_laws.proofs.Expressions.{an_expression}
@@ -84,7 +84,7 @@ picks_expr before at Kind.Sync h = cc
 picks_expr before at Kind.Region h = cc
 picks_expr before at _ h = refl
 
-no_else_closed : (ks : List TokenKind) → Closed ks → Head (admits no_else_word) ks
+no_else_closed : (ks : List TokenKind) → Closed ks → StartsWith (admits no_else_word) ks
 no_else_closed [] c = c
 no_else_closed (k ∷ ks) c = go c
   where
@@ -114,7 +114,7 @@ module _ (look : ℕ → Option Token) where
   Blocks ss = (n i : ℕ) (ps : List Piece) → Here look i (ended (lay_block ss n ps)) → Body block ss i (ended ps)
 
   abbrev NoElse : List TokenKind → Type 0
-  NoElse ks = Head (admits no_else_word) ks
+  NoElse ks = StartsWith (admits no_else_word) ks
 
   abbrev Tells : StmtForm → Type 0
   Tells f = (at n i : ℕ) (ps : List Piece) → Here look i (ended (lay_stmt_form f n ps)) → NoElse (ended ps) → Told (stmt_node at f) i (ended ps)

@@ -11,7 +11,7 @@ use Rattle.lam_builtins.specs.Types.{a_value, object, array, label, caps, thread
 use Rattle.lam_builtins.specs.Operators.{operator_type, unary_type}
 use Rattle.lam_builtins.specs.Builtins.{builtin_named}
 use Rattle.lam_resolve_tree.specs.Tree.{ResolvedType, unary_of, binary_of, new_array, label_of, caps_of, spawn_of, local_value, new_object}
-use Rattle.lam_resolve_tree.specs.Typing.{Head}
+use Rattle.lam_resolve_tree.specs.Typing.{ResolvedSignature}
 use Rattle.lam_resolve_tables.specs.Resolved.{then_some, Found, found, Tables, Locals, local_named, Value, value_as, Args, field_read, element_read, called, resolve, resolve_form, resolve_args, resolve_caps, resolve_type}
 use Rattle.lam_resolve_tables.proofs.Options.{first_some, next_some, goes}
 use Rattle.lam_resolve_exprs.proofs.Sizes.{expr_size, form_size, args_size}
@@ -171,7 +171,7 @@ module _ (t : Tables) (ls : Locals) (k : ExprForm) where
         ap (λ w. is_some (found w t.functions)) s ∙
         first_some (found f.word t.functions) (λ h. then_some (resolve_args t ls args) (λ args. Some (value_as (spawn_of a.it h.number args.it) (a_value thread)))) (spawn_rest a i h)
 
-    number_found : (o : Option (Found Head)) (n : ℕ) → Some n ≡ option_map (λ f. f.number) o → (h : Found Head) × (Some h ≡ o) × (h.number ≡ n)
+    number_found : (o : Option (Found ResolvedSignature)) (n : ℕ) → Some n ≡ option_map (λ f. f.number) o → (h : Found ResolvedSignature) × (Some h ≡ o) × (h.number ≡ n)
     number_found None n e = absurd cc
     number_found (Some h) n e = (h, refl, cc)
 

@@ -1,7 +1,7 @@
 -- What the definitions see of names in scope and of resolved expressions.
 use Rattle.std.specs.Prelude.{ℕ, Bool, map}
 use Rattle.lam_resolve_tree.specs.Tree.{ResolvedType, ResolvedGiven, CapSlot, expr_tree, exprs_tree}
-use Rattle.lam_resolve_tree.specs.Typing.{Head, given_by}
+use Rattle.lam_resolve_tree.specs.Typing.{ResolvedSignature, given_by}
 use Rattle.lam_resolve_tables.specs.Resolved.{Local as ResolvedLocal, Locals, Value as ResolvedValue, value_as, Args as ResolvedArgs, args_as, Found}
 use Rattle.lam_resolve_tables.specs.declared.kinds.Kind.{Kind}
 use Rattle.lam_resolve_tables.specs.declared.kinds.Given.{Given}
@@ -32,7 +32,7 @@ field_seen f = record { number = f.0; it = kind_type f.1 }
 abbrev pub function_seen : ℕ × Given → Found ResolvedGiven
 function_seen f = record { number = f.0; it = given f.1 }
 
-abbrev pub called_seen : Found Head → Found ResolvedGiven
+abbrev pub called_seen : Found ResolvedSignature → Found ResolvedGiven
 called_seen f = record { number = f.number; it = given_by f.it.result }
 
 abbrev pub cap_at : ℕ → Bool → CapSlot

@@ -12,7 +12,7 @@ use Rattle.lam_types_kinds.proofs.TableLemmas.{find_declared}
 use Rattle.lam_types_exprs.specs.Judgement.{IsDeclared}
 use Rattle.region_check.specs.Judgement.{AllDeclared, IsResult, AllItems}
 use Rattle.lam_resolve_tree.specs.Tree.{ResolvedType}
-use Rattle.lam_resolve_tree.specs.Typing.{Head, Heads, exact_places}
+use Rattle.lam_resolve_tree.specs.Typing.{ResolvedSignature, ResolvedSignatures, exact_places}
 use Rattle.lam_resolve_laws.specs.Resolved.{then_some, Found, found_from, found, class_names, numbered, resolve_type, resolve_result, resolve_vars, types_of, Tables, resolve_classes, resolve_head, resolve_heads, tables}
 use Rattle.lam_resolve_laws.specs.Names.{class_words, field_words}
 use Rattle.lam_resolve_laws.proofs.Has.{Has, done, next, from, weaker, back, some_is}
@@ -105,13 +105,13 @@ module _ (whole : ProgramTree) where
   heads_exist (function_item f ∷ p) ((e, (a, b, declared_types), q, body, slots), hs) =
       next (head_exists f declared_types q) (λ h k. next (heads_exist p hs) (λ hs ks. done _ tt))
 
-abbrev pub tables_as : ProgramTree → List (List (Word × ResolvedType)) → List (Word × Head) → Tables
+abbrev pub tables_as : ProgramTree → List (List (Word × ResolvedType)) → List (Word × ResolvedSignature) → Tables
 tables_as p css hs = record { names = class_names p; classes = css; functions = hs }
 
 -- what the tables are
 pub record TablesOf (p : ProgramTree) : Type 0 where
   pub css : List (List (Word × ResolvedType))
-  pub hs : List (Word × Head)
+  pub hs : List (Word × ResolvedSignature)
   pub classes : resolve_classes (class_names p) p ≡ Some css
   pub functions : resolve_heads (class_names p) p ≡ Some hs
   pub are : tables p ≡ Some (tables_as p css hs)
@@ -171,7 +171,7 @@ head_words [] = []
 head_words (class_item c ∷ p) = head_words p
 head_words (function_item f ∷ p) = f.name.word ∷ head_words p
 
-record FunctionPlace (cs : List (Word × Unit {0})) (p : ProgramTree) (hs : List (Word × Head)) (n : ℕ) (f : Word) (s : Signature) (k : Found Head) : Type 0 where
+record FunctionPlace (cs : List (Word × Unit {0})) (p : ProgramTree) (hs : List (Word × ResolvedSignature)) (n : ℕ) (f : Word) (s : Signature) (k : Found ResolvedSignature) : Type 0 where
   at : ℕ
   number : k.number ≡ n + at
   in_heads : slice_get (map (λ h. h.1) hs) at ≡ Some k.it
@@ -179,20 +179,20 @@ record FunctionPlace (cs : List (Word × Unit {0})) (p : ProgramTree) (hs : List
   gives : SameResult cs s.answer k.it.result
   named : slice_get (head_words p) at ≡ Some f
 
-pub record HeadFrom (cs : List (Word × Unit {0})) (f : FunctionTree) (h : Head) : Type 0 where
+pub record HeadFrom (cs : List (Word × Unit {0})) (f : FunctionTree) (h : ResolvedSignature) : Type 0 where
   pub vars : List (Word × ResolvedType)
   pub result : Option ResolvedType
   pub vars_are : resolve_vars cs f.params ≡ Some vars
   pub result_is : resolve_result cs f.result ≡ Some result
   pub is : record { params = types_of vars; result = result } ≡ h
 
-pub head_from : (cs : List (Word × Unit {0})) (f : FunctionTree) (h : Head) → resolve_head cs f ≡ Some h → HeadFrom cs f h
+pub head_from : (cs : List (Word × Unit {0})) (f : FunctionTree) (h : ResolvedSignature) → resolve_head cs f ≡ Some h → HeadFrom cs f h
 head_from cs f h e =
     let b = back (resolve_vars cs f.params) (λ vs. then_some (resolve_result cs f.result) (λ r. Some (record { params = types_of vs; result = r }))) h e in
     let c = back (resolve_result cs f.result) (λ r. Some (record { params = types_of b.it; result = r })) h b.next in
     record { vars = b.it; result = c.it; vars_are = b.first; result_is = c.first; is = some_is _ h c.next }
 
-function_place : (cs : List (Word × Unit {0})) (p : ProgramTree) (hs : List (Word × Head)) (n : ℕ) (f : Word) (s : Signature) → resolve_heads cs p ≡ Some hs → find f (declared_functions p) ≡ Some s →
+function_place : (cs : List (Word × Unit {0})) (p : ProgramTree) (hs : List (Word × ResolvedSignature)) (n : ℕ) (f : Word) (s : Signature) → resolve_heads cs p ≡ Some hs → find f (declared_functions p) ≡ Some s →
     Has (found_from n f hs) (λ k. FunctionPlace cs p hs n f s k)
 function_place cs [] hs n f s e g = absurd cc
 function_place cs (class_item c ∷ p) hs n f s e g =
@@ -200,10 +200,10 @@ function_place cs (class_item c ∷ p) hs n f s e g =
 function_place cs (function_item q ∷ p) hs n f s e g =
     let b = back (resolve_head cs q) (λ h. then_some (resolve_heads cs p) (λ rest. Some ((q.name.word, h) ∷ rest))) hs e in
     let d = back (resolve_heads cs p) (λ rest. Some ((q.name.word, b.it) ∷ rest)) hs b.next in
-    subst (λ (hs : List (Word × Head)). Has (found_from n f hs) (λ k. FunctionPlace cs (function_item q ∷ p) hs n f s k)) (some_is ((q.name.word, b.it) ∷ d.it) hs d.next)
+    subst (λ (hs : List (Word × ResolvedSignature)). Has (found_from n f hs) (λ k. FunctionPlace cs (function_item q ∷ p) hs n f s k)) (some_is ((q.name.word, b.it) ∷ d.it) hs d.next)
     (by b.it d.it (head_from cs q b.it b.first) (bytes_eq f q.name.word) refl g (λ g. function_place cs p d.it (n + 1) f s d.first g))
   where
-    by : (h : Head) (hs : List (Word × Head)) → HeadFrom cs q h → (b : Bool) → bytes_eq f q.name.word ≡ b → cond b (Some (signature_of q)) (find f (declared_functions p)) ≡ Some s →
+    by : (h : ResolvedSignature) (hs : List (Word × ResolvedSignature)) → HeadFrom cs q h → (b : Bool) → bytes_eq f q.name.word ≡ b → cond b (Some (signature_of q)) (find f (declared_functions p)) ≡ Some s →
         (find f (declared_functions p) ≡ Some s → Has (found_from (n + 1) f hs) (λ k. FunctionPlace cs p hs (n + 1) f s k)) →
         Has (cond b (Some (record { number = n; it = h })) (found_from (n + 1) f hs)) (λ k. FunctionPlace cs (function_item q ∷ p) ((q.name.word, h) ∷ hs) n f s k)
     by h hs k true m g again =
@@ -215,16 +215,16 @@ function_place cs (function_item q ∷ p) hs n f s e g =
           in_heads = refl;
           takes =
               subst (λ (s : Signature). SamePlaces cs s.takes (exact_places h.params)) is
-              (subst (λ (h : Head). SamePlaces cs (places_of q.params) (exact_places h.params)) k.is (places_same cs q.params k.vars (vars_same cs q.params k.vars k.vars_are)));
+              (subst (λ (h : ResolvedSignature). SamePlaces cs (places_of q.params) (exact_places h.params)) k.is (places_same cs q.params k.vars (vars_same cs q.params k.vars k.vars_are)));
           gives =
-              subst (λ (s : Signature). SameResult cs s.answer h.result) is (subst (λ (h : Head). SameResult cs (answer_of q.result) h.result) k.is (result_same cs q.result k.result k.result_is));
+              subst (λ (s : Signature). SameResult cs s.answer h.result) is (subst (λ (h : ResolvedSignature). SameResult cs (answer_of q.result) h.result) k.is (result_same cs q.result k.result k.result_is));
           named = ap (λ (x : Word). Some x) (sym (same_word f q.name.word m));
         })
     by h hs k false m g again =
         weaker (again g) (λ k h. record { at = suc h.at; number = (let s = h.number in omega (arith, s)); in_heads = h.in_heads; takes = h.takes; gives = h.gives; named = h.named })
 
 -- how the functions and the fields of the tables show
-abbrev pub heads_from : Tables → Heads
+abbrev pub heads_from : Tables → ResolvedSignatures
 heads_from t = record { classes = map types_of t.classes; functions = map (λ h. h.1) t.functions }
 
 get_types : (css : List (List (Word × ResolvedType))) (n : ℕ) (vs : List (Word × ResolvedType)) → slice_get css n ≡ Some vs → slice_get (map types_of css) n ≡ Some (types_of vs)
@@ -232,7 +232,7 @@ get_types [] n vs e = absurd cc
 get_types (us ∷ css) zero vs e = ap (λ (l : List (Word × ResolvedType)). Some (types_of l)) (some_is us vs e)
 get_types (us ∷ css) (suc n) vs e = get_types css n vs e
 
-pub tied_tables : (p : ProgramTree) (css : List (List (Word × ResolvedType))) (hs : List (Word × Head)) → resolve_classes (class_names p) p ≡ Some css → resolve_heads (class_names p) p ≡ Some hs →
+pub tied_tables : (p : ProgramTree) (css : List (List (Word × ResolvedType))) (hs : List (Word × ResolvedSignature)) → resolve_classes (class_names p) p ≡ Some css → resolve_heads (class_names p) p ≡ Some hs →
     AreTied (declared p) (tables_as p css hs) (heads_from (tables_as p css hs)) (class_words p) (field_words p) (head_words p)
 tied_tables p css hs classes functions = record {
   class_at = λ c fields f.

@@ -16,7 +16,7 @@ use Rattle.lam_types_kinds.specs.Tables.{Names, Decls, find, signature_or}
 use Rattle.lam_types_exprs.specs.Judgement.{IsDeclared, Fits as FitsWords, Operates as OperatesWords, AreTagNames, IsGiven, IsFormGiven, AreArgs as AreArgsWords, AreRest as AreRestWords, AreTags as AreTagsWords}
 use Rattle.region_check.specs.Legal.{ReachesCaps, Reaches, FormReaches, AllReach}
 use Rattle.lam_resolve_tree.specs.Tree.{ResolvedType, ResolvedGiven, ResolvedPlace, CapSlot}
-use Rattle.lam_resolve_tree.specs.Typing.{Heads, IsType, given_by, exact_places, a_local, Scope, FitsBy, Operates, AreTags, Gives, AreArgs, AreRest, AreTagArgs}
+use Rattle.lam_resolve_tree.specs.Typing.{ResolvedSignatures, IsType, given_by, exact_places, a_local, Scope, FitsBy, Operates, AreTags, Gives, AreArgs, AreRest, AreTagArgs}
 use Rattle.lam_resolve_laws.specs.Resolved.{then_some, Found, found, numbered, types_of, Tables, Locals, Value, Args, field_read, element_read, called, resolve_caps, resolve, resolve_form, resolve_args}
 use Rattle.lam_resolve_laws.specs.Names.{Words, with_slots, word_at, words_at, id_as, worded, type_named, caps_named, args_named, expr_named}
 use Rattle.lam_resolve_laws.proofs.Has.{Has, done, next, from, with_is, weaker, some_is}
@@ -41,7 +41,7 @@ plain_written (type_node at dir_type) = refl
 plain_written (type_node at pipe_type) = refl
 plain_written (type_node at thread_type) = refl
 
-module _ (d : Decls) (t : Tables) (p : Heads) (w : Words) (tied : AreTied d t p w.classes w.fields w.functions) where
+module _ (d : Decls) (t : Tables) (p : ResolvedSignatures) (w : Words) (tied : AreTied d t p w.classes w.fields w.functions) where
   -- a type whose classes are declared: its numbers are those of classes, and its names can be put back
   pub record IsTypeFrom (v : ValueType) (u : ResolvedType) : Type 0 where
     pub fine : IsType p u
@@ -128,7 +128,7 @@ as_type cs g t u e n = subst (λ (g : Given). SameGiven cs g (a_value u)) (sym e
 pub value_type_is : (cs : List (Word × Unit {0})) (t : ValueType) (g : ResolvedGiven) → SameGiven cs (a_value t) g → (u : ResolvedType) × Shape cs t u × (g ≡ a_value u)
 value_type_is cs t g (u, e, k) = (u, shape cs t u e, k)
 
-module _ (d : Decls) (t : Tables) (p : Heads) (w : Words) (tied : AreTied d t p w.classes w.fields w.functions) where
+module _ (d : Decls) (t : Tables) (p : ResolvedSignatures) (w : Words) (tied : AreTied d t p w.classes w.fields w.functions) where
   module _ (i : Bool) (own : List Word) (names : Names) (ls : Locals) (n : ℕ) (env : Scope) (ws : List Word) (c : InScope t.names i own names ls n env ws) where
     -- a value of what its source gives, typed by slots, that reads as its source
     pub record IsValue (e : ExprTree) (g : Given) (v : Value) : Type 0 where

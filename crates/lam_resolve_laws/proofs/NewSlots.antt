@@ -3,7 +3,7 @@ use Rattle.std.proofs.Common.{◌≡◌, ℕ, zero, suc, ◌+◌, ◌<◌, ◌�
 use Rattle.std.proofs.lemmas.Bool.Decides.{nat_tests}
 use Rattle.std.specs.Prelude.{nat_eq, slice_get}
 use Rattle.lam_resolve_tree.specs.Tree.{ResolvedType, Statement, let_slot, if_block, while_block, return_value, throw_value, sync_block, region_block, do_value, set_local, set_field, set_element, Block, block_end, block_more, OtherBlock, no_other, other_block, ResolvedFunction, ResolvedTree}
-use Rattle.lam_resolve_tree.specs.Typing.{Heads, Use, a_local, a_monitor, Scope, with_use, local_if, locals_of, IsFree, Returning, AreCaptured, use_of, after, IsStatement, IsBlock, IsOther, AreFunctions, IsTypedTree}
+use Rattle.lam_resolve_tree.specs.Typing.{ResolvedSignatures, Use, a_local, a_monitor, Scope, with_use, local_if, locals_of, IsFree, Returning, AreCaptured, use_of, after, IsStatement, IsBlock, IsOther, AreFunctions, IsTypedTree}
 use Rattle.lam_resolve_tree.specs.Regions.{count_up}
 use Rattle.lam_resolve_tree.specs.Slots.{has_slot, IsNewSlot, AllInScope, scope_after, DeclaresNew, BlockDeclaresNew, OtherDeclaresNew, AllDeclareNew, SlotsDiffer}
 use Rattle.lam_resolve_laws.proofs.Finding.{get_below}
@@ -76,7 +76,7 @@ first_slots ts = record { listed = λ n u e. listed n u (slice_get ts n) refl e;
 
 -- ---- statements
 
-after_slots : (slots : List ResolvedType) (env : Scope) (scope : List ℕ) (s : Statement) (p : Heads) (ret : Returning) → AreSlots env scope → IsStatement p slots ret env s → AreSlots (after slots env s) (scope_after scope s)
+after_slots : (slots : List ResolvedType) (env : Scope) (scope : List ℕ) (s : Statement) (p : ResolvedSignatures) (ret : Returning) → AreSlots env scope → IsStatement p slots ret env s → AreSlots (after slots env s) (scope_after scope s)
 after_slots slots env scope (let_slot n e) p ret h (t, k, f) = subst (λ (o : Option ResolvedType). AreSlots (use_of o env n) (n ∷ scope)) (sym k.0) (more_slots env scope n (a_local t) h)
 after_slots slots env scope (if_block e body other) p ret h k = h
 after_slots slots env scope (while_block e body) p ret h k = h
@@ -89,7 +89,7 @@ after_slots slots env scope (set_local n e) p ret h k = h
 after_slots slots env scope (set_field e c f t v) p ret h k = h
 after_slots slots env scope (set_element e i t v) p ret h k = h
 
-module _ (p : Heads) where
+module _ (p : ResolvedSignatures) where
   mutual
     stmt_new : (s : Statement) (slots : List ResolvedType) (ret : Returning) (env : Scope) (scope : List ℕ) → AreSlots env scope → IsStatement p slots ret env s → DeclaresNew (length slots) scope s
     stmt_new (let_slot n e) slots ret env scope h (t, k, f) = new_slot env scope slots n t h k

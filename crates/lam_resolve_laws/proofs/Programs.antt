@@ -13,7 +13,7 @@ use Rattle.region_check.specs.Program.{result_type}
 use Rattle.region_check.specs.Judgement.{AllDeclared, IsResult, EndsWith as EndsWords, IsFunction as IsFunctionWords, AllItems, IsTyped}
 use Rattle.region_check.specs.Legal.{IsLegalBlock, IsRegionLegal}
 use Rattle.lam_resolve_tree.specs.Tree.{ResolvedType, Block, ResolvedFunction, ResolvedTree}
-use Rattle.lam_resolve_tree.specs.Typing.{Head, Heads, head_of, AreTypes, AreClasses, locals_of, in_function, block_ends, EndsWith, IsFunction, AreFunctions, IsTypedTree}
+use Rattle.lam_resolve_tree.specs.Typing.{ResolvedSignature, ResolvedSignatures, head_of, AreTypes, AreClasses, locals_of, in_function, block_ends, EndsWith, IsFunction, AreFunctions, IsTypedTree}
 use Rattle.lam_resolve_tree.specs.Limits.{UnitFits, AllUnitsFit, AllFieldsFit, WithinLimits}
 use Rattle.lam_resolve_tree.specs.Regions.{regions_of, function_regions, count_up, AreNumbered}
 use Rattle.lam_resolve_laws.specs.Resolved.{then_some, numbered, resolve_type, resolve_result, resolve_vars, types_of, Tables, resolve_classes, resolve_head, resolve_heads, locals_from, state_as, resolve_function, resolve_functions, resolved}
@@ -33,7 +33,7 @@ vars_counted cs [] (u ∷ us) h = absurd h
 vars_counted cs (v ∷ vs) [] h = absurd h
 vars_counted cs (v ∷ vs) (u ∷ us) (e, k, h) = ap suc (vars_counted cs vs us h)
 
-module _ (d : Decls) (t : Tables) (p : Heads) (w : Words) (tied : AreTied d t p w.classes w.fields w.functions) where
+module _ (d : Decls) (t : Tables) (p : ResolvedSignatures) (w : Words) (tied : AreTied d t p w.classes w.fields w.functions) where
   -- a written type that has a number
   type_from : (ty : TypeTree) (u : ResolvedType) → IsDeclared d ty → numbered t.names (written ty) ≡ Some u → IsTypeFrom d t p w tied (written ty) u
   type_from ty u h e =
@@ -79,7 +79,7 @@ module _ (d : Decls) (t : Tables) (p : Heads) (w : Words) (tied : AreTied d t p 
 
   module _ (rs : List (List Word)) (few_regions : length rs ≤ most_regions) where
     -- what is said of a function, after so many regions
-    record IsFrom (m : ℕ) (f : FunctionTree) (h : Head) (a : ResolvedFunction × ℕ) : Type 0 where
+    record IsFrom (m : ℕ) (f : FunctionTree) (h : ResolvedSignature) (a : ResolvedFunction × ℕ) : Type 0 where
       typed : IsFunction p a.0
       head : head_of a.0 ≡ h
       name : a.0.name ≡ f.name.word
@@ -88,7 +88,7 @@ module _ (d : Decls) (t : Tables) (p : Heads) (w : Words) (tied : AreTied d t p 
       fits : UnitFits a.0
       reads : function_named rs (with_slots w (var_words f.params ++ block_words f.body)) a.0 ≡ unplaced_item (function_item f)
 
-    function_is : (m : ℕ) (f : FunctionTree) (h : Head) → resolve_head t.names f ≡ Some h → IsFunctionWords d f → IsLegalBlock false [] f.body → IsPart rs m (block_region_words f.body) →
+    function_is : (m : ℕ) (f : FunctionTree) (h : ResolvedSignature) → resolve_head t.names f ≡ Some h → IsFunctionWords d f → IsLegalBlock false [] f.body → IsPart rs m (block_region_words f.body) →
         Has (resolve_function t m f) (λ a. IsFrom m f h a)
     function_is m f h e (ends_so, (differ, few, declared_types), result_declared, typed, slots) legal part =
         let k = head_from t.names f h e in
@@ -122,7 +122,7 @@ module _ (d : Decls) (t : Tables) (p : Heads) (w : Words) (tied : AreTied d t p 
         }))))
 
     -- and of the functions of a program from some item on
-    record AreFrom (m : ℕ) (q : ProgramTree) (css : List (List (Word × ResolvedType))) (hs : List (Word × Head)) (fs : List ResolvedFunction) : Type 0 where
+    record AreFrom (m : ℕ) (q : ProgramTree) (css : List (List (Word × ResolvedType))) (hs : List (Word × ResolvedSignature)) (fs : List ResolvedFunction) : Type 0 where
       typed : AreFunctions p fs
       classes : AreClasses p (map types_of css)
       heads : map head_of fs ≡ map (λ h. h.1) hs
@@ -134,12 +134,12 @@ module _ (d : Decls) (t : Tables) (p : Heads) (w : Words) (tied : AreTied d t p 
       units_fit : AllUnitsFit fs
       reads : items_named rs w (item_order q) (class_words q) (field_words q) (map types_of css) (function_words q) fs ≡ unplaced q
 
-    functions_are : (q : ProgramTree) (m : ℕ) (css : List (List (Word × ResolvedType))) (hs : List (Word × Head)) → resolve_classes t.names q ≡ Some css → resolve_heads t.names q ≡ Some hs → AllItems d q → IsRegionLegal q → IsPart rs m (all_region_words q) →
+    functions_are : (q : ProgramTree) (m : ℕ) (css : List (List (Word × ResolvedType))) (hs : List (Word × ResolvedSignature)) → resolve_classes t.names q ≡ Some css → resolve_heads t.names q ≡ Some hs → AllItems d q → IsRegionLegal q → IsPart rs m (all_region_words q) →
         Has (resolve_functions t m q) (λ fs. AreFrom m q css hs fs)
     functions_are [] m css hs ec eh h legal part =
         done []
         (subst (λ (css : List (List (Word × ResolvedType))). AreFrom m [] css hs []) (some_is [] css ec)
-        (subst (λ (hs : List (Word × Head)). AreFrom m [] [] hs []) (some_is [] hs eh) (record { typed = tt; classes = tt; heads = refl; names = refl; numbers = refl; class_count = refl; function_count = refl; fields_fit = tt; units_fit = tt; reads = refl })))
+        (subst (λ (hs : List (Word × ResolvedSignature)). AreFrom m [] [] hs []) (some_is [] hs eh) (record { typed = tt; classes = tt; heads = refl; names = refl; numbers = refl; class_count = refl; function_count = refl; fields_fit = tt; units_fit = tt; reads = refl })))
     functions_are (class_item c ∷ q) m css hs ec eh ((differ, few, declared_types), rest) legal part =
         let b = back (resolve_vars t.names c.fields) (λ us. then_some (resolve_classes t.names q) (λ rest. Some (us ∷ rest))) css ec in
         let e = back (resolve_classes t.names q) (λ rest. Some (b.it ∷ rest)) css b.next in
@@ -170,11 +170,11 @@ module _ (d : Decls) (t : Tables) (p : Heads) (w : Words) (tied : AreTied d t p 
         (part_at rs (m + length (block_region_words f.body)) a.1 (all_region_words q) (sym x.regions) (part_right rs m (block_region_words f.body) (all_region_words q) part)))
         (λ fs y.
         done (a.0 ∷ fs)
-        (subst (λ (hs : List (Word × Head)). AreFrom m (function_item f ∷ q) css hs (a.0 ∷ fs)) (some_is ((f.name.word, b.it) ∷ e.it) hs e.next)
+        (subst (λ (hs : List (Word × ResolvedSignature)). AreFrom m (function_item f ∷ q) css hs (a.0 ∷ fs)) (some_is ((f.name.word, b.it) ∷ e.it) hs e.next)
         (record {
           typed = (x.typed, y.typed);
           classes = y.classes;
-          heads = ap (λ (h : Head). h ∷ map head_of fs) x.head ∙ ap (λ (l : List Head). b.it ∷ l) y.heads;
+          heads = ap (λ (h : ResolvedSignature). h ∷ map head_of fs) x.head ∙ ap (λ (l : List ResolvedSignature). b.it ∷ l) y.heads;
           names = ap (λ (n : Word). n ∷ map (λ (f : ResolvedFunction). f.name) fs) x.name ∙ ap (λ (l : List Word). f.name.word ∷ l) y.names;
           numbers = numbers_both m a.1 (block_region_words f.body) (all_region_words q) (regions_of a.0.body) (function_regions fs) x.numbers y.numbers x.regions;
           class_count = y.class_count;
@@ -201,10 +201,10 @@ program_is p ((differ, classes_few, no_builtin, differ_too, functions_few), h, n
     let tied = tied_tables p k.css k.hs k.classes k.functions in
     from _ tables_are k.are
     (next (functions_are (declared p) tables_are (heads_from tables_are) words tied (all_region_words p) (omega (arith, n, program_regions p)) p 0 k.css k.hs k.classes k.functions h legal (part_whole (all_region_words p))) (λ fs x.
-    let heads_are : heads_from tables_are ≡ record { classes = map types_of k.css; functions = map head_of fs } = ap (λ (l : List Head). record { classes = map types_of k.css; functions = l }) (sym x.heads) in
+    let heads_are : heads_from tables_are ≡ record { classes = map types_of k.css; functions = map head_of fs } = ap (λ (l : List ResolvedSignature). record { classes = map types_of k.css; functions = l }) (sym x.heads) in
     done _
     (record {
-      typed = record { classes = subst (λ (p : Heads). AreClasses p (map types_of k.css)) heads_are x.classes; functions = subst (λ (p : Heads). AreFunctions p fs) heads_are x.typed };
+      typed = record { classes = subst (λ (p : ResolvedSignatures). AreClasses p (map types_of k.css)) heads_are x.classes; functions = subst (λ (p : ResolvedSignatures). AreFunctions p fs) heads_are x.typed };
       numbered_by_place = x.numbers ∙ ap (count_up 0) (sym (ap length x.numbers ∙ length-count_up 0 (length (all_region_words p))));
       limits = record {
         classes = omega (arith, classes_few, x.class_count, length-map k.css types_of);

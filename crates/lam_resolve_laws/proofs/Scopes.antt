@@ -7,13 +7,13 @@ use Rattle.lam_builtins.specs.Builtins.{Signature, Answer, answers, no_answer, a
 use Rattle.lam_types_kinds.specs.Tables.{Names, Decls, find}
 use Rattle.region_check.specs.Legal.{IsReached}
 use Rattle.lam_resolve_tree.specs.Tree.{ResolvedType}
-use Rattle.lam_resolve_tree.specs.Typing.{Head, Heads, Use, a_local, Scope, exact_places}
+use Rattle.lam_resolve_tree.specs.Typing.{ResolvedSignature, ResolvedSignatures, Use, a_local, Scope, exact_places}
 use Rattle.lam_resolve_laws.specs.Resolved.{Found, found, numbered, types_of, Tables, Local, Locals}
 use Rattle.lam_resolve_laws.proofs.Has.{Has}
 use Rattle.lam_resolve_laws.proofs.SameTypes.{SamePlaces}
 
 -- class c has the number n, by all tables and in the names that are put back
-pub record IsClassAt (t : Tables) (p : Heads) (classes : List Word) (all_fields : List (List Word)) (c : Word) (fields : Names) (n : ℕ) : Type 0 where
+pub record IsClassAt (t : Tables) (p : ResolvedSignatures) (classes : List Word) (all_fields : List (List Word)) (c : Word) (fields : Names) (n : ℕ) : Type 0 where
   pub vars : List (Word × ResolvedType)
   pub in_tables : slice_get t.classes n ≡ Some vars
   pub in_heads : slice_get p.classes n ≡ Some (types_of vars)
@@ -27,13 +27,13 @@ SameResult cs no_answer r = r ≡ None
 SameResult cs as_first r = ⊥
 
 -- function f has the number n
-pub record IsFunctionAt (t : Tables) (p : Heads) (functions : List Word) (f : Word) (s : Signature) (h : Found Head) : Type 0 where
+pub record IsFunctionAt (t : Tables) (p : ResolvedSignatures) (functions : List Word) (f : Word) (s : Signature) (h : Found ResolvedSignature) : Type 0 where
   pub in_heads : slice_get p.functions h.number ≡ Some h.it
   pub takes : SamePlaces t.names s.takes (exact_places h.it.params)
   pub gives : SameResult t.names s.answer h.it.result
   pub named : slice_get functions h.number ≡ Some f
 
-pub record AreTied (d : Decls) (t : Tables) (p : Heads) (classes : List Word) (all_fields : List (List Word)) (functions : List Word) : Type 0 where
+pub record AreTied (d : Decls) (t : Tables) (p : ResolvedSignatures) (classes : List Word) (all_fields : List (List Word)) (functions : List Word) : Type 0 where
   pub class_at : (c : Word) (fields : Names) → find c d.classes ≡ Some fields → Has (found c t.names) (λ n. IsClassAt t p classes all_fields c fields n.number)
   pub function_at : (f : Word) (s : Signature) → find f d.functions ≡ Some s → Has (found f t.functions) (λ h. IsFunctionAt t p functions f s h)
 

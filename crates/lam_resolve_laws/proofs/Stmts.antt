@@ -17,7 +17,7 @@ use Rattle.region_check.specs.Judgement.{region_slots, IsNew, Stands as StandsWo
 use Rattle.region_check.specs.Breaks.{with_name}
 use Rattle.region_check.specs.Legal.{Reaches, AreReached, ValueReaches, words, after as own_after, IsLegalForm, IsLegalElse, IsLegalBlock}
 use Rattle.lam_resolve_tree.specs.Tree.{ResolvedType, ResolvedGiven, Expression, local_value, field_of, element_of, Statement, return_value, throw_value, do_value, set_local, set_field, set_element, Block, OtherBlock}
-use Rattle.lam_resolve_tree.specs.Typing.{Heads, Use, a_local, a_monitor, Scope, with_use, locals_of, is_object, FitsBy, Gives, Stands, Returning, in_region, in_function, Returns, use_of, after, IsStatement, IsBlock, IsOther, ends, block_ends, other_ends}
+use Rattle.lam_resolve_tree.specs.Typing.{ResolvedSignatures, Use, a_local, a_monitor, Scope, with_use, locals_of, is_object, FitsBy, Gives, Stands, Returning, in_region, in_function, Returns, use_of, after, IsStatement, IsBlock, IsOther, ends, block_ends, other_ends}
 use Rattle.lam_resolve_tree.specs.Limits.{RegionsFit, BlockFits, OtherFits}
 use Rattle.lam_resolve_tree.specs.Regions.{regions_in, regions_of, regions_or, count_up}
 use Rattle.lam_resolve_laws.specs.Resolved.{then_some, numbered, types_of, Tables, Locals, with_local, locals_from, Value, State, state_as, next_slot, Step, step_as, Closed, resolve_value, assignment, slots_of, taken_over, resolve_stmt_form, resolve_else, resolve_stmts}
@@ -58,7 +58,7 @@ ends_is (stmts s rest) = ends_more s rest
 
 -- ---- what is said of statements and blocks
 
-module _ (p : Heads) (w : Words) (rs : List (List Word)) where
+module _ (p : ResolvedSignatures) (w : Words) (rs : List (List Word)) where
   pub record IsClosed (ret : Returning) (env : Scope) (ws : List Word) (st : State) (body : StmtList) (b : Closed Block) : Type 0 where
     pub grows : Grows st b.state (block_words body) (block_region_words body)
     pub numbers : regions_of b.it ≡ count_up st.regions (length (block_region_words body))
@@ -123,10 +123,10 @@ past_locals ts n le = by (locals_of ts n) refl
 same_value : (t u : ResolvedType) → ◌≡◌ {A = ResolvedGiven} (a_value t) (a_value u) → t ≡ u
 same_value t u e = cc
 
-moved_fit : (p : Heads) (env : Scope) (t u : ResolvedType) (v : Expression) → ◌≡◌ {A = ResolvedGiven} (a_value t) (a_value u) → Stands p env (exactly t) v → Stands p env (exactly u) v
+moved_fit : (p : ResolvedSignatures) (env : Scope) (t u : ResolvedType) (v : Expression) → ◌≡◌ {A = ResolvedGiven} (a_value t) (a_value u) → Stands p env (exactly t) v → Stands p env (exactly u) v
 moved_fit p env t u v e h = subst (λ (z : ResolvedType). Stands p env (exactly z) v) (same_value t u e) h
 
-module _ (d : Decls) (t : Tables) (p : Heads) (w : Words) (tied : AreTied d t p w.classes w.fields w.functions) (rs : List (List Word)) (few_regions : length rs ≤ most_regions) (res : Option ValueType) where
+module _ (d : Decls) (t : Tables) (p : ResolvedSignatures) (w : Words) (tied : AreTied d t p w.classes w.fields w.functions) (rs : List (List Word)) (few_regions : length rs ≤ most_regions) (res : Option ValueType) where
   module _ (i : Bool) (own : List Word) (names : Names) (ls : Locals) (st : State) (env : Scope) (ws : List Word) (ret : Returning) (c : InScope t.names i own names ls (length st.slots) env ws) where
     -- what is said of a statement's step
     abbrev pub Fine : StmtForm → Step → Type 0

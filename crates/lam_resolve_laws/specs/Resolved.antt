@@ -12,7 +12,7 @@ use Rattle.lam_types_kinds.specs.Written.{written}
 use Rattle.lam_builtins.specs.Operators.{operator_type, unary_type}
 use Rattle.lam_builtins.specs.Builtins.{answered, row_by, builtin_named}
 use Rattle.lam_resolve_tree.specs.Tree.{ResolvedType, ResolvedGiven, CapSlot, Expression, number_value, text_value, bool_value, null_value, local_value, unary_of, binary_of, field_of, element_of, call_of, builtin_of, new_object, new_array, label_of, caps_of, spawn_of, Expressions, args_end, args_more, Statement, let_slot, if_block, while_block, return_value, throw_value, sync_block, region_block, do_value, set_local, set_field, set_element, Block, block_end, block_more, OtherBlock, no_other, other_block, ResolvedFunction, ResolvedTree}
-use Rattle.lam_resolve_tree.specs.Typing.{Head, given_by}
+use Rattle.lam_resolve_tree.specs.Typing.{ResolvedSignature, given_by}
 
 -- where there is one, it goes on
 unfoldable pub then_some : {A B : Type 0} → Option A → (A → Option B) → Option B
@@ -73,17 +73,17 @@ types_of vs = map (λ v. v.1) vs
 pub record Tables : Type 0 where
   pub names : List (Word × Unit {0})
   pub classes : List (List (Word × ResolvedType))
-  pub functions : List (Word × Head)
+  pub functions : List (Word × ResolvedSignature)
 
 abbrev pub resolve_classes : List (Word × Unit {0}) → ProgramTree → Option (List (List (Word × ResolvedType)))
 resolve_classes cs [] = Some []
 resolve_classes cs (class_item c ∷ p) = then_some (resolve_vars cs c.fields) (λ fs. then_some (resolve_classes cs p) (λ rest. Some (fs ∷ rest)))
 resolve_classes cs (function_item f ∷ p) = resolve_classes cs p
 
-abbrev pub resolve_head : List (Word × Unit {0}) → FunctionTree → Option Head
+abbrev pub resolve_head : List (Word × Unit {0}) → FunctionTree → Option ResolvedSignature
 resolve_head cs f = then_some (resolve_vars cs f.params) (λ vs. then_some (resolve_result cs f.result) (λ r. Some (record { params = types_of vs; result = r })))
 
-abbrev pub resolve_heads : List (Word × Unit {0}) → ProgramTree → Option (List (Word × Head))
+abbrev pub resolve_heads : List (Word × Unit {0}) → ProgramTree → Option (List (Word × ResolvedSignature))
 resolve_heads cs [] = Some []
 resolve_heads cs (class_item c ∷ p) = resolve_heads cs p
 resolve_heads cs (function_item f ∷ p) = then_some (resolve_head cs f) (λ h. then_some (resolve_heads cs p) (λ rest. Some ((f.name.word, h) ∷ rest)))

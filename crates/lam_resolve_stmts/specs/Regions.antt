@@ -5,7 +5,7 @@ use Rattle.lam_builtins.specs.Types.{int}
 use Rattle.lam_resolve_tree.specs.Tree.{Expression, Statement, Block, region_block, expr_tree as resolved_expr, stmts_tree as resolved_stmts}
 use Rattle.lam_resolve_laws.specs.Resolved.{then_some, Tables, Locals, State, with_local, next_slot, resolve, enter_region, resolve_stmts}
 use Rattle.lam_resolve_exprs.specs.Values.{locals}
-use Rattle.lam_resolve_units.specs.declared.parts.Head.{Head}
+use Rattle.lam_resolve_units.specs.declared.parts.RegionHead.{RegionHead}
 use Rattle.lam_resolve_units.specs.Seen.{Inside, entered_by, state}
 use Rattle.lam_resolve_stmts.specs.declared.regions.Written.{Written}
 use Rattle.lam_resolve_stmts.specs.declared.regions.Opened.{Opened}
@@ -62,5 +62,5 @@ bodies b = bodies_as (resolved_stmts b.body.items) b.slot (resolved_stmts b.hand
 abbrev pub node_as : Opening → Bodies → Statement
 node_as o b = region_block o.number o.label o.caps o.inside.captures b.state.slots b.body b.slot b.handler
 
-abbrev pub node_of : Head → Bodies → Statement
+abbrev pub node_of : RegionHead → Bodies → Statement
 node_of h b = region_block h.number (resolved_expr h.label.value) (resolved_expr h.caps.value) h.captures.items b.state.slots b.body b.slot b.handler

@@ -14,7 +14,7 @@ use lam_resolve_exprs::values::Local;
 use lam_resolve_tables::named::Named;
 use lam_resolve_tables::tables::Tables;
 use lam_resolve_tree::{Expr as ResolvedExpr, Stmt as ResolvedStmt};
-use lam_resolve_units::parts::{Head, region_stmt};
+use lam_resolve_units::parts::{RegionHead, region_stmt};
 use lam_resolve_units::units::{State, Unit, enter};
 use lam_syntax::{Expr, Id, Stmt};
 use std::alloc::Global;
@@ -34,7 +34,7 @@ pub(crate) struct Written<'a> {
 /// A region before its blocks, and the unit that they are.
 #[derive(Drop)]
 pub(crate) struct Opened<'a> {
-    pub head: Head,
+    pub head: RegionHead,
     pub unit: Unit<'a>,
 }
 
@@ -80,7 +80,7 @@ pub(crate) fn open_region<'a>(
     let label = boxed_expr(alloc, t, scope, written.label)?;
     let caps = boxed_expr(alloc, t, scope, written.caps)?;
     let entered = enter(alloc, scope, number, written.captures.as_slice())?;
-    let head = Head {
+    let head = RegionHead {
         number,
         label,
         caps,
@@ -93,7 +93,7 @@ pub(crate) fn open_region<'a>(
 }
 
 /// The node of a region. The program's regions go on after those of its blocks.
-pub(crate) fn close_region(st: &mut State, head: Head, blocks: Bodies) -> ResolvedStmt
+pub(crate) fn close_region(st: &mut State, head: RegionHead, blocks: Bodies) -> ResolvedStmt
     ensures node { resolved_stmt result ≡ node_of head (bodies blocks) }
     ensures goes_on { state st.new ≡ state_as (state st.old).slots (bodies blocks).state.regions }
 {

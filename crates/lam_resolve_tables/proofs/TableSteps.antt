@@ -7,7 +7,7 @@ use Rattle.lam_syntax.specs.Tree.{ItemTree, class_item, function_item, ClassTree
 use Rattle.lam_operators.specs.Words.{Word}
 use Rattle.lam_resolve_tree.specs.declared.ValueType.{ValueType}
 use Rattle.lam_resolve_tree.specs.Tree.{ResolvedType, type_tree, types_tree}
-use Rattle.lam_resolve_tree.specs.Typing.{Head}
+use Rattle.lam_resolve_tree.specs.Typing.{ResolvedSignature}
 use Rattle.lam_resolve_laws.specs.Resolved.{then_some, Tables, types_of, class_names, resolve_type, resolve_result, resolve_vars, resolve_classes, resolve_head, resolve_heads, tables_by, tables}
 use Rattle.lam_types_kinds.specs.Values.{keyed}
 use Rattle.lam_resolve_tables.specs.declared.kinds.Kind.{Kind}
@@ -73,10 +73,10 @@ module _ (cs : Classes) where
     pub head_needs : (f : FunctionTree) → i ≡ function_item f → IsSome (resolve_heads cs (i ∷ [])) → IsSome (resolve_head cs f)
     head_needs f e h = first_some (resolve_head cs f) (λ h. then_some (Some []) (λ rest. Some ((f.name.word, h) ∷ rest))) (sym (ap (λ i. is_some (resolve_heads cs (i ∷ []))) e) ∙ h)
 
-    pub head_joined : (f : FunctionTree) (old new : List (Word × Head)) (k : Head) → i ≡ function_item f → Some k ≡ resolve_head cs f → new ≡ old ++ (f.name.word, k) ∷ [] → IsJoined old (resolve_heads cs (i ∷ [])) new
+    pub head_joined : (f : FunctionTree) (old new : List (Word × ResolvedSignature)) (k : ResolvedSignature) → i ≡ function_item f → Some k ≡ resolve_head cs f → new ≡ old ++ (f.name.word, k) ∷ [] → IsJoined old (resolve_heads cs (i ∷ [])) new
     head_joined f old new k e h n = joined_one old new (resolve_head cs f) (λ h. (f.name.word, h)) k h n ∙ sym (ap (λ i. then_some (resolve_heads cs (i ∷ [])) (λ bs. Some (old ++ bs))) e)
 
-    pub head_apart : (c : ClassTree) (old : List (Word × Head)) → i ≡ class_item c → IsJoined old (resolve_heads cs (i ∷ [])) old
+    pub head_apart : (c : ClassTree) (old : List (Word × ResolvedSignature)) → i ≡ class_item c → IsJoined old (resolve_heads cs (i ∷ [])) old
     head_apart c old e = joined_none old ∙ sym (ap (λ i. then_some (resolve_heads cs (i ∷ [])) (λ bs. Some (old ++ bs))) e)
 
   -- the head of a function
@@ -89,7 +89,7 @@ module _ (cs : Classes) where
         first_some (resolve_result cs f.result) (λ r. Some (record { params = types_of vs; result = r }))
         (next_some (resolve_vars cs f.params) vs (λ vs. then_some (resolve_result cs f.result) (λ r. Some (record { params = types_of vs; result = r }))) e h)
 
-    pub head_done : (vs : List (Word × ResolvedType)) (r : Option ResolvedType) → Some vs ≡ resolve_vars cs f.params → Some r ≡ resolve_result cs f.result → ◌≡◌ {A = Option Head} (Some (record { params = types_of vs; result = r })) (resolve_head cs f)
+    pub head_done : (vs : List (Word × ResolvedType)) (r : Option ResolvedType) → Some vs ≡ resolve_vars cs f.params → Some r ≡ resolve_result cs f.result → ◌≡◌ {A = Option ResolvedSignature} (Some (record { params = types_of vs; result = r })) (resolve_head cs f)
     head_done vs r e h =
         sym (goes (resolve_vars cs f.params) vs (λ vs. then_some (resolve_result cs f.result) (λ r. Some (record { params = types_of vs; result = r }))) e ∙
         goes (resolve_result cs f.result) r (λ r. Some (record { params = types_of vs; result = r })) h)
@@ -105,7 +105,7 @@ module _ (p : ProgramTree) (cs : Classes) (e : cs ≡ class_names p) where
       first_some (resolve_heads cs p) (λ heads. Some (record { names = cs; classes = classes; functions = heads }))
       (next_some (resolve_classes cs p) classes (λ classes. then_some (resolve_heads cs p) (λ heads. Some (record { names = cs; classes = classes; functions = heads }))) i (ap (λ cs. is_some (tables_by cs p)) e ∙ h))
 
-  pub tables_done : (classes : List (List (Word × ResolvedType))) (heads : List (Word × Head)) → Some classes ≡ resolve_classes cs p → Some heads ≡ resolve_heads cs p →
+  pub tables_done : (classes : List (List (Word × ResolvedType))) (heads : List (Word × ResolvedSignature)) → Some classes ≡ resolve_classes cs p → Some heads ≡ resolve_heads cs p →
       ◌≡◌ {A = Option Tables} (Some (record { names = cs; classes = classes; functions = heads })) (tables p)
   tables_done classes heads i j =
       sym (goes (resolve_classes cs p) classes (λ classes. then_some (resolve_heads cs p) (λ heads. Some (record { names = cs; classes = classes; functions = heads }))) i ∙

@@ -17,7 +17,7 @@ use want_of_memory::NoMemory;
 
 /// How a function is called: its parameters, and the type of its result.
 #[derive(Drop)]
-pub struct Head<'a> {
+pub struct FunctionSignature<'a> {
     pub params: Vec<(&'a str, Kind)>,
     pub result: Option<Kind>,
 }
@@ -27,7 +27,7 @@ pub struct Head<'a> {
 pub struct Tables<'a> {
     pub names: Named<'a, ()>,
     pub classes: Vec<Named<'a, Kind>>,
-    pub functions: Named<'a, Head<'a>>,
+    pub functions: Named<'a, FunctionSignature<'a>>,
 }
 
 fn add_class_name<'a>(names: &mut Named<'a, ()>, item: &'a Item) -> Result<(), NoMemory>
@@ -115,19 +115,23 @@ fn class_table<'a>(
     Ok(classes)
 }
 
-fn resolve_head<'a>(alloc: Global, names: &Named<()>, f: &'a Function) -> Result<Head<'a>, NoMemory>
+fn resolve_head<'a>(
+    alloc: Global,
+    names: &Named<()>,
+    f: &'a Function,
+) -> Result<FunctionSignature<'a>, NoMemory>
     requires { IsSome (resolved_head (entries_of names.now) (function_tree f.now)) }
     ensures { IfOk result (λ h. Some (seen_head h) ≡ resolved_head (entries_of names.now) (function_tree f.now)) }
 {
     let params = resolve_vars(alloc, names, f.params.as_slice())?;
     let result = resolve_result(names, &f.result)?;
-    Ok(Head { params, result })
+    Ok(FunctionSignature { params, result })
 }
 
 fn add_function<'a>(
     alloc: Global,
     names: &Named<()>,
-    functions: &mut Named<'a, Head<'a>>,
+    functions: &mut Named<'a, FunctionSignature<'a>>,
     item: &'a Item,
 ) -> Result<(), NoMemory>
     requires { IsSome (resolved_heads (entries_of names.now) (item_tree item.now ∷ [])) }
@@ -146,7 +150,7 @@ fn function_table<'a>(
     alloc: Global,
     names: &Named<()>,
     items: &'a [Item],
-) -> Result<Named<'a, Head<'a>>, NoMemory>
+) -> Result<Named<'a, FunctionSignature<'a>>, NoMemory>
     requires { IsSome (resolved_heads (entries_of names.now) (items_tree items.now)) }
     ensures { IfOk result (λ n. Some (seen_heads n) ≡ resolved_heads (entries_of names.now) (items_tree items.now)) }
 {

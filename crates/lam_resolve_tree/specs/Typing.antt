@@ -8,33 +8,33 @@ use Rattle.lam_resolve_tree.specs.Tree.{ResolvedType, ResolvedGiven, ResolvedPla
 -- ---- what a program declares
 
 -- how a function is called
-pub record Head : Type 0 where
+pub record ResolvedSignature : Type 0 where
   pub params : List ResolvedType
   pub result : Option ResolvedType
 
 -- for each class its fields' types, and the functions
-pub record Heads : Type 0 where
+pub record ResolvedSignatures : Type 0 where
   pub classes : List (List ResolvedType)
-  pub functions : List Head
+  pub functions : List ResolvedSignature
 
-abbrev pub head_of : ResolvedFunction → Head
+abbrev pub head_of : ResolvedFunction → ResolvedSignature
 head_of f = record { params = f.params; result = f.result }
 
-abbrev pub heads_of : ResolvedTree → Heads
+abbrev pub heads_of : ResolvedTree → ResolvedSignatures
 heads_of r = record { classes = r.classes; functions = map head_of r.functions }
 
 -- each class in a type is one of the program's
-abbrev pub IsType : Heads → ResolvedType → Type 0
+abbrev pub IsType : ResolvedSignatures → ResolvedType → Type 0
 IsType p (object c) = c < length p.classes
 IsType p (array t) = IsType p t
 IsType p _ = Unit {0}
 
-abbrev pub AreTypes : Heads → List ResolvedType → Type 0
+abbrev pub AreTypes : ResolvedSignatures → List ResolvedType → Type 0
 AreTypes p [] = Unit {0}
 AreTypes p (t ∷ ts) = IsType p t × AreTypes p ts
 
 -- class c has a field f, which is of type t
-abbrev pub IsField : Heads → ℕ → ℕ → ResolvedType → Type 0
+abbrev pub IsField : ResolvedSignatures → ℕ → ℕ → ResolvedType → Type 0
 IsField p c f t = (fields : List ResolvedType) × (slice_get p.classes c ≡ Some fields) × (slice_get fields f ≡ Some t)
 
 -- what a call gives
@@ -126,7 +126,7 @@ AreTags env (x ∷ xs) = (env x.slot ≡ Some (a_local tag)) × AreTags env xs
 
 abbrev mutual
   -- the expression is typed and gives g
-  pub Gives : Heads → Scope → Expression → ResolvedGiven → Type 0
+  pub Gives : ResolvedSignatures → Scope → Expression → ResolvedGiven → Type 0
   Gives p env (number_value n) g = g ≡ a_value int
   Gives p env (text_value bs) g = g ≡ a_value bytes
   Gives p env (bool_value b) g = g ≡ a_value bool
@@ -137,7 +137,7 @@ abbrev mutual
   Gives p env (field_of e c f t) g = Gives p env e (a_value (object c)) × IsField p c f t × (g ≡ a_value t)
   Gives p env (element_of e i t) g = Gives p env e (a_value (array t)) × FitsBy (exactly int) (λ h. Gives p env i h) × (g ≡ a_value t)
   Gives p env (call_of f args) g =
-      (h : Head) × (first : ResolvedGiven) × (slice_get p.functions f ≡ Some h) × AreArgs p env (exact_places h.params) args first × (g ≡ given_by h.result)
+      (h : ResolvedSignature) × (first : ResolvedGiven) × (slice_get p.functions f ≡ Some h) × AreArgs p env (exact_places h.params) args first × (g ≡ given_by h.result)
   Gives p env (builtin_of b args t) g =
       (first : ResolvedGiven) × AreArgs p env (row_by ℕ b).signature.takes args first × (g ≡ answered (row_by ℕ b).signature.answer first) × (t ≡ given_type g)
   Gives p env (new_object c) g = (c < length p.classes) × (g ≡ a_value (object c))
@@ -145,29 +145,29 @@ abbrev mutual
   Gives p env (label_of s i) g = AreTagArgs p env s × AreTagArgs p env i × (g ≡ a_value label)
   Gives p env (caps_of items) g = AreTags env items × (g ≡ a_value caps)
   Gives p env (spawn_of c f args) g =
-      (h : Head) × (first : ResolvedGiven) × FitsBy (exactly caps) (λ h. Gives p env c h) × (slice_get p.functions f ≡ Some h) × (h.result ≡ Some int) × AreArgs p env (exact_places h.params) args first × (g ≡ a_value thread)
+      (h : ResolvedSignature) × (first : ResolvedGiven) × FitsBy (exactly caps) (λ h. Gives p env c h) × (slice_get p.functions f ≡ Some h) × (h.result ≡ Some int) × AreArgs p env (exact_places h.params) args first × (g ≡ a_value thread)
 
   -- as many arguments as places, each fitting its own; the first gives `first`
-  pub AreArgs : Heads → Scope → List ResolvedPlace → Expressions → ResolvedGiven → Type 0
+  pub AreArgs : ResolvedSignatures → Scope → List ResolvedPlace → Expressions → ResolvedGiven → Type 0
   AreArgs p env [] args_end first = first ≡ nothing
   AreArgs p env (w ∷ ws) (args_more e rest) first = Gives p env e first × Fits w first × AreRest p env ws rest
   AreArgs p env [] (args_more e rest) first = ⊥
   AreArgs p env (w ∷ ws) args_end first = ⊥
 
-  pub AreRest : Heads → Scope → List ResolvedPlace → Expressions → Type 0
+  pub AreRest : ResolvedSignatures → Scope → List ResolvedPlace → Expressions → Type 0
   AreRest p env [] args_end = Unit {0}
   AreRest p env (w ∷ ws) (args_more e rest) = FitsBy w (λ h. Gives p env e h) × AreRest p env ws rest
   AreRest p env [] (args_more e rest) = ⊥
   AreRest p env (w ∷ ws) args_end = ⊥
 
   -- the tags of a label
-  pub AreTagArgs : Heads → Scope → Expressions → Type 0
+  pub AreTagArgs : ResolvedSignatures → Scope → Expressions → Type 0
   AreTagArgs p env args_end = Unit {0}
   AreTagArgs p env (args_more e rest) = FitsBy (exactly tag) (λ h. Gives p env e h) × AreTagArgs p env rest
 
 -- ---- statements
 
-abbrev pub Stands : Heads → Scope → ResolvedPlace → Expression → Type 0
+abbrev pub Stands : ResolvedSignatures → Scope → ResolvedPlace → Expression → Type 0
 Stands p env w e = FitsBy w (λ g. Gives p env e g)
 
 -- slot n of the unit, whose slots are of these types, is free and of type t
@@ -179,7 +179,7 @@ pub data Returning : Type 0 where
   in_region : Returning
   in_function : (result : Option ResolvedType) → Returning
 
-abbrev pub Returns : Heads → Returning → Scope → Option Expression → Type 0
+abbrev pub Returns : ResolvedSignatures → Returning → Scope → Option Expression → Type 0
 Returns p (in_function None) env None = Unit {0}
 Returns p (in_function (Some t)) env (Some e) = Stands p env (exactly t) e
 Returns p _ env _ = ⊥
@@ -202,7 +202,7 @@ after slots env (let_slot n e) = use_of (slice_get slots n) env n
 after slots env _ = env
 
 abbrev mutual
-  pub IsStatement : Heads → List ResolvedType → Returning → Scope → Statement → Type 0
+  pub IsStatement : ResolvedSignatures → List ResolvedType → Returning → Scope → Statement → Type 0
   IsStatement p slots ret env (let_slot n e) = (t : ResolvedType) × IsFree slots env n t × Stands p env (exactly t) e
   IsStatement p slots ret env (if_block e body other) = Stands p env (exactly bool) e × IsBlock p slots ret env body × IsOther p slots ret env other
   IsStatement p slots ret env (while_block e body) = Stands p env (exactly bool) e × IsBlock p slots ret env body
@@ -219,11 +219,11 @@ abbrev mutual
   IsStatement p slots ret env (set_field e c f t v) = Gives p env e (a_value (object c)) × IsField p c f t × Stands p env (exactly t) v
   IsStatement p slots ret env (set_element e i t v) = Gives p env e (a_value (array t)) × Stands p env (exactly int) i × Stands p env (exactly t) v
 
-  pub IsBlock : Heads → List ResolvedType → Returning → Scope → Block → Type 0
+  pub IsBlock : ResolvedSignatures → List ResolvedType → Returning → Scope → Block → Type 0
   IsBlock p slots ret env block_end = Unit {0}
   IsBlock p slots ret env (block_more s rest) = IsStatement p slots ret env s × IsBlock p slots ret (after slots env s) rest
 
-  pub IsOther : Heads → List ResolvedType → Returning → Scope → OtherBlock → Type 0
+  pub IsOther : ResolvedSignatures → List ResolvedType → Returning → Scope → OtherBlock → Type 0
   IsOther p slots ret env no_other = Unit {0}
   IsOther p slots ret env (other_block body) = IsBlock p slots ret env body
 
@@ -251,17 +251,17 @@ EndsWith None body = Unit {0}
 EndsWith (Some t) body = block_ends false body ≡ true
 
 -- the parameters take the first slots, and a function with a result returns one
-pub record IsFunction (p : Heads) (f : ResolvedFunction) : Type 0 where
+pub record IsFunction (p : ResolvedSignatures) (f : ResolvedFunction) : Type 0 where
   pub more : List ResolvedType
   pub slots : f.slots ≡ f.params ++ more
   pub body : IsBlock p f.slots (in_function f.result) (locals_of f.params) f.body
   pub ends : EndsWith f.result f.body
 
-abbrev pub AreFunctions : Heads → List ResolvedFunction → Type 0
+abbrev pub AreFunctions : ResolvedSignatures → List ResolvedFunction → Type 0
 AreFunctions p [] = Unit {0}
 AreFunctions p (f ∷ fs) = IsFunction p f × AreFunctions p fs
 
-abbrev pub AreClasses : Heads → List (List ResolvedType) → Type 0
+abbrev pub AreClasses : ResolvedSignatures → List (List ResolvedType) → Type 0
 AreClasses p [] = Unit {0}
 AreClasses p (c ∷ cs) = AreTypes p c × AreClasses p cs
 

@@ -133,7 +133,7 @@ pub fn sync_stmt(slot: usize, thing: ResolvedExpr, body: Vec<ResolvedStmt>) -> R
 
 /// What stands before the blocks of a region.
 #[derive(Drop)]
-pub struct Head {
+pub struct RegionHead {
     pub number: usize,
     pub label: Box<ResolvedExpr>,
     pub caps: Box<ResolvedExpr>,
@@ -142,7 +142,7 @@ pub struct Head {
 
 /// `region`
 pub fn region_stmt(
-    head: Head,
+    head: RegionHead,
     slots: Vec<ValueType>,
     body: Vec<ResolvedStmt>,
     catch_slot: usize,

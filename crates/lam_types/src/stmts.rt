@@ -30,7 +30,7 @@ pub struct Counts {
 
 // What stands before the blocks of a region.
 #[derive(Clone, Copy)]
-struct Head<'a> {
+struct RegionHead<'a> {
     at: u64,
     label: &'a Expr,
     caps: &'a Expr,
@@ -259,7 +259,7 @@ fn check_head<'a>(
     known: &Known<'a>,
     env: &Names<'a>,
     c: Counts,
-    head: Head<'a>,
+    head: RegionHead<'a>,
 ) -> Result<Counts, TypeFault>
     ensures { Counted result (head_checked (decls known.now) (names env.now.entries) c head.entry.at (expr_tree head.entry.label.now) (expr_tree head.entry.caps.now) (ids_tree head.entry.captures.now.items)) }
 {
@@ -302,7 +302,7 @@ fn check_stmt<'a>(
             catch_name,
             catch_body,
         } => {
-            let head = Head {
+            let head = RegionHead {
                 at: s.at,
                 label,
                 caps,
@@ -364,7 +364,7 @@ fn check_opened<'a>(
     env: &mut Names<'a>,
     c: Counts,
     body: &'a Vec<Stmt>,
-    head: Head<'a>,
+    head: RegionHead<'a>,
 ) -> Result<Counts, TypeFault>
     ensures meets { Counted result (opened (decls known.now) (option_type want.entry) (names env.old.entries) c head.entry.at (expr_tree head.entry.label.now) (expr_tree head.entry.caps.now) (ids_tree head.entry.captures.now.items) (stmts_tree body.now.items)) }
     ensures keeps { OnOk result (env.new.entries ≡ env.old.entries) }

@@ -26,7 +26,7 @@ use Rattle.source_walk_state.specs.declared.Frame.TheVariants as frame
 use Rattle.source_walk_state.specs.declared.Control.{Control}
 use Rattle.source_walk_state.specs.declared.Control.TheVariants as control
 use Rattle.source_walk_state.specs.Meaning.{sort_seen, valued, region_args, region_locals, entered, replied, after, own_of, place_of}
-use Rattle.source_walk_state.proofs.Marks as laws
+use Rattle.source_walk_state.proofs.Delimiters as laws
 use Rattle.source_walk_parts.specs.States.{State, pushed, begun, left_at}
 use Rattle.source_walk_follow.specs.Standing.{asks_left, GoesOn}
 use Rattle.source_walk_follow.proofs.Standing.{suited, none_behind}

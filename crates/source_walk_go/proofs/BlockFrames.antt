@@ -25,7 +25,7 @@ use Rattle.source_walk_state.specs.declared.Control.TheVariants as control
 use Rattle.source_walk_state.specs.Meaning.{value_of, block, valued, loop_rest, under, open_of, after, own_of, place_of}
 use Rattle.source_walk_state.proofs.Opening.{asks_done}
 use Rattle.source_walk_state.proofs.Going.{goes_region, opens_while, turns, holds}
-use Rattle.source_walk_state.proofs.Marks as laws
+use Rattle.source_walk_state.proofs.Delimiters as laws
 use Rattle.source_walk_parts.specs.Controls.{monitor_control}
 use Rattle.source_walk_parts.specs.Weights.{expr_weight, block_weight, control_weight, frame_weight, frames_weight, pending}
 use Rattle.source_walk_parts.specs.States.{State, pushed, pushed_if, local_set, with_units, outside_of, left_at, Goes, IsWaiting}

@@ -24,7 +24,7 @@ use Rattle.source_walk_state.specs.declared.Control.{Control}
 use Rattle.source_walk_state.specs.declared.Control.TheVariants as control
 use Rattle.source_walk_state.specs.Meaning.{caller, block, spawns, used, after}
 use Rattle.source_walk_state.proofs.Opening.{gathers_none}
-use Rattle.source_walk_state.proofs.Marks as laws
+use Rattle.source_walk_state.proofs.Delimiters as laws
 use Rattle.source_walk_parts.specs.Controls.{pure_control, calls_control, spawn_control}
 use Rattle.source_walk_parts.specs.Weights.{exprs_weight, using_weight, frame_weight, frames_weight, pending}
 use Rattle.source_walk_parts.specs.States.{State, pushed, with_units, called, left_at, IsLess, IsLeft}

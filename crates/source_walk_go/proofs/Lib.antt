@@ -1,5 +1,5 @@
 pub mod Waiting
 pub mod ValueFrames
 pub mod BlockFrames
-pub mod MarkFrames
+pub mod DelimiterFrames
 pub mod Calls

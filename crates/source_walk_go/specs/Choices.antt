@@ -44,7 +44,7 @@ is_region_end (part.Body outside) = true
 is_region_end (part.Caught f outside) = true
 is_region_end b = false
 
-abbrev pub is_region_mark : Frame → Bool
-is_region_mark (frame.Region d x b) = is_region_end b
-is_region_mark (frame.Catch outside) = true
-is_region_mark f = false
+abbrev pub is_region_delimiter : Frame → Bool
+is_region_delimiter (frame.Region d x b) = is_region_end b
+is_region_delimiter (frame.Catch outside) = true
+is_region_delimiter f = false

@@ -12,7 +12,7 @@ ghost use Rattle.source_walk_state.specs.declared.Control.TheVariants as control
 ghost use Rattle.source_walk_parts.specs.States.{state_of, pushed, Always};
 ghost use Rattle.source_walk_go.specs.Choices.{branch_control, enter_control};
 
-use crate::marks::act;
+use crate::delimiters::act;
 use capabilities::Caps;
 use flow_labels::Label;
 use lam_asks::{Ask, Fault};

@@ -9,7 +9,7 @@ ghost use Rattle.source_walk_parts.specs.States.{State, state_of, pushed, Always
 ghost use Rattle.source_walk_go.specs.Choices.{and_control, or_control};
 
 use crate::blocks::{branch, loop_on, next_block, region_on};
-use crate::marks::{end_call, end_region};
+use crate::delimiters::{end_call, end_region};
 use lam_asks::{Fault, Outcome};
 use lam_operators::{BinaryOp, UnaryOp};
 use lam_resolve_tree::Expr;

@@ -27,7 +27,7 @@ use Rattle.source_walk_state.specs.declared.Control.{Control}
 use Rattle.source_walk_state.specs.declared.Control.TheVariants as control
 use Rattle.source_walk_state.specs.Meaning.{sort_seen, valued, spawns, called_as, after}
 use Rattle.source_walk_state.proofs.Opening.{asks_value, asks_done}
-use Rattle.source_walk_state.proofs.Marks.{bars, bars_unit}
+use Rattle.source_walk_state.proofs.Delimiters.{bars, bars_unit}
 use Rattle.source_walk_parts.specs.Weights.{frame_weight}
 use Rattle.source_walk_parts.specs.Controls.{pure_control, calls_control, array_control, thrown_control, spawn_control}
 use Rattle.source_walk_parts.specs.States.{State, pushed, is_ask, pushed_if, left_at, Goes, IsWaiting, IsLeft}
@@ -123,7 +123,7 @@ module _ (r : ResolvedTree) (s : State) (e : Denial) (d : Control) (t : State) (
       by_waiting (λ x u. IsLeft r (valued (unless_denied (Some e) s.units s.own tree)) 1 s x u) w
       (record { left = sym (bars_unit r s.frames s.place s.units s.own e tree); units = refl; least = omega arith })
 
--- a frame that is no mark goes on with a value as this tree does
+-- a frame that is no delimiter goes on with a value as this tree does
 module _ (r : ResolvedTree) (s : State) (v : Value) (f : Frame) where
   pub goes_by : (tree : Tree Value) (m : ℕ) (d : Control) (t : State) → left_at r (control.Give v) (pushed s f) ≡ on_end tree (after r s.frames s.place) → m ≤ frame_weight f → IsLeft r tree m s d t → Goes r (control.Give v) (pushed s f) d t
   goes_by tree m d t e h i = record { left = i.left ∙ sym e; less = inr (i.units, omega (arith, i.least)) }

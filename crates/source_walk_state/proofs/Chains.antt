@@ -40,10 +40,10 @@ unfolding on_end
 chain_valued_first t f k m go up out =
     chain_valued t f k (λ e. on_end (next nulls e) m) (λ a n o. go n o) up out ∙ sym (chain_next t nulls m (λ e. on_end (next nulls e) m) (λ a n o. refl) (λ x n o. refl) (λ v n o. refl))
 
--- a body, and the mark that takes its end
-pub chain_mark : {C : Type 0} (t : Tree (Unit {0})) (g : End (Unit {0}) → Tree Value) (k m : End Value → Tree C) → ((n : ℕ) (o : Own) → on_end (g (goes tt n o)) k ≡ m (goes Nothing n o)) → ((x : _) (n : ℕ) (o : Own) → on_end (g (raises x n o)) k ≡ m (raises x n o)) → ((v : Value) (n : ℕ) (o : Own) → on_end (g (leaves v n o)) k ≡ m (leaves v n o)) → on_end (on_end t g) k ≡ on_end (valued t) m
+-- a body, and the delimiter that takes its end
+pub chain_delimiter : {C : Type 0} (t : Tree (Unit {0})) (g : End (Unit {0}) → Tree Value) (k m : End Value → Tree C) → ((n : ℕ) (o : Own) → on_end (g (goes tt n o)) k ≡ m (goes Nothing n o)) → ((x : _) (n : ℕ) (o : Own) → on_end (g (raises x n o)) k ≡ m (raises x n o)) → ((v : Value) (n : ℕ) (o : Own) → on_end (g (leaves v n o)) k ≡ m (leaves v n o)) → on_end (on_end t g) k ≡ on_end (valued t) m
 unfolding on_end
-chain_mark t g k m go up out =
+chain_delimiter t g k m go up out =
     chain t g k (λ e. on_end (next nulls e) m) each ∙ sym (chain_next t nulls m (λ e. on_end (next nulls e) m) (λ a n o. refl) (λ x n o. refl) (λ v n o. refl))
   where
     each : (e : End (Unit {0})) → on_end (g e) k ≡ on_end (next nulls e) m
@@ -51,6 +51,6 @@ chain_mark t g k m go up out =
     each (raises x n o) = up x n o
     each (leaves v n o) = out v n o
 
-pub chain_valued_mark : {C : Type 0} (t : Tree (Unit {0})) (g : End (Unit {0}) → Tree (Unit {0})) (k m : End Value → Tree C) → ((n : ℕ) (o : Own) → on_end (valued (g (goes tt n o))) k ≡ m (goes Nothing n o)) → ((x : _) (n : ℕ) (o : Own) → on_end (valued (g (raises x n o))) k ≡ m (raises x n o)) → ((v : Value) (n : ℕ) (o : Own) → on_end (valued (g (leaves v n o))) k ≡ m (leaves v n o)) → on_end (valued (on_end t g)) k ≡ on_end (valued t) m
+pub chain_valued_delimiter : {C : Type 0} (t : Tree (Unit {0})) (g : End (Unit {0}) → Tree (Unit {0})) (k m : End Value → Tree C) → ((n : ℕ) (o : Own) → on_end (valued (g (goes tt n o))) k ≡ m (goes Nothing n o)) → ((x : _) (n : ℕ) (o : Own) → on_end (valued (g (raises x n o))) k ≡ m (raises x n o)) → ((v : Value) (n : ℕ) (o : Own) → on_end (valued (g (leaves v n o))) k ≡ m (leaves v n o)) → on_end (valued (on_end t g)) k ≡ on_end (valued t) m
 unfolding on_end
-chain_valued_mark t g k m go up out = ap (λ u. on_end u k) (chain t g (next nulls) (λ e. valued (g e)) (λ e. refl)) ∙ chain_mark t (λ e. valued (g e)) k m go up out
+chain_valued_delimiter t g k m go up out = ap (λ u. on_end u k) (chain t g (next nulls) (λ e. valued (g e)) (λ e. refl)) ∙ chain_delimiter t (λ e. valued (g e)) k m go up out

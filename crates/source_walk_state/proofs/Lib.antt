@@ -1,5 +1,5 @@
 pub mod Chains
 pub mod Opening
 pub mod Going
-pub mod Marks
+pub mod Delimiters
 pub mod Begins

@@ -29,7 +29,7 @@ WalksBegin r =
     (n f : ℕ) (fn : ResolvedFunction) (vs : List Value) (k : Caps) (body : Bor (List Stmt)) → slice_get r.functions f ≡ Some fn → stmts_tree body.now ≡ fn.body →
     left r (control.Block n body) [] (record { label = public_label; calls = 1 }) n (record { locals = first_locals fn vs; caps = k }) ≡ means r n f vs k
 
-pub record MarksKeep (r : ResolvedTree) : Type 0 where
+pub record DelimitersKeep (r : ResolvedTree) : Type 0 where
   -- the body of a function that was called: its end goes to the caller, whose locals are as they were
   pub calls :
       (d calls : ℕ) (fs : List Frame) (p : At) (ls : List Value) (body : Bor (List Stmt)) (n : ℕ) (o : Own) →

@@ -155,7 +155,7 @@ gathered r d es vs u p n o = and_then (values_of r d es p n o) (λ ws n o. used 
 
 -- ---- frames
 
--- the slots of the open `sync`s, up to the next mark
+-- the slots of the open `sync`s, up to the next delimiter
 abbrev pub open_of : List Frame → Open
 open_of [] = []
 open_of (frame.Held slot ∷ fs) = slot ∷ open_of fs
@@ -197,7 +197,7 @@ abbrev pub loops : ResolvedTree → ℕ → Open → Expression → Block → Bo
 loops r d os test body true v p n o = turn r d os test body v p n o
 loops r d os test body false v p n o = loop_rest r d os test body p n o
 
--- what a frame that is no mark does with a value
+-- what a frame that is no delimiter does with a value
 abbrev pub continued : ResolvedTree → Open → Frame → At → Value → ℕ → Own → Tree Value
 continued r os (frame.Prefix op) p v n o = purely n o (prefix op v)
 continued r os (frame.Operate op left) p v n o = purely n o (operator op left v)
@@ -223,7 +223,7 @@ continued r os (frame.Region d x (part.Label caps)) p l n o = valued (and_then (
 continued r os (frame.Region d x (part.Caps label)) p c n o = valued (enters r d label x c n o)
 continued r os frame.Bar p v n o = fails Denied n o
 continued r os (frame.Leaving w) p v n o = valued (returns os w n o)
--- marks do not come here
+-- delimiters do not come here
 continued r os f p v n o = broken
 
 -- ---- ends

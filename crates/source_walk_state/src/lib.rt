@@ -3,14 +3,14 @@
 //! A walk keeps its pending work in a list of its own, so that deep programs take no machine stack. A *control* is what
 //! is done now. *Frames* are what is done with its value or its end, the next one last. An expression opens into a
 //! control for its first operand and a frame that waits for that operand's value. A frame that has its value becomes a
-//! control again. Calls and regions leave *marks* among the frames, which keep what stood around them. A fault and a
-//! `return` drop frames down to the next mark that stops them.
+//! control again. Calls and regions leave *delimiters* among the frames, which keep what stood around them. A fault and a
+//! `return` drop frames down to the next delimiter that stops them.
 //!
 //! A state means the tree of asks that is left of the thread (`specs/Meaning`). That is the control's own tree, and
 //! what the frames do with each of its ends. Each step leaves that tree as it is, or goes from an ask to one of its
 //! answers. This is proved where the steps are; `proofs/Steps` has the law of each.
 //!
-//! `walk_laws` says that a walk begins as the thread's meaning, and that marks keep what stood around them. A meaning
+//! `walk_laws` says that a walk begins as the thread's meaning, and that delimiters keep what stood around them. A meaning
 //! bounds how deep loops and calls nest. Pending work has that bound, its *depth*, beside it.
 #![tactic(auto)]
 
@@ -23,7 +23,7 @@ use lam_builtins::Builtin;
 use lam_operators::{BinaryOp, UnaryOp};
 use lam_resolve_tree::{Expr, Stmt};
 use lam_value::{Kind, Value, Values};
-pub use walk_laws::{marks_keep, walks_begin};
+pub use walk_laws::{delimiters_keep, walks_begin};
 
 /// The sort of value that the place of an ask wants. Where it wants none, it is a number.
 #[derive(Clone, Copy, Debug, PartialEq, Eq)]
@@ -115,9 +115,9 @@ pub enum BeforeRegion<'a> {
     Label(&'a Expr),
     /// Its capabilities: it is entered at this label.
     Caps(Value),
-    /// A mark: its body.
+    /// A delimiter: its body.
     Body(Outside),
-    /// A mark: that the fault was caught. Its catch block is next.
+    /// A delimiter: that the fault was caught. Its catch block is next.
     Caught(Fault, Outside),
 }
 
@@ -214,12 +214,12 @@ pub enum Frame<'a> {
     Bar,
     /// A `return` goes on, with its value.
     Leaving(Value),
-    /// A mark: the end of a call, with the caller's locals.
+    /// A delimiter: the end of a call, with the caller's locals.
     Called {
         calls: u64,
         locals: Values,
     },
-    /// A mark: the end of a region's catch block.
+    /// A delimiter: the end of a region's catch block.
     Catch {
         outside: Outside,
     },

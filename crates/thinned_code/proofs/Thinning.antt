@@ -31,7 +31,7 @@ staying_long [] t = refl
 staying_long (op ∷ ops) [] = ap suc (staying_long ops [])
 staying_long (op ∷ ops) (o ∷ t) = ap suc (staying_long ops t)
 
--- a barrier stands there, whose operand has its mark
+-- a barrier stands there, whose operand was tested already
 pub record Again (ops : List Op) (t : Table Description) (a : ℕ) : Type 0 where
   pub access : Access
   pub depth : ℕ
@@ -40,7 +40,7 @@ pub record Again (ops : List Op) (t : Table Description) (a : ℕ) : Type 0 wher
   pub op_at : slice_get ops a ≡ Some (barrier access depth)
   pub desc_at : slice_get t a ≡ Some (Some desc)
   pub operand_at : slice_get desc.stack depth ≡ Some operand
-  pub mark : IsTrue (is_tested access operand.known)
+  pub fact : IsTrue (is_tested access operand.known)
 
 tested_some : (access : Access) (o : Option Operand) → IsTrue (is_tested_at access o) → (x : Operand) × (o ≡ Some x) × IsTrue (is_tested access x.known)
 tested_some access None e = absurd (true≢false (sym e))
@@ -55,11 +55,11 @@ again_here op ops None t e = absurd (true≢false e)
 again_here op ops (Some d) t e =
     let b = again_of op d (unnot (tests_again op d) e) in
     let x = tested_some b.0 (slice_get d.stack b.1) b.3 in
-    record { access = b.0; depth = b.1; desc = d; operand = x.0; op_at = ap (λ p. Some p) b.2; desc_at = refl; operand_at = x.1; mark = x.2 }
+    record { access = b.0; depth = b.1; desc = d; operand = x.0; op_at = ap (λ p. Some p) b.2; desc_at = refl; operand_at = x.1; fact = x.2 }
 
 again_later : (op : Op) (ops : List Op) (o : Option Description) (t : Table Description) (a : ℕ) → Again ops t a → Again (op ∷ ops) (o ∷ t) (suc a)
 again_later op ops o t a g =
-    record { access = g.access; depth = g.depth; desc = g.desc; operand = g.operand; op_at = g.op_at; desc_at = g.desc_at; operand_at = g.operand_at; mark = g.mark }
+    record { access = g.access; depth = g.depth; desc = g.desc; operand = g.operand; op_at = g.op_at; desc_at = g.desc_at; operand_at = g.operand_at; fact = g.fact }
 
 staying_all : (ops : List Op) (a : ℕ) → slice_get (staying ops []) a ≡ Some false → ⊥
 staying_all [] a e = none_some e
@@ -115,7 +115,7 @@ module _ (code : CodeTree) (u : CodeUnit) (t : Table Description) (h : Describes
       let g = again u.ops t a drop in
       let rule = h.settled a g.desc g.desc_at in
       let sends = barrier_sends code a g.access g.depth g.desc rule.0 (ap (λ o. passed code o a g.desc) (sym g.op_at) ∙ rule.1) in
-      let same = sends.1 ∙ ap (λ x. (a + 1, x) ∷ []) (barred_same u.locals g.access g.depth g.desc g.operand (coherent a g.desc g.desc_at) g.operand_at g.mark) in
+      let same = sends.1 ∙ ap (λ x. (a + 1, x) ∷ []) (barred_same u.locals g.access g.depth g.desc g.operand (coherent a g.desc g.desc_at) g.operand_at g.fact) in
       let later = (subst (AllStand Description Says t) same rule.2).0 in
       let eq : st.0 ≡ g.desc = some_inj (some_inj (sym st.1 ∙ g.desc_at)) in
       (later.0, later.1, says_trans e g.desc later.0 (subst (λ y. Says e y) eq st.2) later.2)

@@ -62,7 +62,7 @@ jump_to_the_next : thinned (one (Load 0 ∷ ReadBarrier 0 ∷ Const 0 ∷ JumpIf
 unfolding thinned first_code_break
 jump_to_the_next = refl
 
--- a mark of one path alone is none
+-- a fact of one path alone is none
 one_path_stays : thinned (one (Load 0 ∷ Const 0 ∷ JumpIfFalse 4 ∷ ReadBarrier 0 ∷ ReadBarrier 0 ∷ GetField 0 ∷ Return ∷ [])) ≡ one (Load 0 ∷ Const 0 ∷ JumpIfFalse 4 ∷ ReadBarrier 0 ∷ ReadBarrier 0 ∷ GetField 0 ∷ Return ∷ [])
 unfolding thinned first_code_break
 one_path_stays = refl

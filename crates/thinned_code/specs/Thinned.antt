@@ -14,7 +14,7 @@ use Rattle.guarded_code.specs.Breaks.{is_tested_at, CodeBreak, first_code_break}
 
 -- ---- which operations stay
 
--- a barrier whose operand has the mark of its rule already
+-- a barrier whose operand was tested by its rule already
 abbrev pub tests_again : Op → Description → Bool
 tests_again (ReadBarrier depth) d = is_tested_at Reading (slice_get d.stack depth)
 tests_again (WriteBarrier depth) d = is_tested_at Writing (slice_get d.stack depth)

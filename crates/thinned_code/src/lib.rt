@@ -7,8 +7,8 @@
 //! - `specs/Thinned`: which operations stay, where an address goes, and thinned code, with examples.
 //! - `specs/Facts`: what is proved of it here.
 //!
-//! Thinned code is guarded because of two facts about descriptions. An operand that is a copy of a local always has
-//! that local's marks, so a redundant barrier changes no description (`proofs/Coherent`). And the descriptions of both
+//! Thinned code is guarded because of two properties of descriptions. An operand that is a copy of a local always has
+//! that local's facts, so a redundant barrier changes no description (`proofs/Coherent`). And the descriptions of both
 //! codes say the same. What stood at the operations that stayed meets the rules of thinned code (`proofs/Thinning`).
 //! What thinned code's own rounds find, spread over the removed barriers, meets the rules of the code
 //! (`proofs/Spread`).

@@ -90,4 +90,4 @@ passes_on code guarded c fault drops agrees =
     ∙ ap (next_by code c.phase c.inside)
     (barrier_effect (around code c) f.stack g.access g.depth
     ∙ ap (λ s. on_thing s (λ n r. passes f.stack (rule_of g.access c.label n.own))) cut.1
-    ∙ thing_passes c.label g.access f.stack cut.0 v.0 (v.2.0 g.access g.mark))
+    ∙ thing_passes c.label g.access f.stack cut.0 v.0 (v.2.0 g.access g.fact))

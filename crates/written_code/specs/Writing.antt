@@ -10,20 +10,20 @@ use Rattle.lam_bytecode.specs.declared.unit.UnitKind.{UnitKind}
 use Rattle.lam_bytecode.specs.declared.unit.UnitKind.TheVariants as kind
 use Rattle.written_code.specs.declared.Constant.{Constant}
 use Rattle.written_code.specs.declared.Constant.TheVariants as constant
-use Rattle.written_code.specs.declared.Head.{Head}
-use Rattle.written_code.specs.declared.Head.TheVariants.{Function, Region}
+use Rattle.written_code.specs.declared.UnitHead.{UnitHead}
+use Rattle.written_code.specs.declared.UnitHead.TheVariants.{Function, Region}
 use Rattle.written_code.specs.declared.Unit.{Unit}
 use Rattle.written_code.specs.declared.Written.{Written}
 
 -- the next region gets the number n
-abbrev pub kind_of : ℕ → Head → UnitKind
+abbrev pub kind_of : ℕ → UnitHead → UnitKind
 kind_of n (Function name takes) = kind.Function name.now takes.now true
 kind_of n (Region captures catch_at) = kind.Region n captures catch_at
 
 abbrev pub unit_of : ℕ → Unit → CodeUnit
 unit_of n u = record { kind = kind_of n u.head; locals = u.locals; ops = u.ops.now }
 
-abbrev pub number_after : ℕ → Head → ℕ
+abbrev pub number_after : ℕ → UnitHead → ℕ
 number_after n (Function name takes) = n
 number_after n (Region captures catch_at) = suc n
 

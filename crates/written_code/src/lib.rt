@@ -17,7 +17,7 @@ use want_of_memory::NoMemory;
 
 /// What a unit is the code of. Each function gives a number, and the regions are numbered as they come.
 #[derive(Clone, Copy)]
-pub enum Head<'a> {
+pub enum UnitHead<'a> {
     Function { name: &'a str, takes: &'a [ArgKind] },
     Region { captures: u32, catch_at: u32 },
 }
@@ -25,7 +25,7 @@ pub enum Head<'a> {
 /// A function or a region.
 #[derive(Clone, Copy)]
 pub struct Unit<'a> {
-    pub head: Head<'a>,
+    pub head: UnitHead<'a>,
     pub locals: u32,
     pub ops: &'a [Op],
 }
@@ -193,12 +193,12 @@ fn units_of(alloc: Global, written: &[Unit<'_>]) -> Result<Vec<CodeUnit>, Writte
 }
 
 /// The number of the next region after a unit. There are not so many that it has none.
-fn number_after(regions: u32, head: Head<'_>) -> Result<u32, WrittenFault>
+fn number_after(regions: u32, head: UnitHead<'_>) -> Result<u32, WrittenFault>
     ensures { IfOk result (λ n. n ≡ number_after regions head.entry) }
 {
     match head {
-        Head::Function { .. } => Ok(regions),
-        Head::Region { .. } => match regions.checked_add(1) {
+        UnitHead::Function { .. } => Ok(regions),
+        UnitHead::Region { .. } => match regions.checked_add(1) {
             Some(next) => Ok(next),
             None => Err(WrittenFault::NotCode),
         },
@@ -217,11 +217,11 @@ fn unit_of(alloc: Global, unit: &Unit<'_>, regions: u32) -> Result<CodeUnit, Wri
     })
 }
 
-fn kind_of(alloc: Global, head: Head<'_>, regions: u32) -> Result<UnitKind, WrittenFault>
+fn kind_of(alloc: Global, head: UnitHead<'_>, regions: u32) -> Result<UnitKind, WrittenFault>
     ensures { IfOk result (λ k. k ≡ kind_of regions head.entry) }
 {
     match head {
-        Head::Function { name, takes } => {
+        UnitHead::Function { name, takes } => {
             let name = FunctionName::from_string(String::from_str(alloc, name)?);
             Ok(UnitKind::Function {
                 name,
@@ -229,7 +229,7 @@ fn kind_of(alloc: Global, head: Head<'_>, regions: u32) -> Result<UnitKind, Writ
                 gives_int: true,
             })
         }
-        Head::Region { captures, catch_at } => Ok(UnitKind::Region {
+        UnitHead::Region { captures, catch_at } => Ok(UnitKind::Region {
             region: regions,
             captures,
             catch_at,
