@@ -6,7 +6,10 @@
 //! [`go_privately`] takes such turns of a thread itself.
 #![tactic(auto)]
 
+mod ahead;
+mod held;
 mod privately;
+mod simple;
 mod stretch;
 
 pub use privately::go_privately;
