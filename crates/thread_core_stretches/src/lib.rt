@@ -4,11 +4,11 @@
 //! and needs the world only to put the result back. A [`Stretch`] knows its thread before, its thread after so many
 //! private turns, and their number. `specs/Stretches` says when that is so of a code; each step keeps it.
 //! [`go_privately`] takes such turns of a thread itself. Those that only compute are taken in a loop over the acting call
-//! (`simple`, `ahead`, `held`); any other is the general turn of `thread_core`.
+//! (`simple`, `ahead`, `cached`); any other is the general turn of `thread_core`.
 #![tactic(auto)]
 
 mod ahead;
-mod held;
+mod cached;
 mod privately;
 mod simple;
 mod stretch;
