@@ -4,4 +4,5 @@ pub mod Going
 pub mod Handing
 pub mod Flags
 pub mod Rows
+pub mod Sweeps
 pub mod Units

@@ -6,6 +6,7 @@ ghost use Rattle.code_verify.specs.Redundant.{is_barrier, redundant, redundant_i
 
 use crate::described::tests_again_row;
 use crate::rounds::{RoundFault, describe_unit};
+use crate::sweep::swept;
 use code_verify_tables::Description;
 use lam_bytecode::{Code, CodeUnit, Op};
 use std::alloc::Global;
@@ -47,11 +48,7 @@ fn none_redundant(alloc: Global, count: usize) -> Result<Vec<bool>, NoMemory>
 
 /// Of each operation whether it is a redundant barrier, by the descriptions.
 #[tactic(auto, using(crate::proofs::Flags::flags_end))]
-fn flags_of(
-    alloc: Global,
-    ops: &[Op],
-    table: &[Option<Description>],
-) -> Result<Vec<bool>, NoMemory>
+fn flags_of(alloc: Global, ops: &[Op], table: &[Option<Description>]) -> Result<Vec<bool>, NoMemory>
     ensures { IfOk result (λ v. v.items ≡ redundant ops.now table.now) }
 {
     let mut flags = Vec::with_capacity(alloc, ops.len())?;
@@ -67,7 +64,7 @@ fn flags_of(
 /// # Errors
 ///
 /// `NoMemory` where memory is refused.
-#[tactic(auto, using(crate::proofs::Flags::without_barrier, crate::proofs::Flags::where_broken, crate::proofs::Flags::where_found))]
+#[tactic(auto, using(crate::proofs::Flags::without_barrier))]
 pub fn redundant_barriers(
     alloc: Global,
     code: &Code,
@@ -80,6 +77,20 @@ pub fn redundant_barriers(
     if !has_barrier(ops) {
         return Ok(none_redundant(alloc, ops.len())?);
     }
+    match swept(alloc, code, unit) {
+        Ok(flags) => Ok(flags),
+        Err(RoundFault::NoMemory) => Err(NoMemory),
+        Err(RoundFault::Depth(_)) => by_rounds(alloc, code, unit),
+    }
+}
+
+/// The same by the rounds, for a unit with a break of depth.
+#[tactic(auto, using(crate::proofs::Flags::where_broken, crate::proofs::Flags::where_found))]
+fn by_rounds(alloc: Global, code: &Code, unit: &CodeUnit) -> Result<Vec<bool>, NoMemory>
+    requires { length unit.now.ops < 2 ^ 32 }
+    ensures { IfOk result (λ v. v.items ≡ redundant_in code.now unit.now) }
+{
+    let ops = unit.ops.as_slice();
     match describe_unit(alloc, code, unit) {
         Err(RoundFault::NoMemory) => Err(NoMemory),
         Err(RoundFault::Depth(_)) => Ok(none_redundant(alloc, ops.len())?),
