@@ -1,5 +1,5 @@
 -- Which operations of a unit stay.
-use Rattle.std.proofs.Common.{◌≡◌, ℕ, zero, suc, ◌+◌, ◌<◌, ◌^◌, List, [], ◌∷◌, map, Bool, true, not, Option, Some, None, length, get_or, refl, sym, ap, ap₂, ◌∙◌, subst, arith}
+use Rattle.std.proofs.Common.{◌≡◌, ℕ, zero, suc, ◌<◌, ◌^◌, List, [], ◌∷◌, map, Bool, true, not, Option, Some, None, length, get_or, refl, sym, ap, ap₂, ◌∙◌, subst, arith}
 use Rattle.std.specs.List.{AllByRecursion}
 use Rattle.lam_bytecode.specs.Codes.{CodeTree, IsUnit}
 use Rattle.lam_bytecode.specs.declared.unit.CodeUnit.{CodeUnit}

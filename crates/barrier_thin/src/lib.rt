@@ -4,9 +4,9 @@
 //! redundant barriers are removed at once. Jumps and catch blocks go to the operation that stood there, or to the next
 //! one that stayed.
 //!
-//! `again` finds the operations that stay: all but the redundant barriers of each unit (`code_verify`). `units` builds the new
-//! code, where `staying` says which operations stay and `ops` where jumps go. `thinned_code_acts` has the laws that
-//! thinned code acts as the code, and as the code's program. That a program's code has no break is a law of
+//! `again` finds the operations that stay: all but the redundant barriers of each unit (`code_verify`). `units` builds
+//! the new code, where `staying` says which operations stay and `ops` where jumps go. `thinned_code_acts` has the laws
+//! that thinned code acts as the code, and as the code's program. That a program's code has no break is a law of
 //! `compiled_code_guarded`.
 #![tactic(auto)]
 

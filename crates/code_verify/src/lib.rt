@@ -10,8 +10,8 @@
 //! - `redundant_barriers` tells of each operation of a unit whether it is a redundant barrier.
 //!
 //! `targets` has the rule that is tested first, and `rounds` the rounds. `breaks` finds the first break of a unit and
-//! of a code, `described` has what `describe` gives. `redundant` has the redundant barriers, and `sweep` how
-//! they are found without a description for each address.
+//! of a code, and `described` has what `describe` gives. `redundant` has the redundant barriers, and `sweep` how they
+//! are found without a description for each address.
 #![tactic(auto)]
 
 mod breaks;
