@@ -1,4 +1,4 @@
--- What an observer notes of one turn, by the turn's event and the world after it.
+-- What an observer notes of a turn, by the turn's event and the world after it.
 use Rattle.std.specs.Prelude.{ℕ, Bool, List, [], cond, replicate, Option, Some, None}
 use Rattle.flow_labels.specs.declared.Label.{Label}
 use Rattle.flow_labels.specs.Flow.{seen}

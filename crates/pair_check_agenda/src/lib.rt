@@ -13,7 +13,7 @@
 //! - `noting`: the entry of a turn's event and the world after it; `taking`: the turns, in order.
 //! - `meeting`: the comparison of two agendas.
 //!
-//! `specs/Agendas` says what an agenda stands for, and `specs/Noting` what is noted of one turn.
+//! `specs/Agendas` says what an agenda stands for, and `specs/Noting` what is noted of a turn.
 #![tactic(auto)]
 
 mod agenda;

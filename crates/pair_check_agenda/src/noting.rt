@@ -1,4 +1,4 @@
-//! The noting of one turn by an observer.
+//! The noting of turns by an observer.
 
 ghost use Rattle.std.specs.Prelude.{◌≡◌, ◌++◌, replicate, IfOk, OnOk};
 ghost use Rattle.std.specs.Option.{option_map, option_to_list};
