@@ -22,7 +22,7 @@ use guarded_code::Verified;
 use lam_bytecode::{Code, listing};
 use lam_front::read_program;
 use lam_io::Shelf;
-use lam_main_plan::{InputFault, code_of, program_in, run_code};
+use lam_main_plan::{InputFault, compiled_code, program_in, run_code};
 use lam_print::print;
 use lam_syntax::Program;
 use region_check::Checked;
@@ -164,7 +164,7 @@ fn compiled_in(checked: Checked) -> Result<Code, InputFault>
     ensures compiled { (bytes : Text) → IsFine bytes (checked_tree checked) → IfOk result (λ code. IsCompiled bytes (Ok code)) }
     ensures refused { (bytes : Text) → IsFine bytes (checked_tree checked) → IfErr result (NoCode bytes) }
 {
-    let code = code_of(&checked);
+    let code = compiled_code(&checked);
     forget(checked);
     code
 }

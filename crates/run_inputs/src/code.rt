@@ -38,7 +38,7 @@ pub fn program_in(alloc: Global, bytes: &[u8]) -> Result<Checked, InputFault>
 /// # Errors
 ///
 /// The first unit that is too long; `NoMemory`.
-pub fn code_of(checked: &Checked) -> Result<Code, InputFault>
+pub fn compiled_code(checked: &Checked) -> Result<Code, InputFault>
     ensures compiled { (bytes : Text) → IsFine bytes (checked_tree checked.now) → IfOk result (λ code. IsCompiled bytes (Ok code)) }
     ensures sound { IfOk result (λ code. IsCode code) }
     ensures refused { (bytes : Text) → IsFine bytes (checked_tree checked.now) → IfErr result (NoCode bytes) }

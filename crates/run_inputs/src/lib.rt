@@ -11,7 +11,7 @@ mod code;
 mod document;
 mod fault;
 
-pub use code::{code_of, program_in, run_code, run_code_of};
+pub use code::{compiled_code, program_in, run_code, run_code_of};
 pub use document::start_in;
 pub use fault::InputFault;
 pub use flow_labels::{LabelFault, parse_label};

@@ -1,7 +1,7 @@
 use Rattle.std.proofs.lemmas.Result.{err_from_is_err_and}
 use Rattle.region_check.specs.Seen.{checked_tree}
 use Rattle.run_inputs.proofs.Faults.{not_compiled}
-use Rattle.run_inputs.proofs.code.code_of.Goals as goal
+use Rattle.run_inputs.proofs.code.compiled_code.Goals as goal
 
 pub returns-clause-compiled : goal.returns-clause-compiled
 returns-clause-compiled c = λ bytes is. record { program = checked_tree c.args.checked.now; fine = is; makes = c.in_ok-compile.ensures.ok }
