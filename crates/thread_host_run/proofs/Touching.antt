@@ -127,8 +127,8 @@ leaves_by code w t th c rest (asks a i) m at h r k =
     record {
       monitors = λ n ne. sym (ap (λ (v : World). get v.monitors n) leaves) ∙ aside.monitors (with_thread w t to) n ne;
       living = λ u.
-        ap (λ (ths : List Thread). is_living (slice_get ths u)) (sym (ap (λ (v : World). v.threads) leaves) ∙ aside.threads (with_thread w t to))
-        ∙ living_set w.threads t th to at (result_kept r th.result a ask) u;
+          ap (λ (ths : List Thread). is_living (slice_get ths u)) (sym (ap (λ (v : World). v.threads) leaves) ∙ aside.threads (with_thread w t to))
+          ∙ living_set w.threads t th to at (result_kept r th.result a ask) u;
     }
 leaves_by code w t th c rest stuck m at h r k = absurd cc
 

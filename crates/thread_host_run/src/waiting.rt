@@ -61,12 +61,7 @@ pub enum Touched {
 }
 
 /// Looks at a thread.
-pub fn look(
-    world: &World,
-    code: &Verified,
-    names: &mut IndexSet<Name>,
-    thread: u32,
-) -> Prospect
+pub fn look(world: &World, code: &Verified, names: &mut IndexSet<Name>, thread: u32) -> Prospect
     requires sound { IsSound code.now world.now }
     ensures more { Extends names.old.keys names.new.keys }
     ensures tells { Tells code.now world.now names.new.keys thread result }

@@ -29,5 +29,5 @@ returns-clause-lists c =
     record {
       threads_are = c.check_in_listed.ensures.list;
       tell = moved_tell code p.world t q.world moved c.args.list.now.names.keys c.look-prospect.new.names.keys c.args.list.now.prospects.items c.put.new.prospects.items c.look-prospect.result
-      c.requires.lists.tell c.look-prospect.ensures.more tells c.put.ensures.each c.put.ensures.count;
+          c.requires.lists.tell c.look-prospect.ensures.more tells c.put.ensures.each c.put.ensures.count;
     }

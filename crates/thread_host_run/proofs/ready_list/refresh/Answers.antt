@@ -18,14 +18,14 @@ loop-thread-preserved c =
     elim c.if-prospect.branch [
       | then-prospect w ↦ (
         gone_taken c.args.touched c.args.code.now c.args.world.now c.args.names.now.keys c.loop-thread.names.keys names c.args.prospects.now.items ps _ c.loop-thread.threads.items c.if-prospect.threads.items t known q inv.0 at c.look_again-prospect.ensures.more c.look_again-prospect.ensures.tells refl
-        w.if-prospect.true (ap (λ v. v.items) w.threads-is ∙ w.push_reserved.ensures.items),
+            w.if-prospect.true (ap (λ v. v.items) w.threads-is ∙ w.push_reserved.ensures.items),
         (let len = ap vec_len w.threads-is ∙ w.push_reserved.ensures.len in omega (arith, len, inv.1)),
         (let capacity = ap vec_capacity w.threads-is ∙ w.push_reserved.ensures.capacity in omega (arith, capacity, inv.2)),
         inv.3,
       )
       | else-prospect w ↦ (
         gone_left c.args.touched c.args.code.now c.args.world.now c.args.names.now.keys c.loop-thread.names.keys names c.args.prospects.now.items ps _ c.loop-thread.threads.items c.if-prospect.threads.items t known q inv.0 at c.look_again-prospect.ensures.more c.look_again-prospect.ensures.tells refl
-        w.if-prospect.false (ap (λ v. v.items) w.threads-is),
+            w.if-prospect.false (ap (λ v. v.items) w.threads-is),
         (let len = ap vec_len w.threads-is in omega (arith, len, inv.1)),
         (let capacity = ap vec_capacity w.threads-is in omega (arith, capacity, inv.2)),
         inv.3,
