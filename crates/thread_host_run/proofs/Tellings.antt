@@ -1,5 +1,5 @@
 -- What is known of each thread, as a list: one place of it changes, some are added, and it is gone through.
-use Rattle.std.proofs.Common.{◌≡◌, ℕ, zero, suc, ◌+◌, ◌<◌, ◌≤◌, Bool, true, false, not, List, [], ◌∷◌, ◌++◌, Option, Some, None, length, refl, sym, ap, ◌∙◌, subst, inl, inr, arith, true≢false}
+use Rattle.std.proofs.Common.{◌≡◌, ℕ, zero, suc, ◌+◌, ◌<◌, ◌≤◌, true, false, not, List, [], ◌∷◌, ◌++◌, Some, None, length, refl, sym, ap, ◌∙◌, subst, inl, inr, arith, true≢false}
 use Rattle.std.specs.Prelude.{slice_get, slice_set, ◌⊎◌, is_some}
 use Rattle.std.specs.List.{filter, range_with_len}
 use Rattle.std.proofs.lemmas.Option.{slice_get_within}
@@ -8,8 +8,8 @@ use Rattle.lam_bytecode.specs.Codes.{CodeTree}
 use Rattle.lam_machine_terms.specs.Worlds.{World, thread_at}
 use Rattle.lam_machine_terms.specs.Turns.{Moment, step, ready}
 use Rattle.lam_machine_laws.proofs.ThreadLemmas.{some_inj}
-use Rattle.thread_host_run.specs.ReadyLists.{ready_threads, kept_list}
-use Rattle.thread_host_run.specs.Waiting.{awaited_at, IsAwaited, Extends, Tells, TellsBut, AllTell, IsHeldSo, is_stale}
+use Rattle.thread_host_run.specs.ReadyLists.{kept_list}
+use Rattle.thread_host_run.specs.Waiting.{awaited_at, IsAwaited, Extends, Tells, TellsBut, AllTell, IsHeldSo}
 use Rattle.thread_host_run.specs.Kept.{ListsBy, AllTellBut, OthersTell, unknown, AreBut, AreOld}
 use Rattle.thread_host_run.specs.declared.waiting.Prospect.{Prospect}
 use Rattle.thread_host_run.specs.declared.waiting.Touched.{Touched}

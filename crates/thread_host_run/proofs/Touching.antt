@@ -9,26 +9,25 @@ use Rattle.lam_value.specs.declared.values.Value.{Value}
 use Rattle.lam_value.specs.declared.values.Value.TheVariants.{Obj, Arr}
 use Rattle.lam_value.specs.Names.{name_cmp, name_eq}
 use Rattle.lam_value.proofs.Keys.{name_total, name_exact, name_ties}
-use Rattle.lam_value.proofs.Rows.{itself, is_same}
+use Rattle.lam_value.proofs.Rows.{is_same}
 use Rattle.lam_asks.specs.declared.ask.Ask.{Ask}
 use Rattle.lam_asks.specs.declared.ask.Ask.TheVariants.{MonEnter, MonLeave, End}
 use Rattle.lam_asks.specs.declared.answer.Outcome.{Outcome}
 use Rattle.lam_asks.specs.declared.answer.Answer.{Answer}
 use Rattle.lam_asks.specs.declared.answer.What.{What}
 use Rattle.lam_asks.specs.declared.answer.What.TheVariants.{Private, Asked}
-use Rattle.lam_asks.specs.declared.fault.Fault.{Fault}
 use Rattle.monitor_core.specs.declared.Holder.{Holder}
-use Rattle.monitor_core.specs.Held.{Held, is_free, is_free_of, entered, one_less, held_by, left, once_more}
+use Rattle.monitor_core.specs.Held.{Held, is_free_of, entered, one_less, held_by, left, once_more}
 use Rattle.lam_bytecode.specs.Codes.{CodeTree}
 use Rattle.thread_core_effects.specs.Reading.{thing_in}
 use Rattle.thread_steps.specs.Threads.{Context, Thread}
-use Rattle.thread_steps.specs.Next.{Next, goes, asks, stuck, next_of, with_inside, result_after, takes}
-use Rattle.thread_core_stretches.specs.Turning.{Awaited, nobody, a_monitor, a_thread}
+use Rattle.thread_steps.specs.Next.{Next, goes, asks, stuck, next_of, result_after, takes}
+use Rattle.thread_core_stretches.specs.Turning.{Awaited, nobody}
 use Rattle.lam_machine_terms.specs.Worlds.{World, thread_at, with_thread}
-use Rattle.lam_machine_terms.specs.Serves.{Served, Effect, nothing, takes_monitor, gives_back, effect_of}
+use Rattle.lam_machine_terms.specs.Serves.{Served, Effect, nothing, effect_of}
 use Rattle.lam_machine_terms.specs.Serving.{publicly, serve}
 use Rattle.lam_machine_terms.specs.Turns.{is_living, is_ready, Moment, goes_on, served, turn_by, step, ready}
-use Rattle.lam_machine_laws.specs.Judged.{deed_by, fault_by, name_in, at_thing}
+use Rattle.lam_machine_laws.specs.Judged.{deed_by, fault_by}
 use Rattle.lam_machine_laws.proofs.JudgedLemmas.{judged_by}
 use Rattle.lam_machine_laws.proofs.ThreadLemmas.{some_inj}
 use Rattle.lam_machine_laws.proofs.TurnLemmas.{acts, only}
@@ -42,7 +41,7 @@ use Rattle.thread_host_run.specs.declared.waiting.Awaits.TheVariants.{Nobody, Mo
 use Rattle.thread_host_run.specs.declared.waiting.Awaits.TheVariants as awaits
 use Rattle.thread_host_run.specs.declared.waiting.Prospect.{Prospect}
 use Rattle.thread_host_run.specs.declared.waiting.Touched.{Touched}
-use Rattle.thread_host_run.specs.declared.waiting.Touched.TheVariants.{OneMonitor, Everything}
+use Rattle.thread_host_run.specs.declared.waiting.Touched.TheVariants.{Everything}
 use Rattle.thread_host_run.proofs.WaitingLemmas.{ready_still}
 use Rattle.thread_host_run.proofs.Others.{living_set}
 

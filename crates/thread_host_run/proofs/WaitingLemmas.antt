@@ -9,7 +9,7 @@ use Rattle.lam_machine_laws.proofs.ThreadLemmas.{some_inj}
 use Rattle.lam_machine_laws.proofs.OwnLemmas.{same_number}
 use Rattle.lam_bytecode.specs.Codes.{CodeTree}
 use Rattle.thread_steps.specs.Threads.{Context, Thread}
-use Rattle.thread_steps.specs.Next.{Next, goes, asks, stuck, next_of, Standing, is_shared, stands, standing_in, standing}
+use Rattle.thread_steps.specs.Next.{Next, goes, asks, stuck, next_of, is_shared, stands, standing_in, standing}
 use Rattle.thread_core_stretches.specs.Turning.{Awaited, nobody, a_monitor, a_thread, asked, awaited, awaited_in, awaited_of}
 use Rattle.lam_machine_terms.specs.Worlds.{World, thread_at}
 use Rattle.lam_machine_terms.specs.Turns.{ready, is_living}

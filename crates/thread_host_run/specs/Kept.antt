@@ -1,5 +1,5 @@
 -- The list of the ready threads with what is known of each thread, and what a turn leaves known.
-use Rattle.std.specs.Prelude.{◌≡◌, ◌≤◌, ◌⊎◌, ℕ, List, Some, length, slice_get, vec_capacity, false}
+use Rattle.std.specs.Prelude.{◌≡◌, ◌≤◌, ◌⊎◌, ℕ, List, Some, slice_get, vec_capacity, false}
 use Rattle.lam_value.specs.declared.names.Name.{Name}
 use Rattle.lam_value.specs.declared.values.Value.{Value}
 use Rattle.lam_asks.specs.declared.ask.Ask.{Ask}

@@ -1,7 +1,6 @@
 -- What the next ask of each thread waits for, with monitors by number, and for which threads a turn may have changed that.
 use Rattle.std.specs.Prelude.{◌≡◌, ℕ, Bool, true, false, nat_eq, List, Option, Some, None, length, slice_get}
 use Rattle.lam_value.specs.declared.names.Name.{Name}
-use Rattle.monitor_core.specs.declared.Holder.{Holder}
 use Rattle.std.specs.FinMap.{get}
 use Rattle.lam_bytecode.specs.Codes.{CodeTree}
 use Rattle.thread_steps.specs.Threads.{Thread}

@@ -2,7 +2,6 @@ use Rattle.std.proofs.Common.{ap, sym, ◌∙◌, subst}
 use Rattle.lam_machine.specs.Worlds.{IsSound}
 use Rattle.lam_machine_terms.specs.Worlds.{World}
 use Rattle.thread_host_run.specs.Courses.{Progress}
-use Rattle.thread_host_run.specs.Stretched.{checked_in}
 use Rattle.thread_host_run.specs.Waiting.{Tells}
 use Rattle.thread_host_run.proofs.Others.{Moved}
 use Rattle.thread_host_run.proofs.StretchLemmas.{stretch_sound, stretch_moved}

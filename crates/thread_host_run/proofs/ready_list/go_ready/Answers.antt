@@ -1,4 +1,4 @@
-use Rattle.std.proofs.Common.{ap, sym, ◌∙◌, subst}
+use Rattle.std.proofs.Common.{sym, subst}
 use Rattle.lam_machine.specs.Worlds.{IsSound}
 use Rattle.lam_machine_terms.specs.Worlds.{World}
 use Rattle.thread_host_run.specs.Waiting.{Tells}

@@ -1,4 +1,3 @@
-use Rattle.std.proofs.Common.{sym, ◌∙◌}
 use Rattle.thread_host_run.proofs.WaitingLemmas.{again_nobody, again_monitor, again_end}
 use Rattle.thread_host_run.proofs.waiting.look_again.Goals as goal
 
