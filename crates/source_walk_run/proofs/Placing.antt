@@ -1,8 +1,9 @@
 -- Walks one by one: the first ones, one more at the end, and the next state of one.
-use Rattle.std.proofs.Common.{◌≡◌, inl, inr, ◌⊎◌, ℕ, zero, suc, ◌+◌, ◌<◌, ◌≤◌, List, [], ◌∷◌, ◌++◌, length, get_or, Option, Some, None, refl, sym, ap, ◌∙◌, subst, arith}
+use Rattle.std.proofs.Common.{◌≡◌, inl, inr, ◌⊎◌, ℕ, zero, suc, ◌+◌, ◌<◌, ◌≤◌, List, [], ◌∷◌, ◌++◌, length, map, take, get_or, Option, Some, None, refl, sym, ap, ◌∙◌, subst, arith, add-one}
 use Rattle.std.specs.Prelude.{slice_get, slice_set}
 use Rattle.std.specs.Option.{option_map}
-use Rattle.std.proofs.lemmas.List.{length_push}
+use Rattle.std.proofs.Math.Seq.{take-suc}
+use Rattle.std.proofs.lemmas.List.{length_push, map-append}
 use Rattle.std.proofs.lemmas.Option.{slice_get_within, slice_get_read, same_Some}
 use Rattle.lam_asks.specs.declared.answer.What.{What}
 use Rattle.lam_resolve_tree.specs.Tree.{ResolvedTree}
@@ -10,7 +11,7 @@ use Rattle.source_walk_state.specs.declared.Beginning.{Beginning}
 use Rattle.source_walk_meets.specs.Births.{Birth}
 use Rattle.source_walk_meets.proofs.Lists.{split_get}
 use Rattle.source_walk_follow.specs.declared.followers.Follower.{Follower}
-use Rattle.source_walk_follow.specs.Following.{asks_met, FollowsTurn}
+use Rattle.source_walk_follow.specs.Following.{asks_met, place_left, FollowsTurn}
 use Rattle.source_walk_run.specs.Beginnings.{beginning_of}
 use Rattle.source_walk_run.specs.Walking.{IsMeeting, Begins, FollowsAt}
 
@@ -95,3 +96,11 @@ module _ (r : ResolvedTree) (starts : List Beginning) (turns : List ℕ) (at : �
         each = λ u c v h k. meets_by u c v h (split_get walks (w ∷ []) u v k);
         asks = λ u v k. none_by u v (split_get walks (w ∷ []) u v k);
       })
+
+-- ---- where each has departed
+
+pub place_more : (walks : List Follower) (i : ℕ) (w : Follower) (places all : List (Option ℕ)) → i < length walks → w ≡ get_or walks i w → places ≡ map place_left (take i walks) → all ≡ places ++ place_left w ∷ [] → all ≡ map place_left (take (i + 1) walks)
+place_more walks i w places all lt is up e = e ∙ ap (λ l. l ++ place_left w ∷ []) up ∙ sym (map-append place_left (take i walks) (w ∷ [])) ∙ ap (map place_left) (sym taken)
+  where
+    taken : take (i + 1) walks ≡ take i walks ++ w ∷ []
+    taken = rw (add-one) (take-suc walks i w lt ∙ ap (λ y. take i walks ++ y ∷ []) (sym is))
