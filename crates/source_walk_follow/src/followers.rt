@@ -89,7 +89,7 @@ fn behind<'a>(
     ask: &Ask,
     answer: &Answer,
 ) -> Result<Follower<'a>, NoMemory>
-    requires { asks_met follower.entry < 2 ^ 64 - 1 }
+    requires { asks_met follower < 2 ^ 64 - 1 }
     ensures { IfOk result (FollowsTurn (resolved_tree program.now) follower.entry (asked ask.now answer.now)) }
 {
     match follower {

@@ -117,7 +117,7 @@ fn kept_from<'a>(
     turns: &[u32],
 ) -> Result<Kept<'a>, RunFault>
     requires sound { IsSound code.now start }
-    requires nothing { IsKept (resolved_tree who.now.program.now) who.now.starts.now who.now.turns.now [] kept.entry }
+    requires nothing { IsKept (resolved_tree who.now.program.now) who.now.starts.now who.now.turns.now [] kept }
     ensures ok { IfOk result (IsKept (resolved_tree who.now.program.now) who.now.starts.now who.now.turns.now (moments code.now turns.now start)) }
     ensures run { OnOk result (stopped_at code.now turns.now start ≡ None) }
     ensures stops { IfErr result (λ f. IsStop f (stopped_at code.now turns.now start)) }
