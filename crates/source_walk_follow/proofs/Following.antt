@@ -1,5 +1,5 @@
 -- A walk along what a thread does, with one turn more.
-use Rattle.std.proofs.Common.{◌≡◌, ℕ, ◌+◌, ◌<◌, ◌≤◌, List, [], ◌∷◌, ◌++◌, length, map, take, get_or, Option, Some, None, refl, sym, ap, ◌∙◌, subst, arith, add-one, append_assoc, length-append}
+use Rattle.std.proofs.Common.{◌≡◌, ℕ, ◌+◌, ◌<◌, List, [], ◌∷◌, ◌++◌, length, map, take, get_or, Option, Some, None, refl, sym, ap, ◌∙◌, subst, arith, add-one, append_assoc, length-append}
 use Rattle.std.proofs.lemmas.List.{append-nil}
 use Rattle.std.proofs.Math.Seq.{take-suc}
 use Rattle.capabilities.specs.declared.Caps.{Caps}
@@ -20,7 +20,7 @@ use Rattle.source_walk_follow.specs.declared.followers.Follower.{Follower}
 use Rattle.source_walk_follow.specs.declared.followers.Follower.TheVariants.{Along, Departed}
 use Rattle.source_walk_follow.specs.Followed.{Follows}
 use Rattle.source_walk_follow.specs.Standing.{asks_left, GoesOn, MakesOther, Meets}
-use Rattle.source_walk_follow.specs.Following.{Source, GoesAlong, HasLeft, IsFollowing, asks_met, place_left, FollowsTurn}
+use Rattle.source_walk_follow.specs.Following.{Source, GoesAlong, HasLeft, IsFollowing, place_left, FollowsTurn}
 use Rattle.source_walk_follow.proofs.Standing.{settled_goes, settled_other}
 use Rattle.source_walk_follow.proofs.Lists.{asked-append, answers-append, departs}
 

@@ -1,4 +1,4 @@
-use Rattle.std.proofs.Common.{List, ◌≤◌, ◌≡◌, subst, sym, arith}
+use Rattle.std.proofs.Common.{List, subst, arith}
 use Rattle.lam_asks.specs.declared.answer.What.{What}
 use Rattle.lam_resolve_tree.specs.Tree.{resolved_tree}
 use Rattle.source_walk_follow.specs.Following.{IsFollowing}
