@@ -4,9 +4,9 @@
 //! redundant barriers are removed at once. Jumps and catch blocks go to the operation that stood there, or to the next
 //! one that stayed.
 //!
-//! `again` finds the operations that stay, from the descriptions of the code (`code_verify`). `units` builds the new
-//! code, where `staying` says which operations stay and `ops` where jumps go. `thinned_code_acts` has the laws that
-//! thinned code acts as the code, and as the code's program. That a program's code has no break is a law of
+//! `again` finds the operations that stay: all but the redundant barriers of each unit (`code_verify`). `units` builds
+//! the new code, where `staying` says which operations stay and `ops` where jumps go. `thinned_code_acts` has the laws
+//! that thinned code acts as the code, and as the code's program. That a program's code has no break is a law of
 //! `compiled_code_guarded`.
 #![tactic(auto)]
 
@@ -22,7 +22,7 @@ ghost use Rattle.thinned_code.specs.Thinned.{thinned};
 ghost use Rattle.barrier_thin.specs.Programs.{StandsForPrograms};
 
 use again::staying_units;
-use code_verify::{describe_units, is_guarded};
+use code_verify::is_guarded;
 use compiled_code_guarded::compiled_code_is_guarded;
 use guarded_code::Verified;
 use lam_bytecode::Code;
@@ -97,7 +97,6 @@ fn thin_guarded(alloc: Global, code: &Code) -> Result<Code, NoMemory>
     ensures sound { IfOk result (λ c. IsCode c) }
     ensures guarded { IfOk result (λ c. IsGuarded c) }
 {
-    let described = describe_units(alloc, code)?;
-    let staying = staying_units(alloc, code, &described)?;
+    let staying = staying_units(alloc, code)?;
     thin_code(alloc, code, staying.as_slice())
 }

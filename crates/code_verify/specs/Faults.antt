@@ -1,5 +1,5 @@
 -- Breaks and faults of the code, and what a fault tells of the first break.
-use Rattle.std.specs.Prelude.{◌≡◌, ℕ, Bool, true, false, Option, Some, None, option_map}
+use Rattle.std.specs.Prelude.{◌≡◌, ℕ, Bool, true, false, Option, Some, None}
 use Rattle.guarded_code.specs.Breaks as breaks
 use Rattle.code_verify.specs.declared.fault.Rule.{Rule}
 use Rattle.code_verify.specs.declared.fault.Rule.TheVariants as rule

@@ -1,5 +1,5 @@
 -- The descriptions of a code.
-use Rattle.std.specs.Prelude.{ℕ, Bool, false, List, map, slice_get, Option, Some, None, option_and_then}
+use Rattle.std.specs.Prelude.{ℕ, Bool, false, List, map, slice_get, Option, Some, None}
 use Rattle.lam_bytecode.specs.Codes.{CodeTree}
 use Rattle.lam_bytecode.specs.declared.unit.CodeUnit.{CodeUnit}
 use Rattle.lam_bytecode.specs.declared.op.Op.{Op}

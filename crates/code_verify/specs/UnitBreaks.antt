@@ -1,5 +1,5 @@
 -- Breaks of a unit, as code has them.
-use Rattle.std.specs.Prelude.{◌≡◌, Option, Some, None, option_map, List}
+use Rattle.std.specs.Prelude.{Option, None, option_map, List}
 use Rattle.lam_bytecode.specs.Codes.{CodeTree}
 use Rattle.lam_bytecode.specs.declared.op.Op.{Op}
 use Rattle.guarded_code.specs.Rounds.{Table}

@@ -101,7 +101,8 @@ fn tests_again_in(op: Option<Op>, tables: &[Option<UnitTable>], unit: usize, at:
     }
 }
 
-fn tests_again_row(op: Op, rows: &[Option<Description>], at: usize) -> bool
+/// Whether an operation is a redundant barrier at an address of a table.
+pub fn tests_again_row(op: Op, rows: &[Option<Description>], at: usize) -> bool
     ensures { result ≡ again_by (Some op) (slice_get rows.now at) }
 {
     match rows.get(at) {

@@ -7,17 +7,20 @@
 //! - `verify` makes a code into one that is known to be guarded, or names its first break.
 //! - `is_guarded` answers the same for a borrowed code.
 //! - `describe` gives the descriptions themselves, also where an access without its barrier is the first break.
-//! - `describe_units` gives them for code that is known to have no break, without a search for one.
+//! - `redundant_barriers` tells of each operation of a unit whether it is a redundant barrier.
 //!
 //! `targets` has the rule that is tested first, and `rounds` the rounds. `breaks` finds the first break of a unit and
-//! of a code, and `described` what `describe` gives.
+//! of a code, and `described` has what `describe` gives. `redundant` has the redundant barriers, and `sweep` how they
+//! are found without a description for each address.
 #![tactic(auto)]
 
 mod breaks;
 mod described;
 mod fault;
 mod locals;
+mod redundant;
 mod rounds;
+mod sweep;
 mod targets;
 
 ghost use Rattle.std.specs.Prelude.{◌≡◌, ◌↔◌, IfOk, OnOk, IfErr, IsTrue};
@@ -32,6 +35,7 @@ use described::{tables_of, unless_describable};
 pub use fault::VerifyFault;
 use guarded_code::Verified;
 use lam_bytecode::Code;
+pub use redundant::redundant_barriers;
 use std::alloc::Global;
 use want_of_memory::NoMemory;
 
@@ -81,17 +85,5 @@ pub fn describe(alloc: Global, code: &Code) -> Result<Described, VerifyFault>
     ensures err { IfErr result (λ f. TellsOf f (first_code_break code.now)) }
 {
     unless_describable(code_break(alloc, code)?)?;
-    Ok(describe_units(alloc, code)?)
-}
-
-/// The same descriptions, of a code of which it is known that it has no break: no break is looked for.
-///
-/// # Errors
-///
-/// `NoMemory` where memory is refused.
-pub fn describe_units(alloc: Global, code: &Code) -> Result<Described, NoMemory>
-    requires { IsCode code.now }
-    ensures { IfOk result (λ d. d ≡ tables_of code.now) }
-{
     Ok(Described::of(tables_of(alloc, code)?))
 }

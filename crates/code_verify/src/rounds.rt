@@ -32,7 +32,7 @@ impl From<NoMemory> for RoundFault {
 }
 
 /// A description comes to an address; tells whether that changed what stands there.
-fn into(
+pub fn into(
     table: &mut Vec<Option<Description>>,
     to: u32,
     description: &Description,
@@ -117,8 +117,8 @@ fn visit(
     }
 }
 
-// Whether one of them is true.
-fn either(a: bool, b: bool) -> bool
+/// Whether one of them is true.
+pub fn either(a: bool, b: bool) -> bool
     ensures { IsFalse result → (IsFalse a) × (IsFalse b) }
 {
     a || b
@@ -188,7 +188,7 @@ fn catch(
 }
 
 /// The entry and the catch place have their descriptions, and no other address has one.
-fn first_table(alloc: Global, unit: &CodeUnit) -> Result<Vec<Option<Description>>, RoundFault>
+pub fn first_table(alloc: Global, unit: &CodeUnit) -> Result<Vec<Option<Description>>, RoundFault>
     ensures ok { IfOk result (λ t. (passes : ℕ → Plain → Option (Sent Plain)) → first Plain meet passes (length unit.now.ops) (starts unit.now) ≡ Holds t.items) }
     ensures len { IfOk result (λ t. length t.items ≡ length unit.now.ops) }
     ensures err { IfErr result (λ f. (passes : ℕ → Plain → Option (Sent Plain)) → Stops (first Plain meet passes (length unit.now.ops) (starts unit.now)) f) }

@@ -1,11 +1,10 @@
 -- Two lists met in place.
-use Rattle.std.proofs.Common.{◌≡◌, ℕ, zero, suc, ◌+◌, ◌<◌, ◌≤◌, Bool, true, false, List, [], ◌∷◌, ◌++◌, Option, Some, None, length, get_or, set, take, drop, refl, sym, ap, ap₂, ◌∙◌, arith}
+use Rattle.std.proofs.Common.{◌≡◌, suc, Bool, true, false, List, [], ◌∷◌, Option, Some, None, length, refl, sym, ap, ap₂, ◌∙◌}
 use Rattle.guarded_code.specs.declared.known.ValueKind.{ValueKind}
 use Rattle.guarded_code.specs.declared.known.ValueKind.TheVariants.{Number, Truth, Other, Unknown}
 use Rattle.guarded_code.specs.declared.known.Known.{Known}
 use Rattle.guarded_code.specs.declared.known.Operand.{Operand}
 use Rattle.guarded_code.specs.Descriptions.{Description, met_kind, met_known, met_operand, put_before, met_lists, described, meet}
-use Rattle.code_verify_tables.specs.Joined.{joined}
 
 kind_same : (k : ValueKind) → met_kind k k ≡ k
 kind_same Number = refl

@@ -1,5 +1,5 @@
 -- One place of a list changed, and each.
-use Rattle.std.proofs.Common.{◌≡◌, ℕ, zero, suc, ◌+◌, ◌<◌, ◌≤◌, List, [], ◌∷◌, ◌++◌, length, get_or, set, slice_set, take, drop, map, refl, sym, ap, ◌∙◌, arith, length-set}
+use Rattle.std.proofs.Common.{◌≡◌, ℕ, zero, suc, ◌+◌, ◌<◌, ◌≤◌, List, [], ◌∷◌, ◌++◌, length, get_or, set, slice_set, take, drop, map, refl, ap, ◌∙◌, arith, length-set}
 use Rattle.std.proofs.lemmas.List.Edits.{map_over_more}
 use Rattle.guarded_code.specs.Changes.{at_place}
 

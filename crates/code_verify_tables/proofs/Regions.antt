@@ -1,8 +1,8 @@
 -- Units, gone through one by one.
-use Rattle.std.proofs.Common.{◌≡◌, ℕ, ◌+◌, ◌<◌, ◌≤◌, true, false, List, ◌∷◌, length, drop, get_or, Some, None, refl, sym, ap, ◌∙◌, cond}
+use Rattle.std.proofs.Common.{◌≡◌, ℕ, ◌+◌, ◌<◌, ◌≤◌, true, false, List, ◌∷◌, length, drop, get_or, Some, None, sym, ap, ◌∙◌, cond}
 use Rattle.std.proofs.lemmas.List.{drop_more, drop_all}
 use Rattle.lam_bytecode.specs.declared.unit.CodeUnit.{CodeUnit}
-use Rattle.thread_steps.specs.Ops.{UnitAt, is_region, region_from, region_takes, captures_of}
+use Rattle.thread_steps.specs.Ops.{is_region, region_from, region_takes, captures_of}
 
 pub takes_skip : (us : List CodeUnit) (n r : ℕ) (u : CodeUnit) → u ≡ get_or us n u → n < length us → is_region r u.kind ≡ false → region_takes (region_from n r (drop n us)) ≡ region_takes (region_from (n + 1) r (drop (n + 1) us))
 takes_skip us n r u e h f =

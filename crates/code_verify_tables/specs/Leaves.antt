@@ -1,5 +1,5 @@
 -- What a change leaves of a description, where it finds its operands.
-use Rattle.std.specs.Prelude.{◌≡◌, Bool, true, false, Option, Some, None}
+use Rattle.std.specs.Prelude.{◌≡◌, Bool, true, false, Some, None}
 use Rattle.guarded_code.specs.Descriptions.{Description}
 use Rattle.guarded_code.specs.Changes.{Change, changed}
 

@@ -1,5 +1,5 @@
 -- What the definitions see of the code's table.
-use Rattle.std.specs.Prelude.{ℕ, List, [], ◌∷◌, ◌++◌, replicate, Option, Some, None, option_map}
+use Rattle.std.specs.Prelude.{List, [], ◌∷◌, ◌++◌, replicate, Option, option_map}
 use Rattle.guarded_code.specs.Changes.{Any, Only, Change, Loads, Stores, Tests, Trades}
 use Rattle.guarded_code.specs.Changes as changes
 use Rattle.code_verify_tables.specs.declared.places.Place.{Place}

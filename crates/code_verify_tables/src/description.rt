@@ -60,6 +60,15 @@ impl Description {
         self.stack.as_slice()
     }
 
+    /// The operands and the locals.
+    pub(crate) fn into_parts(self) -> (Vec<Operand>, Vec<PackedKnown>)
+        ensures stack { result.0.items ≡ self.stack }
+        ensures locals { result.1.items ≡ self.locals }
+    {
+        let Description { stack, locals } = self;
+        (stack, locals)
+    }
+
     /// A copy.
     ///
     /// # Errors

@@ -85,7 +85,7 @@ pub fn takes_kinds(code: &Code, op: Op, description: &Description) -> bool
     all_fit(change_of(code, op).wanted(), stack) && compares(op, stack)
 }
 
-fn is_tested(access: Access, known: Known) -> bool
+pub fn is_tested(access: Access, known: Known) -> bool
     ensures { result ≡ is_tested access known }
 {
     match access {

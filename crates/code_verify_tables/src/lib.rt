@@ -5,6 +5,7 @@
 //! - `packed`: what is known of a local, in a byte.
 //! - `changes`: the table of what each operation takes and gives.
 //! - `description`: a description, and what an operation leaves of it.
+//! - `current`: a description that operations change in place.
 //! - `meeting`: what two paths leave where they meet.
 //! - `kinds`: whether an operation finds operands that it takes, and an access a tested reference.
 //!
@@ -12,6 +13,7 @@
 #![tactic(auto)]
 
 mod changes;
+mod current;
 mod description;
 mod kinds;
 mod meeting;
@@ -20,6 +22,7 @@ mod places;
 mod writing;
 
 pub use changes::{change_of, function_takes, region_takes};
+pub use current::Current;
 pub use description::Description;
 pub use kinds::{is_guarded, takes_kinds, tests_again};
 pub use packed::PackedKnown;

@@ -60,7 +60,7 @@ fn is_copy(local: u32, copies: Option<u32>) -> bool
 }
 
 /// What is known of a local.
-fn known_at(locals: &[PackedKnown], local: u32) -> Known
+pub fn known_at(locals: &[PackedKnown], local: u32) -> Known
     ensures { result ≡ known_at locals.now local }
 {
     match locals.get(local as usize) {
@@ -73,7 +73,7 @@ fn known_at(locals: &[PackedKnown], local: u32) -> Known
 }
 
 /// No copy of the local.
-fn forgotten(local: u32, operand: Operand) -> Operand
+pub fn forgotten(local: u32, operand: Operand) -> Operand
     ensures { result ≡ forgotten local operand }
 {
     let copies = if is_copy(local, operand.copies) {
@@ -87,7 +87,7 @@ fn forgotten(local: u32, operand: Operand) -> Operand
     }
 }
 
-fn tested_operand(access: Access, operand: Operand) -> Operand
+pub fn tested_operand(access: Access, operand: Operand) -> Operand
     ensures { result ≡ tested_operand access operand }
 {
     Operand {
@@ -97,7 +97,7 @@ fn tested_operand(access: Access, operand: Operand) -> Operand
 }
 
 /// Tested where it is a copy of that local.
-fn tested_copy(access: Access, copies: Option<u32>, operand: Operand) -> Operand
+pub fn tested_copy(access: Access, copies: Option<u32>, operand: Operand) -> Operand
     ensures { result ≡ tested_copy access copies operand }
 {
     match copies {

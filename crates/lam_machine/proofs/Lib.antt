@@ -4,6 +4,7 @@ pub mod SoundLemmas
 pub mod AskLemmas
 pub mod AdvanceLemmas
 pub mod PrivateLemmas
+pub mod ManyPrivateLemmas
 pub use Rattle.guarded_code_runs.proofs.NextLemmas
 pub use Rattle.guarded_code_runs.proofs.Sound
 pub use Rattle.guarded_code_runs.proofs.StoreLemmas

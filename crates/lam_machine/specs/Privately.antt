@@ -1,5 +1,5 @@
--- A turn of a thread where it is private.
-use Rattle.std.specs.Prelude.{◌≡◌, ℕ, Bool, true, false, Option, Some, None}
+-- A turn of a thread where it is private, and many of them in a row.
+use Rattle.std.specs.Prelude.{◌≡◌, ℕ, zero, suc, Bool, true, false, Option, Some, None}
 use Rattle.lam_asks.specs.declared.answer.What.TheVariants.{Private}
 use Rattle.lam_asks.specs.declared.answer.Event.{Event}
 use Rattle.lam_bytecode.specs.Codes.{CodeTree}
@@ -26,3 +26,8 @@ private_event w t = record { label = label_at w t; thread = t; what = Private }
 unfoldable pub IsPrivateStep : CodeTree → ℕ → World → Bool → World → Type 0
 IsPrivateStep code t w true after = (has_private_turn code (thread_at w t) ≡ true) × IsTurn code t w (private_event w t) after
 IsPrivateStep code t w false after = (has_private_turn code (thread_at w t) ≡ false) × (after ≡ w)
+
+-- a thread took so many turns in a row, each of them private
+abbrev pub ArePrivateSteps : CodeTree → ℕ → ℕ → World → World → Type 0
+ArePrivateSteps code t zero before after = after ≡ before
+ArePrivateSteps code t (suc n) before after = (w : World) × ArePrivateSteps code t n before w × IsPrivateStep code t w true after

@@ -4,7 +4,7 @@
 //! changes its thread alone. A turn that asks is served by reading (`lam_machine_world`). Then the thread prepares for
 //! the answer, and the effect on the stores is applied last. So a refusal of memory leaves the world as it was. Neither
 //! the thread nor the world is copied. [`step_privately`] takes a turn only where it is private, and makes no event of
-//! it.
+//! it. [`step_privately_for`] takes such turns in a row.
 #![tactic(auto)]
 
 mod asking;
@@ -12,5 +12,5 @@ mod privately;
 mod stepping;
 
 pub use lam_machine_world::{World, let_go_world};
-pub use privately::step_privately;
+pub use privately::{step_privately, step_privately_for};
 pub use stepping::step;

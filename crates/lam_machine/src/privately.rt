@@ -1,15 +1,16 @@
 //! Private turns, which make no event.
 
-ghost use Rattle.std.specs.Prelude.{◌≡◌, length, IfOk, OnErr};
+ghost use Rattle.std.specs.Prelude.{◌≡◌, ◌≤◌, length, IfOk, OnErr};
 ghost use Rattle.lam_machine_effects.specs.declared.stores.Stores.{Stores};
 ghost use Rattle.lam_machine_effects.specs.Parts.{world_of};
 ghost use Rattle.thread_core_answers.specs.Turning.{standing_of};
-ghost use Rattle.lam_machine.specs.Privately.{IsPrivateStep, is_private_standing};
+ghost use Rattle.lam_machine.specs.Privately.{IsPrivateStep, ArePrivateSteps, is_private_standing};
 
 use guarded_code::Verified;
 use lam_machine_world::World;
 use thread_core_answers::{Standing, go_on};
 use thread_core_state::LamThread;
+use thread_core_stretches::go_privately;
 use want_of_memory::NoMemory;
 
 /// Takes the turn of a thread where it is private: whether it was. Else the world stays as it is, and
@@ -49,4 +50,45 @@ fn was_private(standing: Standing) -> bool
         Standing::Stuck => false,
         Standing::Ended => false,
     }
+}
+
+/// Takes private turns of a thread, as many as there are in a row, up to so many: how many it took. A thread that is not
+/// there takes none.
+///
+/// # Errors
+///
+/// `NoMemory` where memory is refused for the first of them; the world is then as it was. Where it is refused for a later
+/// one, the answer is how many were taken before.
+pub fn step_privately_for(
+    world: &mut World,
+    code: &Verified,
+    thread: u32,
+    most: u64,
+) -> Result<u64, NoMemory>
+    ensures few { IfOk result (λ n. n ≤ most) }
+    ensures ok { IfOk result (λ n. ArePrivateSteps code.now thread n world.old world.new) }
+    ensures err { OnErr result (world.new ≡ world.old) }
+{
+    go_on_for(&mut world.threads, code, thread, most)
+}
+
+/// Private turns of a thread of many, in a row.
+#[tactic(auto, using(crate::proofs::ManyPrivateLemmas::went_at, crate::proofs::AdvanceLemmas::kept_at))]
+fn go_on_for(
+    threads: &mut Vec<LamThread>,
+    code: &Verified,
+    thread: u32,
+    most: u64,
+) -> Result<u64, NoMemory>
+    ensures few { IfOk result (λ n. n ≤ most) }
+    ensures ok { IfOk result (λ n. (s : Stores) → ArePrivateSteps code.now thread n (world_of s threads.old.items) (world_of s threads.new.items)) }
+    ensures size { length threads.new.items ≡ length threads.old.items }
+    ensures err { OnErr result (threads.new.items ≡ threads.old.items) }
+{
+    let at = thread as usize;
+    if at >= threads.len() {
+        return Ok(0);
+    }
+    let taken = go_privately(&mut threads[at], code, most)?;
+    Ok(taken)
 }

@@ -1,6 +1,6 @@
--- A front of the turns that is a run, with what is kept of its moments: one turn more, the turn at which it stops, and all
--- of them.
-use Rattle.std.proofs.Common.{◌≡◌, ℕ, ◌+◌, ◌<◌, ◌≤◌, Bool, true, false, List, [], ◌∷◌, ◌++◌, length, take, drop, get_or, Some, None, refl, sym, ap, subst, ◌∙◌, arith, append-nil, add-one, drop-cons}
+-- A front of the turns that is a run, with what is kept of its moments: one turn more, many of one thread, the turn at which
+-- it stops, and all of them.
+use Rattle.std.proofs.Common.{◌≡◌, ℕ, zero, suc, ◌+◌, ◌<◌, ◌≤◌, Bool, true, false, List, [], ◌∷◌, ◌++◌, length, take, drop, get_or, Some, None, refl, sym, ap, subst, ◌∙◌, arith, append-nil, add-one, drop-cons}
 use Rattle.std.specs.Prelude.{slice_get}
 use Rattle.std.specs.Option.{option_map}
 use Rattle.std.proofs.lemmas.Option.{slice_get_past, slice_get-get_or}
@@ -12,7 +12,7 @@ use Rattle.lam_machine_runs.specs.Stops.{stopped_at}
 use Rattle.lam_machine_runs.proofs.RunLemmas.{joined_runs, stopped_runs}
 use Rattle.lam_machine.specs.Worlds.{IsSound}
 use Rattle.lam_machine.proofs.Sound.{sound_step}
-use Rattle.lam_machine_replay.specs.Keeping.{KeptOfSoMany, TakesTurn}
+use Rattle.lam_machine_replay.specs.Keeping.{KeptOfSoMany, IsRow, TakesTurn, TakesTurns}
 
 -- so many turns are a run, which leaves this world, and this is kept of its moments
 pub record IsFront (X : Type 0) (AreKept : List Moment → X → Type 0) (code : CodeTree) (start : World) (turns : List ℕ) (n : ℕ) (w : World) (x : X) : Type 0 where
@@ -90,3 +90,26 @@ module _ {X : Type 0} (AreKept : List Moment → X → Type 0) (code : CodeTree)
         let all : length (moments code turns start) ≡ length turns = ((stopped_runs code).whole start turns).0 run in
         let k : ℕ = length (moments code turns start) in
         ap (λ z. option_map (λ (u : ℕ). record { turn = k; thread = u }) z) (slice_get_past turns k (omega (arith, all)))
+
+  -- ---- many turns of one thread
+
+  module _ (n many t : ℕ) (row : IsRow turns n many t) where
+    pub row_taken : (k : ℕ) (w after : World) (x y : X) → k ≤ many → IsFront X AreKept code start turns n w x → TakesTurns code t AreKept n w x k after y → IsFront X AreKept code start turns (n + k) after y
+    row_taken zero w after x y le front same =
+        let e : n ≡ n + zero = omega arith in
+        subst (λ (j : ℕ). IsFront X AreKept code start turns j after y) e
+        (subst (λ (v : World). IsFront X AreKept code start turns n v y) (sym same.0) (subst (λ (z : X). IsFront X AreKept code start turns n w z) (sym same.1) front))
+    row_taken (suc k) w after x y le front takes =
+        let so_far = row_taken k w takes.0 x takes.1 (omega (arith, le)) front takes.2 in
+        let at : get_or turns (n + k) 0 ≡ t = row.each k (omega (arith, le)) in
+        let within = row.within in
+        let e : n + k + 1 ≡ n + suc k = omega arith in
+        subst (λ (j : ℕ). IsFront X AreKept code start turns j after y) e
+        (goes_on (n + k) takes.0 takes.1 so_far (omega (arith, le, within)) true after y (subst (λ (u : ℕ). TakesTurn code u AreKept (n + k) takes.0 takes.1 true after y) (sym at) takes.3) refl)
+
+    pub row_stops : (k : ℕ) (w : World) (x : X) → k < many → IsFront X AreKept code start turns (n + k) w x → step code w t ≡ None → stopped_at code turns start ≡ Some (record { turn = n + k; thread = t })
+    row_stops k w x le front none =
+        let at : get_or turns (n + k) 0 ≡ t = row.each k le in
+        let within = row.within in
+        subst (λ (u : ℕ). stopped_at code turns start ≡ Some (record { turn = n + k; thread = u })) at
+        (stops (n + k) w x front (omega (arith, le, within)) false w x (subst (λ (u : ℕ). step code w u ≡ None) (sym at) none) refl)

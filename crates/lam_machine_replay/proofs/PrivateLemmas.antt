@@ -1,5 +1,5 @@
--- A turn that is private, and one that is not.
-use Rattle.std.proofs.Common.{◌≡◌, ℕ, Bool, true, false, List, refl, subst}
+-- What is kept of a turn that is private, and of one that is not.
+use Rattle.std.proofs.Common.{ℕ, true, List, refl}
 use Rattle.lam_asks.specs.declared.answer.Event.{Event}
 use Rattle.lam_bytecode.specs.Codes.{CodeTree}
 use Rattle.lam_machine_terms.specs.Worlds.{World}
@@ -8,16 +8,6 @@ use Rattle.lam_machine.specs.Privately.{IsPrivateStep, private_event}
 use Rattle.lam_machine.specs.Turned.{IsTurn}
 use Rattle.lam_machine_replay.specs.Keeping.{KeepsEvent, LeavesPrivate, TakesTurn}
 use Rattle.lam_machine_replay.proofs.ProductLemmas.{products_told}
-
-module _ (code : CodeTree) (t : ℕ) (w : World) (taken : Bool) (after : World) where
-  -- a thread whose next turn is private
-  pub was_private : IsPrivateStep code t w taken after → taken ≡ true → IsPrivateStep code t w true after
-  was_private h e = subst (λ b. IsPrivateStep code t w b after) e h
-
-  -- and one whose next turn is not
-  pub was_not : IsPrivateStep code t w taken after → taken ≡ false → after ≡ w
-  unfolding IsPrivateStep
-  was_not h e = let k = subst (λ b. IsPrivateStep code t w b after) e h in k.1
 
 module _ {X : Type 0} (AreKept : List Moment → X → Type 0) (code : CodeTree) (t : ℕ) (n : ℕ) (w : World) (after : World) where
   -- nothing is kept of a private turn

@@ -1,9 +1,10 @@
 //! Replay of a schedule from a start, with folds over its turns.
 //!
-//! `keeping` takes the turns of a start one by one, by [`keep_turns`] over [`Keeps`], and keeps what a fold looks for.
-//! It stops at the first turn whose thread is not ready, and names it in a [`RunFault`]. `specs/Stops` says where turns
-//! stop to be a run, and `specs/Keeping` what it is to keep something of a turn. A caller that takes turns itself can
-//! hand each to a fold as it is taken. There are three folds:
+//! `keeping` takes the turns of a start in order, by [`keep_turns`] over [`Keeps`], and keeps what a fold looks for. It
+//! takes private turns of one thread in a row at once, since nothing is kept of them. It stops at the first turn whose
+//! thread is not ready, and names it in a [`RunFault`]. `specs/Stops` says where turns stop to be a run, and
+//! `specs/Keeping` what it is to keep something of a turn. A caller that takes turns itself can hand each to a fold as it
+//! is taken. There are three folds:
 //!
 //! - an observer, which is its label, for what it sees ([`seen_by`], `specs/Viewed`),
 //! - an [`Auditor`] for each release and each refusal ([`noted_in`], `specs/Audited`),
@@ -30,8 +31,8 @@ ghost use Rattle.lam_machine_replay.specs.Told.{ProductsAreTold};
 pub use auditing::{Auditor, noted_in, taken};
 pub use counting::Counter;
 pub use fault::RunFault;
-pub use keeping::{Keeps, keep_turns};
-pub use lam_machine::{World, step, step_privately};
+pub use keeping::{Keeps, keep_turns, row_at};
+pub use lam_machine::{World, step, step_privately, step_privately_for};
 use lam_machine_laws::public_stay;
 pub use telling::{product, product_label};
 pub use viewing::{seen_by, seen_of};

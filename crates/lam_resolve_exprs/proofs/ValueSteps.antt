@@ -17,7 +17,7 @@ use Rattle.lam_resolve_tables.specs.Entries.{entries_of}
 use Rattle.lam_resolve_tables.specs.Kinds.{kind_type, class_given}
 use Rattle.lam_resolve_tables.specs.Named.{seen_found}
 use Rattle.lam_resolve_tables.specs.Tables.{fields, all_fields, head, heads}
-use Rattle.lam_resolve_tables.specs.declared.tables.ResolvedSignature.{ResolvedSignature as FunctionHead}
+use Rattle.lam_resolve_tables.specs.declared.tables.FunctionSignature.{FunctionSignature as FunctionHead}
 use Rattle.lam_resolve_exprs.specs.Values.{local, locals, called_seen, cap_at}
 use Rattle.lam_resolve_tables.proofs.Options.{seen_it, found_seen, first_some, next_some, goes, then_map, one_more}
 

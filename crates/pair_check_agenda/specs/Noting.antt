@@ -1,5 +1,5 @@
--- What an observer notes of one turn, by the turn's event and the world after it.
-use Rattle.std.specs.Prelude.{ℕ, cond, Option, Some, None}
+-- What an observer notes of a turn, by the turn's event and the world after it.
+use Rattle.std.specs.Prelude.{ℕ, Bool, List, [], cond, replicate, Option, Some, None}
 use Rattle.flow_labels.specs.declared.Label.{Label}
 use Rattle.flow_labels.specs.Flow.{seen}
 use Rattle.capabilities.specs.declared.Caps.{Caps}
@@ -27,3 +27,7 @@ past o e after = past_by o e (product after e.thread e.what) (product_label e.wh
 -- a turn: its thread, where that is seen
 abbrev pub noted_of : Label → Event → World → Option Item
 noted_of o e after = cond (seen e.label o) (Some (views.turn e.thread)) (past o e after)
+
+-- so many private turns of a thread: as many times the thread, where it is seen
+abbrev pub private_noted : Bool → ℕ → ℕ → List Item
+private_noted is_seen thread many = cond is_seen (replicate many (views.turn thread)) []

@@ -1,10 +1,10 @@
-//! The noting of one turn by an observer.
+//! The noting of turns by an observer.
 
-ghost use Rattle.std.specs.Prelude.{◌≡◌, ◌++◌, cond, Some, None, IfOk, OnOk};
+ghost use Rattle.std.specs.Prelude.{◌≡◌, ◌++◌, replicate, IfOk, OnOk};
 ghost use Rattle.std.specs.Option.{option_map, option_to_list};
 ghost use Rattle.lam_machine_terms.specs.Views as views;
 ghost use Rattle.pair_check_agenda.specs.Agendas.{item_in, items_in};
-ghost use Rattle.pair_check_agenda.specs.Noting.{released, past, noted_of};
+ghost use Rattle.pair_check_agenda.specs.Noting.{released, past, noted_of, private_noted};
 
 use crate::entry::{Entry, Release};
 use audit_log_notes::Content;
@@ -15,25 +15,29 @@ use lam_machine_replay::{World, product, product_label};
 use std::alloc::Global;
 use want_of_memory::NoMemory;
 
-/// Puts what is noted of a private turn at the end: its thread, where that is seen.
+/// Puts what is noted of private turns of a thread at the end: so many times the thread, where it is seen.
 pub(crate) fn note_private(
     entries: &mut Vec<Entry>,
     thread: u32,
     is_seen: bool,
+    many: u64,
 ) -> Result<(), NoMemory>
-    ensures { OnOk result (items_in entries.new.items ≡ items_in entries.old.items ++ option_to_list (cond is_seen (Some (views.turn thread)) None)) }
-{
-    put(entries, private_entry(thread, is_seen))
-}
-
-fn private_entry(thread: u32, is_seen: bool) -> Option<Entry>
-    ensures { option_map item_in result ≡ cond is_seen (Some (views.turn thread)) None }
+    ensures { OnOk result (items_in entries.new.items ≡ items_in entries.old.items ++ private_noted is_seen thread many) }
 {
     if is_seen {
-        Some(Entry::Turn { thread })
-    } else {
-        None
+        return put_turns(entries, thread, many);
     }
+    Ok(())
+}
+
+/// Puts so many turns of a thread at the end.
+fn put_turns(entries: &mut Vec<Entry>, thread: u32, many: u64) -> Result<(), NoMemory>
+    ensures { OnOk result (items_in entries.new.items ≡ items_in entries.old.items ++ replicate many (views.turn thread)) }
+{
+    for _done in 0..many {
+        entries.push(Entry::Turn { thread })?;
+    }
+    Ok(())
 }
 
 /// Puts what is noted of a turn at the end, by the turn's event and the world after it.

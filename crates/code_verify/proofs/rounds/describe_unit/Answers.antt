@@ -1,4 +1,4 @@
-use Rattle.std.proofs.Common.{◌∙◌, sym, ap, length}
+use Rattle.std.proofs.Common.{◌∙◌, ap, length}
 use Rattle.code_verify.proofs.Handing.{no_round, goes_on, describe_ends, describe_stops, never_begins}
 use Rattle.code_verify.proofs.rounds.describe_unit.Goals as goal
 

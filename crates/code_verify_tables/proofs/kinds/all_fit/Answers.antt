@@ -1,4 +1,4 @@
-use Rattle.std.proofs.Common.{◌≡◌, ◌∙◌, ◌<◌, ◌≤◌, length, sym, arith}
+use Rattle.std.proofs.Common.{◌∙◌, ◌<◌, ◌≤◌, length, sym, arith}
 use Rattle.code_verify_tables.specs.Seen.{place_seen, places_seen}
 use Rattle.code_verify_tables.proofs.Fits.{fits_end, fits_over, fits_next, fits_not}
 use Rattle.code_verify_tables.proofs.kinds.all_fit.Goals as goal

@@ -1,26 +1,27 @@
-use Rattle.std.proofs.Common.{arith}
-use Rattle.lam_machine_replay.proofs.FrontLemmas.{no_turns, of_so_many, goes_on, stops, all_kept, none_stops}
+use Rattle.std.proofs.Common.{get_or, arith}
+use Rattle.lam_machine_replay.proofs.FrontLemmas.{no_turns, of_so_many, row_taken, row_stops, all_kept, none_stops}
 use Rattle.lam_machine_replay.proofs.keeping.over_turns.Goals as goal
 
-pub loop-turn-init : goal.loop-turn-init
-loop-turn-init g c = no_turns (g.K.Keeps.AreKept c.args.who.now) c.args.code.now c.args.world.now c.args.turns.now c.args.kept.now c.requires.sound c.requires.nothing
+pub rows-init : goal.rows-init
+rows-init g c = (omega arith, no_turns (g.K.Keeps.AreKept c.args.who.now) c.args.code.now c.args.world.now c.args.turns.now c.args.kept.now c.requires.sound c.requires.nothing)
 
-pub take_turn-requires : goal.take_turn-requires
-take_turn-requires g c =
-    record {
-      sound = c.loop-turn.invariant.sound;
-      few = omega arith;
-      before = of_so_many (g.K.Keeps.AreKept c.args.who.now) c.args.code.now c.args.world.now c.args.turns.now c.loop-turn.turn c.loop-turn.world c.loop-turn.kept c.loop-turn.invariant (omega arith);
-    }
+pub take_row-requires-clause-before : goal.take_row-requires-clause-before
+take_row-requires-clause-before g c = of_so_many (g.K.Keeps.AreKept c.args.who.now) c.args.code.now c.args.world.now c.args.turns.now c.rows.turn c.rows.world c.rows.kept c.rows.invariant.1 c.rows.invariant.0
 
-pub returns-then-not-branch-clause-stops : goal.returns-then-not-branch-clause-stops
-returns-then-not-branch-clause-stops g c = stops (g.K.Keeps.AreKept c.args.who.now) c.args.code.now c.args.world.now c.args.turns.now c.loop-turn.turn c.loop-turn.world c.loop-turn.kept c.loop-turn.invariant c.loop-turn-test.true c.in_ok-take_turn.field-0 c.take_turn.new.world c.take_turn.new.kept c.in_ok-take_turn.ensures c.if-not-branch.true
+pub returns-then-taken-many-clause-stops : goal.returns-then-taken-many-clause-stops
+returns-then-taken-many-clause-stops g c =
+    let front = row_taken (g.K.Keeps.AreKept c.args.who.now) c.args.code.now c.args.world.now c.args.turns.now c.rows.turn c.row_at-many.result (get_or c.args.turns.now c.rows.turn 0) c.row_at-many.ensures.row c.in_ok-taken.taken c.rows.world c.take_row.new.world c.rows.kept c.take_row.new.kept c.in_ok-taken.ensures.few c.rows.invariant.1 c.in_ok-taken.ensures.taken in
+    row_stops (g.K.Keeps.AreKept c.args.who.now) c.args.code.now c.args.world.now c.args.turns.now c.rows.turn c.row_at-many.result (get_or c.args.turns.now c.rows.turn 0) c.row_at-many.ensures.row c.in_ok-taken.taken c.take_row.new.world c.take_row.new.kept c.if-taken-many.true front (c.in_ok-taken.ensures.stops c.if-taken-many.true)
 
-pub loop-turn-preserved : goal.loop-turn-preserved
-loop-turn-preserved g c = goes_on (g.K.Keeps.AreKept c.args.who.now) c.args.code.now c.args.world.now c.args.turns.now c.loop-turn.turn c.loop-turn.world c.loop-turn.kept c.loop-turn.invariant c.loop-turn-test.true c.in_ok-take_turn.field-0 c.take_turn.new.world c.take_turn.new.kept c.in_ok-take_turn.ensures c.if-not-branch.false
+pub rows-preserved : goal.rows-preserved
+rows-preserved g c =
+    let few = c.in_ok-taken.ensures.few in
+    let within = c.row_at-many.ensures.row.within in
+    let front = row_taken (g.K.Keeps.AreKept c.args.who.now) c.args.code.now c.args.world.now c.args.turns.now c.rows.turn c.row_at-many.result (get_or c.args.turns.now c.rows.turn 0) c.row_at-many.ensures.row c.in_ok-taken.taken c.rows.world c.take_row.new.world c.rows.kept c.take_row.new.kept c.in_ok-taken.ensures.few c.rows.invariant.1 c.in_ok-taken.ensures.taken in
+    (omega (arith, few, within), front)
 
 pub returns-clause-ok : goal.returns-clause-ok
-returns-clause-ok g c = all_kept (g.K.Keeps.AreKept c.args.who.now) c.args.code.now c.args.world.now c.args.turns.now c.loop-turn.turn c.loop-turn.world c.loop-turn.kept c.loop-turn.invariant c.loop-turn-test.false
+returns-clause-ok g c = all_kept (g.K.Keeps.AreKept c.args.who.now) c.args.code.now c.args.world.now c.args.turns.now c.rows.turn c.rows.world c.rows.kept c.rows.invariant.1 c.rows-test.false
 
 pub returns-clause-run : goal.returns-clause-run
-returns-clause-run g c = none_stops (g.K.Keeps.AreKept c.args.who.now) c.args.code.now c.args.world.now c.args.turns.now c.loop-turn.turn c.loop-turn.world c.loop-turn.kept c.loop-turn.invariant c.loop-turn-test.false
+returns-clause-run g c = none_stops (g.K.Keeps.AreKept c.args.who.now) c.args.code.now c.args.world.now c.args.turns.now c.rows.turn c.rows.world c.rows.kept c.rows.invariant.1 c.rows-test.false
