@@ -1,5 +1,5 @@
 -- What is kept of a run, with one turn more.
-use Rattle.std.proofs.Common.{◌≡◌, inl, inr, ◌⊎◌, ℕ, ◌+◌, ◌-◌, ◌^◌, ◌<◌, ◌≤◌, List, [], ◌∷◌, ◌++◌, length, map, get_or, Option, Some, None, refl, sym, ap, ◌∙◌, subst, append_assoc, length-append, arith}
+use Rattle.std.proofs.Common.{◌≡◌, inl, inr, ◌⊎◌, ℕ, ◌+◌, ◌<◌, ◌≤◌, List, [], ◌∷◌, ◌++◌, length, map, get_or, Option, Some, None, refl, sym, ap, ◌∙◌, subst, append_assoc, length-append, arith}
 use Rattle.std.specs.Prelude.{slice_get}
 use Rattle.std.specs.Option.{option_to_list}
 use Rattle.std.proofs.lemmas.Bool.{cases_eq}
@@ -25,8 +25,8 @@ use Rattle.source_walk_follow.specs.declared.followers.Follower.{Follower}
 use Rattle.source_walk_follow.specs.Following.{asks_met, FollowsTurn}
 use Rattle.source_walk_follow.proofs.Following.{private_turn}
 use Rattle.source_walk_run.specs.declared.keeping.Kept.{Kept}
-use Rattle.source_walk_run.specs.Beginnings.{beginning_of, all_begun}
-use Rattle.source_walk_run.specs.Walking.{IsMeeting, AreFirstWalks, AreWalking, HaveRoom, BeginsOne, Begins, FollowsAt}
+use Rattle.source_walk_run.specs.Beginnings.{beginning_of}
+use Rattle.source_walk_run.specs.Walking.{IsMeeting, AreFirstWalks, AreWalking, Begins, FollowsAt}
 use Rattle.source_walk_run.specs.Keeping.{IsKept, Adds}
 use Rattle.source_walk_run.proofs.Moving.{born_in, done_own, done_other, births_now, front_of, none_done}
 

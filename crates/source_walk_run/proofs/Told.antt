@@ -1,5 +1,5 @@
 -- What was kept of a whole run tells where its threads depart.
-use Rattle.std.proofs.Common.{◌≡◌, inl, inr, ◌⊎◌, ℕ, ◌+◌, ◌<◌, ◌≤◌, List, length, map, get_or, Option, Some, sym, ap, ◌∙◌, subst, arith}
+use Rattle.std.proofs.Common.{◌≡◌, inl, inr, ℕ, ◌+◌, ◌<◌, ◌≤◌, List, length, map, get_or, Option, Some, sym, ap, ◌∙◌, subst, arith}
 use Rattle.std.specs.Prelude.{slice_get}
 use Rattle.std.proofs.lemmas.List.{length-map}
 use Rattle.std.proofs.lemmas.Option.{slice_get_within}
@@ -9,7 +9,7 @@ use Rattle.lam_resolve_tree.specs.Tree.{ResolvedTree}
 use Rattle.lam_meaning.specs.Plays.{asks_made}
 use Rattle.lam_machine_terms.specs.Limits.{most_threads}
 use Rattle.lam_machine_terms.specs.Worlds.{World}
-use Rattle.lam_machine_terms.specs.Turns.{Moment, moments, replay, IsRun}
+use Rattle.lam_machine_terms.specs.Turns.{moments, replay, IsRun}
 use Rattle.lam_machine_laws.specs.Own.{done_by}
 use Rattle.source_walk_state.specs.declared.Beginning.{Beginning}
 use Rattle.source_walk_meets.specs.Births.{births, AreOfThreads, HasThreads}

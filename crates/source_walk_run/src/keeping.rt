@@ -69,7 +69,8 @@ fn add_turn<'a>(
     begin_started(alloc, program, turns, &mut kept.walks, &event.what)?;
     let thread = event.thread as usize;
     follow_at(alloc, program, &mut kept.walks, thread, &event.what)?;
-    kept.asks += asks(&event.what);
+    let more = asks(&event.what);
+    kept.asks += more;
     Ok(())
 }
 

@@ -57,7 +57,8 @@ pub(crate) fn first_walks<'a>(
 {
     let mut walks = Vec::with_capacity(alloc, starts.len())?;
     for start in starts {
-        let units = turns_at(turns, walks.len());
+        let thread = walks.len();
+        let units = turns_at(turns, thread);
         let walk = begin(alloc, program, start, units)?;
         walks.push(walk)?;
     }
@@ -82,7 +83,8 @@ pub(crate) fn begin_started<'a>(
     match started {
         None => Ok(()),
         Some(beginning) => {
-            let units = turns_at(turns, walks.len());
+            let thread = walks.len();
+            let units = turns_at(turns, thread);
             let first = begin(alloc, program, &beginning, units);
             drop(beginning);
             let walk = first?;
