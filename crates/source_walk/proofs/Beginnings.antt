@@ -14,8 +14,8 @@ use Rattle.thread_steps.specs.Next.{locals_in, first_context, started}
 use Rattle.source_walk_terms.specs.Walks.{IsEntry, StandsAtEntry}
 use Rattle.source_walk_state.specs.declared.Beginning.{Beginning}
 use Rattle.source_walk.specs.Starts.{BeginsAt}
-use Rattle.source_walk.proofs.Sorts.{types_length, of_as_many}
-use Rattle.source_walk.proofs.Programs.{functions_length, found_is}
+use Rattle.source_walk_run.proofs.Sorts.{types_length, of_as_many}
+use Rattle.source_walk_run.proofs.Programs.{functions_length, found_is}
 
 some_same : (x y : Context) → Some x ≡ Some y → x ≡ y
 some_same x y e = cc

@@ -1,7 +1,4 @@
-mod Sorts
-mod Programs
 mod Beginnings
 mod Telling
 mod Starting
-mod Counted
 pub mod Reading

@@ -1,4 +1,3 @@
-pub mod Entries
 pub mod Starts
 pub mod Walking
 pub use Rattle.source_walk_run.specs.Meets

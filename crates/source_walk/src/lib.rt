@@ -5,16 +5,15 @@
 //! something else than its source, or more, the answer names the first such thread and that ask's place
 //! (`source_walk_terms`, `specs/Walks`).
 //!
-//! - `entries`: whether a thread may begin where it was started.
-//! - `starts`: how the threads of a start begin; `source_walk_run` has how the others do, and what each did.
-//! - `walking`: the walk over all threads; `source_walk_follow` is that over one.
+//! - `starts`: how the threads of a start begin.
+//! - `walking`: the walk over all threads; `source_walk_run` takes them on together, turn by turn, and
+//!   `source_walk_follow` is the walk of one.
 //! - `runs`: the walk over a run of a checked program, [`walk`].
 //!
-//! `specs/Walking` says what a walk finds of each thread. `source_walk_meets` has the laws that a walk has one answer,
+//! `specs/Walking` says which thread the answer names. `source_walk_meets` has the laws that a walk has one answer,
 //! and which it is where the code of a run means its source.
 #![tactic(auto)]
 
-mod entries;
 mod runs;
 mod starts;
 mod walking;

@@ -1,6 +1,6 @@
 pub mod Standing
 pub mod Lists
-pub mod Along
+pub mod Following
 pub mod StepLaws
 pub mod Given
 pub mod Replies

@@ -1,5 +1,5 @@
 -- What a thread did up to a place, and from there on.
-use Rattle.std.proofs.Common.{◌≡◌, ℕ, ◌+◌, ◌<◌, ◌≤◌, List, [], ◌∷◌, ◌++◌, length, take, get_or, Some, None, refl, sym, ap, ◌∙◌, subst, arith, drop_of_length-le, length-append}
+use Rattle.std.proofs.Common.{◌≡◌, ℕ, ◌<◌, ◌≤◌, List, [], ◌∷◌, ◌++◌, length, take, get_or, Some, None, refl, sym, ap, ◌∙◌, subst, arith, drop_of_length-le, length-append}
 use Rattle.std.proofs.Math.Seq.{take-append_seam}
 use Rattle.std.proofs.lemmas.List.{append-nil, take-append-drop}
 use Rattle.std.proofs.lemmas.Option.{slice_get_read, slice_get_past}
@@ -7,13 +7,18 @@ use Rattle.std.specs.Prelude.{◌≢◌, slice_get}
 use Rattle.lam_asks.specs.declared.answer.What.{What}
 use Rattle.lam_asks.specs.declared.answer.What.TheVariants.{Private, Asked}
 use Rattle.lam_asks.specs.declared.ask.Ask.{Ask}
-use Rattle.source_walk_terms.specs.Runs.{asked_in}
+use Rattle.source_walk_terms.specs.Runs.{asked_in, answers_in}
 use Rattle.source_walk_terms.specs.Departs.{DepartsAt}
 
 pub asked-append : (xs ys : List What) → asked_in (xs ++ ys) ≡ asked_in xs ++ asked_in ys
 asked-append [] ys = refl
 asked-append (Private ∷ xs) ys = asked-append xs ys
 asked-append (Asked a x ∷ xs) ys = ap (λ l. a ∷ l) (asked-append xs ys)
+
+pub answers-append : (xs ys : List What) → answers_in (xs ++ ys) ≡ answers_in xs ++ answers_in ys
+answers-append [] ys = refl
+answers-append (Private ∷ xs) ys = answers-append xs ys
+answers-append (Asked a x ∷ xs) ys = ap (λ l. x ∷ l) (answers-append xs ys)
 
 get_past : {A : Type 0} (xs ys : List A) → slice_get (xs ++ ys) (length xs) ≡ slice_get ys 0
 get_past [] ys = refl

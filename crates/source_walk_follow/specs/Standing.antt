@@ -1,13 +1,10 @@
 -- Where a walk stands, and what it asks there.
-use Rattle.std.specs.Prelude.{◌≡◌, ◌≢◌, ◌≤◌, ℕ, ◌++◌, length, take, drop, Bool, true, false, List, [], ◌∷◌, map, Option, Some, None, slice_get}
+use Rattle.std.specs.Prelude.{◌≡◌, ◌≢◌, ℕ, Bool, true, false, List, [], ◌∷◌, map, Option, Some, None, slice_get}
 use Rattle.flow_labels.specs.Flow.{public_label}
 use Rattle.capabilities.specs.declared.Caps.{Caps}
 use Rattle.lam_value.specs.declared.values.Value.{Value}
 use Rattle.lam_value.specs.declared.shapes.Shape.TheVariants.{Class}
 use Rattle.lam_asks.specs.declared.answer.Answer.{Answer}
-use Rattle.lam_asks.specs.declared.answer.What.{What}
-use Rattle.lam_asks.specs.declared.answer.What.TheVariants.{Private, Asked}
-use Rattle.source_walk_terms.specs.Runs.{asked_in, answers_in}
 use Rattle.lam_asks.specs.declared.ask.Ask.{Ask}
 use Rattle.lam_asks.specs.declared.ask.Ask.TheVariants as ask
 use Rattle.lam_resolve_tree.specs.Tree.{ResolvedTree}
@@ -58,25 +55,11 @@ GoesOn r c s a x d t = (xs : List Answer) → asks_left r c s (x ∷ xs) ≡ a �
 abbrev pub MakesOther : ResolvedTree → Control → State → Ask → Type 0
 MakesOther r c s a = (xs : List Answer) → slice_get (asks_left r c s xs) 0 ≢ Some a
 
--- a turn: a private one leaves the walk as it is, and an ask that is the next one goes on with its answer
-abbrev pub Turns : ResolvedTree → Control → State → What → State → Option Control → Type 0
-Turns r c s Private t None = ⊥
-Turns r c s Private t (Some d) = (d ≡ c) × (t ≡ s)
-Turns r c s (Asked a x) t None = MakesOther r c s a
-Turns r c s (Asked a x) t (Some d) = GoesOn r c s a x d t
-
--- where the walk goes on, if it does
-abbrev pub went : Bool → Control → Option Control
-went false d = None
-went true d = Some d
+-- an ask and its answer: the ask is the next one, and the walk goes on at a control, or it is not
+abbrev pub Meets : ResolvedTree → Control → State → Ask → Answer → State → Option Control → Type 0
+Meets r c s a x t None = MakesOther r c s a
+Meets r c s a x t (Some d) = GoesOn r c s a x d t
 
 -- where a walk begins
 abbrev pub first_state : ℕ → List Value → Caps → State
 first_state n ls k = record { frames = []; place = record { label = public_label; calls = 1 }; units = n; own = record { locals = ls; caps = k } }
-
--- a walk along what a thread did, behind so many turns, of which so many were asks: all asks are those that stand there,
--- and those that are left
-pub record IsAlong (r : ResolvedTree) (total : List Ask) (did : List What) (turns place : ℕ) (c : Control) (s : State) : Type 0 where
-  pub asks : total ≡ asked_in (take turns did) ++ asks_left r c s (answers_in (drop turns did))
-  pub many : place ≡ length (asked_in (take turns did))
-  pub least : place ≤ turns

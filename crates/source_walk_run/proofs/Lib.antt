@@ -1,7 +1,10 @@
+pub mod Sorts
+pub mod Programs
 mod Counts
-mod Puts
-mod OneMore
 mod Starting
-mod AllDone
+mod Moving
+mod OneMore
+mod Placing
+mod Told
 pub use Rattle.source_walk_meets.proofs.Lists
 pub use Rattle.source_walk_meets.proofs.Runs

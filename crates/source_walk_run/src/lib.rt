@@ -1,21 +1,25 @@
-//! Histories of a run's threads, for comparison with their source.
+//! The walks of a run's threads, each over its source.
 //!
-//! One pass over the turns of a run keeps the asks and answers of each thread, and how the threads began that the run
-//! started. Of a private turn nothing is kept. How many turns each thread took is counted from the list of turns.
+//! One pass over the turns of a run takes each thread's walk on, turn by turn. It keeps the state of each walk and
+//! nothing of the turns before. How many turns each thread takes bounds its source, and is counted before the pass.
 //!
-//! - `histories`: what is kept, and [`histories_of`].
-//! - `keeping`: the pass; `putting`: what one turn adds.
-//! - `counting`: the number of turns.
+//! - `counting`: the number of turns of each thread.
+//! - `entries`: whether a thread may begin where it was started.
+//! - `births`: how a thread begins that a turn starts.
+//! - `walks`: the walks of all threads, and what one turn changes.
+//! - `keeping`: the pass; `departures`: what is told of it, [`departures_of`].
 //!
-//! `specs/ThreadHistories` says what is kept of a run, `specs/Putting` what one turn adds, and `specs/Counting` what is
-//! counted.
+//! `specs/Departures` says what is told of a run, `specs/Walking` how walks stand to what was done, and
+//! `specs/Counting` what is counted.
 #![tactic(auto)]
 
+mod births;
 mod counting;
-mod histories;
+mod departures;
+mod entries;
 mod keeping;
-mod putting;
+mod walks;
 
-pub use histories::{ThreadHistories, histories_of};
+pub use departures::{Departures, departures_of};
 pub use lam_machine_replay::{RunFault, World, runs_are_whole};
 pub use source_walk_meets::{meant_runs_are_same, runs_have_threads};

@@ -1,12 +1,13 @@
-use Rattle.std.proofs.Common.{List, sym, subst}
+use Rattle.std.proofs.Common.{List, length, sym, subst}
 use Rattle.lam_resolve_tree.specs.Tree.{resolved_tree}
 use Rattle.lam_machine_terms.specs.Turns.{moments, replay}
 use Rattle.source_walk_state.specs.declared.Beginning.{Beginning}
-use Rattle.source_walk.specs.Starts.{AreBeginnings}
+use Rattle.source_walk_run.specs.Departures.{AreDepartures}
+use Rattle.source_walk.proofs.Telling.{tells}
 use Rattle.source_walk.proofs.walking.walk_from.Goals as goal
 
-pub returns-in_ok-walked-in-Ok-clause-ok : goal.returns-in_ok-walked-in-Ok-clause-ok
-returns-in_ok-walked-in-Ok-clause-ok c =
-    c.in_ok-walked-in-Ok.ensures c.args.code.now c.args.start (moments c.args.code.now c.args.turns.now c.args.start) (replay c.args.code.now c.args.turns.now c.args.start)
-    (subst (λ (l : List Beginning). AreBeginnings (resolved_tree c.args.program.now) c.args.code.now c.args.start.threads l) (sym c.as_slice.ensures.value) c.requires.starts) c.in-Ok.ensures.ok
-    (c.runs_have_threads.ensures c.args.code.now c.args.start c.args.turns.now)
+pub returns-clause-ok : goal.returns-clause-ok
+returns-clause-ok c =
+    tells (resolved_tree c.args.program.now) c.args.code.now c.args.start (moments c.args.code.now c.args.turns.now c.args.start) (replay c.args.code.now c.args.turns.now c.args.start) c.args.starts.items c.in_ok-departures.departures c.requires.starts
+    (subst (λ (l : List Beginning). AreDepartures (resolved_tree c.args.program.now) l (moments c.args.code.now c.args.turns.now c.args.start) c.in_ok-departures.departures) c.as_slice.ensures.value c.in_ok-departures.ensures.ok)
+    (c.runs_have_threads.ensures c.args.code.now c.args.start c.args.turns.now) c.first_departure-walked.result c.first_departure-walked.ensures

@@ -1,12 +1,13 @@
-use Rattle.std.proofs.Common.{List, map, subst, ap}
-use Rattle.std.proofs.lemmas.Result.{IfOk-weaker}
-use Rattle.lam_asks.specs.declared.ask.Ask.{Ask}
-use Rattle.lam_meaning.specs.Plays.{asks_of}
+use Rattle.std.proofs.Common.{ℕ, Option, sym, subst}
+use Rattle.lam_resolve_tree.specs.Tree.{resolved_tree}
+use Rattle.lam_meaning.specs.Plays.{asks_made}
 use Rattle.source_walk_terms.specs.Runs.{asked_in, answers_in}
 use Rattle.source_walk_follow.specs.Followed.{Follows}
+use Rattle.source_walk_follow.proofs.Following.{followed}
 use Rattle.source_walk_follow.proofs.follows.follow.Goals as goal
 
-pub returns : goal.returns
-returns c =
-    IfOk-weaker c.walk_along-found.result _ _
-    (λ at h. subst (λ (made : List Ask). Follows (asked_in c.args.did.now) made at) (ap (λ t. map (λ q. q.ask) (asks_of t (answers_in c.args.did.now))) c.in_ok-walking.ensures) h) c.walk_along-found.ensures
+pub returns-in-Ok : goal.returns-in-Ok
+returns-in-Ok c =
+    subst (λ (at : Option ℕ). Follows (asked_in c.args.did.now) (asks_made (resolved_tree c.args.program.now) c.args.units c.args.begin.now.function c.args.begin.now.args c.args.begin.now.caps (answers_in c.args.did.now)) at) (sym c.departure-place.ensures)
+    (followed (resolved_tree c.args.program.now) (asks_made (resolved_tree c.args.program.now) c.args.units c.args.begin.now.function c.args.begin.now.args c.args.begin.now.caps) c.args.did.now c.follow_all-ended.new.follower
+    (c.in-Ok.ensures (asks_made (resolved_tree c.args.program.now) c.args.units c.args.begin.now.function c.args.begin.now.args c.args.begin.now.caps) c.in_ok-follower.ensures.follows))
