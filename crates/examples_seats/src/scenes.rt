@@ -71,8 +71,8 @@ fn opened(alloc: Global, given: Given<'_>) -> Result<Opened, Fail>
 {
     match open_run(alloc, given.program.as_bytes(), given.world.as_bytes()) {
         Ok(opened) => Ok(opened),
-        Err(halt) => {
-            forget(halt);
+        Err(fault) => {
+            forget(fault);
             Err(Fail::new("the run is not opened"))
         }
     }

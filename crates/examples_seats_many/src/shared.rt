@@ -31,8 +31,8 @@ pub fn opened(alloc: Global, program: &str, world: &str) -> Result<Opened, Fail>
 {
     match open_run(alloc, program.as_bytes(), world.as_bytes()) {
         Ok(opened) => Ok(opened),
-        Err(halt) => {
-            forget(halt);
+        Err(fault) => {
+            forget(fault);
             Err(Fail::new("the run is not opened"))
         }
     }

@@ -2,10 +2,10 @@
 use Rattle.std.proofs.Common.{◌≡◌, Result, Ok, Err, IfErr, String, Global, sym, subst}
 use Rattle.lam_io.specs.Outside.{Files, AllStay}
 use Rattle.lam_main_plan.specs.Refusals.{Plan}
-use Rattle.lam_main_files.specs.declared.report.Report.{Report}
-use Rattle.lam_main_files.specs.declared.halt.Halt.{Halt}
-use Rattle.lam_main_files.specs.declared.halt.Halt.TheVariants.{Refused, NoMemory, ShelfFailed}
-use Rattle.lam_main_files.specs.Halts.{Gives, Reports, done}
+use Rattle.lam_main_replay.specs.declared.report.Report.{Report}
+use Rattle.lam_main_replay.specs.declared.halt.Halt.{Halt}
+use Rattle.lam_main_replay.specs.declared.halt.Halt.TheVariants.{Refused, NoMemory, ShelfFailed}
+use Rattle.lam_main_replay.specs.Halts.{Gives, Reports, done}
 
 reported_done : (r : Result (String Global) Halt) (IsPlan : Plan → Type 0) (old new : Files) → Gives r IsPlan old new → Reports (done r) IsPlan old new
 reported_done (Ok text) IsPlan old new h = h

@@ -11,15 +11,15 @@ use Rattle.lam_main_plan.specs.Threads.{status_of}
 use Rattle.lam_main_plan.specs.Refusals.{Plan, no_word, no_world}
 use Rattle.lam_main_plan.specs.Answer.{outside, IsPrinted, whole, front, AsPlanned, IsPlanned, by_plan, without_memory, without_shelf}
 use Rattle.lam_main_plan.proofs.AnswerLemmas.{no_file_written}
-use Rattle.lam_main_files.specs.declared.halt.Refusal.{Refusal}
-use Rattle.lam_main_files.specs.declared.halt.Refusal.TheVariants.{Word, Script, NotUtf8, Flawed, CodeTooLong, World, Unnamed, BadText, TooBig, Book, NotReady, Absent, TooLong}
-use Rattle.lam_main_files.specs.declared.halt.Halt.{Halt}
-use Rattle.lam_main_files.specs.declared.halt.Halt.TheVariants.{Refused, NoMemory as no_memory, ShelfFailed}
+use Rattle.lam_main_replay.specs.declared.halt.Refusal.{Refusal}
+use Rattle.lam_main_replay.specs.declared.halt.Refusal.TheVariants.{Word, Script, NotUtf8, Flawed, CodeTooLong, World, Unnamed, BadText, TooBig, Book, NotReady, Absent, TooLong}
+use Rattle.lam_main_replay.specs.declared.halt.Halt.{Halt}
+use Rattle.lam_main_replay.specs.declared.halt.Halt.TheVariants.{Refused, NoMemory as no_memory, ShelfFailed}
 use Rattle.world_doc_terms.specs.Breaks.{break_seen}
 use Rattle.world_doc_terms.specs.declared.breaks.WorldBreak.{WorldBreak}
 use Rattle.world_doc_terms.specs.declared.breaks.WorldBreak.TheVariants.{NotJson, NoMember, BadMember, NoTag, BadPath, PathTwice}
-use Rattle.lam_main_files.specs.declared.report.Report.{Report}
-use Rattle.lam_main_files.specs.Halts.{refuses, Reports}
+use Rattle.lam_main_replay.specs.declared.report.Report.{Report}
+use Rattle.lam_main_replay.specs.Halts.{refuses, Reports}
 use Rattle.lam_main.specs.Ends.{Ends}
 use Rattle.lam_main.specs.Lines.{Prints, ended}
 

@@ -6,10 +6,10 @@ use Rattle.lam_main_plan.specs.declared.Status.{Status}
 use Rattle.lam_main_plan.specs.declared.Status.TheVariants.{NoMemory as ended_without_memory, ShelfFault}
 use Rattle.lam_main_plan.specs.Threads.{status_of}
 use Rattle.lam_main_plan.specs.Answer.{IsPrinted}
-use Rattle.lam_main_files.specs.declared.report.Report.{Report}
-use Rattle.lam_main_files.specs.declared.halt.Halt.{Halt}
-use Rattle.lam_main_files.specs.declared.halt.Halt.TheVariants.{Refused, NoMemory, ShelfFailed}
-use Rattle.lam_main_files.specs.Halts.{refuses}
+use Rattle.lam_main_replay.specs.declared.report.Report.{Report}
+use Rattle.lam_main_replay.specs.declared.halt.Halt.{Halt}
+use Rattle.lam_main_replay.specs.declared.halt.Halt.TheVariants.{Refused, NoMemory, ShelfFailed}
+use Rattle.lam_main_replay.specs.Halts.{refuses}
 
 -- its status, and what the sink took
 abbrev pub Ends : Status → Result Report Halt → Option Text → Option Text → Type 0

@@ -7,8 +7,8 @@
 //! its count of faults rose in the call.
 //!
 //! - `lam_main_words` tells which command is asked.
-//! - `lam_main_files`, `lam_main_replay`, `lam_main_threads`, `lam_main_pair`, `lam_main_next` and `lam_main_walk` read
-//!   the files that it names, run its threads and make its text.
+//! - `lam_main_replay`, `lam_main_threads`, `lam_main_pair`, `lam_main_next` and `lam_main_walk` read the files that it
+//!   names, run its threads and make its text.
 //! - `print` prints that, or the line of a refusal.
 //!
 //! The program `lam` calls it with the current folder and standard output, and tests with a store and a stream in
@@ -37,14 +37,13 @@ ghost use Rattle.lam_main_laws.specs.Meant.{CallsRunAsMeant};
 ghost use Rattle.lam_main_laws.specs.Pairs.{PairsAreTold};
 ghost use Rattle.lam_main_laws.specs.Saves.{SavesAreTold, NextWorldsAreRead};
 ghost use Rattle.lam_main_laws.specs.Walks.{WalksAreTold};
-ghost use Rattle.lam_main_files.specs.Halts.{Says, Gives, Reports};
+ghost use Rattle.lam_main_replay.specs.Halts.{Says, Gives, Reports};
 ghost use Rattle.lam_main_threads.specs.Asked.{reader_of};
 ghost use Rattle.lam_main.specs.Ends.{Ends};
 ghost use Rattle.lam_main.specs.Lines.{ended};
 
 use crate::print::{print_refusal, print_text};
 use lam_io::{Gate, Shelf, Sink, SinkFault};
-use lam_main_files::{Halt, Refusal, Report, check, code, done, format, play};
 use lam_main_laws::{
     audits_are_printed, broken_makes_are_recorded, broken_runs_are_recorded, calls_run_as_meant,
     fronts_are_printed, generated_runs_are_recorded, makes_are_complete, makes_end,
@@ -55,6 +54,7 @@ use lam_main_laws::{
 use lam_main_next::next;
 use lam_main_pair::pair;
 pub use lam_main_plan::Status;
+use lam_main_replay::{Halt, Refusal, Report, check, code, done, format, play};
 use lam_main_threads::{Bounds, Reader, RunFiles, ThreadFiles, make, replay, run};
 use lam_main_walk::walk;
 pub use lam_main_words::{Command, WordFault, help_text, read_words};

@@ -6,15 +6,15 @@ ghost use Rattle.lam_io.specs.Outside.{Rose};
 ghost use Rattle.lam_main_plan.specs.Refusals.{refused, no_program, no_world, no_turn};
 ghost use Rattle.lam_main_plan.specs.Threads.{status_of};
 ghost use Rattle.lam_main.specs.Lines.{texts, joined, Goes, Prints};
-ghost use Rattle.lam_main_files.specs.Halts.{words_of, refuses};
+ghost use Rattle.lam_main_replay.specs.Halts.{words_of, refuses};
 ghost use Rattle.world_doc_terms.specs.Breaks.{break_seen};
 
 use itoa::Buffer;
 use lam_front::Flaw;
 use lam_io::{Sink, SinkFault, write_all};
 use lam_machine_runs::How;
-use lam_main_files::{BookBreak, Refusal};
 use lam_main_plan::Status;
+use lam_main_replay::{BookBreak, Refusal};
 use world_doc_terms::WorldBreak;
 
 /// Prints a command's text, whose run ended so.

@@ -28,10 +28,10 @@ use Rattle.lam_main_replay.specs.Books.{WithRun, NoTurns, WhereReady}
 use Rattle.lam_main_replay.specs.Saves.{saved_line, IsOfFiles, saved, unnamed, untold, too_long, IsOfEnd, SavesRun, Saves}
 use Rattle.lam_main_replay.proofs.ReadLemmas.{same_files, thin_program_then, no_thin_program_then, by_no_world, by_this_world}
 use Rattle.lam_main_replay.proofs.BookLemmas.{run_then, no_turns_then, ready_then, stop_then}
-use Rattle.lam_main_replay.specs.Report.{Report}
-use Rattle.lam_main_replay.specs.Refusal.TheVariants.{NotReady as not_ready_at}
-use Rattle.lam_main_replay.specs.Halt.{Halt}
-use Rattle.lam_main_replay.specs.Halt.TheVariants.{Refused, NoMemory, ShelfFailed}
+use Rattle.lam_main_replay.specs.declared.report.Report.{Report}
+use Rattle.lam_main_replay.specs.declared.halt.Refusal.TheVariants.{NotReady as not_ready_at}
+use Rattle.lam_main_replay.specs.declared.halt.Halt.{Halt}
+use Rattle.lam_main_replay.specs.declared.halt.Halt.TheVariants.{Refused, NoMemory, ShelfFailed}
 use Rattle.lam_main_replay.specs.Halts.{refuses, Finds, Reports, IsRead}
 use Rattle.lam_main_replay.proofs.ReportLemmas.{reports_map, reports_later, not_reported}
 use Rattle.lam_main_next.specs.declared.ending.Ending.{Ending}

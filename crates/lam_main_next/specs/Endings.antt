@@ -7,9 +7,9 @@ use Rattle.lam_main_words.specs.Words.{Text}
 use Rattle.lam_main_replay.specs.Status.TheVariants.{Done}
 use Rattle.lam_main_replay.specs.Refusals.{Plan}
 use Rattle.lam_main_replay.specs.Saves.{saved_line}
-use Rattle.lam_main_replay.specs.Refusal.TheVariants.{Unnamed, BadText, TooBig}
-use Rattle.lam_main_replay.specs.Halt.{Halt}
-use Rattle.lam_main_replay.specs.Halt.TheVariants.{Refused, NoMemory, ShelfFailed}
+use Rattle.lam_main_replay.specs.declared.halt.Refusal.TheVariants.{Unnamed, BadText, TooBig}
+use Rattle.lam_main_replay.specs.declared.halt.Halt.{Halt}
+use Rattle.lam_main_replay.specs.declared.halt.Halt.TheVariants.{Refused, NoMemory, ShelfFailed}
 use Rattle.lam_main_replay.specs.Halts.{refuses}
 use Rattle.lam_main_next.specs.declared.ending.Ending.{Ending}
 

@@ -1,7 +1,7 @@
 //! The command `next`, which carries a run's files over into the next run's world.
 //!
 //! The files are read one after another, and the first refusal ends the call. They are the program, whose code is run
-//! (`lam_main_files`), the document of the world, and the book. The document's bytes are kept, since the next one has
+//! (`run_inputs`), the document of the world, and the book. The document's bytes are kept, since the next one has
 //! its pipes and threads. The turns are taken (`thread_host_run`), and the document is made of the files and
 //! directories that they leave, or it is refused (`world_save`). The document is written last, and nothing is written
 //! where there is a refusal. What a call answers is what the plan of these files says (`lam_main_plan`).

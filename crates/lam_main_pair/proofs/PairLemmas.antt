@@ -24,8 +24,8 @@ use Rattle.lam_main_replay.specs.Books.{WithStart, WithRun, ByLabel, NoTurns, Wh
 use Rattle.lam_main_replay.specs.Pairs.{pair_line, IsOfPair, PairsWith, PairsRuns, Pairs}
 use Rattle.lam_main_replay.proofs.ReadLemmas.{same_files, file_map, thin_program_then, no_thin_program_then}
 use Rattle.lam_main_replay.proofs.BookLemmas.{start_then, no_start_then, label_then, no_label_then, ready_then, run_then, no_turns_then, run_map}
-use Rattle.lam_main_replay.specs.Halt.{Halt}
-use Rattle.lam_main_replay.specs.Halt.TheVariants.{Refused, NoMemory, ShelfFailed}
+use Rattle.lam_main_replay.specs.declared.halt.Halt.{Halt}
+use Rattle.lam_main_replay.specs.declared.halt.Halt.TheVariants.{Refused, NoMemory, ShelfFailed}
 use Rattle.lam_main_replay.specs.Halts.{refuses, Finds, Says, Gives}
 use Rattle.lam_main_replay.proofs.FileLemmas.{says_map, not_found, gives_of}
 use Rattle.lam_main_replay.specs.Asked.{halt_of_run}

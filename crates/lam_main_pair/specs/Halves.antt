@@ -18,7 +18,7 @@ use Rattle.lam_main_replay.specs.Reading.{HasFile, book_limit}
 use Rattle.lam_main_replay.specs.Replays.{RunFiles}
 use Rattle.lam_main_replay.specs.Books.{ByLabel, WithRun}
 use Rattle.lam_main_replay.specs.Pairs.{pair_line, IsOfPair, PairsWith}
-use Rattle.lam_main_replay.specs.Halt.{Halt}
+use Rattle.lam_main_replay.specs.declared.halt.Halt.{Halt}
 use Rattle.lam_main_replay.specs.Halts.{Says}
 use Rattle.lam_main_pair.specs.declared.half.Half.{Half}
 

@@ -4,8 +4,8 @@ use Rattle.lam_io.specs.Outside.{Files}
 use Rattle.lam_print.specs.Canon.{canon}
 use Rattle.lam_front.proofs.Once.{one_spelt, spelt_or_misspelt, one_misspelt, fine_or_broken, one_broken}
 use Rattle.lam_syntax.specs.Tree.{ProgramTree}
-use Rattle.barrier_compiler.specs.Compiled.{IsCompiledTo}
-use Rattle.barrier_compiler.proofs.Once.{one_compiled}
+use Rattle.run_inputs.specs.Compiled.{IsCompiledTo}
+use Rattle.run_inputs.proofs.CompiledOnce.{one_compiled}
 use Rattle.lam_bytecode.specs.Codes.{CodeTree}
 use Rattle.thinned_code.specs.Thinned.{thinned}
 use Rattle.lam_bytecode.specs.Listing.{listing_text}

@@ -9,6 +9,6 @@ pub mod Walks
 pub mod Saves
 pub mod Plan
 pub mod Answer
-pub use Rattle.barrier_compiler.specs.Compiled
-pub use Rattle.barrier_compiler.specs.declared.emitting.CompileFault
+pub use Rattle.run_inputs.specs.Inputs
+pub use Rattle.run_inputs.specs.declared.fault.InputFault
 pub use Rattle.world_save_files.specs.Saved

@@ -1,11 +1,10 @@
 -- What is read next, and what is done with it: a file, and the code of the program in it.
 use Rattle.std.specs.Prelude.{◌≡◌, ◌<◌, ◌≤◌, ℕ, length, Option, Some, None, Result, Ok, Err}
-use Rattle.lam_syntax.specs.Tree.{ProgramTree}
 use Rattle.lam_front.specs.declared.fault.ProgramFault.{ProgramFault}
-use Rattle.lam_front.specs.Programs.{IsFine, IsBroken}
+use Rattle.lam_front.specs.Programs.{IsBroken}
 use Rattle.lam_bytecode.specs.Codes.{CodeTree}
-use Rattle.barrier_compiler.specs.Compiled.{IsCompiledTo}
 use Rattle.thinned_code.specs.Thinned.{thinned}
+pub use Rattle.run_inputs.specs.Inputs.{IsCompiled, IsRunCode}
 use Rattle.lam_main_words.specs.Words.{Text}
 use Rattle.lam_main_plan.specs.Refusals.{Plan, no_program, no_code, absent, too_long}
 use Rattle.world_save_terms.specs.Document.{most_document}
@@ -44,13 +43,6 @@ pub data WithFile (found : Option Text) (name : Text) (limit : ℕ) (IsOf : Text
 abbrev pub Never : {X : Type 0} → X → Plan → Type 0
 Never x plan = ⊥
 
--- the bytes spell a program that keeps the type rules and the region rules, and this is what it is compiled to: its
--- code, or the number of its first unit that is too long
-pub record IsCompiled (bytes : Text) (made : Result CodeTree ℕ) : Type 0 where
-  pub program : ProgramTree
-  pub fine : IsFine bytes program
-  pub makes : IsCompiledTo program made
-
 -- the plan of what a program is compiled to
 abbrev pub ByCode : (CodeTree → Plan → Type 0) → Result CodeTree ℕ → Plan → Type 0
 ByCode IsOf (Ok tree) plan = IsOf tree plan
@@ -62,12 +54,7 @@ pub data Compiles (IsOf : CodeTree → Plan → Type 0) (bytes : Text) (plan : P
   fine : (made : Result CodeTree ℕ) → IsCompiled bytes made → ByCode IsOf made plan → Compiles IsOf bytes plan
   broken : (f : ProgramFault) → IsBroken bytes f → plan ≡ no_program f → Compiles IsOf bytes plan
 
--- the code that is run of the program that the bytes spell: what it is compiled to, without the barriers that test again
-pub record IsRunCode (bytes : Text) (code : CodeTree) : Type 0 where
-  pub whole : CodeTree
-  pub makes : IsCompiled bytes (Ok whole)
-  pub thin : code ≡ thinned whole
-
--- the plan of the code that is run of it
+-- the plan of the code that is run of the program that the bytes spell: what it is compiled to, without the barriers that test
+-- again
 abbrev pub Thins : (CodeTree → Plan → Type 0) → Text → Plan → Type 0
 Thins IsOf bytes plan = Compiles (λ code. IsOf (thinned code)) bytes plan

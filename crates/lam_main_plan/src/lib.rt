@@ -10,7 +10,7 @@ ghost use Rattle.std.specs.Prelude.{◌≡◌, ◌≤◌};
 ghost use Rattle.lam_main_plan.specs.Codes.{code_of};
 ghost use Rattle.lam_main_plan.specs.Plan.{PlansAreOne, RefusalsAreOne};
 
-pub use barrier_compiler::{CompileFault, compile};
+pub use run_inputs::{InputFault, compiled_code, let_go_world, program_in, run_code, start_in};
 
 /// How a call ended.
 #[derive(Clone, Copy, Debug, PartialEq, Eq)]

@@ -6,7 +6,6 @@ use Rattle.flow_labels.specs.declared.Label.{Label}
 use Rattle.flow_labels.specs.declared.texts.LabelFault.{LabelFault}
 use Rattle.lam_io.specs.Outside.{Files, AllStay}
 use Rattle.lam_bytecode.specs.Codes.{CodeTree}
-use Rattle.guarded_code.specs.Breaks.{IsGuarded}
 use Rattle.lam_machine_terms.specs.Worlds.{World}
 use Rattle.lam_machine_terms.specs.Turns.{Moment, moments}
 use Rattle.world_doc_terms.specs.Breaks.{Break, break_seen, Reading}
@@ -15,26 +14,26 @@ use Rattle.turn_book.specs.Reading.{turns_of}
 use Rattle.turn_book.specs.Reading as book_reading
 use Rattle.turn_book.specs.declared.BookFault.{BookFault}
 use Rattle.turn_book.specs.declared.BookFault.TheVariants.{BadHead, BadLine, SameThread, TooMany, NoMemory as no_memory_of_book}
-use Rattle.world_doc_stores.specs.Meaning as document_reading
-use Rattle.world_doc_stores.specs.declared.fault.WorldFault.{WorldFault}
-use Rattle.world_doc_stores.specs.declared.fault.WorldFault.TheVariants.{Broken, NoMemory as no_memory_of_world}
+use Rattle.lam_main_plan.specs.InputFault.{InputFault}
+use Rattle.lam_main_plan.specs.InputFault.TheVariants as input
+use Rattle.lam_main_plan.specs.Inputs.{NoStart as NoStartOf}
 use Rattle.lam_machine_runs.specs.Stops.{NotReady, stopped_at}
 use Rattle.audit_log_lines.specs.Stops.{IsStop}
 use Rattle.audit_log_lines.specs.RunFault.{RunFault}
 use Rattle.audit_log_lines.specs.RunFault.TheVariants.{NotReady as not_ready, NoMemory as no_memory_of_run}
 use Rattle.lam_main_words.specs.Words.{Text}
-use Rattle.lam_main_files.specs.Refusals.{Plan, prints, no_world, no_book}
-use Rattle.lam_main_files.specs.Reading.{HasFile, WithFile, Never, Compiles, IsRunCode, program_limit, world_limit, book_limit, of_file}
-use Rattle.lam_main_files.specs.Replays.{Reader, an_observer, RunFiles, view_by, read_by, by_turns, by_book, IsOfTurns, IsOfBook, ByReader, ByWorld, NoStart, Replays, Starts, Runs}
-use Rattle.lam_main_files.specs.Books.{ByLabel, ByTurns, NoTurns}
-use Rattle.lam_main_files.proofs.ReadLemmas.{file_map, same_files, thin_program_then, no_thin_program_then, start_then, no_start_then, reader_then, no_reader_then}
-use Rattle.lam_main_files.specs.declared.halt.Refusal.TheVariants.{NotReady as not_ready_at}
-use Rattle.lam_main_files.specs.declared.halt.Halt.{Halt}
-use Rattle.lam_main_files.specs.declared.halt.Halt.TheVariants.{Refused, NoMemory, ShelfFailed}
-use Rattle.lam_main_files.specs.Halts.{refuses, Finds, Says, Gives}
-use Rattle.lam_main_files.proofs.FileLemmas.{says_map, not_found, gives_of}
+use Rattle.lam_main_plan.specs.Refusals.{Plan, prints, no_world, no_book}
+use Rattle.lam_main_plan.specs.Reading.{HasFile, WithFile, Never, Compiles, IsRunCode, program_limit, world_limit, book_limit, of_file}
+use Rattle.lam_main_plan.specs.Replays.{Reader, an_observer, RunFiles, view_by, read_by, by_turns, by_book, IsOfTurns, IsOfBook, ByReader, ByWorld, NoStart, Replays, Starts, Runs}
+use Rattle.lam_main_plan.specs.Books.{ByLabel, ByTurns, NoTurns}
+use Rattle.lam_main_plan.proofs.ReadLemmas.{file_map, same_files, thin_program_then, no_thin_program_then, start_then, no_start_then, reader_then, no_reader_then}
+use Rattle.lam_main_replay.specs.declared.halt.Refusal.TheVariants.{NotReady as not_ready_at}
+use Rattle.lam_main_replay.specs.declared.halt.Halt.{Halt}
+use Rattle.lam_main_replay.specs.declared.halt.Halt.TheVariants.{Refused, NoMemory, ShelfFailed}
+use Rattle.lam_main_replay.specs.Halts.{refuses, halt_of_input, Finds, Says, Gives}
+use Rattle.lam_main_replay.proofs.FileLemmas.{says_map, not_found, gives_of}
 use Rattle.lam_main_replay.specs.declared.viewer.Viewer.{Viewer}
-use Rattle.lam_main_replay.specs.Asked.{lines_for, halt_of_world, halt_of_book, halt_of_run, HaltsAt}
+use Rattle.lam_main_replay.specs.Asked.{lines_for, halt_of_book, halt_of_run, HaltsAt}
 
 -- ---- the start
 
@@ -42,28 +41,16 @@ by_break : (read : Reading World) (b : Break) → read ≡ Err b → ByWorld Nev
 by_break read b is = subst (λ (r : Reading World). ByWorld Never r (no_world b)) (sym is) refl
 
 module _ {X : Type 0} (IsIt : X → Type 0) (tree : CodeTree) (bytes : Text) where
-  broken_start : (f : WorldFault) → document_reading.Fails f (start_of bytes tree) → Finds {X = X} (Err (halt_of_world f)) IsIt (NoStart tree bytes)
-  broken_start (Broken breach) h = by_break (start_of bytes tree) (break_seen breach) h.breaks
-  broken_start no_memory_of_world h = tt
+  no_start : (f : InputFault) → NoStartOf tree bytes f → Finds {X = X} (Err (halt_of_input f)) IsIt (NoStart tree bytes)
+  no_start input.NotUtf8 h = absurd h
+  no_start (input.Flawed flaw at) h = absurd h
+  no_start (input.CodeTooLong unit) h = absurd h
+  no_start (input.World breach) h = by_break (start_of bytes tree) (break_seen breach) h
+  no_start input.NoMemory h = tt
 
-  pub no_start_found : (f : WorldFault) (halt : Halt) → document_reading.Fails f (start_of bytes tree) → halt ≡ halt_of_world f → Finds {X = X} (Err halt) IsIt (NoStart tree bytes)
-  no_start_found f halt h is = subst (λ (x : Halt). Finds {X = X} (Err x) IsIt (NoStart tree bytes)) (sym is) (broken_start f h)
-
--- what holds of a code that is lent holds of whose it is
-module _ (tree lent : CodeTree) where
-  pub lent_guarded : lent ≡ tree → IsGuarded lent → IsGuarded tree
-  lent_guarded same guarded = subst IsGuarded same guarded
-
-  pub lent_start : (bytes : Text) (start : World) → lent ≡ tree → start_of bytes lent ≡ Ok start → start_of bytes tree ≡ Ok start
-  lent_start bytes start same is = subst (λ (c : CodeTree). start_of bytes c ≡ Ok start) same is
-
-  pub lent_break : (bytes : Text) (f : WorldFault) → lent ≡ tree → document_reading.Fails f (start_of bytes lent) → document_reading.Fails f (start_of bytes tree)
-  lent_break bytes f same h = subst (λ (c : CodeTree). document_reading.Fails f (start_of bytes c)) same h
-
--- no fault of a document is one of the shelf
-pub no_shelf_world : (f : WorldFault) (halt : Halt) → halt ≡ halt_of_world f → halt ≡ ShelfFailed → ⊥
-no_shelf_world (Broken breach) halt is e = cc
-no_shelf_world no_memory_of_world halt is e = cc
+  -- a document that gives no start is refused as planned
+  pub no_start_found : (f : InputFault) (halt : Halt) → NoStartOf tree bytes f → halt ≡ halt_of_input f → Finds {X = X} (Err halt) IsIt (NoStart tree bytes)
+  no_start_found f halt h is = subst (λ (x : Halt). Finds {X = X} (Err x) IsIt (NoStart tree bytes)) (sym is) (no_start f h)
 
 -- ---- who reads
 

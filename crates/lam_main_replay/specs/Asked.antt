@@ -7,17 +7,15 @@ use Rattle.audit_log_lines.specs.Log.{view_lines, audit_lines}
 use Rattle.turn_book.specs.declared.BookFault.{BookFault}
 use Rattle.turn_book.specs.declared.BookFault.TheVariants as book
 use Rattle.world_doc_terms.specs.Start.{start_of}
-use Rattle.world_doc_stores.specs.declared.fault.WorldFault.{WorldFault}
-use Rattle.world_doc_stores.specs.declared.fault.WorldFault.TheVariants as document
 use Rattle.lam_machine_runs.specs.Stops.{NotReady as NotReadyAt}
 use Rattle.audit_log_lines.specs.RunFault.{RunFault}
 use Rattle.audit_log_lines.specs.RunFault.TheVariants as run
 use Rattle.lam_main_words.specs.Words.{Text}
-use Rattle.lam_main_files.specs.Replays.{Reader as Plain, an_observer, an_auditor, RunFiles as PlainFiles}
-use Rattle.lam_main_files.specs.declared.halt.BookBreak.TheVariants.{Head, Line, SameThread, TooMany}
-use Rattle.lam_main_files.specs.declared.halt.Refusal.TheVariants.{World as OfWorld, Book, NotReady}
-use Rattle.lam_main_files.specs.declared.halt.Halt.{Halt}
-use Rattle.lam_main_files.specs.declared.halt.Halt.TheVariants.{Refused, NoMemory}
+use Rattle.lam_main_plan.specs.Replays.{Reader as Plain, an_observer, an_auditor, RunFiles as PlainFiles}
+use Rattle.lam_main_replay.specs.declared.halt.BookBreak.TheVariants.{Head, Line, SameThread, TooMany}
+use Rattle.lam_main_replay.specs.declared.halt.Refusal.TheVariants.{Book, NotReady}
+use Rattle.lam_main_replay.specs.declared.halt.Halt.{Halt}
+use Rattle.lam_main_replay.specs.declared.halt.Halt.TheVariants.{Refused, NoMemory}
 use Rattle.lam_main_replay.specs.declared.Reader.{Reader}
 use Rattle.lam_main_replay.specs.declared.Reader.TheVariants as reader
 use Rattle.lam_main_replay.specs.declared.RunFiles.{RunFiles}
@@ -43,10 +41,6 @@ lines_for (Observer label) names = view_lines names label
 lines_for Auditor names = audit_lines names
 
 -- ---- what the faults halt with
-
-abbrev pub halt_of_world : WorldFault → Halt
-halt_of_world (document.Broken breach) = Refused (OfWorld breach)
-halt_of_world document.NoMemory = NoMemory
 
 abbrev pub halt_of_book : BookFault → Halt
 halt_of_book book.BadHead = Refused (Book Head 1)

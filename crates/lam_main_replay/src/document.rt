@@ -1,26 +1,21 @@
-//! The start of a run, which is the world of a document.
-//!
-//! Its threads stand at the entries of functions (`world_doc_laws`), so that runs of a guarded code from there are
-//! sound.
+//! The start of a run, which is the world of the document in a file.
 
 ghost use Rattle.std.specs.Prelude.{◌≡◌, ◌≢◌, ◌≤◌, Ok, IsTrue, IfOk, IfErr, string_bytes};
 ghost use Rattle.lam_io.specs.Outside.{Rose, AllStay};
 ghost use Rattle.lam_bytecode.specs.Codes.{IsCode};
-ghost use Rattle.world_doc_laws.specs.Worlds.{IsSound};
+ghost use Rattle.guarded_code_runs.specs.Worlds.{IsSound};
 ghost use Rattle.world_doc_terms.specs.Start.{start_of};
-ghost use Rattle.lam_main_files.specs.Reading.{HasFile, WithFile, world_limit};
-ghost use Rattle.lam_main_files.specs.Replays.{NoStart};
-ghost use Rattle.lam_main_files.specs.Halts.{Finds};
-ghost use Rattle.lam_main_replay.specs.Asked.{IsStartOf, halt_of_world};
+ghost use Rattle.lam_main_plan.specs.Reading.{HasFile, WithFile, world_limit};
+ghost use Rattle.lam_main_plan.specs.Replays.{NoStart};
+ghost use Rattle.lam_main_replay.specs.Halts.{Finds};
+ghost use Rattle.lam_main_replay.specs.Asked.{IsStartOf};
 
+use crate::files::read_file;
+use crate::halt::Halt;
 use audit_log_lines::World;
 use guarded_code::Verified;
 use lam_io::Shelf;
-use lam_main_files::{Halt, Refusal, read_file};
 use std::alloc::Global;
-use world_doc::start;
-use world_doc_laws::starts_are_entered;
-use world_doc_stores::WorldFault;
 
 /// The most bytes of the document of a world.
 pub const WORLD_LIMIT: u64 = 16_777_216;
@@ -62,19 +57,5 @@ pub fn start_in(alloc: Global, code: &Verified, bytes: &[u8]) -> Result<World, H
     ensures sound { IfOk result (IsSound code.now) }
     ensures no_fault { IfErr result (λ halt. halt ≢ Halt.ShelfFailed) }
 {
-    starts_are_entered();
-    match start(alloc, bytes, code.code()) {
-        Ok(start) => Ok(start),
-        Err(fault) => Err(world_halt(fault)),
-    }
-}
-
-/// What a fault of a document halts with.
-fn world_halt(fault: WorldFault) -> Halt
-    ensures { result ≡ halt_of_world fault }
-{
-    match fault {
-        WorldFault::Broken(breach) => Halt::Refused(Refusal::World(breach)),
-        WorldFault::NoMemory => Halt::NoMemory,
-    }
+    Ok(lam_main_plan::start_in(alloc, code, bytes)?)
 }

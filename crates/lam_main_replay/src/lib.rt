@@ -1,39 +1,50 @@
-//! The commands `replay` and `audit`, which show the run that three files describe.
+//! The commands that show files and runs, and the parts that all commands share.
 //!
-//! The files are read one after another, and the first refusal ends the call. First comes the program, which is
-//! compiled (`lam_main_files`), then the document of the world that the run starts from (`world_doc`). Then come the
-//! observer's label, whose tags that world names, and the book, the schedule of turns (`turn_book`). The machine takes
-//! the turns, and what is seen of them, or noted (`lam_machine_replay`), is printed (`audit_log`). What a call answers
-//! is what the plan of these files says (`lam_main_plan`). The command `run` reads its files by the same calls.
+//! `play`, `format`, `check` and `code` read one file, and `replay` and `audit` show the run that three files describe.
+//! A command reads the files that the words name and makes its text, or halts. It halts where what it reads is refused,
+//! memory ran out, or the file store failed. A [`Refusal`] is known by the line that is printed for it.
+//!
+//! The files are read one after another, and the first refusal ends the call. Of a run, first comes the program, then
+//! the document of the world that the run starts from. Then come the observer's label, whose tags that world names, and
+//! the book, the schedule of turns. `run_inputs` reads each from its bytes. The machine takes the turns, and what is
+//! seen of them, or noted (`lam_machine_replay`), is printed (`audit_log`). What a call answers is what the plan of
+//! these files says (`lam_main_plan`), in one relation for all commands (`specs/Halts.antt`).
 #![tactic(auto)]
 
 mod document;
+mod files;
+mod halt;
 mod keeping;
+mod program;
+mod report;
 mod run_text;
+mod script;
 mod turns;
 mod viewer;
 
 ghost use Rattle.std.specs.Prelude.{◌≡◌, IsTrue, IfErr, string_bytes};
 ghost use Rattle.lam_io.specs.Outside.{Rose, AllStay};
 ghost use Rattle.lam_bytecode.specs.Codes.{IsCode};
-ghost use Rattle.world_doc_laws.specs.Worlds.{IsSound};
-ghost use Rattle.lam_main_files.specs.Reading.{WithFile, program_limit, book_limit};
-ghost use Rattle.lam_main_files.specs.Replays.{IsOfBook, Replays, Starts, Runs};
-ghost use Rattle.lam_main_files.specs.Halts.{Says, Gives};
+ghost use Rattle.guarded_code_runs.specs.Worlds.{IsSound};
+ghost use Rattle.lam_main_plan.specs.Reading.{WithFile, program_limit, book_limit};
+ghost use Rattle.lam_main_plan.specs.Replays.{IsOfBook, Replays, Starts, Runs};
+ghost use Rattle.lam_main_replay.specs.Halts.{Says, Gives};
 ghost use Rattle.lam_main_replay.specs.Asked.{files_of, reader_of, lines_for};
 
 pub use crate::document::{WORLD_LIMIT, read_start, start_in};
+pub use crate::files::read_file;
+pub use crate::halt::{BookBreak, Halt, Refusal};
+pub use crate::program::{PROGRAM_LIMIT, check, code, format, read_code, run_code_of};
+pub use crate::report::{Report, done};
 pub use crate::run_text::shown_turns;
+pub use crate::script::play;
 pub use crate::turns::{read_label, read_turns, run_halt};
 pub use crate::viewer::{NamedViewer, Viewer, viewer_of};
 use audit_log_lines::World;
 use guarded_code::Verified;
 use lam_io::Shelf;
-pub use lam_main_files::{
-    Halt, PROGRAM_LIMIT, Refusal, Report, read_code, read_file, run_code_of, thin_verified,
-};
+pub use lam_main_plan::{InputFault, let_go_world, program_in, run_code};
 use std::alloc::Global;
-pub use world_doc::let_go_world;
 
 /// Who reads of a run.
 #[derive(Drop)]

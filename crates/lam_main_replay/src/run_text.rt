@@ -1,16 +1,16 @@
 //! The text of the run of turns.
 
 ghost use Rattle.std.specs.Prelude.{◌≡◌, ◌≢◌, IfErr};
-ghost use Rattle.world_doc_laws.specs.Worlds.{IsSound};
-ghost use Rattle.lam_main_files.specs.Replays.{IsOfTurns};
-ghost use Rattle.lam_main_files.specs.Halts.{Says};
+ghost use Rattle.guarded_code_runs.specs.Worlds.{IsSound};
+ghost use Rattle.lam_main_plan.specs.Replays.{IsOfTurns};
+ghost use Rattle.lam_main_replay.specs.Halts.{Says};
 ghost use Rattle.lam_main_replay.specs.Asked.{lines_for};
 
+use crate::halt::Halt;
 use crate::turns::run_halt;
 use crate::viewer::NamedViewer;
 use audit_log_lines::{World, keep_turns};
 use guarded_code::Verified;
-use lam_main_files::Halt;
 use std::alloc::Global;
 
 /// What the reader is shown of turns. A line is written as its turn is taken, and nothing else is kept of it.

@@ -4,16 +4,17 @@ ghost use Rattle.std.specs.Prelude.{◌≡◌, ◌≢◌, ◌≤◌, Ok, length,
 ghost use Rattle.flow_labels.specs.LabelText.{label_of};
 ghost use Rattle.lam_io.specs.Outside.{Rose, AllStay};
 ghost use Rattle.turn_book.specs.Reading.{turns_of};
-ghost use Rattle.lam_main_files.specs.Reading.{HasFile, WithFile, Never, book_limit};
-ghost use Rattle.lam_main_files.specs.Books.{NoTurns, ByLabel};
-ghost use Rattle.lam_main_files.specs.Halts.{Finds};
+ghost use Rattle.lam_main_plan.specs.Reading.{HasFile, WithFile, Never, book_limit};
+ghost use Rattle.lam_main_plan.specs.Books.{NoTurns, ByLabel};
+ghost use Rattle.lam_main_replay.specs.Halts.{Finds};
 ghost use Rattle.lam_main_replay.specs.Asked.{halt_of_book, halt_of_run};
 ghost use Rattle.turn_book.specs.Limits.{most_turns};
 
+use crate::files::read_file;
+use crate::halt::{BookBreak, Halt, Refusal};
 use audit_log_lines::RunFault;
 use flow_labels::{Label, LabelFault, TagNames, parse_label};
 use lam_io::Shelf;
-use lam_main_files::{BookBreak, Halt, Refusal, read_file};
 use std::alloc::Global;
 use turn_book::{BookFault, Turns, read_book};
 

@@ -1,16 +1,16 @@
 //! The readers of a run, with the observer's label read by the start's names.
 
 ghost use Rattle.std.specs.Prelude.{◌≡◌, ◌≢◌, Ok, IfOk, IfErr};
-ghost use Rattle.lam_main_files.specs.Reading.{Never};
-ghost use Rattle.lam_main_files.specs.Replays.{an_observer, ByReader, read_by};
-ghost use Rattle.lam_main_files.specs.Halts.{Finds};
+ghost use Rattle.lam_main_plan.specs.Reading.{Never};
+ghost use Rattle.lam_main_plan.specs.Replays.{an_observer, ByReader, read_by};
+ghost use Rattle.lam_main_replay.specs.Halts.{Finds};
 ghost use Rattle.lam_main_replay.specs.Asked.{reader_of, lines_for};
 
 use crate::Reader;
+use crate::halt::Halt;
 use crate::turns::read_label;
 use flow_labels::{Label, TagNames};
 use lam_machine_effects::Stores;
-use lam_main_files::Halt;
 
 /// Who reads of a run.
 #[derive(Drop)]

@@ -11,9 +11,9 @@ use Rattle.lam_main_replay.specs.Reading.{HasFile, WithFile, of_file, Never, Com
 use Rattle.lam_main_replay.specs.Replays.{Reader, ByWorld, NoStart}
 use Rattle.lam_main_replay.specs.Threads.{ThreadFiles, TakesTurns, StartsThreads, RunsThreads}
 use Rattle.lam_main_replay.proofs.ReadLemmas.{same_files, file_map, thin_program_then, no_thin_program_then, by_no_world, by_this_world}
-use Rattle.lam_main_replay.specs.Report.{Report}
-use Rattle.lam_main_replay.specs.Halt.{Halt}
-use Rattle.lam_main_replay.specs.Halt.TheVariants.{Refused, NoMemory, ShelfFailed}
+use Rattle.lam_main_replay.specs.declared.report.Report.{Report}
+use Rattle.lam_main_replay.specs.declared.halt.Halt.{Halt}
+use Rattle.lam_main_replay.specs.declared.halt.Halt.TheVariants.{Refused, NoMemory, ShelfFailed}
 use Rattle.lam_main_replay.specs.Halts.{Finds, Reports}
 use Rattle.lam_main_replay.proofs.ReportLemmas.{reports_map, reports_later, not_reported}
 use Rattle.lam_main_threads.specs.declared.showing.Taken.{Taken}

@@ -22,10 +22,10 @@ use Rattle.lam_main_replay.specs.Replays.{by_turns, IsOfTurns, ByReader, ByWorld
 use Rattle.lam_main_replay.specs.Threads.{status_of, IsOfThreads, made_budget, Makes}
 use Rattle.lam_main_replay.proofs.ReadLemmas.{thin_then, no_thin_then, by_no_world, by_this_world, by_no_reader, by_this_reader}
 use Rattle.world_doc_terms.specs.declared.breaks.WorldBreak.TheVariants.{NotJson, NoMember, BadMember, NoTag, BadPath, PathTwice}
-use Rattle.lam_main_replay.specs.Refusal.{Refusal}
-use Rattle.lam_main_replay.specs.Refusal.TheVariants.{Word, Script, NotUtf8, Flawed, CodeTooLong, World as OfWorld, Unnamed, BadText, TooBig, Book, NotReady as NotReadyAt, Absent, TooLong}
-use Rattle.lam_main_replay.specs.Halt.{Halt}
-use Rattle.lam_main_replay.specs.Halt.TheVariants.{Refused, NoMemory, ShelfFailed}
+use Rattle.lam_main_replay.specs.declared.halt.Refusal.{Refusal}
+use Rattle.lam_main_replay.specs.declared.halt.Refusal.TheVariants.{Word, Script, NotUtf8, Flawed, CodeTooLong, World as OfWorld, Unnamed, BadText, TooBig, Book, NotReady as NotReadyAt, Absent, TooLong}
+use Rattle.lam_main_replay.specs.declared.halt.Halt.{Halt}
+use Rattle.lam_main_replay.specs.declared.halt.Halt.TheVariants.{Refused, NoMemory, ShelfFailed}
 use Rattle.lam_main_replay.specs.Halts.{refuses, Finds, Says}
 use Rattle.lam_main_replay.specs.declared.viewer.Viewer.{Viewer}
 use Rattle.lam_main_replay.specs.declared.viewer.Viewer.TheVariants.{Observer, Auditor}

@@ -9,8 +9,8 @@ use Rattle.thread_host.specs.declared.Finished.{Finished}
 use Rattle.lam_main_words.specs.Words.{Text}
 use Rattle.lam_main_replay.specs.Refusals.{Plan}
 use Rattle.lam_main_replay.specs.Threads.{status_of}
-use Rattle.lam_main_replay.specs.Halt.{Halt}
-use Rattle.lam_main_replay.specs.Halt.TheVariants.{Refused, NoMemory, ShelfFailed}
+use Rattle.lam_main_replay.specs.declared.halt.Halt.{Halt}
+use Rattle.lam_main_replay.specs.declared.halt.Halt.TheVariants.{Refused, NoMemory, ShelfFailed}
 use Rattle.lam_main_replay.specs.Halts.{refuses}
 use Rattle.lam_main_threads.specs.declared.taking.Ended.{Ended}
 use Rattle.lam_main_threads.specs.declared.showing.Taken.{Taken}

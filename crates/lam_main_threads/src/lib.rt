@@ -1,7 +1,7 @@
 //! The commands `run` and `make`, which run worker threads and write the run's book.
 //!
 //! [`run`] reads the program, the document of the world and the observer's label, in this order and by the calls of
-//! `lam_main_files` and `lam_main_replay`. [`make`] makes a program and a document of a number (`lam_make`). Threads
+//! `lam_main_replay`. [`make`] makes a program and a document of a number (`lam_make`). Threads
 //! take the turns (`thread_host`), and nothing says in advance which thread takes which turn. So what is printed is
 //! what the written book shows: `replay` and `audit` of the same program, document and book show the same run again.
 //! The book is written last, and nothing is written where there is a refusal.

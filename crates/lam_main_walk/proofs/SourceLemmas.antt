@@ -1,5 +1,5 @@
 -- From what was read of a program, a start and a book to what is told of a walk.
-use Rattle.std.proofs.Common.{◌≡◌, inl, inr, ℕ, ◌≤◌, List, [], ◌∷◌, ◌++◌, length, Option, Some, None, Result, Ok, Err, IfOk, String, string_bytes, refl, sym, ap, subst, ◌∙◌}
+use Rattle.std.proofs.Common.{◌≡◌, inl, inr, ℕ, ◌≤◌, List, [], ◌∷◌, ◌++◌, length, Option, Some, None, Result, Ok, Err, String, string_bytes, refl, sym, ap, subst, ◌∙◌}
 use Rattle.std.specs.Prelude.{Vec}
 use Rattle.std.specs.declared.alloc.Global.{Global}
 use Rattle.capabilities.specs.declared.Caps.{Caps}
@@ -10,8 +10,6 @@ use Rattle.lam_front.specs.Programs.{IsFine}
 use Rattle.lam_resolve_tree.specs.Tree.{ResolvedTree, resolved_tree}
 use Rattle.lam_resolve_laws.specs.Resolved.{resolved}
 use Rattle.lam_bytecode.specs.Codes.{CodeTree}
-use Rattle.lam_main_plan.specs.Compiled.{IsCompiledTo}
-use Rattle.thinned_code.specs.Thinned.{thinned}
 use Rattle.thread_steps.specs.Threads.{Thread}
 use Rattle.lam_machine_terms.specs.Worlds.{World, thread_at}
 use Rattle.lam_machine_terms.specs.Turns.{Moment}
@@ -30,15 +28,15 @@ use Rattle.source_walk_terms.specs.declared.Walked.TheVariants.{Same, Departs}
 use Rattle.source_walk_terms.specs.Walks.{IsEntry, StandsAtEntry, ThreadsAtEntries, IsWalked}
 use Rattle.source_walk.specs.Meets.{MeantRunsAreSame}
 use Rattle.lam_main_words.specs.Words.{Text}
-use Rattle.lam_main_plan.specs.Refusals.{Plan, prints, no_turn}
-use Rattle.lam_main_plan.specs.Reading.{HasFile, WithFile, of_file, Never, Compiles, program_limit, world_limit, book_limit}
-use Rattle.lam_main_plan.specs.Replays.{RunFiles, ByWorld, NoStart}
-use Rattle.lam_main_plan.specs.Books.{WithRun, NoTurns, WhereReady}
-use Rattle.lam_main_plan.specs.Walks.{IsSource, same_line, TellsSame, IsOfWalk, WalksRun, Walks}
-use Rattle.lam_main_plan.proofs.ReadLemmas.{same_files, file_map, thin_then, no_thin_then}
-use Rattle.lam_main_plan.proofs.BookLemmas.{start_then, no_start_then, run_then, no_turns_then, ready_then, run_map}
-use Rattle.lam_main_replay.specs.Halt.{Halt}
-use Rattle.lam_main_replay.specs.Halt.TheVariants.{Refused, NoMemory, ShelfFailed}
+use Rattle.lam_main_replay.specs.Refusals.{Plan, prints, no_turn}
+use Rattle.lam_main_replay.specs.Reading.{HasFile, WithFile, of_file, Never, Compiles, IsRunCode, program_limit, world_limit, book_limit}
+use Rattle.lam_main_replay.specs.Replays.{RunFiles, ByWorld, NoStart}
+use Rattle.lam_main_replay.specs.Books.{WithRun, NoTurns, WhereReady}
+use Rattle.lam_main_replay.specs.Walks.{IsSource, same_line, TellsSame, IsOfWalk, WalksRun, Walks}
+use Rattle.lam_main_replay.proofs.ReadLemmas.{same_files, file_map, thin_then, no_thin_then}
+use Rattle.lam_main_replay.proofs.BookLemmas.{start_then, no_start_then, run_then, no_turns_then, ready_then, run_map}
+use Rattle.lam_main_replay.specs.declared.halt.Halt.{Halt}
+use Rattle.lam_main_replay.specs.declared.halt.Halt.TheVariants.{Refused, NoMemory, ShelfFailed}
 use Rattle.lam_main_replay.specs.Halts.{Finds, Says, Gives, IsRead}
 use Rattle.lam_main_replay.proofs.FileLemmas.{says_map, not_found, gives_of}
 use Rattle.lam_main_replay.specs.Asked.{IsStartOf, halt_of_run}
@@ -48,12 +46,8 @@ use Rattle.lam_main_walk.specs.Sources.{IsSourceOf, IsOfProgram, Tells}
 
 -- ---- the source
 
-pub source_found : (bytes : Text) (p : ProgramTree) (whole : CodeTree) (s : Source) → IsFine bytes p → IsCompiledTo p (Ok whole) → s.code ≡ thinned whole → Some (resolved_tree s.program) ≡ resolved p → IsSourceOf bytes s
-source_found bytes p whole s is made thin resolves =
-    record {
-      code = record { whole = whole; makes = record { program = p; fine = is; makes = made }; thin = thin };
-      spells = record { program = p; fine = is; resolves = sym resolves };
-    }
+pub source_found : (bytes : Text) (p : ProgramTree) (s : Source) → IsFine bytes p → IsRunCode bytes s.code → Some (resolved_tree s.program) ≡ resolved p → IsSourceOf bytes s
+source_found bytes p s is run resolves = record { code = run; spells = record { program = p; fine = is; resolves = sym resolves } }
 
 -- what is found of the bytes of a file is found of the file
 pub source_in_file : (found : Option Text) (name b : Text) (bytes : Vec ℕ Global) (answer : Result Source Halt) → IsRead (Ok bytes) found name program_limit → b ≡ bytes.items → Finds {X = Source} answer (IsSourceOf b) (Compiles Never b) → Finds {X = Source} answer (λ s. HasFile found program_limit (λ bs. IsSourceOf bs s)) (WithFile found name program_limit (Compiles Never))
@@ -61,10 +55,6 @@ source_in_file found name b bytes (Ok s) read same h = record { bytes = b; there
 source_in_file found name b bytes (Err (Refused refusal)) read same h = of_file (record { bytes = b; there = read.0 ∙ ap Some (sym same); short = subst (λ (bs : Text). length bs ≤ program_limit) (sym same) read.1; follows = h })
 source_in_file found name b bytes (Err NoMemory) read same h = tt
 source_in_file found name b bytes (Err ShelfFailed) read same h = tt
-
-pub of_a_program : (b : Text) (answer : Result Source Halt) → Finds {X = Source} answer (IsSourceOf b) (Compiles Never b) → IfOk answer IsOfProgram
-of_a_program b (Ok s) h = (b, h)
-of_a_program b (Err halt) h = tt
 
 pub means_everywhere : SourcesRunAsMeant → (s : Source) → IsOfProgram s → MeansEverywhere (resolved_tree s.program) s.code
 means_everywhere law s it = law it.0 s.code (resolved_tree s.program) it.1.code it.1.spells

@@ -4,11 +4,11 @@ use Rattle.lam_resolve_tree.specs.Tree.{resolved_tree}
 use Rattle.lam_resolve_tree.specs.Limits.{WithinLimits}
 use Rattle.lam_bytecode.specs.Codes.{IsCode}
 use Rattle.lam_main_words.specs.Words.{Text}
-use Rattle.lam_main_plan.specs.Refusals.{Plan}
-use Rattle.lam_main_plan.specs.Reading.{IsRunCode}
-use Rattle.lam_main_plan.specs.Replays.{RunFiles}
-use Rattle.lam_main_plan.specs.Books.{WithStart, WithRun}
-use Rattle.lam_main_plan.specs.Walks.{IsSource, TellsSame}
+use Rattle.lam_main_replay.specs.Refusals.{Plan}
+use Rattle.lam_main_replay.specs.Reading.{IsRunCode}
+use Rattle.lam_main_replay.specs.Replays.{RunFiles}
+use Rattle.lam_main_replay.specs.Books.{WithStart, WithRun}
+use Rattle.lam_main_replay.specs.Walks.{IsSource, TellsSame}
 use Rattle.lam_main_walk.specs.declared.source.Source.{Source}
 
 -- this is run of the program that the bytes spell, and that is it with its names resolved

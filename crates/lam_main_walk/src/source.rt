@@ -1,25 +1,19 @@
 //! The code of a program that is run, and its resolved tree, from one reading.
 
-ghost use Rattle.std.specs.Prelude.{◌≡◌, ◌≢◌, ◌≤◌, ◌⊎◌, ℕ, Ok, Err, IsTrue, IfOk, IfErr, string_bytes};
+ghost use Rattle.std.specs.Prelude.{◌≡◌, ◌≤◌, IsTrue, IfOk, IfErr, string_bytes};
 ghost use Rattle.lam_io.specs.Outside.{Rose, AllStay};
 ghost use Rattle.region_check.specs.Seen.{checked_tree};
-ghost use Rattle.lam_bytecode.specs.Codes.{IsCode};
-ghost use Rattle.barrier_compiler.specs.Compiled.{IsCompiledTo};
-ghost use Rattle.barrier_compiler.specs.declared.emitting.CompileFault.TheVariants.{CodeTooLong, NoMemory as no_memory};
-ghost use Rattle.thinned_code.specs.Thinned.{thinned};
 ghost use Rattle.lam_front.specs.Programs.{IsFine};
+ghost use Rattle.lam_main_replay.specs.Inputs.{NoCode};
 ghost use Rattle.lam_main_words.specs.Words.{Text};
-ghost use Rattle.lam_main_plan.specs.Reading.{HasFile, WithFile, Never, Compiles, program_limit};
+ghost use Rattle.lam_main_replay.specs.Reading.{HasFile, WithFile, Never, Compiles, program_limit};
 ghost use Rattle.lam_main_replay.specs.Halts.{Finds};
 ghost use Rattle.lam_main_walk.specs.Sources.{IsSourceOf, IsOfProgram, IsSoundSource};
 
 use guarded_code::Verified;
-use lam_front::check_program;
 use lam_io::Shelf;
-use lam_main_plan::{CompileFault, compile};
-use lam_main_replay::{Halt, PROGRAM_LIMIT, read_file, thin_verified};
+use lam_main_replay::{Halt, InputFault, PROGRAM_LIMIT, program_in, read_file, run_code};
 use lam_resolve::resolve;
-use lam_resolve_laws::resolves;
 use lam_resolve_tree::Resolved;
 use region_check::Checked;
 use std::alloc::Global;
@@ -59,58 +53,33 @@ pub(crate) fn read_source<H: Shelf>(
     ensures failed { IfErr result (λ halt. halt ≡ Halt.ShelfFailed → Rose (H.faults shelf.old) (H.faults shelf.new)) }
 {
     let bytes = read_file(alloc, shelf, program, PROGRAM_LIMIT)?;
-    source_of(alloc, bytes.as_slice())
+    Ok(source_of(alloc, bytes.as_slice())?)
 }
 
 /// The code that is run of the program that the bytes spell, and its source.
-fn source_of(alloc: Global, bytes: &[u8]) -> Result<Source, Halt>
-    ensures finds { Finds result (IsSourceOf bytes.now) (Compiles Never bytes.now) }
+fn source_of(alloc: Global, bytes: &[u8]) -> Result<Source, InputFault>
+    ensures found { IfOk result (IsSourceOf bytes.now) }
     ensures sound { IfOk result IsSoundSource }
-    ensures no_fault { IfErr result (λ halt. halt ≢ Halt.ShelfFailed) }
+    ensures refused { IfErr result (NoCode bytes.now) }
 {
-    let checked = check_program(alloc, bytes)?;
+    let checked = program_in(alloc, bytes)?;
     let source = source_in(alloc, &checked);
     forget(checked);
     source
 }
 
 /// The same of a checked program.
-fn source_in(alloc: Global, checked: &Checked) -> Result<Source, Halt>
-    ensures finds { (bytes : Text) → IsFine bytes (checked_tree checked.now) → Finds result (IsSourceOf bytes) (Compiles Never bytes) }
+fn source_in(alloc: Global, checked: &Checked) -> Result<Source, InputFault>
+    ensures found { (bytes : Text) → IsFine bytes (checked_tree checked.now) → IfOk result (IsSourceOf bytes) }
     ensures sound { IfOk result IsSoundSource }
-    ensures no_fault { IfErr result (λ halt. halt ≢ Halt.ShelfFailed) }
+    ensures refused { (bytes : Text) → IsFine bytes (checked_tree checked.now) → IfErr result (NoCode bytes) }
 {
-    let whole = guarded_in(checked)?;
-    let code = thin(alloc, whole)?;
+    let code = run_code(alloc, checked)?;
     match resolve(checked) {
         Ok(program) => Ok(Source { code, program }),
         Err(NoMemory) => {
             forget(code);
-            Err(Halt::NoMemory)
+            Err(InputFault::NoMemory)
         }
     }
-}
-
-/// The code that a checked program is compiled to, which is guarded.
-fn guarded_in(checked: &Checked) -> Result<Verified, CompileFault>
-    ensures ok { IfOk result (λ code. IsCompiledTo (checked_tree checked.now) (Ok code)) }
-    ensures sound { IfOk result (λ code. IsCode code) }
-    ensures long { IfErr result (λ f. (f ≡ no_memory) ⊎ ((unit : ℕ) × (f ≡ CodeTooLong unit) × IsCompiledTo (checked_tree checked.now) (Err unit))) }
-{
-    resolves(checked);
-    match compile(checked) {
-        Ok(code) => Ok(Verified::of(code)),
-        Err(fault) => Err(fault),
-    }
-}
-
-/// A code without the barriers that test again.
-fn thin(alloc: Global, whole: Verified) -> Result<Verified, NoMemory>
-    requires { IsCode whole }
-    ensures thinned { IfOk result (λ code. code ≡ thinned whole) }
-    ensures sound { IfOk result (λ code. IsCode code) }
-{
-    let code = thin_verified(alloc, &whole);
-    drop(whole);
-    code
 }

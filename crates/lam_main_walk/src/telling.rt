@@ -5,8 +5,8 @@ ghost use Rattle.lam_resolve_tree.specs.Tree.{resolved_tree};
 ghost use Rattle.guarded_code_runs.specs.Worlds.{IsSound};
 ghost use Rattle.lam_machine_runs.specs.Stops.{stopped_at};
 ghost use Rattle.lam_main_laws.specs.Documents.{RunMeans};
-ghost use Rattle.lam_main_plan.specs.Books.{WhereReady};
-ghost use Rattle.lam_main_plan.specs.Walks.{same_line, TellsSame};
+ghost use Rattle.lam_main_replay.specs.Books.{WhereReady};
+ghost use Rattle.lam_main_replay.specs.Walks.{same_line, TellsSame};
 ghost use Rattle.lam_main_replay.specs.Halts.{Says};
 ghost use Rattle.lam_main_walk.specs.Sources.{IsSoundSource};
 

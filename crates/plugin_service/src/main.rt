@@ -19,13 +19,12 @@ ghost use Rattle.std.specs.Prelude.{◌≡◌};
 
 use crate::auditing::audited;
 use crate::callers::{Done, all_act};
-use crate::stop::Stop;
+use crate::stop::{Stop, not_opened};
 use crate::story::{PROGRAM, WORLD};
 use flow_labels::TagNames;
 use seat_host::Closed;
 use seat_opening::{Opened, open_run};
 use std::alloc::Global;
-use std::mem::forget;
 use std::process::ExitCode;
 use std::sync::Wait;
 use std::thread::Threads;
@@ -47,15 +46,11 @@ fn main(rt: HostRuntime) -> ExitCode {
     }
 }
 
-/// What the callers saw, and the audit of their book. What a refusal of the program or the world tells is left to the end of
-/// the process.
+/// What the callers saw, and the audit of their book.
 fn service<R: Threads + Wait + Clock + Sync>(rt: &R, alloc: Global) -> Result<String, Stop> {
     match open_run(alloc, PROGRAM.as_bytes(), WORLD.as_bytes()) {
         Ok(opened) => served(rt, alloc, opened),
-        Err(halt) => {
-            forget(halt);
-            Err(Stop::NotOpened)
-        }
+        Err(fault) => Err(not_opened(fault)),
     }
 }
 

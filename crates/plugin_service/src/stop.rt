@@ -1,13 +1,16 @@
 //! The reasons why the program stops early.
 
+use run_inputs::InputFault;
 use std::alloc::{AllocError, AllocFailed};
 use want_of_memory::NoMemory;
 
 /// Why the program stops early.
 #[derive(Clone, Copy)]
 pub enum Stop {
-    /// The program or the world is refused, or memory ran out while they were read.
-    NotOpened,
+    /// The program is refused.
+    Program,
+    /// The document of the world is refused.
+    World,
     /// A caller's thread can take no turn, and has not ended.
     Unfinished,
     /// The run is full.
@@ -24,13 +27,25 @@ impl Stop {
     /// The words for it.
     pub fn reason(self) -> &'static str {
         match self {
-            Stop::NotOpened => "the run is not opened",
+            Stop::Program => "the program is refused",
+            Stop::World => "the world is refused",
             Stop::Unfinished => "a thread waits without an end",
             Stop::Full => "the run is full",
             Stop::NotClosed => "the run is not closed",
             Stop::Book => "the book is refused",
             Stop::NoMemory => "out of memory",
         }
+    }
+}
+
+/// Why the program stops where its run is not opened.
+pub fn not_opened(fault: InputFault) -> Stop {
+    match fault {
+        InputFault::NotUtf8 | InputFault::Flawed { .. } | InputFault::CodeTooLong { .. } => {
+            Stop::Program
+        }
+        InputFault::World(_) => Stop::World,
+        InputFault::NoMemory => Stop::NoMemory,
     }
 }
 

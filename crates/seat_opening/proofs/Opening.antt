@@ -1,51 +1,54 @@
--- What is found of a code, and of a program.
-use Rattle.std.proofs.Common.{◌≡◌, ◌≢◌, Result, Ok, Err, IfOk, IfErr, sym, subst}
+-- What is opened of a code, and of a program, or why nothing is.
+use Rattle.std.proofs.Common.{◌≡◌, Result, Ok, Err, IfOk, IfErr, sym, subst}
+use Rattle.flow_labels.specs.TwoLists.{Text}
 use Rattle.lam_bytecode.specs.Codes.{CodeTree}
 use Rattle.lam_machine_terms.specs.Worlds.{World}
 use Rattle.world_doc_terms.specs.Start.{start_of}
-use Rattle.lam_main_words.specs.Words.{Text}
-use Rattle.lam_main_plan.specs.Refusals.{Plan}
-use Rattle.lam_main_plan.specs.Reading.{Never, IsRunCode, Compiles, Thins}
-use Rattle.lam_main_plan.specs.Replays.{NoStart}
-use Rattle.lam_main_plan.proofs.ReadLemmas.{thin_then, no_thin_then}
-use Rattle.lam_main_replay.specs.Halt.{Halt}
-use Rattle.lam_main_replay.specs.Halt.TheVariants.{Refused, NoMemory, ShelfFailed}
-use Rattle.lam_main_replay.specs.Halts.{Finds, refuses}
+use Rattle.run_inputs.specs.declared.fault.InputFault.{InputFault}
+use Rattle.run_inputs.specs.declared.fault.InputFault.TheVariants as input
+use Rattle.run_inputs.specs.Inputs.{IsRunCode, NoCode, NoStart, NoRun}
 use Rattle.seat_host.specs.Seats.{new_seat}
 use Rattle.seat_opening.specs.declared.Opened.{Opened}
 use Rattle.seat_opening.specs.Opens.{Shares, RunsFrom, IsOpened}
 
--- a refusal that is planned is planned in what has that plan
-pub refused_then : {X Y : Type 0} (IsX : X → Type 0) (IsY : Y → Type 0) (P Q : Plan → Type 0) → ((p : Plan) → P p → Q p) → (halt : Halt) → Finds {X = X} (Err halt) IsX P → Finds {X = Y} (Err halt) IsY Q
-refused_then IsX IsY P Q f (Refused refusal) h = f (refuses refusal) h
-refused_then IsX IsY P Q f NoMemory h = tt
-refused_then IsX IsY P Q f ShelfFailed h = tt
+-- ---- what is opened
 
--- what is found of the code is found of the program
-pub code_found : (program document : Text) (code : CodeTree) → IsRunCode program code → (r : Result Opened Halt) → Finds r (RunsFrom code document) (NoStart code document) → Finds r (IsOpened program document) (Thins (λ code. NoStart code document) program)
-code_found program document code is (Ok o) h = (code, is, h)
-code_found program document code is (Err halt) h =
-    refused_then (RunsFrom code document) (IsOpened program document) (NoStart code document) (Thins (λ code. NoStart code document) program) (λ p k. thin_then (λ code. NoStart code document) program p code is k) halt h
+pub code_opened : (program document : Text) (code : CodeTree) → IsRunCode program code → (r : Result Opened InputFault) → IfOk r (RunsFrom code document) → IfOk r (IsOpened program document)
+code_opened program document code is (Ok o) h = (code, is, h)
+code_opened program document code is (Err fault) h = tt
+
+pub start_opened : (code : CodeTree) (document : Text) (start : World) → start_of document code ≡ Ok start → (r : Result Opened InputFault) → IfOk r (Shares code start) → IfOk r (RunsFrom code document)
+start_opened code document start is (Ok o) shares = (start, is, shares)
+start_opened code document start is (Err fault) shares = tt
+
+pub is_seated : (code : CodeTree) (start : World) (r : Result Opened InputFault) → IfOk r (Shares code start) → IfOk r (λ o. o.seat ≡ new_seat o.run)
+is_seated code start (Ok o) shares = shares.seated
+is_seated code start (Err fault) shares = tt
+
+-- ---- why nothing is
 
 -- a program without a code opens nothing
-pub no_code_found : (program document : Text) (halt : Halt) → Finds {X = CodeTree} (Err halt) (IsRunCode program) (Compiles Never program) → Finds {X = Opened} (Err halt) (IsOpened program document) (Thins (λ code. NoStart code document) program)
-no_code_found program document halt h =
-    refused_then (IsRunCode program) (IsOpened program document) (Compiles Never program) (Thins (λ code. NoStart code document) program) (λ p k. no_thin_then (λ code. NoStart code document) program p k) halt h
+pub no_code_no_run : (program document : Text) (f : InputFault) → NoCode program f → NoRun program document f
+no_code_no_run program document input.NotUtf8 h = h
+no_code_no_run program document (input.Flawed flaw at) h = h
+no_code_no_run program document (input.CodeTooLong unit) h = h
+no_code_no_run program document (input.World breach) h = absurd h
+no_code_no_run program document input.NoMemory h = tt
 
--- nor does a document without a world
-pub no_start_found : (code : CodeTree) (document : Text) (halt : Halt) → Finds {X = World} (Err halt) (λ start. start_of document code ≡ Ok start) (NoStart code document) → Finds {X = Opened} (Err halt) (RunsFrom code document) (NoStart code document)
-no_start_found code document halt h = refused_then (λ (start : World). start_of document code ≡ Ok start) (RunsFrom code document) (NoStart code document) (NoStart code document) (λ p k. k) halt h
+module _ (program document : Text) (code : CodeTree) (is : IsRunCode program code) where
+  no_start_no_run : (f : InputFault) → NoStart code document f → NoRun program document f
+  no_start_no_run input.NotUtf8 h = absurd h
+  no_start_no_run (input.Flawed flaw at) h = absurd h
+  no_start_no_run (input.CodeTooLong unit) h = absurd h
+  no_start_no_run (input.World breach) h = (code, is, h)
+  no_start_no_run input.NoMemory h = tt
 
--- a shared run of the world that a document has
-pub start_found : (code : CodeTree) (document : Text) (start : World) → start_of document code ≡ Ok start → (r : Result Opened Halt) → IfOk r (Shares code start) → IfErr r (λ halt. halt ≡ NoMemory) → Finds r (RunsFrom code document) (NoStart code document)
-start_found code document start is (Ok o) shares err = (start, is, shares)
-start_found code document start is (Err halt) shares err = subst (λ (h : Halt). Finds {X = Opened} (Err h) (RunsFrom code document) (NoStart code document)) (sym err) tt
+  -- nor does a document without a start
+  pub code_refused : (r : Result Opened InputFault) → IfErr r (NoStart code document) → IfErr r (NoRun program document)
+  code_refused (Ok o) h = tt
+  code_refused (Err fault) h = no_start_no_run fault h
 
-pub is_seated : (code : CodeTree) (start : World) (r : Result Opened Halt) → IfOk r (Shares code start) → IfOk r (λ o. o.seat ≡ new_seat o.run)
-is_seated code start (Ok o) shares = shares.seated
-is_seated code start (Err halt) shares = shares
-
--- want of memory is no fault of the shelf
-pub no_shelf : (r : Result Opened Halt) → IfErr r (λ halt. halt ≡ NoMemory) → IfErr r (λ halt. halt ≢ ShelfFailed)
-no_shelf (Ok o) err = err
-no_shelf (Err halt) err = λ e. cc
+-- want of memory says nothing of the document
+pub without_memory : (code : CodeTree) (document : Text) (r : Result Opened InputFault) → IfErr r (λ fault. fault ≡ input.NoMemory) → IfErr r (NoStart code document)
+without_memory code document (Ok o) h = tt
+without_memory code document (Err fault) h = subst (NoStart code document) (sym h) tt

@@ -1,10 +1,10 @@
 -- What a shared run is opened from.
 use Rattle.std.specs.Prelude.{◌≡◌, Ok}
+use Rattle.flow_labels.specs.TwoLists.{Text}
 use Rattle.lam_bytecode.specs.Codes.{CodeTree}
 use Rattle.lam_machine_terms.specs.Worlds.{World}
 use Rattle.world_doc_terms.specs.Start.{start_of}
-use Rattle.lam_main_words.specs.Words.{Text}
-use Rattle.lam_main_plan.specs.Reading.{IsRunCode}
+use Rattle.run_inputs.specs.Inputs.{IsRunCode}
 use Rattle.seat_host.specs.Seats.{new_seat}
 use Rattle.seat_opening.specs.declared.Opened.{Opened}
 

@@ -1,23 +1,21 @@
 //! The opening of shared runs, from a program's and a world document's bytes.
 //!
-//! It is the first call of a program that embeds such a run. The bytes are compiled and read as the tool does it,
-//! without redundant barriers. So they are refused for the same faults, and the tool replays the book of the run.
-//! `seat_host` has what comes then.
+//! It is the first call of a program that embeds such a run. `run_inputs` reads the bytes as it does for the tool, and
+//! the code that is run has no redundant barrier. So they are refused for the same faults, and the tool replays the book
+//! of the run. `seat_host` has what comes then.
 #![tactic(auto)]
 
-ghost use Rattle.std.specs.Prelude.{◌≡◌, ◌≢◌, IfOk, IfErr};
+ghost use Rattle.std.specs.Prelude.{◌≡◌, IfOk, IfErr};
 ghost use Rattle.lam_bytecode.specs.Codes.{IsCode};
 ghost use Rattle.guarded_code_runs.specs.Worlds.{IsSound};
-ghost use Rattle.lam_main_plan.specs.Reading.{Thins};
-ghost use Rattle.lam_main_plan.specs.Replays.{NoStart};
-ghost use Rattle.lam_main_replay.specs.Halts.{Finds};
+ghost use Rattle.run_inputs.specs.Inputs.{NoStart, NoRun};
 ghost use Rattle.seat_host.specs.Seats.{new_seat};
 ghost use Rattle.seat_opening.specs.Opens.{IsOpened, RunsFrom, Shares};
 
 use flow_labels::TagNames;
 use guarded_code::Verified;
 use lam_machine_world::{World, let_go_world};
-use lam_main_replay::{Halt, run_code_of, start_in};
+use run_inputs::{InputFault, run_code_of, start_in};
 use seat_host::{Seat, SeatRun, let_go_verified};
 use std::alloc::Global;
 use want_of_memory::NoMemory;
@@ -33,44 +31,44 @@ pub struct Opened {
 ///
 /// # Errors
 ///
-/// A refusal with the first fault of the program, with its first unit that is too long, or with the first break of the
-/// document, in this order; `NoMemory`.
-pub fn open_run(alloc: Global, program: &[u8], world: &[u8]) -> Result<Opened, Halt>
-    ensures finds { Finds result (IsOpened program.now world.now) (Thins (λ code. NoStart code world.now) program.now) }
+/// The first fault of the program, its first unit that is too long, or the first break of the document, in this order;
+/// `NoMemory`.
+pub fn open_run(alloc: Global, program: &[u8], world: &[u8]) -> Result<Opened, InputFault>
+    ensures opened { IfOk result (IsOpened program.now world.now) }
     ensures seat { IfOk result (λ o. o.seat ≡ new_seat o.run) }
-    ensures no_fault { IfErr result (λ halt. halt ≢ Halt.ShelfFailed) }
+    ensures refused { IfErr result (NoRun program.now world.now) }
 {
     match run_code_of(alloc, program) {
         Ok(code) => run_code(alloc, code, world),
-        Err(halt) => Err(halt),
+        Err(fault) => Err(fault),
     }
 }
 
 /// A shared run of a code, from the world of a document.
-fn run_code(alloc: Global, code: Verified, world: &[u8]) -> Result<Opened, Halt>
+fn run_code(alloc: Global, code: Verified, world: &[u8]) -> Result<Opened, InputFault>
     requires { IsCode code }
-    ensures finds { Finds result (RunsFrom code world.now) (NoStart code world.now) }
+    ensures opened { IfOk result (RunsFrom code world.now) }
     ensures seat { IfOk result (λ o. o.seat ≡ new_seat o.run) }
-    ensures no_fault { IfErr result (λ halt. halt ≢ Halt.ShelfFailed) }
+    ensures refused { IfErr result (NoStart code world.now) }
 {
     match start_in(alloc, &code, world) {
         Ok(start) => shared_or_none(alloc, code, start),
-        Err(halt) => {
+        Err(fault) => {
             let_go_verified(code);
-            Err(halt)
+            Err(fault)
         }
     }
 }
 
-/// A shared run of a code from a world, or want of memory as the tool says it.
-fn shared_or_none(alloc: Global, code: Verified, start: World) -> Result<Opened, Halt>
+/// A shared run of a code from a world, or want of memory.
+fn shared_or_none(alloc: Global, code: Verified, start: World) -> Result<Opened, InputFault>
     requires sound { IsSound code start }
     ensures shares { IfOk result (Shares code start) }
-    ensures err { IfErr result (λ halt. halt ≡ Halt.NoMemory) }
+    ensures err { IfErr result (λ fault. fault ≡ InputFault.NoMemory) }
 {
     match shared(alloc, code, start) {
         Ok(opened) => Ok(opened),
-        Err(_) => Err(Halt::NoMemory),
+        Err(_) => Err(InputFault::NoMemory),
     }
 }
 

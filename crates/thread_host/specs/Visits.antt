@@ -1,5 +1,5 @@
 -- What a worker does to a course in one visit under the lock.
-use Rattle.std.specs.Prelude.{◌≡◌, ◌<◌, ℕ, true, length}
+use Rattle.std.specs.Prelude.{◌≡◌, ◌<◌, ◌⊎◌, ℕ, true, length}
 use Rattle.lam_bytecode.specs.Codes.{CodeTree}
 use Rattle.lam_machine_terms.specs.Turns as turns
 use Rattle.lam_machine_runs.specs.declared.How.{How}
@@ -27,3 +27,7 @@ pub record TookReady (code : CodeTree) (budget : ℕ) (p q : Progress) (t : ℕ)
 abbrev pub Visits : CodeTree → ℕ → Progress → Progress → Visit → Type 0
 Visits code budget p q (Took t) = TookReady code budget p q t
 Visits code budget p q (Ended how) = (q ≡ p) × EndsAs code budget p how
+
+-- where memory was refused: it is as it was, or a thread was ready and took a turn, of which what is kept is lost
+abbrev pub MayHaveTaken : CodeTree → ℕ → Progress → Progress → Type 0
+MayHaveTaken code budget p q = (q ≡ p) ⊎ ((t : ℕ) × TookReady code budget p q t)

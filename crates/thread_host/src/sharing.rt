@@ -1,6 +1,6 @@
 //! The locked value: a course of its origin, and what is kept of it.
 
-ghost use Rattle.std.specs.Prelude.{◌≡◌, ◌<◌, ◌≤◌, true, [], length, IsTrue, ◌↔◌, IfOk, OnOk, IfSome, MatchOption};
+ghost use Rattle.std.specs.Prelude.{◌≡◌, ◌<◌, ◌≤◌, true, [], length, IsTrue, ◌↔◌, IfOk, OnOk, OnErr, IfSome, MatchOption};
 ghost use Rattle.guarded_code_runs.specs.Worlds.{IsSound};
 ghost use Rattle.lam_machine_terms.specs.Turns as turns;
 ghost use Rattle.lam_machine_terms.specs.Turns.{moments};
@@ -10,9 +10,8 @@ ghost use Rattle.thread_host.specs.Sharing.{Agree};
 ghost use Rattle.thread_core_stretches.specs.Stretches.{StretchStands};
 ghost use Rattle.thread_host_run.specs.Stretched.{checked_in};
 ghost use Rattle.thread_host.specs.Stretching.{StretchOf, StretchKeepsTo, WentReady, Begins, EndsStretch};
-ghost use Rattle.thread_host.specs.Visits.{GoesOn, EndsAs, TookReady, Visits};
+ghost use Rattle.thread_host.specs.Visits.{GoesOn, EndsAs, TookReady, Visits, MayHaveTaken};
 ghost use Rattle.turn_book.specs.Limits.{most_turns};
-ghost use Rattle.lam_machine_terms.specs.Limits.{most_threads};
 
 use crate::origins::Origin;
 use crate::stretching::{Opening, keeps_to, stretch_of, take_along, take_stretch, turns_in_place};
@@ -26,19 +25,19 @@ use std::alloc::Global;
 use std::marker::{Model, PhantomData};
 use thread_core_stretches::{Stretch, let_go_stretch};
 use thread_host_pace::{Pace, Wakes};
-use thread_host_run::{Course, let_go_course, list_ready, roomy_list};
+use thread_host_run::{Course, ReadyList, let_go_course};
 use want_of_memory::NoMemory;
 
 /// The most private turns that a worker takes outside the lock before it comes back.
 const LONGEST: u64 = 4_096;
 
-/// A course of its origin within the budget, the list of its ready threads, and what is kept of its moments so far; that is
+/// A course of its origin within the budget, the list of its ready threads with what each thread waits for, and what is kept of its moments so far; that is
 /// lost where memory was refused. Contracts see the course. Beside it stands who takes which turns (`Pace`): no contract speaks
 /// of that.
 #[derive(Drop)]
 pub struct Shared<J: Origin<Kept>, Kept: Drop> {
     course: Course,
-    ready: Vec<u32>,
+    ready: ReadyList,
     kept: Kept,
     lost: bool,
     pace: Pace,
@@ -46,10 +45,8 @@ pub struct Shared<J: Origin<Kept>, Kept: Drop> {
 }
 
 impl<J: Origin<Kept>, Kept: Drop> Model for Shared<J, Kept> {
-    ghost use Rattle.std.specs.Prelude.{◌≡◌, ◌≤◌, vec_capacity};
     ghost use Rattle.thread_host_run.specs.Courses.{Progress, coded_progress};
-    ghost use Rattle.thread_host_run.specs.ReadyLists.{ready_threads};
-    ghost use Rattle.lam_machine_terms.specs.Limits.{most_threads};
+    ghost use Rattle.thread_host_run.specs.Kept.{Lists, HasRoom};
     ghost use Rattle.thread_host.specs.Sharing.{IsShared};
 
     ghost Value = { Progress };
@@ -58,7 +55,7 @@ impl<J: Origin<Kept>, Kept: Drop> Model for Shared<J, Kept> {
 
     ghost view = { λ s. s.course };
 
-    ghost invariant = { λ s. IsShared J.AreKept J.code J.start J.budget s.course s.lost s.kept × (s.ready.items ≡ ready_threads J.code s.course.world) × (most_threads ≤ vec_capacity s.ready) };
+    ghost invariant = { λ s. IsShared J.AreKept J.code J.start J.budget s.course s.lost s.kept × Lists J.code s.course.world s.ready × HasRoom s.ready };
 }
 
 impl<J: Origin<Kept>, Kept: Drop> Shared<J, Kept> {
@@ -79,10 +76,9 @@ impl<J: Origin<Kept>, Kept: Drop> Shared<J, Kept> {
         requires nothing { J.AreKept [] nothing }
         ensures { IfOk result (λ s. s ≡ record { turns = []; world = start.now }) }
     {
-        let mut ready = roomy_list(alloc)?;
         let pace = Pace::new(alloc, workers, THREAD_LIMIT as usize, LONGEST)?;
         let course = Course::new(alloc, start)?;
-        list_ready(&mut ready, course.world(), code);
+        let ready = ReadyList::new(alloc, course.world(), code)?;
         Ok(Shared {
             course,
             ready,
@@ -97,7 +93,8 @@ impl<J: Origin<Kept>, Kept: Drop> Shared<J, Kept> {
     ///
     /// # Errors
     ///
-    /// `NoMemory` where memory is refused, and from then on where it was refused for what is kept.
+    /// `NoMemory` where memory is refused, and from then on where it was refused for what is kept. The course is then as it
+    /// was, or has one turn more.
     pub fn visit<K: Keeps<Kept>, G: Gate>(
         &mut self,
         alloc: Global,
@@ -110,7 +107,8 @@ impl<J: Origin<Kept>, Kept: Drop> Shared<J, Kept> {
         requires few { budget ≤ most_turns }
         requires of { (code.now ≡ J.code) × (budget ≡ J.budget) }
         requires keeps { Agree (K.AreKept who.now) J.AreKept }
-        ensures { IfOk result (Visits code.now budget self.old self.new) }
+        ensures ok { IfOk result (Visits code.now budget self.old self.new) }
+        ensures err { OnErr result (MayHaveTaken code.now budget self.old self.new) }
     {
         if self.lost {
             return Err(NoMemory);
@@ -129,7 +127,8 @@ impl<J: Origin<Kept>, Kept: Drop> Shared<J, Kept> {
     ///
     /// # Errors
     ///
-    /// `NoMemory` where memory is refused, and from then on where it was refused for what is kept.
+    /// `NoMemory` where memory is refused, and from then on where it was refused for what is kept. The course is then as it
+    /// was, or has one turn more.
     pub fn begin<K: Keeps<Kept>, G: Gate>(
         &mut self,
         alloc: Global,
@@ -142,7 +141,8 @@ impl<J: Origin<Kept>, Kept: Drop> Shared<J, Kept> {
         requires few { budget ≤ most_turns }
         requires of { (code.now ≡ J.code) × (budget ≡ J.budget) }
         requires keeps { Agree (K.AreKept who.now) J.AreKept }
-        ensures { IfOk result (Begins code.now budget self.old self.new) }
+        ensures ok { IfOk result (Begins code.now budget self.old self.new) }
+        ensures err { OnErr result (MayHaveTaken code.now budget self.old self.new) }
     {
         if self.lost {
             return Err(NoMemory);
@@ -179,7 +179,8 @@ impl<J: Origin<Kept>, Kept: Drop> Shared<J, Kept> {
         requires keeps { Agree (K.AreKept who.now) J.AreKept }
         requires ready { turns.ready code.now self.old.world thread ≡ true }
         requires left { length self.old.turns < budget }
-        ensures { IfOk result (Begins code.now budget self.old self.new) }
+        ensures ok { IfOk result (Begins code.now budget self.old self.new) }
+        ensures err { OnErr result (MayHaveTaken code.now budget self.old self.new) }
     {
         let most = self.turns_here(code, thread, worker, spare);
         if most > 0 {
@@ -195,7 +196,8 @@ impl<J: Origin<Kept>, Kept: Drop> Shared<J, Kept> {
     ///
     /// # Errors
     ///
-    /// `NoMemory` where memory is refused, and from then on where it was refused for what is kept.
+    /// `NoMemory` where memory is refused, and from then on where it was refused for what is kept. The course is then as it
+    /// was, or has one turn more.
     pub fn end<K: Keeps<Kept>, G: Gate>(
         &mut self,
         alloc: Global,
@@ -210,7 +212,8 @@ impl<J: Origin<Kept>, Kept: Drop> Shared<J, Kept> {
         requires of { (code.now ≡ J.code) × (budget ≡ J.budget) }
         requires keeps { Agree (K.AreKept who.now) J.AreKept }
         requires stands { StretchStands code.now stretch }
-        ensures { IfOk result (EndsStretch code.now budget stretch self.old self.new) }
+        ensures ok { IfOk result (EndsStretch code.now budget stretch self.old self.new) }
+        ensures err { OnErr result (MayHaveTaken code.now budget self.old self.new) }
     {
         let thread = stretch.thread;
         self.comes_back(thread, stretch.count);
@@ -275,7 +278,7 @@ impl<J: Origin<Kept>, Kept: Drop> Shared<J, Kept> {
             return 0;
         }
         let most = self.pace.turns_here(spare);
-        let chooses = self.pace.is_alone() && self.ready.len() > 1;
+        let chooses = self.pace.is_alone() && self.ready.threads.len() > 1;
         turns_in_place(&self.course, code, thread, chooses, most)
     }
 
@@ -316,7 +319,7 @@ impl<J: Origin<Kept>, Kept: Drop> Shared<J, Kept> {
     pub fn wakes(&mut self) -> Wakes
         ensures { self.new ≡ self.old }
     {
-        let ready = self.ready.len();
+        let ready = self.ready.threads.len();
         self.pace.wakes(ready)
     }
 
@@ -340,7 +343,8 @@ impl<J: Origin<Kept>, Kept: Drop> Shared<J, Kept> {
         requires agree { Agree (K.AreKept who.now) J.AreKept }
         requires stands { StretchStands code.now stretch }
         requires keeps { StretchKeepsTo budget self.old stretch }
-        ensures { OnOk result (self.new ≡ checked_in self.old stretch) }
+        ensures ok { OnOk result (self.new ≡ checked_in self.old stretch) }
+        ensures err { OnErr result (self.new ≡ self.old) }
     {
         if self.lost {
             let_go_stretch(stretch);
@@ -372,7 +376,8 @@ impl<J: Origin<Kept>, Kept: Drop> Shared<J, Kept> {
         requires keeps { Agree (K.AreKept who.now) J.AreKept }
         requires ready { turns.ready code.now self.old.world thread ≡ true }
         requires left { length self.old.turns < budget }
-        ensures { OnOk result (WentReady code.now budget self.old self.new thread) }
+        ensures ok { OnOk result (WentReady code.now budget self.old self.new thread) }
+        ensures err { OnErr result (self.new ≡ self.old) }
     {
         if self.lost {
             return Err(NoMemory);
@@ -396,7 +401,7 @@ impl<J: Origin<Kept>, Kept: Drop> Shared<J, Kept> {
         requires { (code.now ≡ J.code) × (budget ≡ J.budget) }
         ensures { MatchOption result (GoesOn code.now budget self.now) (EndsAs code.now budget self.now) }
     {
-        how_it_stands(code, &self.course, self.ready.as_slice(), budget)
+        how_it_stands(code, &self.course, self.ready.threads.as_slice(), budget)
     }
 
     fn picked<G: Gate>(&self, code: &Verified, worker: u64, gate: &G) -> u32
@@ -407,7 +412,7 @@ impl<J: Origin<Kept>, Kept: Drop> Shared<J, Kept> {
         picked(
             code,
             &self.course,
-            self.ready.as_slice(),
+            self.ready.threads.as_slice(),
             worker,
             gate,
             &self.pace,
@@ -428,7 +433,8 @@ impl<J: Origin<Kept>, Kept: Drop> Shared<J, Kept> {
         requires keeps { Agree (K.AreKept who.now) J.AreKept }
         requires ready { turns.ready code.now self.old.world thread ≡ true }
         requires left { length self.old.turns < budget }
-        ensures { OnOk result (TookReady code.now budget self.old self.new thread) }
+        ensures ok { OnOk result (TookReady code.now budget self.old self.new thread) }
+        ensures err { OnErr result (MayHaveTaken code.now budget self.old self.new) }
     {
         if self.lost {
             return Err(NoMemory);

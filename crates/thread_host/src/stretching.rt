@@ -1,12 +1,11 @@
 //! Stretches of private turns outside the lock: their beginning and their return.
 
-ghost use Rattle.std.specs.Prelude.{◌≡◌, ◌+◌, ◌<◌, ◌≤◌, ◌↔◌, true, false, length, IsTrue, IfOk, IfSome, OnOk, vec_capacity};
+ghost use Rattle.std.specs.Prelude.{◌≡◌, ◌+◌, ◌<◌, ◌≤◌, ◌↔◌, true, false, length, IsTrue, IfOk, IfSome, OnOk, OnErr};
 ghost use Rattle.thread_core_stretches.specs.Stretches.{StretchStands, begun};
 ghost use Rattle.thread_host_run.specs.Stretched.{StretchFits, checked_in};
-ghost use Rattle.thread_host_run.specs.ReadyLists.{ready_threads};
+ghost use Rattle.thread_host_run.specs.Kept.{Lists, HasRoom};
 ghost use Rattle.thread_host.specs.Sharing.{IsShared};
 ghost use Rattle.turn_book.specs.Limits.{most_turns};
-ghost use Rattle.lam_machine_terms.specs.Limits.{most_threads};
 ghost use Rattle.thread_host.specs.Stretching.{StretchOf, StretchKeepsTo, WentReady};
 ghost use Rattle.lam_machine_terms.specs.Turns as turns;
 
@@ -18,7 +17,7 @@ use lam_machine_runs::How;
 use thread_core::{Standing, standing};
 use thread_core_state::LamThread;
 use thread_core_stretches::Stretch;
-use thread_host_run::{Course, check_in_listed, go_listed};
+use thread_host_run::{Course, ReadyList, check_in_ready, go_ready};
 use want_of_memory::NoMemory;
 
 /// What a worker found under the lock.
@@ -108,7 +107,7 @@ pub fn take_along<J: Origin<Kept>, Kept: Drop, K: Keeps<Kept>>(
     code: &Verified,
     who: &K,
     course: &mut Course,
-    list: &mut Vec<u32>,
+    list: &mut ReadyList,
     kept: &Kept,
     thread: u32,
     most: u64,
@@ -117,16 +116,17 @@ pub fn take_along<J: Origin<Kept>, Kept: Drop, K: Keeps<Kept>>(
     requires ready { turns.ready code.now course.old.world thread ≡ true }
     requires within { length course.old.turns + most ≤ budget }
     requires few { budget ≤ most_turns }
-    requires list { list.old.items ≡ ready_threads code.now course.old.world }
-    requires room { most_threads ≤ vec_capacity list.old }
+    requires lists { Lists code.now course.old.world list.old }
+    requires room { HasRoom list.old }
     requires shared { IsShared (K.AreKept who.now) code.now J.start budget course.old false kept.now }
-    ensures list { list.new.items ≡ ready_threads code.now course.new.world }
-    ensures room { most_threads ≤ vec_capacity list.new }
+    ensures lists { Lists code.now course.new.world list.new }
+    ensures room { HasRoom list.new }
     ensures shared { IsShared (K.AreKept who.now) code.now J.start budget course.new false kept.now }
     ensures ok { OnOk result (WentReady code.now budget course.old course.new thread) }
+    ensures err { OnErr result (course.new ≡ course.old) }
 {
     who.leaves_private();
-    let taken = go_listed(course, list, code, thread, most)?;
+    let taken = go_ready(course, list, code, thread, most)?;
     Ok(taken)
 }
 
@@ -151,7 +151,7 @@ pub fn take_stretch<J: Origin<Kept>, Kept: Drop, K: Keeps<Kept>>(
     code: &Verified,
     who: &K,
     course: &mut Course,
-    list: &mut Vec<u32>,
+    list: &mut ReadyList,
     kept: &Kept,
     stretch: Stretch,
     budget: u64,
@@ -159,15 +159,16 @@ pub fn take_stretch<J: Origin<Kept>, Kept: Drop, K: Keeps<Kept>>(
     requires stands { StretchStands code.now stretch }
     requires keeps { StretchKeepsTo budget course.old stretch }
     requires few { budget ≤ most_turns }
-    requires list { list.old.items ≡ ready_threads code.now course.old.world }
-    requires room { most_threads ≤ vec_capacity list.old }
+    requires lists { Lists code.now course.old.world list.old }
+    requires room { HasRoom list.old }
     requires shared { IsShared (K.AreKept who.now) code.now J.start budget course.old false kept.now }
-    ensures list { list.new.items ≡ ready_threads code.now course.new.world }
-    ensures room { most_threads ≤ vec_capacity list.new }
+    ensures lists { Lists code.now course.new.world list.new }
+    ensures room { HasRoom list.new }
     ensures shared { IsShared (K.AreKept who.now) code.now J.start budget course.new false kept.now }
     ensures ok { OnOk result (course.new ≡ checked_in course.old stretch) }
+    ensures err { OnErr result (course.new ≡ course.old) }
 {
     who.leaves_private();
-    check_in_listed(course, list, code, stretch)?;
+    check_in_ready(course, list, code, stretch)?;
     Ok(())
 }

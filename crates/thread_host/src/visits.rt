@@ -1,14 +1,14 @@
 //! One visit of a course: a turn of a ready thread, or the run's end.
 
-ghost use Rattle.std.specs.Prelude.{◌≡◌, ◌<◌, ◌≤◌, true, false, length, OnOk, MatchOption, vec_capacity};
+ghost use Rattle.std.specs.Prelude.{◌≡◌, ◌<◌, ◌≤◌, ◌⊎◌, true, false, length, OnOk, OnErr, MatchOption};
 ghost use Rattle.lam_machine_terms.specs.Turns as turns;
 ghost use Rattle.lam_machine_replay.specs.Keeping.{KeptOfSoMany};
 ghost use Rattle.thread_host_run.specs.Courses.{one_more};
 ghost use Rattle.thread_host_run.specs.ReadyLists.{ready_threads};
+ghost use Rattle.thread_host_run.specs.Kept.{Lists, HasRoom};
 ghost use Rattle.thread_host.specs.Sharing.{IsShared, KeepsTaken, Unless};
 ghost use Rattle.thread_host.specs.Visits.{GoesOn, EndsAs};
 ghost use Rattle.turn_book.specs.Limits.{most_turns};
-ghost use Rattle.lam_machine_terms.specs.Limits.{most_threads};
 
 use crate::origins::Origin;
 use guarded_code::Verified;
@@ -18,7 +18,7 @@ use lam_machine_replay::{Keeps, World};
 use lam_machine_runs::How;
 use std::alloc::Global;
 use thread_host_pace::Pace;
-use thread_host_run::{Course, list_after, living_in, was_quiet};
+use thread_host_run::{Course, ReadyList, list_after_turn, living_in};
 use want_of_memory::NoMemory;
 
 /// What one visit did.
@@ -74,7 +74,7 @@ pub fn take_turn<J: Origin<Kept>, Kept: Drop, K: Keeps<Kept>>(
     code: &Verified,
     who: &K,
     course: &mut Course,
-    list: &mut Vec<u32>,
+    list: &mut ReadyList,
     kept: &mut Kept,
     lost: &mut bool,
     thread: u32,
@@ -83,18 +83,19 @@ pub fn take_turn<J: Origin<Kept>, Kept: Drop, K: Keeps<Kept>>(
     requires few { budget ≤ most_turns }
     requires ready { turns.ready code.now course.old.world thread ≡ true }
     requires left { length course.old.turns < budget }
-    requires list { list.old.items ≡ ready_threads code.now course.old.world }
-    requires room { most_threads ≤ vec_capacity list.old }
+    requires lists { Lists code.now course.old.world list.old }
+    requires room { HasRoom list.old }
     requires shared { IsShared (K.AreKept who.now) code.now J.start budget course.old false kept.old }
     requires still { lost.old ≡ false }
-    ensures list { list.new.items ≡ ready_threads code.now course.new.world }
-    ensures room { most_threads ≤ vec_capacity list.new }
+    ensures lists { Lists code.now course.new.world list.new }
+    ensures room { HasRoom list.new }
     ensures shared { IsShared (K.AreKept who.now) code.now J.start budget course.new lost.new kept.new }
     ensures ok { OnOk result (course.new ≡ one_more course.old thread course.new.world) }
+    ensures err { OnErr result ((course.new ≡ course.old) ⊎ (course.new ≡ one_more course.old thread course.new.world)) }
 {
     let turn = course.turns().len() as u64;
     let taken = course.go(code, thread)?;
-    list_after(list, course.world(), code, thread, was_quiet(&taken));
+    list_after_turn(list, course.world(), code, thread, &taken);
     keep_taken(alloc, who, kept, lost, turn, taken, course.world())
 }
 

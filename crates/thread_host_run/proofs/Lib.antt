@@ -6,6 +6,10 @@ mod ReadyLemmas
 pub mod ListedReady
 mod Others
 mod Kept
+mod NumberLemmas
+mod WaitingLemmas
+mod Touching
+mod Tellings
 pub mod StretchLemmas
 pub mod GoingLemmas
 mod BookLemmas

@@ -100,14 +100,14 @@ quiet_moves code w t m h e = let a = acts code w t m h in moved_by code w t a.th
 
 -- ---- where one thread has moved
 
-set_other : {X : Type 0} (xs : List X) (t u : ℕ) (x : X) → (t ≡ u → ⊥) → slice_get (slice_set xs t x) u ≡ slice_get xs u
+pub set_other : {X : Type 0} (xs : List X) (t u : ℕ) (x : X) → (t ≡ u → ⊥) → slice_get (slice_set xs t x) u ≡ slice_get xs u
 set_other [] t u x ne = refl
 set_other (y ∷ xs) zero zero x ne = absurd (ne refl)
 set_other (y ∷ xs) zero (suc u) x ne = refl
 set_other (y ∷ xs) (suc t) zero x ne = refl
 set_other (y ∷ xs) (suc t) (suc u) x ne = set_other xs t u x (λ e. ne (ap suc e))
 
-living_set : (xs : List Thread) (t : ℕ) (a b : Thread) → slice_get xs t ≡ Some a → b.result ≡ a.result → (u : ℕ) → is_living (slice_get (slice_set xs t b) u) ≡ is_living (slice_get xs u)
+pub living_set : (xs : List Thread) (t : ℕ) (a b : Thread) → slice_get xs t ≡ Some a → b.result ≡ a.result → (u : ℕ) → is_living (slice_get (slice_set xs t b) u) ≡ is_living (slice_get xs u)
 living_set [] t a b e same u = refl
 living_set (x ∷ xs) zero a b e same zero = ap is_none same ∙ sym (ap is_living e)
 living_set (x ∷ xs) zero a b e same (suc u) = refl
@@ -148,7 +148,7 @@ module _ (code : CodeTree) (w after : World) (t : ℕ) (h : Moved w t after) whe
   in_same u None = refl
   in_same u (Some th) = on_same u th th.contexts
 
-  at_same : (u : ℕ) → (t ≡ u → ⊥) → thread_at after u ≡ thread_at w u
+  pub at_same : (u : ℕ) → (t ≡ u → ⊥) → thread_at after u ≡ thread_at w u
   at_same u ne = ap (λ (ths : List Thread). slice_get ths u) h.threads ∙ set_other w.threads t u h.to ne
 
   other_same : (u : ℕ) → (t ≡ u → ⊥) → ready code after u ≡ ready code w u

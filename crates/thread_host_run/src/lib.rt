@@ -18,7 +18,8 @@
 //! - `course` and `run`: the types; `taking`: one turn; `stretches`: how stretches come back.
 //! - `going`: private turns in a row, in place.
 //! - `seeking`: the search for a thread that is ready or lives.
-//! - `listing`: the list of the ready threads, kept from turn to turn.
+//! - `listing`: the list of the ready threads, kept from turn to turn; `ready_list`: with what each thread waits for
+//!   (`waiting`).
 //! - `books`: the run of a book of turns, or the turn at which they stop to be one.
 #![tactic(auto)]
 
@@ -27,17 +28,21 @@ mod course;
 mod going;
 mod listing;
 mod readiness;
+mod ready_list;
 mod run;
 mod seeking;
 mod stretches;
 mod taking;
+mod waiting;
 
 pub use books::{RunOf, run_of};
 pub use course::{Course, let_go_course};
 pub use going::go_listed;
 pub use listing::{check_in_listed, list_after, list_ready, relist, roomy_list, turn_listed};
 pub use readiness::ready;
+pub use ready_list::{ReadyList, check_in_ready, go_ready, list_after_turn};
 pub use run::{Run, RunParts, let_go_run, let_go_verified};
 pub use seeking::living_in;
 pub use taking::was_quiet;
 pub use turn_book::TURN_LIMIT;
+pub use waiting::{Awaits, Prospect};

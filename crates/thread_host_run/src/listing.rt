@@ -50,7 +50,7 @@ pub fn list_ready(list: &mut Vec<u32>, world: &World, code: &Verified)
 }
 
 /// How many threads there are.
-fn few_threads(world: &World) -> u32
+pub fn few_threads(world: &World) -> u32
     ensures count { result ≡ length world.now.threads }
     ensures few { result ≤ most_threads }
 {
@@ -136,7 +136,7 @@ pub fn after_quiet(list: &mut Vec<u32>, world: &World, code: &Verified, thread: 
 }
 
 /// A thread leaves the list.
-fn leave(list: &mut Vec<u32>, thread: u32)
+pub fn leave(list: &mut Vec<u32>, thread: u32)
     ensures list { list.new.items ≡ filter (is_other thread) list.old.items }
     ensures room { vec_capacity list.new ≡ vec_capacity list.old }
 {

@@ -103,7 +103,7 @@ fn is_quiet(what: &What) -> bool
 
 /// Whether another thread may be ready after the ask where it was not, or not where it was: who holds a monitor may change,
 /// a thread may be started, or one ends.
-fn touches_others(ask: &Ask) -> bool
+pub fn touches_others(ask: &Ask) -> bool
     ensures { result ≡ touches_others ask.now }
 {
     matches!(

@@ -3,11 +3,11 @@ use Rattle.lam_main_words.specs.Words.{Request, request_of}
 use Rattle.lam_main_plan.specs.Answer.{OthersKept}
 use Rattle.lam_main_plan.specs.Plan.{IsPlanOf, written_by}
 use Rattle.lam_main_plan.proofs.AnswerLemmas.{stay_kept}
-use Rattle.lam_main_files.specs.declared.report.Report.{Report}
-use Rattle.lam_main_files.specs.declared.halt.Halt.{Halt}
-use Rattle.lam_main_files.specs.declared.halt.Halt.TheVariants.{Refused, NoMemory}
-use Rattle.lam_main_files.specs.declared.halt.Refusal.TheVariants.{Word}
-use Rattle.lam_main_files.specs.Halts.{Reports}
+use Rattle.lam_main_replay.specs.declared.report.Report.{Report}
+use Rattle.lam_main_replay.specs.declared.halt.Halt.{Halt}
+use Rattle.lam_main_replay.specs.declared.halt.Halt.TheVariants.{Refused, NoMemory}
+use Rattle.lam_main_replay.specs.declared.halt.Refusal.TheVariants.{Word}
+use Rattle.lam_main_replay.specs.Halts.{Reports}
 use Rattle.lam_main.proofs.WordLemmas.{none_named}
 use Rattle.lam_main.proofs.answer_of.Goals as goal
 

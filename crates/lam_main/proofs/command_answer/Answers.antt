@@ -3,7 +3,7 @@ use Rattle.lam_io.specs.Outside.{Rose}
 use Rattle.lam_main_words.specs.Words.{asked}
 use Rattle.lam_main_plan.specs.Plan.{IsPlanOf, written_by}
 use Rattle.lam_main_plan.proofs.AnswerLemmas.{stay_kept}
-use Rattle.lam_main_files.specs.declared.halt.Halt.TheVariants.{ShelfFailed}
+use Rattle.lam_main_replay.specs.declared.halt.Halt.TheVariants.{ShelfFailed}
 use Rattle.lam_main.proofs.DoneLemmas.{reported, halted, spared}
 use Rattle.lam_main.proofs.command_answer.Goals as goal
 

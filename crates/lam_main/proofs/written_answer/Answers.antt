@@ -2,7 +2,7 @@ use Rattle.std.proofs.Common.{string_bytes, subst}
 use Rattle.lam_main_plan.specs.Reading.{WithFile, program_limit}
 use Rattle.lam_main_plan.specs.Replays.{Reader}
 use Rattle.lam_main_plan.specs.Threads.{RunsThreads}
-use Rattle.lam_main_files.specs.Halts.{Reports}
+use Rattle.lam_main_replay.specs.Halts.{Reports}
 use Rattle.lam_main.proofs.written_answer.Goals as goal
 
 pub returns-in-Run-clause-gives : goal.returns-in-Run-clause-gives

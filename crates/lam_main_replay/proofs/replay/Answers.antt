@@ -1,7 +1,7 @@
 use Rattle.std.proofs.Common.{string_bytes}
-use Rattle.lam_main_files.proofs.ReadLemmas.{stays_on}
+use Rattle.lam_main_plan.proofs.ReadLemmas.{stays_on}
 use Rattle.lam_main_replay.specs.Asked.{files_of, reader_of}
-use Rattle.lam_main_files.proofs.ReportLemmas.{failed_later}
+use Rattle.lam_main_replay.proofs.ReportLemmas.{failed_later}
 use Rattle.lam_main_replay.proofs.RunLemmas.{program_gives, no_program_gives}
 use Rattle.lam_main_replay.proofs.replay.Goals as goal
 

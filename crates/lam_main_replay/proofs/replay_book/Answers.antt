@@ -1,6 +1,6 @@
 use Rattle.std.proofs.Common.{ℕ, List, subst, string_bytes}
-use Rattle.lam_main_files.specs.Replays.{IsOfTurns}
-use Rattle.lam_main_files.specs.Halts.{Says}
+use Rattle.lam_main_plan.specs.Replays.{IsOfTurns}
+use Rattle.lam_main_replay.specs.Halts.{Says}
 use Rattle.lam_main_replay.specs.Asked.{lines_for}
 use Rattle.lam_main_replay.proofs.RunLemmas.{turns_say, no_turns_say}
 use Rattle.lam_main_replay.proofs.replay_book.Goals as goal

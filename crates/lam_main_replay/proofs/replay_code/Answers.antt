@@ -1,10 +1,10 @@
 use Rattle.std.proofs.Common.{◌≡◌, Ok, string_bytes}
 use Rattle.lam_machine_terms.specs.Worlds.{World}
 use Rattle.world_doc_terms.specs.Start.{start_of}
-use Rattle.lam_main_files.specs.Reading.{HasFile, world_limit}
-use Rattle.lam_main_files.proofs.ReadLemmas.{stays_on}
+use Rattle.lam_main_plan.specs.Reading.{HasFile, world_limit}
+use Rattle.lam_main_plan.proofs.ReadLemmas.{stays_on}
 use Rattle.lam_main_replay.specs.Asked.{files_of, reader_of}
-use Rattle.lam_main_files.proofs.ReportLemmas.{failed_later}
+use Rattle.lam_main_replay.proofs.ReportLemmas.{failed_later}
 use Rattle.lam_main_replay.proofs.RunLemmas.{start_says, no_start_says}
 use Rattle.lam_main_replay.proofs.replay_code.Goals as goal
 

@@ -1,6 +1,6 @@
 use Rattle.std.proofs.Common.{◌≡◌, Ok, ap, string_bytes}
 use Rattle.lam_machine_effects.specs.declared.stores.Stores.{Stores}
-use Rattle.lam_main_files.specs.Replays.{read_by}
+use Rattle.lam_main_plan.specs.Replays.{read_by}
 use Rattle.lam_main_replay.specs.declared.viewer.NamedViewer.{NamedViewer}
 use Rattle.lam_main_replay.specs.Asked.{reader_of, lines_for}
 use Rattle.lam_main_replay.proofs.RunLemmas.{reader_says, no_reader_says}

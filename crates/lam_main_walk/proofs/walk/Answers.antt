@@ -1,6 +1,6 @@
 use Rattle.std.proofs.Common.{string_bytes}
-use Rattle.lam_main_plan.specs.Reading.{HasFile, program_limit}
-use Rattle.lam_main_plan.proofs.ReadLemmas.{stays_on}
+use Rattle.lam_main_replay.specs.Reading.{HasFile, program_limit}
+use Rattle.lam_main_replay.proofs.ReadLemmas.{stays_on}
 use Rattle.lam_main_replay.proofs.ReportLemmas.{failed_later}
 use Rattle.lam_main_replay.specs.Asked.{files_of}
 use Rattle.lam_main_walk.specs.Sources.{IsSourceOf}

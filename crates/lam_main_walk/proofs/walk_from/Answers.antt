@@ -2,9 +2,9 @@ use Rattle.std.proofs.Common.{◌≡◌, ℕ, List, Ok, subst, string_bytes}
 use Rattle.lam_resolve_tree.specs.Tree.{resolved_tree}
 use Rattle.lam_machine_runs.specs.Stops.{stopped_at}
 use Rattle.turn_book.specs.Reading.{turns_of}
-use Rattle.lam_main_plan.specs.Reading.{HasFile, book_limit}
-use Rattle.lam_main_plan.specs.Books.{WhereReady}
-use Rattle.lam_main_plan.specs.Walks.{TellsSame}
+use Rattle.lam_main_replay.specs.Reading.{HasFile, book_limit}
+use Rattle.lam_main_replay.specs.Books.{WhereReady}
+use Rattle.lam_main_replay.specs.Walks.{TellsSame}
 use Rattle.lam_main_replay.specs.Halts.{Says}
 use Rattle.lam_main_walk.proofs.SourceLemmas.{turns_say, no_turns_say}
 use Rattle.lam_main_walk.proofs.walk_from.Goals as goal

@@ -2,8 +2,8 @@ use Rattle.std.proofs.Common.{◌≡◌, Ok, string_bytes}
 use Rattle.lam_machine_terms.specs.Worlds.{World}
 use Rattle.lam_resolve_tree.specs.Tree.{resolved_tree}
 use Rattle.world_doc_terms.specs.Start.{start_of}
-use Rattle.lam_main_plan.specs.Reading.{HasFile, world_limit}
-use Rattle.lam_main_plan.proofs.ReadLemmas.{stays_on}
+use Rattle.lam_main_replay.specs.Reading.{HasFile, world_limit}
+use Rattle.lam_main_replay.proofs.ReadLemmas.{stays_on}
 use Rattle.lam_main_replay.proofs.ReportLemmas.{failed_later}
 use Rattle.lam_main_replay.specs.Asked.{files_of}
 use Rattle.lam_main_walk.proofs.SourceLemmas.{means_from, start_says, no_start_says}

@@ -2,10 +2,10 @@ use Rattle.std.proofs.Common.{◌≡◌, Ok, subst, string_bytes}
 use Rattle.lam_machine_terms.specs.Worlds.{World}
 use Rattle.world_doc_terms.specs.Start.{start_of}
 use Rattle.lam_main_words.specs.Words.{Text}
-use Rattle.lam_main_files.specs.Reading.{world_limit}
-use Rattle.lam_main_files.specs.Replays.{NoStart}
-use Rattle.lam_main_files.specs.Halts.{Finds}
-use Rattle.lam_main_files.proofs.FileLemmas.{found_in_file, found_is}
+use Rattle.lam_main_plan.specs.Reading.{world_limit}
+use Rattle.lam_main_plan.specs.Replays.{NoStart}
+use Rattle.lam_main_replay.specs.Halts.{Finds}
+use Rattle.lam_main_replay.proofs.FileLemmas.{found_in_file, found_is}
 use Rattle.lam_main_replay.specs.Asked.{IsStartOf}
 use Rattle.lam_main_replay.proofs.document.read_start.Goals as goal
 

@@ -1,10 +1,10 @@
 use Rattle.std.proofs.Common.{◌≡◌, ℕ, List, Ok, subst, string_bytes}
 use Rattle.turn_book.specs.Reading.{turns_of}
 use Rattle.lam_main_words.specs.Words.{Text}
-use Rattle.lam_main_files.specs.Reading.{book_limit}
-use Rattle.lam_main_files.specs.Books.{NoTurns}
-use Rattle.lam_main_files.specs.Halts.{Finds}
-use Rattle.lam_main_files.proofs.FileLemmas.{found_in_file}
+use Rattle.lam_main_plan.specs.Reading.{book_limit}
+use Rattle.lam_main_plan.specs.Books.{NoTurns}
+use Rattle.lam_main_replay.specs.Halts.{Finds}
+use Rattle.lam_main_replay.proofs.FileLemmas.{found_in_file}
 use Rattle.lam_main_replay.proofs.turns.read_turns.Goals as goal
 
 pub returns-clause-finds : goal.returns-clause-finds

@@ -1,5 +1,5 @@
 use Rattle.std.proofs.Common.{ap}
-use Rattle.lam_main_files.specs.Replays.{view_by}
+use Rattle.lam_main_plan.specs.Replays.{view_by}
 use Rattle.lam_main_replay.proofs.RunLemmas.{no_label_reads}
 use Rattle.lam_main_replay.proofs.viewer.observer.Goals as goal
 

@@ -1,7 +1,7 @@
 use Rattle.std.proofs.Common.{[]}
 use Rattle.lam_resolve_tree.specs.Tree.{resolved_tree}
 use Rattle.lam_machine_runs.specs.Stops.{stopped_at}
-use Rattle.lam_main_plan.specs.Walks.{TellsSame}
+use Rattle.lam_main_replay.specs.Walks.{TellsSame}
 use Rattle.lam_main_walk.proofs.SourceLemmas.{at_entries, none_departs, same_says, no_run_says}
 use Rattle.lam_main_walk.proofs.telling.told.Goals as goal
 

@@ -5,8 +5,8 @@ use Rattle.thread_host.specs.Sharing.{IsShared}
 use Rattle.thread_host.proofs.Keeping.{shared_stretch}
 use Rattle.thread_host.proofs.stretching.take_stretch.Goals as goal
 
-pub check_in_listed-requires-clause-sound : goal.check_in_listed-requires-clause-sound
-check_in_listed-requires-clause-sound g c = course_sound c.args.code.now g.J.Origin.start c.args.course.now c.requires.shared.course
+pub check_in_ready-requires-clause-sound : goal.check_in_ready-requires-clause-sound
+check_in_ready-requires-clause-sound g c = course_sound c.args.code.now g.J.Origin.start c.args.course.now c.requires.shared.course
 
 pub returns-clause-shared : goal.returns-clause-shared
 returns-clause-shared g c =
@@ -14,4 +14,4 @@ returns-clause-shared g c =
     let code = c.args.code.now in
     let start = g.J.Origin.start in
     let more = shared_stretch kept c.leaves_private.ensures code start c.args.budget c.args.course.now c.args.kept.now c.args.stretch c.requires.stands c.requires.keeps c.requires.few c.requires.shared in
-    subst (λ (p : Progress). IsShared kept code start c.args.budget p false c.args.kept.now) (sym c.in_ok-check_in_listed.ensures.ok) more
+    subst (λ (p : Progress). IsShared kept code start c.args.budget p false c.args.kept.now) (sym c.in_ok-check_in_ready.ensures.ok) more

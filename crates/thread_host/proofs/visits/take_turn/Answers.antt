@@ -2,8 +2,8 @@ use Rattle.std.proofs.Common.{length, ap, sym, subst, ◌∙◌}
 use Rattle.lam_machine_terms.specs.Worlds.{World}
 use Rattle.guarded_code_runs.specs.Worlds.{IsSound}
 use Rattle.thread_host_run.specs.Courses.{Progress, TookTurn}
-use Rattle.thread_host_run.specs.ReadyLists.{ready_threads}
-use Rattle.thread_host_run.proofs.CourseLemmas.{course_sound, has_turn}
+use Rattle.thread_host_run.specs.Kept.{Lists}
+use Rattle.thread_host_run.proofs.CourseLemmas.{course_sound}
 use Rattle.thread_host.specs.Sharing.{Unless, IsShared, KeepsTaken}
 use Rattle.thread_host.proofs.Keeping.{kept_so_far, shared_more}
 use Rattle.thread_host.proofs.visits.take_turn.Goals as goal
@@ -25,8 +25,8 @@ returns-clause-shared g c =
 pub go-requires-clause-sound : goal.go-requires-clause-sound
 go-requires-clause-sound g c = course_sound c.args.code.now g.J.Origin.start c.args.course.now c.requires.shared.course
 
-pub list_after-requires-clause-sound : goal.list_after-requires-clause-sound
-list_after-requires-clause-sound g c =
+pub list_after_turn-requires-clause-sound : goal.list_after_turn-requires-clause-sound
+list_after_turn-requires-clause-sound g c =
     let code = c.args.code.now in
     let start = g.J.Origin.start in
     subst (IsSound code) (sym c.world.ensures) (course_sound code start c.go.new.self (c.in_ok-taken.ensures.course start c.requires.shared.course))
@@ -35,12 +35,11 @@ pub keep_taken-requires-clause-before : goal.keep_taken-requires-clause-before
 keep_taken-requires-clause-before g c =
     kept_so_far (g.K.Keeps.AreKept c.args.who.now) c.args.code.now g.J.Origin.start c.args.budget c.args.course.now c.args.kept.now c.requires.shared (length c.turns.result.now) (ap length c.turns.ensures)
 
-pub returns-clause-list : goal.returns-clause-list
-returns-clause-list g c =
+pub returns-clause-lists : goal.returns-clause-lists
+returns-clause-lists g c =
     let code = c.args.code.now in
     let before = c.args.course.now.world in
     let taken = c.in_ok-taken.taken in
-    let w = c.world.result.now in
     let took = subst (λ (v : World). TookTurn code c.args.thread before taken v) (sym c.world.ensures) c.in_ok-taken.ensures.ok.0 in
-    let turn = has_turn code c.args.thread before taken w c.was_quiet.result took c.was_quiet.ensures in
-    c.list_after.ensures.list before c.requires.ready turn c.requires.list ∙ ap (ready_threads code) c.world.ensures
+    let lists = c.list_after_turn.ensures.lists before took c.requires.lists in
+    subst (λ (w : World). Lists code w c.list_after_turn.new.list) c.world.ensures lists

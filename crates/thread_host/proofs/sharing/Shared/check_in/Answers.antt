@@ -1,6 +1,6 @@
 use Rattle.std.proofs.Common.{◌≡◌, Bool, List, ℕ, subst, sym}
 use Rattle.lam_bytecode.specs.Codes.{CodeTree}
-use Rattle.thread_host_run.specs.ReadyLists.{ready_threads}
+use Rattle.thread_host_run.specs.Kept.{Lists}
 use Rattle.thread_host.specs.Sharing.{IsShared}
 use Rattle.thread_host.proofs.Keeping.{for_who, for_origin}
 use Rattle.thread_host.proofs.sharing.Shared.check_in.Goals as goal
@@ -15,4 +15,4 @@ invariant_of-self-2 g c =
     let self = c.self.inside in
     let course = c.take_stretch.new.course in
     let shared = for_origin (g.K.Keeps.AreKept c.args.who.now) g.J.Origin.AreKept c.requires.agree c.args.code.now g.J.Origin.code c.requires.of.0 g.J.Origin.start c.args.budget g.J.Origin.budget c.requires.of.1 course self.kept self.lost (subst (λ (b : Bool). IsShared (g.K.Keeps.AreKept c.args.who.now) c.args.code.now g.J.Origin.start c.args.budget course b self.kept) (sym c.if-self.false) c.take_stretch.ensures.shared) in
-    (shared, subst (λ (code : CodeTree). c.take_stretch.new.list.items ≡ ready_threads code course.world) c.requires.of.0 c.take_stretch.ensures.list, c.take_stretch.ensures.room)
+    (shared, subst (λ (code : CodeTree). Lists code course.world c.take_stretch.new.list) c.requires.of.0 c.take_stretch.ensures.lists, c.take_stretch.ensures.room)

@@ -10,4 +10,4 @@ picked-requires-clause-some g c =
     let own = g.J.Origin.code in
     let p = c.self.inside.course in
     let some = subst (λ (code : CodeTree). SomeReady code p.world) c.requires.of (subst (λ (q : Progress). SomeReady c.args.code.now q.world) (sym c.self.view_is) c.requires.some) in
-    some_listed own p.world c.as_slice.result.now (c.as_slice.ensures.value ∙ c.self.invariant.1) some
+    some_listed own p.world c.as_slice.result.now (c.as_slice.ensures.value ∙ c.self.invariant.1.threads_are) some

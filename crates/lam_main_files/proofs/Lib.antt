@@ -1,5 +1,0 @@
-pub mod FileLemmas
-pub mod ReportLemmas
-pub mod CodeLemmas
-pub use Rattle.lam_main_plan.proofs.BookLemmas
-pub use Rattle.lam_main_plan.proofs.ReadLemmas

@@ -1,0 +1,2 @@
+pub mod Inputs
+pub use Rattle.barrier_compiler.specs.Compiled
