@@ -1,4 +1,4 @@
-use Rattle.std.proofs.Common.{◌≡◌, Some, None, length, refl, subst, ◌∙◌, ap, arith}
+use Rattle.std.proofs.Common.{Some, length, refl, ◌∙◌, ap, arith}
 use Rattle.std.proofs.lemmas.Option.{slice_get_read}
 use Rattle.source_walk.proofs.Telling.{none_more, none_of}
 use Rattle.source_walk.proofs.walking.first_departure.Goals as goal

@@ -1,4 +1,4 @@
-use Rattle.std.proofs.Common.{List, length, sym, subst}
+use Rattle.std.proofs.Common.{List, subst}
 use Rattle.lam_resolve_tree.specs.Tree.{resolved_tree}
 use Rattle.lam_machine_terms.specs.Turns.{moments, replay}
 use Rattle.source_walk_state.specs.declared.Beginning.{Beginning}
