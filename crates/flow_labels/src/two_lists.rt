@@ -6,7 +6,7 @@
 //! read in time linear in its length, and its tags are sorted.
 
 ghost use Rattle.std.specs.Prelude.{◌≡◌, ◌≤◌, ◌++◌, ◌∷◌, [], ◌+◌, ◌^◌, ◌<◌, length, map, IfSome, IsNone, ◌↔◌, IfOk, OnOk, string_bytes, decimal};
-ghost use Rattle.flow_labels.specs.TwoLists.{HasForm, IsBadPlace, joined, braced, tag_text, sets_text};
+ghost use Rattle.flow_labels.specs.TwoLists.{HasForm, IsBadPlace, joined, braced, spelled, tag_text, sets_text};
 ghost use Rattle.flow_labels.specs.Reading.{start, step, after_list, after_letter, bad_place, first_end, sets_in, tags_of_names, words, Gives, TakesWord, ListsAreRead, SetsAreRead};
 ghost use Rattle.flow_labels.specs.declared.two_lists.TagFault.TheVariants.{NoMemory as no_memory};
 
@@ -253,18 +253,34 @@ pub fn push_sets(
 ) -> Result<(), NoMemory>
     ensures { OnOk result (string_bytes text.new ≡ string_bytes text.old ++ sets_text form names.now first.now second.now) }
 {
+    let (first, second) = (first.tags(), second.tags());
+    if first.is_empty() && second.is_empty() {
+        return push_empty(text, form);
+    }
     match form {
         Form::Label => {
-            push_braced(text, first.tags(), names)?;
+            push_braced(text, first, names)?;
             text.push('/')?;
         }
         Form::Caps => {
             text.push('+')?;
-            push_braced(text, first.tags(), names)?;
+            push_braced(text, first, names)?;
             text.push('-')?;
         }
     }
-    push_braced(text, second.tags(), names)
+    push_braced(text, second, names)
+}
+
+/// Writes the text of two empty lists.
+fn push_empty(text: &mut String, form: Form) -> Result<(), NoMemory>
+    ensures { OnOk result (string_bytes text.new ≡ string_bytes text.old ++ spelled form [] []) }
+{
+    let empty = match form {
+        Form::Label => "{}/{}",
+        Form::Caps => "+{}-{}",
+    };
+    text.push_str(empty)?;
+    Ok(())
 }
 
 /// The name of a tag, or `#` and its number where it has none.
