@@ -8,7 +8,7 @@ ghost use Rattle.thread_steps.specs.Next.{stands, leaving, is_shared, is_stuck};
 ghost use Rattle.thread_core_state.specs.Seen.{phase_of};
 ghost use Rattle.thread_core_effects.specs.Acting.{ask_of};
 ghost use Rattle.thread_core_effects.specs.Reading.{thing_in};
-ghost use Rattle.thread_core.specs.Turning.{moved, standing_of, asked, awaited, awaited_by, monitor_of, end_of};
+ghost use Rattle.thread_core.specs.Turning.{moved, standing_of, asked, awaited, awaited_by, nobody, monitor_of, end_of};
 ghost use Rattle.thread_core.specs.Coming.{next_from};
 ghost use Rattle.thread_core.specs.Untested.{untested_next};
 ghost use Rattle.thread_core.specs.Steps.{changed, stands_by, moved_by, HasNext};
@@ -16,7 +16,7 @@ ghost use Rattle.thread_core.specs.Moves.{dropped, put, jumped, called_with, fai
 
 use crate::coming::{Coming, next};
 use crate::step::{Change, Step};
-use crate::turn::{Standing, Waits};
+use crate::turn::{Outlook, Standing, Waits};
 use flow_labels::{Label, read_rule, same_rule};
 use lam_asks::{Ask, Fault, Outcome};
 use lam_bytecode::Code;
@@ -498,6 +498,44 @@ pub fn context_waits<'a>(c: &'a Context, code: &'a Code) -> Waits<'a>
             OpEffect::Fails(_) => Waits::Nobody,
             OpEffect::Leaves => Waits::Nobody,
             OpEffect::Breaks => Waits::Nobody,
+        },
+    }
+}
+
+/// It stands so, and waits for nobody.
+fn alone(standing: Standing) -> Outlook<'static>
+    ensures standing { result.standing ≡ standing }
+    ensures waits { awaited_by result.waits ≡ nobody }
+{
+    Outlook {
+        standing,
+        waits: Waits::Nobody,
+    }
+}
+
+/// How a context stands, and what its next ask waits for.
+#[tactic(auto, using(crate::proofs::Cases::raised_stands, crate::proofs::Cases::leaving_stands, crate::proofs::Cases::raised_waits, crate::proofs::Cases::returned_waits, crate::proofs::Cases::leaving_waits, crate::proofs::Cases::set_waits))]
+pub fn context_outlook<'a>(c: &'a Context, code: &'a Code) -> Outlook<'a>
+    ensures standing { standing_of result.standing ≡ stands (untested_next code.now c.now) }
+    ensures waits { awaited_by result.waits ≡ awaited c.now.label (asked (untested_next code.now c.now)) }
+{
+    match next(c, code) {
+        Coming::Nothing => alone(Standing::Stuck),
+        Coming::Handles(_) => alone(Standing::Shared),
+        Coming::Sees(op_effect) => match op_effect {
+            OpEffect::Drops { .. } => alone(Standing::Private),
+            OpEffect::Puts { .. } => alone(Standing::Private),
+            OpEffect::Sets { .. } => alone(private_where(c.stack.len() > 0)),
+            OpEffect::Jumps { .. } => alone(Standing::Private),
+            OpEffect::Calls { .. } => alone(Standing::Private),
+            OpEffect::Returns => alone(returning(c)),
+            OpEffect::Fails(_) => alone(Standing::Private),
+            OpEffect::Asks { ask, .. } => Outlook {
+                standing: Standing::Shared,
+                waits: awaited_by_sketch(&c.label, &ask),
+            },
+            OpEffect::Leaves => alone(leaves(c.phase)),
+            OpEffect::Breaks => alone(Standing::Stuck),
         },
     }
 }

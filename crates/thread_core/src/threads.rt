@@ -6,8 +6,8 @@ ghost use Rattle.thread_steps.specs.Next.{standing, is_private, is_shared};
 ghost use Rattle.thread_core.specs.Turning.{turn_of, stepped, stepped_in, standing_of, ask_of, awaited_of, awaited_by};
 ghost use Rattle.thread_core.specs.Untested.{untested_standing, untested_standing_in, ThreadFinds, StandsAs};
 
-use crate::stepping::{context_ask, context_stands, context_waits, go_on_in};
-use crate::turn::{Standing, Turn, Waits};
+use crate::stepping::{context_ask, context_outlook, context_stands, context_waits, go_on_in};
+use crate::turn::{Outlook, Standing, Turn, Waits};
 use guarded_code_threads::Verified;
 use lam_asks::Ask;
 use lam_bytecode::Code;
@@ -49,6 +49,29 @@ fn waits<'a>(thread: &'a LamThread, code: &'a Code) -> Waits<'a>
     match thread.top() {
         None => Waits::Nobody,
         Some(c) => context_waits(c, code),
+    }
+}
+
+/// How a thread stands, as [`standing`], and what its next ask waits for, as [`waits_for`]: what comes next is read once.
+pub fn outlook<'a>(thread: &'a LamThread, code: &'a Verified) -> Outlook<'a>
+    ensures near { StandsAs code.now thread.now (standing_of result.standing) }
+    ensures standing { ThreadFinds code.now thread.now → standing_of result.standing ≡ standing code.now thread.now }
+    ensures ended { IsThread thread.now → IsTrue (is_some thread.now.result) ↔ (result.standing ≡ Standing.Ended) }
+    ensures waits { awaited_by result.waits ≡ awaited_of code.now thread.now }
+{
+    seen_ahead(thread, code.code())
+}
+
+fn seen_ahead<'a>(thread: &'a LamThread, code: &'a Code) -> Outlook<'a>
+    ensures standing { standing_of result.standing ≡ untested_standing code.now thread.now }
+    ensures waits { awaited_by result.waits ≡ awaited_of code.now thread.now }
+{
+    match thread.top() {
+        None => Outlook {
+            standing: Standing::Ended,
+            waits: Waits::Nobody,
+        },
+        Some(c) => context_outlook(c, code),
     }
 }
 

@@ -27,6 +27,13 @@ pub enum Standing {
     Ended,
 }
 
+/// How a thread stands, and what its next ask waits for.
+#[derive(Clone, Copy)]
+pub struct Outlook<'a> {
+    pub standing: Standing,
+    pub waits: Waits<'a>,
+}
+
 /// What a thread's next ask waits for, where that is not free or lives.
 #[derive(Clone, Copy)]
 pub enum Waits<'a> {

@@ -15,4 +15,6 @@ mod stretch;
 
 pub use privately::go_privately;
 pub use stretch::{STRETCH_LIMIT, Stretch, let_go_stretch};
-pub use thread_core::{Standing, Waits, standing as thread_core_standing, waits_for};
+pub use thread_core::{
+    Outlook, Standing, Waits, outlook, standing as thread_core_standing, waits_for,
+};

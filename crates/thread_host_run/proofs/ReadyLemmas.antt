@@ -74,3 +74,7 @@ module _ (code : CodeTree) (w : World) (t : ℕ) where
   pub ready_absent : thread_at w t ≡ None → ready code w t ≡ false
   unfolding ready
   ready_absent e = ap is_some (step_at None e)
+
+-- as what was seen of it tells
+pub seen_ready : (code : CodeTree) (w : World) (t : ℕ) (th : Thread) (stands : Standing) (waits : Awaited) → (stands ≡ standing code th) → waits ≡ awaited_of code th → ready_by stands (waits_on w t waits) ≡ ready_by (standing code th) (waits_on w t (awaited_of code th))
+seen_ready code w t th stands waits s a = ap (λ x. ready_by x (waits_on w t waits)) s ∙ ap (λ x. ready_by (standing code th) (waits_on w t x)) a

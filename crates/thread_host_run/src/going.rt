@@ -1,51 +1,16 @@
 //! Private turns of one thread in a row, taken in place: nothing is copied or compared.
 
-ghost use Rattle.std.specs.Prelude.{◌≡◌, ◌<◌, ◌≤◌, ◌++◌, true, length, replicate, IfOk, OnErr, vec_capacity};
-ghost use Rattle.lam_machine_terms.specs.Turns as turns;
+ghost use Rattle.std.specs.Prelude.{◌≡◌, ◌<◌, ◌≤◌, ◌++◌, length, replicate, IfOk, OnErr};
 ghost use Rattle.lam_machine_effects.specs.declared.stores.Stores.{Stores};
 ghost use Rattle.lam_machine_effects.specs.Parts.{world_of};
-ghost use Rattle.lam_machine.specs.Worlds.{IsSound};
-ghost use Rattle.thread_host_run.specs.ReadyLists.{ready_threads};
-ghost use Rattle.thread_host_run.specs.Stretched.{WentOn};
 ghost use Rattle.thread_host_run.specs.Going.{WentIn};
-ghost use Rattle.lam_machine_terms.specs.Limits.{most_threads};
 
-use crate::course::Course;
-use crate::listing::after_quiet;
 use crate::stretches::push_again;
 use guarded_code::Verified;
 use lam_machine::World;
 use thread_core_state::LamThread;
 use thread_core_stretches::go_privately;
 use want_of_memory::NoMemory;
-
-/// Takes private turns of a thread that is ready, as many as there are in a row, up to so many; the list stays that of the
-/// ready threads, and only that thread is looked at. The answer is how many they were.
-///
-/// # Errors
-///
-/// `NoMemory` where memory is refused for the first of them; nothing has changed then.
-pub fn go_listed(
-    course: &mut Course,
-    list: &mut Vec<u32>,
-    code: &Verified,
-    thread: u32,
-    most: u64,
-) -> Result<u64, NoMemory>
-    requires sound { IsSound code.now course.old.world }
-    requires ready { turns.ready code.now course.old.world thread ≡ true }
-    requires list { list.old.items ≡ ready_threads code.now course.old.world }
-    requires room { most_threads ≤ vec_capacity list.old }
-    ensures few { IfOk result (λ n. n ≤ most) }
-    ensures ok { IfOk result (λ n. WentOn code.now thread n course.old course.new) }
-    ensures err { OnErr result (course.new ≡ course.old) }
-    ensures list { list.new.items ≡ ready_threads code.now course.new.world }
-    ensures room { most_threads ≤ vec_capacity list.new }
-{
-    let taken = course.go_along(code, thread, most)?;
-    after_quiet(list, course.world(), code, thread);
-    Ok(taken)
-}
 
 /// Takes private turns of a thread that is there, up to so many. The room for them is taken first, so that nothing has changed
 /// where memory is refused.

@@ -12,7 +12,8 @@
 //!
 //! Private turns of one thread can be taken on a copy of it and checked in as a whole (`Stretch` of
 //! `thread_core_stretches`, [`Course::check_in`], [`Run::check_in`]). Where the thread is still what it was when the
-//! stretch began, its turns are turns of the run. Or they are taken in place, of the thread itself ([`go_listed`]).
+//! stretch began, its turns are turns of the run. Or they are taken in place, of the thread itself
+//! ([`Course::go_along`], [`go_ready`]).
 //!
 //! - `readiness`: whether a thread is ready, without memory.
 //! - `course` and `run`: the types; `taking`: one turn; `stretches`: how stretches come back.
@@ -37,7 +38,6 @@ mod waiting;
 
 pub use books::{RunOf, run_of};
 pub use course::{Course, let_go_course};
-pub use going::go_listed;
 pub use listing::{check_in_listed, list_after, list_ready, relist, roomy_list, turn_listed};
 pub use readiness::ready;
 pub use ready_list::{ReadyList, check_in_ready, go_ready, list_after_turn};

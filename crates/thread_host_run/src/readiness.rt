@@ -7,9 +7,7 @@
 ghost use Rattle.std.specs.Prelude.{◌≡◌, slice_get};
 ghost use Rattle.std.specs.Option.{option_copied};
 ghost use Rattle.lam_machine.specs.Worlds.{IsSound};
-ghost use Rattle.thread_steps.specs.Next as next;
-ghost use Rattle.thread_core_stretches.specs.Turning.{awaited_of, awaited_by};
-ghost use Rattle.thread_core_stretches.specs.Untested.{ThreadFinds};
+ghost use Rattle.thread_core_stretches.specs.Turning.{awaited_by, standing_of};
 ghost use Rattle.lam_machine_terms.specs.Turns as turns;
 ghost use Rattle.lam_machine_effects.specs.Parts.{world_of};
 ghost use Rattle.thread_host_run.specs.Readiness.{waits_on, ready_by};
@@ -19,7 +17,7 @@ use lam_machine::World;
 use lam_machine_effects::Stores;
 use lam_machine_equal::lives;
 use thread_core_state::LamThread;
-use thread_core_stretches::{Standing, Waits, thread_core_standing as standing, waits_for};
+use thread_core_stretches::{Outlook, Standing, Waits, outlook};
 
 /// Whether a thread is there, is neither stuck nor ended, and its next ask, if it makes one, does not wait. Takes no
 /// memory.
@@ -38,7 +36,7 @@ fn ready_at(stores: &Stores, threads: &[LamThread], code: &Verified, thread: u32
 {
     match thread_in(threads, thread) {
         None => false,
-        Some(found) => stands_ready(stores, threads, code, thread, found),
+        Some(found) => stands_ready(stores, threads, thread, outlook(found, code)),
     }
 }
 
@@ -49,20 +47,18 @@ fn thread_in(threads: &[LamThread], thread: u32) -> Option<&LamThread>
     threads.get(thread as usize)
 }
 
-/// Whether a thread that is there is ready.
-fn stands_ready(
+/// Whether a thread that is there is ready, by how it stands and what its next ask waits for.
+pub fn stands_ready(
     stores: &Stores,
     threads: &[LamThread],
-    code: &Verified,
     thread: u32,
-    found: &LamThread,
+    outlook: Outlook,
 ) -> bool
-    requires finds { ThreadFinds code.now found.now }
-    ensures { result ≡ ready_by (next.standing code.now found.now) (waits_on (world_of stores.now threads.now) thread (awaited_of code.now found.now)) }
+    ensures { result ≡ ready_by (standing_of outlook.standing) (waits_on (world_of stores.now threads.now) thread (awaited_by outlook.waits)) }
 {
-    match standing(found, code) {
+    match outlook.standing {
         Standing::Private => true,
-        Standing::Shared => !ask_waits(stores, threads, thread, waits_for(found, code)),
+        Standing::Shared => !ask_waits(stores, threads, thread, outlook.waits),
         Standing::Stuck => false,
         Standing::Ended => false,
     }

@@ -23,7 +23,6 @@ ghost use Rattle.thread_host_run.specs.Waiting.{IsHeldSo};
 ghost use Rattle.thread_host_run.specs.Kept.{Lists, ListsBy, HasRoom, AllTellBut, OthersTell, IsAsk, IsOfMonitor, AreBut, AreOld};
 
 use crate::course::Course;
-use crate::going::go_listed;
 use crate::listing::{check_in_listed, few_threads, leave, roomy_list};
 use crate::taking::touches_others;
 use crate::waiting::{Awaits, MOST_NAMES, Prospect, Touched, look, look_again, touched_at};
@@ -266,7 +265,8 @@ fn refresh(
     }
 }
 
-/// Takes private turns of a thread that is ready, as [`go_listed`].
+/// Takes private turns of a thread that is ready, as many as there are in a row, up to so many; the list stays that of the
+/// ready threads, and only that thread is looked at. The answer is how many they were.
 ///
 /// # Errors
 ///
@@ -288,9 +288,10 @@ pub fn go_ready(
     ensures lists { Lists code.now course.new.world list.new }
     ensures room { HasRoom list.new }
 {
-    let taken = go_listed(course, &mut list.threads, code, thread, most)?;
+    let taken = course.go_along(code, thread, most)?;
     let prospect = look(course.world(), code, &mut list.names, thread);
     put(&mut list.prospects, thread, prospect);
+    keep(&mut list.threads, thread, prospect.ready);
     Ok(taken)
 }
 

@@ -14,19 +14,22 @@ ghost use Rattle.lam_machine_terms.specs.Turns.{is_living};
 ghost use Rattle.lam_value.specs.declared.names.Name.{Name as Named};
 ghost use Rattle.std.specs.FinMap as map;
 ghost use Rattle.thread_core_effects.specs.Reading.{thing_in};
-ghost use Rattle.thread_core_stretches.specs.Turning.{awaited_by, a_monitor};
+ghost use Rattle.thread_core_stretches.specs.Turning.{awaited_by, a_monitor, standing_of};
+ghost use Rattle.lam_machine_effects.specs.Parts.{world_of};
+ghost use Rattle.thread_host_run.specs.Readiness.{waits_on, ready_by};
 ghost use Rattle.thread_host_run.specs.Waiting.{awaited_at, IsAwaited, Extends, Tells, TellsBut, IsHeldSo, Touches, is_stale, is_number, is_monitor, is_everything};
 
-use crate::readiness::ready;
+use crate::readiness::stands_ready;
 use guarded_code::Verified;
 use indexmap::IndexSet;
 use lam_machine::World;
+use lam_machine_effects::Stores;
 use lam_machine_equal::lives;
 use lam_value::{Name, Value};
 use monitor_core::Holder;
 use thread_core_effects::thing_in;
 use thread_core_state::LamThread;
-use thread_core_stretches::{Waits, waits_for};
+use thread_core_stretches::{Outlook, Waits, outlook};
 use want_of_memory::NoMemory;
 
 /// The most monitors that have a number. A thread that waits for another one is looked at each time.
@@ -66,26 +69,44 @@ pub fn look(world: &World, code: &Verified, names: &mut IndexSet<Name>, thread: 
     ensures more { Extends names.old.keys names.new.keys }
     ensures tells { Tells code.now world.now names.new.keys thread result }
 {
-    let awaits = awaited_in(world.threads(), code, names, thread);
-    Prospect {
-        awaits,
-        ready: ready(world, code, thread),
-    }
+    look_in(world.stores(), world.threads(), code, names, thread)
 }
 
-/// What the next ask of a thread waits for.
-fn awaited_in(
+fn look_in(
+    stores: &Stores,
     threads: &[LamThread],
     code: &Verified,
     names: &mut IndexSet<Name>,
     thread: u32,
-) -> Awaits
+) -> Prospect
+    requires sound { IsSound code.now (world_of stores.now threads.now) }
     ensures more { Extends names.old.keys names.new.keys }
-    ensures awaits { IsAwaited names.new.keys result (awaited_at code.now (slice_get threads.now thread)) }
+    ensures tells { Tells code.now (world_of stores.now threads.now) names.new.keys thread result }
 {
     match thread_in(threads, thread) {
-        None => Awaits::Nobody,
-        Some(found) => numbered(names, waits_for(found, code)),
+        None => Prospect {
+            awaits: Awaits::Nobody,
+            ready: false,
+        },
+        Some(found) => prospect_of(stores, threads, names, thread, outlook(found, code)),
+    }
+}
+
+/// What is known of a thread that is there.
+fn prospect_of(
+    stores: &Stores,
+    threads: &[LamThread],
+    names: &mut IndexSet<Name>,
+    thread: u32,
+    outlook: Outlook,
+) -> Prospect
+    ensures more { Extends names.old.keys names.new.keys }
+    ensures awaits { IsAwaited names.new.keys result.awaits (awaited_by outlook.waits) }
+    ensures ready { result.ready ≡ ready_by (standing_of outlook.standing) (waits_on (world_of stores.now threads.now) thread (awaited_by outlook.waits)) }
+{
+    Prospect {
+        awaits: numbered(names, outlook.waits),
+        ready: stands_ready(stores, threads, thread, outlook),
     }
 }
 
