@@ -11,7 +11,7 @@ use Rattle.lam_asks.specs.declared.ask.Ask.{Ask}
 use Rattle.lam_asks.specs.declared.ask.Ask.TheVariants.{MonEnter, Join}
 use Rattle.lam_bytecode.specs.Codes.{CodeTree}
 use Rattle.thread_steps.specs.Threads.{Context, Thread}
-use Rattle.thread_steps.specs.Next.{Next, goes, asks, stuck, next_of, stands, standing_in, standing}
+use Rattle.thread_steps.specs.Next.{Next, Standing, goes, asks, stuck, next_of, stands, standing_in, standing}
 use Rattle.thread_core_effects.specs.Reading.{thing_in}
 use Rattle.thread_core_stretches.specs.Turning.{Awaited, nobody, a_monitor, a_thread, asked, monitor_of, awaited, awaited_in, awaited_of}
 use Rattle.lam_machine.proofs.NextLemmas.{what_it_may}
