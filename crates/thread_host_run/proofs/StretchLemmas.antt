@@ -1,5 +1,5 @@
 -- The private turns of a stretch, as turns of a course.
-use Rattle.std.proofs.Common.{◌≡◌, ℕ, zero, suc, ◌+◌, ◌<◌, ◌≤◌, List, [], ◌∷◌, ◌++◌, length, Bool, true, false, ◌&&◌, Option, Some, None, refl, sym, ap, ◌∙◌, subst, add-one, arith, length-append}
+use Rattle.std.proofs.Common.{◌≡◌, ℕ, zero, suc, ◌+◌, ◌<◌, ◌≤◌, List, [], ◌∷◌, ◌++◌, length, Bool, true, false, ◌&&◌, Option, Some, refl, sym, ap, ◌∙◌, subst, add-one, arith, length-append}
 use Rattle.std.specs.Prelude.{is_some, replicate}
 use Rattle.std.proofs.lemmas.List.{append-nil, append_assoc, replicate_more, length-replicate, set-set}
 use Rattle.flow_labels.specs.declared.Label.{Label}
@@ -13,7 +13,7 @@ use Rattle.thread_core_stretches.specs.Turning.{moved, stepped_in, stepped}
 use Rattle.thread_core_stretches.specs.declared.stretch.Stretch.{Stretch}
 use Rattle.thread_core_stretches.specs.Stretches.{is_private, stands_private, rows, are_private, StretchStands}
 use Rattle.lam_machine_terms.specs.Worlds.{World, thread_at, with_thread}
-use Rattle.lam_machine_terms.specs.Turns.{step, ready}
+use Rattle.lam_machine_terms.specs.Turns.{ready}
 use Rattle.lam_machine_laws.proofs.ThreadLemmas.{set_same}
 use Rattle.lam_machine_laws.proofs.OwnLemmas.{set_here}
 use Rattle.lam_machine_laws.specs.Turned.{IsTurn, Acts, gone_on}

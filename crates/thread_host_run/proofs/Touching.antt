@@ -17,7 +17,7 @@ use Rattle.lam_asks.specs.declared.answer.Answer.{Answer}
 use Rattle.lam_asks.specs.declared.answer.What.{What}
 use Rattle.lam_asks.specs.declared.answer.What.TheVariants.{Private, Asked}
 use Rattle.monitor_core.specs.declared.Holder.{Holder}
-use Rattle.monitor_core.specs.Held.{Held, is_free_of, entered, one_less, held_by, left, once_more}
+use Rattle.monitor_core.specs.Held.{Held, is_free_of, entered, one_less, held_by, once_more}
 use Rattle.lam_bytecode.specs.Codes.{CodeTree}
 use Rattle.thread_core_effects.specs.Reading.{thing_in}
 use Rattle.thread_steps.specs.Threads.{Context, Thread}
@@ -26,7 +26,7 @@ use Rattle.thread_core_stretches.specs.Turning.{Awaited, nobody}
 use Rattle.lam_machine_terms.specs.Worlds.{World, thread_at, with_thread}
 use Rattle.lam_machine_terms.specs.Serves.{Served, Effect, nothing, effect_of}
 use Rattle.lam_machine_terms.specs.Serving.{publicly, serve}
-use Rattle.lam_machine_terms.specs.Turns.{is_living, is_ready, Moment, goes_on, served, turn_by, step, ready}
+use Rattle.lam_machine_terms.specs.Turns.{is_living, is_ready, Moment, goes_on, served, turn_by, step}
 use Rattle.lam_machine_laws.specs.Judged.{deed_by, fault_by}
 use Rattle.lam_machine_laws.proofs.JudgedLemmas.{judged_by}
 use Rattle.lam_machine_laws.proofs.ThreadLemmas.{some_inj}

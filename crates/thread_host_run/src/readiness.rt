@@ -49,7 +49,7 @@ fn thread_in(threads: &[LamThread], thread: u32) -> Option<&LamThread>
 
 /// Whether a thread that is there is ready, by how it stands and what its next ask waits for.
 pub fn stands_ready(stores: &Stores, threads: &[LamThread], thread: u32, outlook: Outlook) -> bool
-    ensures { result ≡ ready_by (standing_of outlook.standing) (waits_on (world_of stores.now threads.now) thread (awaited_by outlook.waits)) }
+    ensures { result ≡ ready_by (standing_of outlook.entry.standing) (waits_on (world_of stores.now threads.now) thread (awaited_by outlook.entry.waits)) }
 {
     match outlook.standing {
         Standing::Private => true,

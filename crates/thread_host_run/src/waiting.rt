@@ -101,8 +101,8 @@ fn prospect_of(
     outlook: Outlook,
 ) -> Prospect
     ensures more { Extends names.old.keys names.new.keys }
-    ensures awaits { IsAwaited names.new.keys result.awaits (awaited_by outlook.waits) }
-    ensures ready { result.ready ≡ ready_by (standing_of outlook.standing) (waits_on (world_of stores.now threads.now) thread (awaited_by outlook.waits)) }
+    ensures awaits { IsAwaited names.new.keys result.awaits (awaited_by outlook.entry.waits) }
+    ensures ready { result.ready ≡ ready_by (standing_of outlook.entry.standing) (waits_on (world_of stores.now threads.now) thread (awaited_by outlook.entry.waits)) }
 {
     Prospect {
         awaits: numbered(names, outlook.waits),

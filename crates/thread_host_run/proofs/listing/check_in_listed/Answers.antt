@@ -1,5 +1,4 @@
 use Rattle.std.proofs.Common.{◌≡◌, ap, sym, ◌∙◌, subst}
-use Rattle.lam_machine_terms.specs.Worlds.{World}
 use Rattle.lam_machine.specs.Worlds.{IsSound}
 use Rattle.thread_host_run.specs.Courses.{Progress}
 use Rattle.thread_host_run.specs.Stretched.{checked_in}

@@ -1,9 +1,5 @@
-use Rattle.std.proofs.Common.{◌≡◌, ap, sym, ◌∙◌, subst, true}
-use Rattle.lam_bytecode.specs.Codes.{CodeTree}
-use Rattle.lam_machine_terms.specs.Worlds.{World}
-use Rattle.lam_machine_terms.specs.Turns.{ready}
-use Rattle.thread_host_run.specs.Runs.{Ran, HasTurn}
-use Rattle.thread_host_run.specs.ReadyLists.{ready_threads}
+use Rattle.std.proofs.Common.{◌≡◌, ap}
+use Rattle.thread_host_run.specs.Runs.{Ran}
 use Rattle.thread_host_run.proofs.Kept.{relisted}
 use Rattle.thread_host_run.proofs.listing.turn_listed.Goals as goal
 

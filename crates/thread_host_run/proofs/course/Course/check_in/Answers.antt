@@ -1,6 +1,6 @@
-use Rattle.std.proofs.Common.{◌≡◌, subst, sym}
+use Rattle.std.proofs.Common.{subst, sym}
 use Rattle.thread_host_run.specs.Courses.{Progress, IsCourse}
-use Rattle.thread_host_run.specs.Stretched.{StretchFits, checked_in}
+use Rattle.thread_host_run.specs.Stretched.{StretchFits}
 use Rattle.thread_host_run.proofs.StretchLemmas.{course_checked}
 use Rattle.thread_host_run.proofs.course.Course.check_in.Goals as goal
 
