@@ -1,7 +1,7 @@
 -- What the sweeps of a unit end with is what stands after its last round.
-use Rattle.std.proofs.Common.{IsTrue, ◌≡◌, ℕ, zero, suc, ◌+◌, ◌<◌, ◌≤◌, List, [], ◌∷◌, ◌++◌, Bool, true, false, Option, Some, None, length, get_or, slice_get, slice_set, drop, refl, sym, ap, ap₂, ◌∙◌, subst, arith, append_assoc, ⊎_elim, length-set}
+use Rattle.std.proofs.Common.{IsTrue, ◌≡◌, ℕ, zero, suc, ◌+◌, ◌<◌, ◌≤◌, ◌⊎◌, inl, inr, List, [], ◌∷◌, ◌++◌, Bool, true, false, if◌then◌else◌, Option, Some, None, length, get_or, slice_get, slice_set, drop, refl, sym, ap, ap₂, ◌∙◌, subst, arith, append_assoc, ⊎_elim, length-set}
 use Rattle.std.specs.Prelude.{option_map}
-use Rattle.std.proofs.lemmas.Bool.{cases_eq, false≢true}
+use Rattle.std.proofs.lemmas.Bool.{cases_eq, cases_lt, false≢true}
 use Rattle.std.proofs.lemmas.List.{drop_more, drop_all, append-nil}
 use Rattle.lam_bytecode.specs.Codes.{CodeTree}
 use Rattle.lam_bytecode.specs.declared.unit.CodeUnit.{CodeUnit}
@@ -21,7 +21,7 @@ use Rattle.guarded_code.proofs.Passing.{laws}
 use Rattle.guarded_code.proofs.RoundFacts.{meets_rules, says_most}
 use Rattle.code_verify_tables.specs.Again.{tests_again}
 use Rattle.code_verify.specs.Redundant.{is_redundant, redundant, redundant_by, redundant_in}
-use Rattle.code_verify.specs.Sweeps.{jumps, arrived, acted, onward, sent_to, away, RowStands, MeetsAll, SaysMore, Swept, Sweeps, Lowers, Ends}
+use Rattle.code_verify.specs.Sweeps.{falls, jumps, arrived, acted, onward, Brought, MeetsAll, SaysMore, Lowers, Rests, Ends}
 use Rattle.code_verify.proofs.Entries.{Passing}
 
 -- ---- tables that say less
@@ -125,6 +125,20 @@ all_came p (q ∷ ps) s s' e =
     }
 
 -- ---- what is left of an operation goes on
+-- what stands at an address says no more than what falls to it
+abbrev RowStands : Table Description → ℕ → Option Description → Type 0
+RowStands t a None = Unit {0}
+RowStands t a (Some d) = Stands Description Says t a d
+
+-- what a jump brings
+abbrev sent_to : Option ℕ → Description → Sent Description
+sent_to None e = []
+sent_to (Some b) e = (b, e) ∷ []
+
+abbrev away : Op → Option Description → Sent Description
+away op None = []
+away op (Some e) = sent_to (jumps op) e
+
 mapped : {A B : Type 0} (f : A → B) (o : Option A) (y : B) → option_map f o ≡ Some y → (x : A) × (o ≡ Some x) × (f x ≡ y)
 mapped f None y e = none_some e
 mapped f (Some x) y e = (x, refl, some_inj e)
@@ -136,14 +150,6 @@ goes_apart Return t a e h = (tt, tt)
 goes_apart Throw t a e h = (tt, tt)
 goes_apart LeaveRegion t a e h = (tt, tt)
 goes_apart op t a e h = (tt, h.0)
-
-goes_together : (op : Op) (t : Table Description) (a : ℕ) (e : Description) → AllStand Description Says t (sent_to (jumps op) e) → RowStands t (a + 1) (onward op (Some e)) → AllStand Description Says t (sent (goes a op) e)
-goes_together (Jump to) t a e h r = h
-goes_together (JumpIfFalse to) t a e h r = (r, h)
-goes_together Return t a e h r = tt
-goes_together Throw t a e h r = tt
-goes_together LeaveRegion t a e h r = tt
-goes_together op t a e h r = (r, tt)
 
 passes_left : (code : CodeTree) (ops : List Op) (a : ℕ) (op : Op) (d e : Description) → slice_get ops a ≡ Some op → changed (change code op) d ≡ Some e → passes code ops a d ≡ Some (sent (goes a op) e)
 passes_left code ops a op d e at h = ap (λ o. passed code o a d) at ∙ ap (option_map (sent (goes a op))) h
@@ -177,27 +183,63 @@ left_sound code ops t a op (Some d) left settled at h e =
     subst (λ l. AllStand Description Says t (away op l) × RowStands t (a + 1) (onward op l)) is.2
     (goes_apart op t a is.0 (subst (AllStand Description Says t) same (stand_more t more.0 rule.0 more.2 rule.2)))
 
--- ---- a sweep, as far as it went
-pub record Rest (code : CodeTree) (ops : List Op) (s0 : Table Description) (at : ℕ) (flags : List Bool) (w : Table Description) : Type 0 where
-  pub whole : Table Description
-  pub sweeps : Sweeps code ops s0 0 ops s0 None whole
-  pub flagged : redundant ops whole ≡ flags ++ redundant (drop at ops) w
+-- ---- what a jump brings comes to what lies ahead, or to what is kept
+-- e, which is left at the address a, stands at the address b where it was brought
+abbrev Landed : ℕ → ℕ → Description → Table Description → Table Description → Type 0
+Landed a b e k h = ((b ≤ a) × Stands Description Says k b e) ⊎ ((a < b) × Stands Description Says h b e)
 
-pub record SoFar (code : CodeTree) (ops : List Op) (s0 s : Table Description) (at : ℕ) (r : Option Description) (flags : List Bool) (changed : Bool) : Type 0 where
-  pub size : length s ≡ length ops
-  pub below : SaysMore s0 s
-  pub keeps : (t : Table Description) → MeetsAll code ops t → SaysMore s0 t → SaysMore s t × RowStands t at r
-  pub still : changed ≡ false → (s ≡ s0) × ((w : Table Description) → Sweeps code ops s0 at (drop at ops) (drop at s0) r w → Rest code ops s0 at flags w)
+record Jumped (a : ℕ) (left : Option Description) (o : Option ℕ) (k h k' h' : Table Description) : Type 0 where
+  kept : SaysMore k k'
+  ahead : SaysMore h h'
+  lands : (e : Description) → left ≡ Some e → (b : ℕ) → o ≡ Some b → Landed a b e k' h'
+  keeps : (t : Table Description) → SaysMore k t → SaysMore h t → ((e : Description) → left ≡ Some e → (b : ℕ) → o ≡ Some b → Stands Description Says t b e) → SaysMore k' t × SaysMore h' t
 
-pub so_begins : (code : CodeTree) (ops : List Op) (s : Table Description) (flags : List Bool) → length s ≡ length ops → flags ≡ [] → SoFar code ops s s 0 None flags false
-so_begins code ops s flags size empty =
-    record {
-      size = size;
-      below = more_same s;
-      keeps = λ t m f. (f, tt);
-      still = λ e. (refl, λ w h. record { whole = w; sweeps = h; flagged = sym (ap (λ l. l ++ redundant ops w) empty) });
-    }
+unmoved : (a : ℕ) (left : Option Description) (o : Option ℕ) (k h k' h' : Table Description) → k' ≡ k → h' ≡ h → ((e : Description) → left ≡ Some e → (b : ℕ) → o ≡ Some b → ⊥) → Jumped a left o k h k' h'
+unmoved a left o k h k' h' ek eh never =
+    subst (λ x. Jumped a left o k h x h') (sym ek) (subst (λ x. Jumped a left o k h k x) (sym eh) (record {
+      kept = more_same k;
+      ahead = more_same h;
+      lands = λ e el b eb. absurd (never e el b eb);
+      keeps = λ t f g s. (f, g);
+    }))
 
+jumped : (p : Passing) (a : ℕ) (left : Option Description) (o : Option ℕ) (k h k' h' : Table Description) → Brought p a left o k h k' h' → Jumped a left o k h k' h'
+jumped p a None o k h k' h' is = unmoved a None o k h k' h' is.0 is.1 (λ e el b eb. none_some el)
+jumped p a (Some e) None k h k' h' is = unmoved a (Some e) None k h k' h' is.0 is.1 (λ e el b eb. none_some eb)
+jumped p a (Some e) (Some b) k h k' h' is = ⊎_elim further back (cases_lt a b)
+  where
+    same : (x : Description) → Some e ≡ Some x → (c : ℕ) → Some b ≡ Some c → (Q : ℕ → Description → Type 0) → Q b e → Q c x
+    same x ex c ec Q q = subst (λ y. Q y x) (some_inj ec) (subst (λ y. Q b y) (some_inj ex) q)
+
+    further : a < b → Jumped a (Some e) (Some b) k h k' h'
+    further lt =
+        let done = is.0 lt in
+        let one = came p h h' b e (slice_get h b) refl done.0 in
+        subst (λ x. Jumped a (Some e) (Some b) k h x h') (sym done.1)
+        (record {
+          kept = more_same k;
+          ahead = one.below;
+          lands = λ x ex c ec. same x ex c ec (λ c x. Landed a c x k h') (inr (lt, one.stands));
+          keeps = λ t f g s. (f, one.keeps t g (s e refl b refl));
+        })
+
+    back : b ≤ a → Jumped a (Some e) (Some b) k h k' h'
+    back le =
+        let done = is.1 le in
+        let one = came p k k' b e (slice_get k b) refl done.0 in
+        subst (λ x. Jumped a (Some e) (Some b) k h k' x) (sym done.1)
+        (record {
+          kept = one.below;
+          ahead = more_same h;
+          lands = λ x ex c ec. same x ex c ec (λ c x. Landed a c x k' h) (inl (le, one.stands));
+          keeps = λ t f g s. (one.keeps t f (s e refl b refl), g);
+        })
+
+away_stands : (t : Table Description) (op : Op) (left : Option Description) → AllStand Description Says t (away op left) → (e : Description) → left ≡ Some e → (b : ℕ) → jumps op ≡ Some b → Stands Description Says t b e
+away_stands t op left all e el b eb =
+    (subst (λ o. AllStand Description Says t (sent_to o e)) eb (subst (λ l. AllStand Description Says t (away op l)) el all)).0
+
+-- ---- rows, one after another
 got : {A : Type 0} (xs : List A) (n : ℕ) (x d : A) → n < length xs → x ≡ get_or xs n d → slice_get xs n ≡ Some x
 got [] n x d lt e = absurd (omega (arith, lt))
 got (y ∷ xs) zero x d lt e = ap (λ z. Some z) (sym e)
@@ -206,178 +248,307 @@ got (y ∷ xs) (suc n) x d lt e = got xs n x d (omega (arith, lt)) e
 opened : {A : Type 0} (xs : List A) (n : ℕ) (x d : A) → n < length xs → x ≡ get_or xs n d → drop n xs ≡ x ∷ drop (n + 1) xs
 opened xs n x d lt e = drop_more xs n d lt ∙ ap (λ y. y ∷ drop (n + 1) xs) (sym e)
 
--- one more address
-pub so_on : (code : CodeTree) (ops : List Op) (s0 s s' : Table Description) (at : ℕ) (op p : Op) (o r row left r' : Option Description) (b brought changed changed' : Bool) (flags flags' : List Bool)
-    → SoFar code ops s0 s at r flags changed → at < length ops → op ≡ get_or ops at p → o ≡ get_or s at o → arrived r o ≡ Some row → b ≡ is_redundant op row → flags' ≡ flags ++ b ∷ [] → acted code op row ≡ Some left
-    → ((p : Passing) → give Description meet p s (away op left) ≡ Holds s') → length s' ≡ length s → (brought ≡ false → s' ≡ s) → (changed' ≡ false → (changed ≡ false) × (brought ≡ false)) → r' ≡ onward op left
-    → SoFar code ops s0 s' (at + 1) r' flags' changed'
-so_on code ops s0 s s' at op p o r row left r' b brought changed changed' flags flags' so lt eop eo arr eb ef act giv len same either er =
-    record {
-      size = len ∙ so.size;
-      below = more_trans s0 s s' so.below all.below;
-      keeps = λ t m f. let old = so.keeps t m f in let new = sounds t m f in (all.keeps t old.0 new.0, subst (RowStands t (at + 1)) (sym er) new.1);
-      still = λ e. let quiet = either e in let old = so.still quiet.0 in (same quiet.1 ∙ old.0, λ w h. rest e w h);
-    }
-  where
-    all : AllCame s s' (away op left)
-    all = all_came (passes code ops) (away op left) s s' (giv (passes code ops))
+inside : {A : Type 0} (xs : List A) (n : ℕ) (x : A) → slice_get xs n ≡ Some x → n < length xs
+inside [] n x e = none_some e
+inside (y ∷ xs) zero x e = omega arith
+inside (y ∷ xs) (suc n) x e = let lt = inside xs n x e in omega (arith, lt)
 
-    op_at : slice_get ops at ≡ Some op
-    op_at = got ops at op p lt eop
+before_last : {A : Type 0} (xs : List A) (y : A) (n : ℕ) (x : A) → slice_get xs n ≡ Some x → slice_get (xs ++ y ∷ []) n ≡ Some x
+before_last [] y n x e = none_some e
+before_last (z ∷ xs) y zero x e = e
+before_last (z ∷ xs) y (suc n) x e = before_last xs y n x e
 
-    s_at : slice_get s at ≡ Some o
-    s_at = got s at o o (omega (arith, lt, so.size)) eo
+at_last : {A : Type 0} (xs : List A) (y : A) → slice_get (xs ++ y ∷ []) (length xs) ≡ Some y
+at_last [] y = refl
+at_last (z ∷ xs) y = at_last xs y
 
-    rows : (t : Table Description) → MeetsAll code ops t → SaysMore s0 t → RowStands t at row
-    rows t m f = let old = so.keeps t m f in row_sound s t at o r row old.0 s_at old.1 arr
+last_or : {A : Type 0} (xs : List A) (y : A) (n : ℕ) (x : A) → slice_get (xs ++ y ∷ []) n ≡ Some x → (slice_get xs n ≡ Some x) ⊎ ((n ≡ length xs) × (y ≡ x))
+last_or [] y zero x e = inr (refl, some_inj e)
+last_or [] y (suc n) x e = none_some e
+last_or (z ∷ xs) y zero x e = inl e
+last_or (z ∷ xs) y (suc n) x e = ⊎_elim (λ old. inl old) (λ new. inr (ap suc new.0, new.1)) (last_or xs y n x e)
 
-    sounds : (t : Table Description) → MeetsAll code ops t → SaysMore s0 t → AllStand Description Says t (away op left) × RowStands t (at + 1) (onward op left)
-    sounds t m f = left_sound code ops t at op row left m op_at (rows t m f) act
+one_longer : {A : Type 0} (xs : List A) (y : A) → length (xs ++ y ∷ []) ≡ length xs + 1
+one_longer [] y = refl
+one_longer (z ∷ xs) y = let e = one_longer xs y in omega (arith, e)
 
-    rest : changed' ≡ false → (w : Table Description) → Sweeps code ops s0 (at + 1) (drop (at + 1) ops) (drop (at + 1) s0) r' w → Rest code ops s0 (at + 1) flags' w
-    rest e w h =
-        let quiet = either e in
-        let old = so.still quiet.0 in
-        let s0_at : o ≡ get_or s0 at o = eo ∙ ap (λ z. get_or z at o) old.0 in
-        let long : at < length s0 = subst (λ z. at < length z) old.0 (omega (arith, lt, so.size)) in
-        let one : Swept code ops s0 at op o r row left = record { arrives = arr; leaves = act; brings = subst (λ z. AllStand Description Says z (away op left)) (same quiet.1 ∙ old.0) all.stand; sound = rows } in
-        let more : Sweeps code ops s0 at (op ∷ drop (at + 1) ops) (o ∷ drop (at + 1) s0) r (row ∷ w) = (left, one, subst (λ x. Sweeps code ops s0 (at + 1) (drop (at + 1) ops) (drop (at + 1) s0) x w) er h) in
-        let opens : Sweeps code ops s0 at (drop at ops) (drop at s0) r (row ∷ w) = subst (λ x. Sweeps code ops s0 at x (drop at s0) r (row ∷ w)) (sym (opened ops at op p lt eop)) (subst (λ x. Sweeps code ops s0 at (op ∷ drop (at + 1) ops) x r (row ∷ w)) (sym (opened s0 at o o long s0_at)) more) in
-        let was = old.1 (row ∷ w) opens in
-        record {
-          whole = was.whole;
-          sweeps = was.sweeps;
-          flagged = was.flagged
-              ∙ ap (λ x. flags ++ redundant x (row ∷ w)) (opened ops at op p lt eop)
-              ∙ sym (append_assoc flags (is_redundant op row ∷ []) (redundant (drop (at + 1) ops) w))
-              ∙ ap (λ x. (flags ++ x ∷ []) ++ redundant (drop (at + 1) ops) w) (sym eb)
-              ∙ ap (λ x. x ++ redundant (drop (at + 1) ops) w) (sym ef);
-        }
+-- ---- what has come to an address
+-- what falls says no more than e
+abbrev Falls : Option Description → Description → Type 0
+Falls None e = ⊥
+Falls (Some d) e = Says e d
 
--- at the end
-pub so_lowers : (code : CodeTree) (ops : List Op) (s0 s : Table Description) (at : ℕ) (r : Option Description) (flags : List Bool) (changed : Bool) → SoFar code ops s0 s at r flags changed → Lowers code ops s0 s
-so_lowers code ops s0 s at r flags changed so = record { below = so.below; keeps = λ t m f. (so.keeps t m f).0 }
+-- e stands in the rows before the address `at`, or ahead of it, or falls to it
+abbrev Reached : Table Description → Table Description → ℕ → Option Description → ℕ → Description → Type 0
+Reached w h at r b e = Stands Description Says w b e ⊎ (((at ≤ b) × Stands Description Says h b e) ⊎ ((b ≡ at) × Falls r e))
 
-nothing_after : (code : CodeTree) (ops : List Op) (s0 : Table Description) (at : ℕ) (r : Option Description) (os : List Op) (s : Table Description) → os ≡ [] → s ≡ [] → r ≡ None → Sweeps code ops s0 at os s r []
-nothing_after code ops s0 at r os s eos es e =
-    subst (λ x. Sweeps code ops s0 at x s r []) (sym eos) (subst (λ x. Sweeps code ops s0 at [] x r []) (sym es) e)
+abbrev AllReached : (ℕ → Description → Type 0) → Sent Description → Type 0
+AllReached R [] = Unit {0}
+AllReached R (p ∷ ps) = R p.0 p.1 × AllReached R ps
 
-pub so_ends : (code : CodeTree) (ops : List Op) (s0 s : Table Description) (at : ℕ) (r : Option Description) (flags : List Bool) (changed : Bool) → SoFar code ops s0 s at r flags changed → length ops ≤ at → r ≡ None → changed ≡ false → Ends code ops s flags
-so_ends code ops s0 s at r flags changed so le none quiet =
-    let old = so.still quiet in
-    let long : length s0 ≤ at = subst (λ z. length z ≤ at) old.0 (omega (arith, le, so.size)) in
-    let was = old.1 [] (nothing_after code ops s0 at r (drop at ops) (drop at s0) (drop_all at ops le) (drop_all at s0 long) none) in
-    subst (λ z. Ends code ops z flags) (sym old.0)
-    (was.whole, was.sweeps, sym (was.flagged ∙ ap (λ x. flags ++ redundant x []) (drop_all at ops le) ∙ append-nil flags))
+all_reached : (R Q : ℕ → Description → Type 0) (ps : Sent Description) → ((b : ℕ) (e : Description) → R b e → Q b e) → AllReached R ps → AllReached Q ps
+all_reached R Q [] f h = tt
+all_reached R Q (p ∷ ps) f h = (f p.0 p.1 h.0, all_reached R Q ps f h.1)
 
--- ---- what stands after the last sweep
-record Seen (code : CodeTree) (all : List Op) (s : Table Description) (ops : List Op) (a i : ℕ) (w : Table Description) (d : Description) : Type 0 where
-  op : Op
-  here : slice_get ops i ≡ Some op
-  left : Description
-  leaves : changed (change code op) d ≡ Some left
-  brings : AllStand Description Says s (sent_to (jumps op) left)
-  falls_on : RowStands w (suc i) (onward op (Some left))
-  sound : (t : Table Description) → MeetsAll code all t → SaysMore s t → Stands Description Says t (a + i) d
+all_stand : (t : Table Description) (ps : Sent Description) → AllReached (λ b e. Stands Description Says t b e) ps → AllStand Description Says t ps
+all_stand t [] h = tt
+all_stand t (p ∷ ps) h = (h.0, all_stand t ps h.1)
 
--- what falls to the first address stands there
-falls_first : (code : CodeTree) (all : List Op) (s : Table Description) (a : ℕ) (ops : List Op) (os : Table Description) (r : Option Description) (w : Table Description) → Sweeps code all s a ops os r w → RowStands w 0 r
-falls_first code all s a ops os None w h = tt
-falls_first code all s a [] [] (Some r) [] h = absurd (cc h)
-falls_first code all s a [] [] (Some r) (row ∷ w) h = absurd h
-falls_first code all s a [] (o ∷ os) (Some r) w h = absurd h
-falls_first code all s a (op ∷ ops) [] (Some r) w h = absurd h
-falls_first code all s a (op ∷ ops) (o ∷ os) (Some r) [] h = absurd h
-falls_first code all s a (op ∷ ops) (None ∷ os) (Some r) (row ∷ w) h = (r, ap (λ x. Some x) (sym (some_inj h.1.arrives)), says_same r)
-falls_first code all s a (op ∷ ops) (Some d ∷ os) (Some r) (row ∷ w) h =
-    let m = mapped (λ x. Some x) (meet r d) row h.1.arrives in (m.0, ap (λ x. Some x) (sym m.2), meet_first r d m.0 m.1)
+goes_reached : (R : ℕ → Description → Type 0) (op : Op) (a : ℕ) (e : Description) → ((b : ℕ) → jumps op ≡ Some b → R b e) → (falls op ≡ true → R (a + 1) e) → AllReached R (sent (goes a op) e)
+goes_reached R (Jump to) a e j f = (j to refl, tt)
+goes_reached R (JumpIfFalse to) a e j f = (f refl, (j to refl, tt))
+goes_reached R Return a e j f = tt
+goes_reached R Throw a e j f = tt
+goes_reached R LeaveRegion a e j f = tt
+goes_reached R op a e j f = (f refl, tt)
 
-row_later : (w : Table Description) (row r : Option Description) (i : ℕ) → RowStands w i r → RowStands (row ∷ w) (suc i) r
-row_later w row None i h = tt
-row_later w row (Some d) i h = h
+-- what falls to an address, and what jumps brought there, says no less than what stands there
+first_fell : (o r row : Option Description) (d : Description) → r ≡ Some d → arrived r o ≡ Some row → (x : Description) × (row ≡ Some x) × Says d x
+first_fell o None row d er e = none_some er
+first_fell None (Some b) row d er e = (b, sym (some_inj e), subst (λ y. Says y b) (some_inj er) (says_same b))
+first_fell (Some s) (Some b) row d er e =
+    let m = mapped (λ x. Some x) (meet b s) row e in (m.0, sym m.2, subst (λ y. Says y m.0) (some_inj er) (meet_first b s m.0 m.1))
 
-left_some : (code : CodeTree) (op : Op) (d : Description) (row left : Option Description) → row ≡ Some d → acted code op row ≡ Some left → (e : Description) × (changed (change code op) d ≡ Some e) × (left ≡ Some e)
-left_some code op d row left er h =
-    let m = mapped (λ x. Some x) (changed (change code op) d) left (sym (ap (acted code op) er) ∙ h) in (m.0, m.1, sym m.2)
-
-seen : (code : CodeTree) (all : List Op) (s : Table Description) (a : ℕ) (ops : List Op) (os : Table Description) (r : Option Description) (w : Table Description) → Sweeps code all s a ops os r w → (i : ℕ) (d : Description) → slice_get w i ≡ Some (Some d) → Seen code all s ops a i w d
-seen code all s a [] [] r [] h i d e = none_some e
-seen code all s a [] [] r (row ∷ w) h i d e = absurd h
-seen code all s a [] (o ∷ os) r w h i d e = absurd h
-seen code all s a (op ∷ ops) [] r w h i d e = absurd h
-seen code all s a (op ∷ ops) (o ∷ os) r [] h i d e = absurd h
-seen code all s a (op ∷ ops) (o ∷ os) r (row ∷ w) h zero d e =
-    let row_is : row ≡ Some d = some_inj e in
-    let l = left_some code op d row h.0 row_is h.1.leaves in
-    let at : a ≡ a + 0 = omega arith in
-    record {
-      op = op;
-      here = refl;
-      left = l.0;
-      leaves = l.1;
-      brings = subst (λ x. AllStand Description Says s (away op x)) l.2 h.1.brings;
-      falls_on = row_later w row (onward op (Some l.0)) 0 (subst (λ x. RowStands w 0 (onward op x)) l.2 (falls_first code all s (a + 1) ops os (onward op h.0) w h.2));
-      sound = λ t m f. subst (λ x. Stands Description Says t x d) at (subst (RowStands t a) row_is (h.1.sound t m f));
-    }
-seen code all s a (op ∷ ops) (o ∷ os) r (row ∷ w) h (suc i) d e =
-    let later = seen code all s (a + 1) ops os (onward op h.0) w h.2 i d e in
-    let at : a + 1 + i ≡ a + suc i = omega arith in
-    record {
-      op = later.op;
-      here = later.here;
-      left = later.left;
-      leaves = later.leaves;
-      brings = later.brings;
-      falls_on = row_later w row (onward later.op (Some later.left)) (suc i) later.falls_on;
-      sound = λ t m f. subst (λ x. Stands Description Says t x d) at (later.sound t m f);
-    }
-
--- what jumps brought says no less
 first_brought : (o r row : Option Description) (d : Description) → o ≡ Some d → arrived r o ≡ Some row → (x : Description) × (row ≡ Some x) × Says d x
 first_brought None r row d eo e = none_some eo
 first_brought (Some b) None row d eo e = (b, sym (some_inj e), subst (λ y. Says y b) (some_inj eo) (says_same b))
 first_brought (Some b) (Some r) row d eo e =
     let m = mapped (λ x. Some x) (meet r b) row e in (m.0, sym m.2, subst (λ y. Says y m.0) (some_inj eo) (meet_second r b m.0 m.1))
 
-brought : (code : CodeTree) (all : List Op) (s : Table Description) (a : ℕ) (ops : List Op) (os : Table Description) (r : Option Description) (w : Table Description) → Sweeps code all s a ops os r w → (i : ℕ) (d : Description) → slice_get os i ≡ Some (Some d) → Stands Description Says w i d
-brought code all s a [] [] r [] h i d e = none_some e
-brought code all s a [] [] r (row ∷ w) h i d e = absurd h
-brought code all s a [] (o ∷ os) r w h i d e = absurd h
-brought code all s a (op ∷ ops) [] r w h i d e = absurd h
-brought code all s a (op ∷ ops) (o ∷ os) r [] h i d e = absurd h
-brought code all s a (op ∷ ops) (o ∷ os) r (row ∷ w) h zero d e =
-    let x = first_brought o r row d (some_inj e) h.1.arrives in (x.0, ap (λ y. Some y) x.1, x.2)
-brought code all s a (op ∷ ops) (o ∷ os) r (row ∷ w) h (suc i) d e = brought code all s (a + 1) ops os (onward op h.0) w h.2 i d e
+left_some : (code : CodeTree) (op : Op) (d : Description) (row left : Option Description) → row ≡ Some d → acted code op row ≡ Some left → (e : Description) × (changed (change code op) d ≡ Some e) × (left ≡ Some e)
+left_some code op d row left er h =
+    let m = mapped (λ x. Some x) (changed (change code op) d) left (sym (ap (acted code op) er) ∙ h) in (m.0, m.1, sym m.2)
 
-long : (code : CodeTree) (all : List Op) (s : Table Description) (a : ℕ) (ops : List Op) (os : Table Description) (r : Option Description) (w : Table Description) → Sweeps code all s a ops os r w → (length os ≡ length w) × (length w ≡ length ops)
-long code all s a [] [] r [] h = (refl, refl)
-long code all s a [] [] r (row ∷ w) h = absurd h
-long code all s a [] (o ∷ os) r w h = absurd h
-long code all s a (op ∷ ops) [] r w h = absurd h
-long code all s a (op ∷ ops) (o ∷ os) r [] h = absurd h
-long code all s a (op ∷ ops) (o ∷ os) r (row ∷ w) h =
-    let rest = long code all s (a + 1) ops os (onward op h.0) w h.2 in (ap suc rest.0, ap suc rest.1)
+-- ---- a sweep, as far as it went
+-- the rows before the address `at`, where nothing was brought back anew
+pub record Rows (code : CodeTree) (ops : List Op) (s h : Table Description) (at : ℕ) (r : Option Description) (flags : List Bool) (w : Table Description) : Type 0 where
+  pub long : length w ≡ at
+  pub flagged : (v : Table Description) → redundant ops (w ++ v) ≡ flags ++ redundant (drop at ops) v
+  pub goes_on : (a : ℕ) (d : Description) → slice_get w a ≡ Some (Some d) → (ps : Sent Description) × (passes code ops a d ≡ Some ps) × AllReached (Reached w h at r) ps
+  pub under : (a : ℕ) (d : Description) → a < at → slice_get s a ≡ Some (Some d) → Stands Description Says w a d
+  pub most : (t : Table Description) → MeetsAll code ops t → SaysMore s t → (a : ℕ) (d : Description) → slice_get w a ≡ Some (Some d) → Stands Description Says t a d
 
-module _ (code : CodeTree) (u : CodeUnit) (s w : Table Description) (h : Sweeps code u.ops s 0 u.ops s None w) where
-  below_table : SaysMore s w
-  below_table = record { size = (long code u.ops s 0 u.ops s None w h).0; says = λ a d e. brought code u.ops s 0 u.ops s None w h a d e }
+pub record SoFar (code : CodeTree) (ops : List Op) (s0 s h : Table Description) (at : ℕ) (r : Option Description) (flags : List Bool) (changed : Bool) : Type 0 where
+  pub within : at ≤ length ops
+  pub size : length s ≡ length ops
+  pub wide : length h ≡ length ops
+  pub below : SaysMore s0 s
+  pub keeps : (t : Table Description) → MeetsAll code ops t → SaysMore s0 t → SaysMore s t × SaysMore h t × RowStands t at r
+  pub still : changed ≡ false → (s ≡ s0) × (w : Table Description) × Rows code ops s0 h at r flags w
 
-  all_meet : MeetsAll code u.ops w
-  all_meet a d e =
-      let x = seen code u.ops s 0 u.ops s None w h a d e in
-      let at : suc a ≡ a + 1 = omega arith in
-      (sent (goes a x.op) x.left, passes_left code u.ops a x.op d x.left x.here x.leaves, goes_together x.op w a x.left (all_below s w (sent_to (jumps x.op) x.left) below_table x.brings) (subst (λ n. RowStands w n (onward x.op (Some x.left))) at x.falls_on))
+pub so_begins : (code : CodeTree) (ops : List Op) (s h : Table Description) (flags : List Bool) → length s ≡ length ops → h ≡ blank Description (length ops) → flags ≡ [] → SoFar code ops s s h 0 None flags false
+so_begins code ops s h flags size eh empty =
+    record {
+      within = omega arith;
+      size = size;
+      wide = ap length eh ∙ blank_long Description (length ops);
+      below = more_same s;
+      keeps = λ t m f. (f, subst (λ x. SaysMore x t) (sym eh) (record { size = blank_long Description (length ops) ∙ sym size ∙ f.size; says = λ a x e. blank_none (length ops) a x e }), tt);
+      still = λ e. (
+        refl,
+        [],
+        record {
+          long = refl;
+          flagged = λ v. sym (ap (λ l. l ++ redundant ops v) empty);
+          goes_on = λ a d e. none_some e;
+          under = λ a d lt e. absurd (omega (arith, lt));
+          most = λ t m f a d e. none_some e;
+        },
+      );
+    }
 
-  describes : AllStand Description Says s (starts u) → Describes code u w
-  describes started =
-      record { size = (long code u.ops s 0 u.ops s None w h).1; started = all_below s w (starts u) below_table started; settled = all_meet }
+-- one more address, where `oh` was brought in this sweep and `ok` is kept
+module _ (code : CodeTree) (ops : List Op) (s0 s s' h h1 h' : Table Description) (at : ℕ) (op p : Op) (oh ok r first row left r' : Option Description) (b anew changed changed' : Bool) (flags flags' : List Bool)
+    (so : SoFar code ops s0 s h at r flags changed) (lt : at < length ops) (eop : op ≡ get_or ops at p)
+    (eh : slice_get h at ≡ Some oh) (eh1 : h1 ≡ slice_set h at None) (arr1 : arrived r oh ≡ Some first)
+    (ek : slice_get s at ≡ Some ok) (arr2 : arrived first ok ≡ Some row)
+    (eb : b ≡ is_redundant op row) (ef : flags' ≡ flags ++ b ∷ []) (act : acted code op row ≡ Some left)
+    (moved : (p : Passing) → Brought p at left (jumps op) s h1 s' h') (len : length s' ≡ length s) (wide : length h' ≡ length h1) (same : anew ≡ false → s' ≡ s)
+    (either : changed' ≡ false → (changed ≡ false) × (anew ≡ false)) (er : r' ≡ onward op left) where
+  op_at : slice_get ops at ≡ Some op
+  op_at = got ops at op p lt eop
 
-  above_rules : (t : Table Description) → MeetsAll code u.ops t → SaysMore s t → SaysMore w t
-  above_rules t m f =
+  jump : Jumped at left (jumps op) s h1 s' h'
+  jump = jumped (passes code ops) at left (jumps op) s h1 s' h' (moved (passes code ops))
+
+  -- what lies ahead, but for what was taken
+  rest_same : (c : ℕ) → (c ≡ at → ⊥) → slice_get h1 c ≡ slice_get h c
+  rest_same c ne = ap (λ x. slice_get x c) eh1 ∙ get_set_other h at c None ne
+
+  rest_long : length h1 ≡ length h
+  rest_long = ap length eh1 ∙ length-set h at None
+
+  rest_more : (t : Table Description) → SaysMore h t → SaysMore h1 t
+  rest_more t f =
       record {
-        size = sym (long code u.ops s 0 u.ops s None w h).0 ∙ f.size;
-        says = λ a d e. let at : 0 + a ≡ a = omega arith in subst (λ n. Stands Description Says t n d) at ((seen code u.ops s 0 u.ops s None w h a d e).sound t m f);
+        size = rest_long ∙ f.size;
+        says = λ a d e. ⊎_elim
+            (λ (is : a ≡ at). none_some (some_inj (sym (get_set_same h at None oh eh) ∙ ap (λ x. slice_get x at) (sym eh1) ∙ ap (slice_get h1) (sym is) ∙ e)))
+            (λ other. f.says a d (sym (rest_same a other) ∙ e))
+            (cases_eq a at);
       }
+
+  rows : (t : Table Description) → MeetsAll code ops t → SaysMore s0 t → RowStands t at row
+  rows t m f =
+      let old = so.keeps t m f in
+      row_sound s t at ok first row old.0 ek (row_sound h t at oh r first old.1 eh old.2 arr1) arr2
+
+  sounds : (t : Table Description) → MeetsAll code ops t → SaysMore s0 t → AllStand Description Says t (away op left) × RowStands t (at + 1) (onward op left)
+  sounds t m f = left_sound code ops t at op row left m op_at (rows t m f) act
+
+  keeps_on : (t : Table Description) → MeetsAll code ops t → SaysMore s0 t → SaysMore s' t × SaysMore h' t × RowStands t (at + 1) r'
+  keeps_on t m f =
+      let old = so.keeps t m f in
+      let new = sounds t m f in
+      let both = jump.keeps t old.0 (rest_more t old.1) (away_stands t op left new.0) in
+      (both.0, both.1, subst (RowStands t (at + 1)) (sym er) new.1)
+
+  -- what fell or was brought to the address stands there
+  fell_here : (d : Description) → r ≡ Some d → (x : Description) × (row ≡ Some x) × Says d x
+  fell_here d e =
+      let one = first_fell oh r first d e arr1 in
+      let two = first_fell ok first row one.0 one.1 arr2 in
+      (two.0, two.1, says_trans d one.0 two.0 one.2 two.2)
+
+  brought_here : (d : Description) → oh ≡ Some d → (x : Description) × (row ≡ Some x) × Says d x
+  brought_here d e =
+      let one = first_brought oh r first d e arr1 in
+      let two = first_fell ok first row one.0 one.1 arr2 in
+      (two.0, two.1, says_trans d one.0 two.0 one.2 two.2)
+
+  module _ (w : Table Description) (old : Rows code ops s0 h at r flags w) (quiet : s ≡ s0) (still : s' ≡ s) where
+    abbrev next : Table Description
+    next = w ++ row ∷ []
+
+    last_at : slice_get next at ≡ Some row
+    last_at = subst (λ n. slice_get next n ≡ Some row) old.long (at_last w row)
+
+    stands_here : (e d : Description) → ((x : Description) × (row ≡ Some x) × Says d x) → Says e d → Stands Description Says next at e
+    stands_here e d x says = (x.0, last_at ∙ ap (λ y. Some y) x.1, says_trans e d x.0 says x.2)
+
+    kept_on : (a : ℕ) (e : Description) → Stands Description Says w a e → Stands Description Says next a e
+    kept_on a e x = (x.0, before_last w row a (Some x.0) x.1, x.2)
+
+    still_brought : (c : ℕ) (e : Description) → at ≤ c → Stands Description Says h c e → Reached next h' (at + 1) r' c e
+    still_brought c e le x =
+        ⊎_elim
+        (λ (is : c ≡ at). inl (subst (λ n. Stands Description Says next n e) (sym is) (stands_here e x.0 (brought_here x.0 (some_inj (sym eh ∙ ap (slice_get h) (sym is) ∙ x.1))) x.2)))
+        (λ other. inr (inl (further other, stands_below h1 h' c e jump.ahead (x.0, rest_same c other ∙ x.1, x.2))))
+        (cases_eq c at)
+      where
+        further : (c ≡ at → ⊥) → at + 1 ≤ c
+        further other = ⊎_elim (λ less. omega (arith, less)) (λ more. absurd (other (omega (arith, le, more)))) (cases_lt at c)
+
+    still_falls : (c : ℕ) (e : Description) → c ≡ at → (o : Option Description) → r ≡ o → Falls o e → Reached next h' (at + 1) r' c e
+    still_falls c e is None eo x = absurd x
+    still_falls c e is (Some d) eo x = inl (subst (λ n. Stands Description Says next n e) (sym is) (stands_here e d (fell_here d eo) x))
+
+    reach_on : (c : ℕ) (e : Description) → Reached w h at r c e → Reached next h' (at + 1) r' c e
+    reach_on c e (inl x) = inl (kept_on c e x)
+    reach_on c e (inr (inl x)) = still_brought c e x.0 x.1
+    reach_on c e (inr (inr x)) = still_falls c e x.0 r refl x.1
+
+    under_on : (a : ℕ) (d : Description) → a < at + 1 → slice_get s0 a ≡ Some (Some d) → Stands Description Says next a d
+    under_on a d lt' e =
+        ⊎_elim
+        (λ (is : a ≡ at). subst (λ n. Stands Description Says next n d) (sym is) (kept_here (some_inj (sym ek ∙ ap (λ x. slice_get x at) quiet ∙ ap (slice_get s0) (sym is) ∙ e))))
+        (λ other. kept_on a d (old.under a d (less other) e))
+        (cases_eq a at)
+      where
+        less : (a ≡ at → ⊥) → a < at
+        less other = ⊎_elim (λ lt. lt) (λ ge. absurd (other (omega (arith, lt', ge)))) (cases_lt a at)
+
+        kept_here : ok ≡ Some d → Stands Description Says next at d
+        kept_here is = let x = first_brought ok first row d is arr2 in (x.0, last_at ∙ ap (λ y. Some y) x.1, x.2)
+
+    -- what is left at the address itself
+    lands_on : (e : Description) → left ≡ Some e → (c : ℕ) → jumps op ≡ Some c → Reached next h' (at + 1) r' c e
+    lands_on e el c ec = ⊎_elim back (λ x. let le = x.0 in inr (inl (omega (arith, le), x.1))) (jump.lands e el c ec)
+      where
+        back : (c ≤ at) × Stands Description Says s' c e → Reached next h' (at + 1) r' c e
+        back x =
+            let le = x.0 in
+            let there = under_on c x.1.0 (omega (arith, le)) (ap (λ t. slice_get t c) (sym (still ∙ quiet)) ∙ x.1.1) in
+            inl (there.0, there.1, says_trans e x.1.0 there.0 x.1.2 there.2)
+
+    falls_on : (e : Description) → left ≡ Some e → falls op ≡ true → Reached next h' (at + 1) r' (at + 1) e
+    falls_on e el ef =
+        let is : r' ≡ Some e = er ∙ ap (onward op) el ∙ ap (λ (x : Bool). if x then Some e else None) ef in
+        inr (inr (refl, subst (λ o. Falls o e) (sym is) (says_same e)))
+
+    goes_here : (d : Description) → row ≡ Some d → (ps : Sent Description) × (passes code ops at d ≡ Some ps) × AllReached (Reached next h' (at + 1) r') ps
+    goes_here d is =
+        let l = left_some code op d row left is act in
+        (sent (goes at op) l.0, passes_left code ops at op d l.0 op_at l.1, goes_reached (Reached next h' (at + 1) r') op at l.0 (lands_on l.0 l.2) (falls_on l.0 l.2))
+
+    goes_before : (a : ℕ) (d : Description) → slice_get w a ≡ Some (Some d) → (ps : Sent Description) × (passes code ops a d ≡ Some ps) × AllReached (Reached next h' (at + 1) r') ps
+    goes_before a d e = let x = old.goes_on a d e in (x.0, x.1, all_reached (Reached w h at r) (Reached next h' (at + 1) r') x.0 reach_on x.2)
+
+    goes_all : (a : ℕ) (d : Description) → slice_get next a ≡ Some (Some d) → (ps : Sent Description) × (passes code ops a d ≡ Some ps) × AllReached (Reached next h' (at + 1) r') ps
+    goes_all a d e =
+        ⊎_elim (goes_before a d)
+        (λ (new : (a ≡ length w) × (row ≡ Some d)). subst (λ n. (ps : Sent Description) × (passes code ops n d ≡ Some ps) × AllReached (Reached next h' (at + 1) r') ps) (sym (new.0 ∙ old.long)) (goes_here d new.1))
+        (last_or w row a (Some d) e)
+
+    most_on : (t : Table Description) → MeetsAll code ops t → SaysMore s0 t → (a : ℕ) (d : Description) → slice_get next a ≡ Some (Some d) → Stands Description Says t a d
+    most_on t m f a d e =
+        ⊎_elim (old.most t m f a d)
+        (λ (new : (a ≡ length w) × (row ≡ Some d)). subst (λ n. Stands Description Says t n d) (sym (new.0 ∙ old.long)) (subst (RowStands t at) new.1 (rows t m f)))
+        (last_or w row a (Some d) e)
+
+    flagged_on : (v : Table Description) → redundant ops (next ++ v) ≡ flags' ++ redundant (drop (at + 1) ops) v
+    flagged_on v =
+        ap (redundant ops) (append_assoc w (row ∷ []) v)
+        ∙ old.flagged (row ∷ v)
+        ∙ ap (λ x. flags ++ redundant x (row ∷ v)) (opened ops at op p lt eop)
+        ∙ sym (append_assoc flags (is_redundant op row ∷ []) (redundant (drop (at + 1) ops) v))
+        ∙ ap (λ x. (flags ++ x ∷ []) ++ redundant (drop (at + 1) ops) v) (sym eb)
+        ∙ ap (λ x. x ++ redundant (drop (at + 1) ops) v) (sym ef)
+
+    rows_on : Rows code ops s0 h' (at + 1) r' flags' next
+    rows_on = record { long = one_longer w row ∙ ap (λ n. n + 1) old.long; flagged = flagged_on; goes_on = goes_all; under = under_on; most = most_on }
+
+  pub so_on : SoFar code ops s0 s' h' (at + 1) r' flags' changed'
+  so_on =
+      record {
+        within = omega (arith, lt);
+        size = len ∙ so.size;
+        wide = wide ∙ rest_long ∙ so.wide;
+        below = more_trans s0 s s' so.below jump.kept;
+        keeps = keeps_on;
+        still = λ e. let quiet = either e in let old = so.still quiet.0 in let is = same quiet.1 in (is ∙ old.0, next old.1 old.2 old.0 is, rows_on old.1 old.2 old.0 is);
+      }
+
+-- at the end
+pub so_lowers : (code : CodeTree) (ops : List Op) (s0 s h : Table Description) (at : ℕ) (r : Option Description) (flags : List Bool) (changed : Bool) → SoFar code ops s0 s h at r flags changed → Lowers code ops s0 s
+so_lowers code ops s0 s h at r flags changed so = record { below = so.below; keeps = λ t m f. (so.keeps t m f).0 }
+
+module _ (code : CodeTree) (ops : List Op) (s h : Table Description) (at : ℕ) (flags : List Bool) (w : Table Description) (rows : Rows code ops s h at None flags w) (size : length s ≡ length ops) (wide : length h ≡ length ops) (end : at ≡ length ops) where
+  ended : (b : ℕ) (e : Description) → Reached w h at None b e → Stands Description Says w b e
+  ended b e (inl x) = x
+  ended b e (inr (inl x)) = let lt = inside h b (Some x.1.0) x.1.1 in let le = x.0 in absurd (omega (arith, lt, le, wide, end))
+  ended b e (inr (inr x)) = absurd x.1
+
+  rests : Rests code ops s w
+  rests =
+      record {
+        below = record { size = size ∙ sym end ∙ sym rows.long; says = λ a d e. let lt = inside s a (Some d) e in rows.under a d (omega (arith, lt, size, end)) e };
+        meets = λ a d e. let x = rows.goes_on a d e in (x.0, x.1, all_stand w x.0 (all_reached (Reached w h at None) (λ b e. Stands Description Says w b e) x.0 ended x.2));
+        most = λ t m f. record { size = rows.long ∙ end ∙ sym size ∙ f.size; says = rows.most t m f };
+      }
+
+  flags_are : flags ≡ redundant ops w
+  flags_are =
+      let le : length ops ≤ at = omega (arith, end) in
+      sym (ap (redundant ops) (sym (append-nil w)) ∙ rows.flagged [] ∙ ap (λ x. flags ++ redundant x []) (drop_all at ops le) ∙ append-nil flags)
+
+pub so_ends : (code : CodeTree) (ops : List Op) (s0 s h : Table Description) (at : ℕ) (r : Option Description) (flags : List Bool) (changed : Bool) → SoFar code ops s0 s h at r flags changed → length ops ≤ at → r ≡ None → changed ≡ false → Ends code ops s flags
+so_ends code ops s0 s h at r flags changed so le none quiet =
+    let old = so.still quiet in
+    let rows : Rows code ops s h at None flags old.1 = subst (λ x. Rows code ops x h at None flags old.1) (sym old.0) (subst (λ x. Rows code ops s0 h at x flags old.1) none old.2) in
+    let within = so.within in
+    let end : at ≡ length ops = omega (arith, le, within) in
+    (old.1, rests code ops s h at flags old.1 rows so.size so.wide end, flags_are code ops s h at flags old.1 rows so.size so.wide end)
 
 -- ---- the same barriers are redundant by two tables that say as much
 tested_more : (access : Access) (os ps : List Operand) (i : ℕ) → Pairwise OperandSays os ps → IsTrue (is_tested_at access (slice_get ps i)) → IsTrue (is_tested_at access (slice_get os i))
@@ -453,12 +624,15 @@ above_found : (code : CodeTree) (u : CodeUnit) (w : Table Description) (o : Foun
 above_found code u w (Holds t) d f = f t d
 above_found code u w (Broke a) d f = tt
 
+describes : (code : CodeTree) (u : CodeUnit) (s w : Table Description) → Swung code u s → Rests code u.ops s w → Describes code u w
+describes code u s w now rest = record { size = sym rest.below.size ∙ now.size; started = all_below s w (starts u) rest.below now.started; settled = rest.meets }
+
 pub swung_ends : (code : CodeTree) (u : CodeUnit) (ops : List Op) (s s' : Table Description) (flags : List Bool) → ops ≡ u.ops → Swung code u s → Lowers code ops s s' → length s' ≡ length ops → Ends code ops s' flags → flags ≡ redundant_in code u
 swung_ends code u ops s s' flags eo old low size ends =
     let now = swung_on code u ops s s' eo old low size in
     let w = ends.0 in
-    let h : Sweeps code u.ops s' 0 u.ops s' None w = subst (λ x. Sweeps code x s' 0 x s' None w) eo ends.1 in
+    let rest : Rests code u.ops s' w = subst (λ x. Rests code x s' w) eo ends.1 in
     ends.2
     ∙ ap (λ x. redundant x w) eo
-    ∙ flags_by code u w (descriptions code u) (says_most code u w (describes code u s' w h now.started))
-    (above_found code u w (descriptions code u) (meets_rules code u) (λ t d. above_rules code u s' w h t d.settled (now.sound t d)))
+    ∙ flags_by code u w (descriptions code u) (says_most code u w (describes code u s' w now rest))
+    (above_found code u w (descriptions code u) (meets_rules code u) (λ t d. rest.most t d.settled (now.sound t d)))

@@ -151,7 +151,7 @@ fn round(
 }
 
 /// No description anywhere.
-fn blank_table(alloc: Global, size: usize) -> Result<Vec<Option<Description>>, RoundFault>
+pub fn blank_table(alloc: Global, size: usize) -> Result<Vec<Option<Description>>, RoundFault>
     ensures ok { IfOk result (λ t. t.items ≡ blank Plain size) }
     ensures err { IfErr result (λ f. f ≡ no_memory) }
 {

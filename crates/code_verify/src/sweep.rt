@@ -1,19 +1,21 @@
 //! The sweeps of a unit, with one description in memory along straight code.
 //!
-//! What falls from an operation to the next one is not stored: it is changed in place. A table holds only what jumps
-//! bring, and the starts. So memory is that of the jumps, and straight code takes time that does not grow with the
-//! depth of the stack. What stands after the last sweep is what stands after the last round.
+//! What falls from an operation to the next one is not stored: it is changed in place. What a jump brings to an address
+//! further on stands in a table until the sweep comes there, which takes it. So memory is that of the jumps that have
+//! not landed yet. What jumps bring back, and the starts, are kept from sweep to sweep. What stands after the last sweep
+//! is what stands after the last round.
 
-ghost use Rattle.std.specs.Prelude.{◌≡◌, ℕ, ◌<◌, ◌^◌, ◌++◌, ◌∷◌, [], length, Some, None, Option, OnOk, IfOk, IsFalse};
-ghost use Rattle.guarded_code.specs.Rounds.{Sent, Holds, give};
-ghost use Rattle.guarded_code.specs.Descriptions.{Description as Plain, meet};
+ghost use Rattle.std.specs.Prelude.{◌≡◌, ℕ, ◌<◌, ◌^◌, ◌++◌, ◌∷◌, [], length, slice_get, slice_set, Some, None, Option, OnOk, IfOk, IsFalse};
+ghost use Rattle.guarded_code.specs.Rounds.{Sent, blank};
+ghost use Rattle.guarded_code.specs.Descriptions.{Description as Plain};
 ghost use Rattle.code_verify.specs.Redundant.{is_redundant, redundant_in};
-ghost use Rattle.code_verify.specs.Sweeps.{falls, jumps, arrived, acted, onward, away, Lowers, Ends};
+ghost use Rattle.code_verify.specs.Sweeps.{falls, jumps, arrived, acted, onward, Lands, Brought, Lowers, Ends};
 
-use crate::rounds::{RoundFault, either, first_table, into};
+use crate::rounds::{RoundFault, blank_table, either, first_table, into};
 use code_verify_tables::{Current, Description, change_of};
 use lam_bytecode::{Code, CodeUnit, Op};
 use std::alloc::Global;
+use std::mem::replace;
 use want_of_memory::NoMemory;
 
 /// Whether the next address may come next.
@@ -40,26 +42,46 @@ fn target(op: Op) -> Option<u32>
 fn arrive(
     at: u32,
     fallen: Option<Current>,
-    brought: &Option<Description>,
+    brought: Option<Description>,
 ) -> Result<Option<Current>, RoundFault>
-    ensures { IfOk result (λ row. arrived fallen brought.now ≡ Some row) }
+    ensures { IfOk result (λ row. arrived fallen brought ≡ Some row) }
 {
     match brought {
         None => Ok(fallen),
         Some(brought) => match fallen {
-            None => Ok(Some(Current::of(brought.copy()?))),
+            None => Ok(Some(Current::of(brought))),
             Some(fallen) => met(at, fallen, brought),
         },
     }
 }
 
-fn met(at: u32, fallen: Current, brought: &Description) -> Result<Option<Current>, RoundFault>
-    ensures { IfOk result (λ row. arrived (Some fallen) (Some brought.now) ≡ Some row) }
+fn met(at: u32, fallen: Current, brought: Description) -> Result<Option<Current>, RoundFault>
+    ensures { IfOk result (λ row. arrived (Some fallen) (Some brought) ≡ Some row) }
 {
     let mut here = fallen.description()?;
-    match here.meet(brought) {
+    match here.meet(&brought) {
         None => Err(RoundFault::Depth(at)),
         Some(_) => Ok(Some(Current::of(here))),
+    }
+}
+
+/// What stands at an address, which is taken from there.
+fn taken(table: &mut Vec<Option<Description>>, at: usize) -> Option<Description>
+    requires { at < length table.old.items }
+    ensures is { slice_get table.old.items at ≡ Some result }
+    ensures left { table.new.items ≡ slice_set table.old.items at None }
+{
+    replace(&mut table[at], None)
+}
+
+/// A copy of what stands at an address.
+fn copied(table: &[Option<Description>], at: usize) -> Result<Option<Description>, NoMemory>
+    requires { at < length table.now }
+    ensures { IfOk result (λ o. slice_get table.now at ≡ Some o) }
+{
+    match &table[at] {
+        None => Ok(None),
+        Some(here) => Ok(Some(here.copy()?)),
     }
 }
 
@@ -79,22 +101,47 @@ fn act(code: &Code, at: u32, op: Op, row: Option<Current>) -> Result<Option<Curr
     }
 }
 
-/// A jump brings what is left to its target; tells whether that changed what was brought there.
+/// A jump brings what is left to its target; tells whether that changed what is kept.
 fn jump(
+    at: usize,
     op: Op,
     left: &Option<Current>,
-    table: &mut Vec<Option<Description>>,
+    kept: &mut Vec<Option<Description>>,
+    ahead: &mut Vec<Option<Description>>,
 ) -> Result<bool, RoundFault>
-    ensures ok { OnOk result ((passes : ℕ → Plain → Option (Sent Plain)) → give Plain meet passes table.old.items (away op left.now) ≡ Holds table.new.items) }
-    ensures len { OnOk result (length table.new.items ≡ length table.old.items) }
-    ensures same { IfOk result (λ changed. IsFalse changed → table.new.items ≡ table.old.items) }
+    ensures brought { OnOk result ((passes : ℕ → Plain → Option (Sent Plain)) → Brought passes at left.now (jumps op) kept.old.items ahead.old.items kept.new.items ahead.new.items) }
+    ensures kept_len { OnOk result (length kept.new.items ≡ length kept.old.items) }
+    ensures ahead_len { OnOk result (length ahead.new.items ≡ length ahead.old.items) }
+    ensures same { IfOk result (λ changed. IsFalse changed → kept.new.items ≡ kept.old.items) }
 {
     match left {
         None => Ok(false),
         Some(left) => match target(op) {
             None => Ok(false),
-            Some(to) => into(table, to, &left.description()?),
+            Some(to) => land(at, to, &left.description()?, kept, ahead),
         },
+    }
+}
+
+/// A description comes to what lies ahead, where its address is further on, and else to what is kept; tells whether that
+/// changed what is kept.
+fn land(
+    at: usize,
+    to: u32,
+    description: &Description,
+    kept: &mut Vec<Option<Description>>,
+    ahead: &mut Vec<Option<Description>>,
+) -> Result<bool, RoundFault>
+    ensures lands { OnOk result ((passes : ℕ → Plain → Option (Sent Plain)) → Lands passes at to description.now kept.old.items ahead.old.items kept.new.items ahead.new.items) }
+    ensures kept_len { OnOk result (length kept.new.items ≡ length kept.old.items) }
+    ensures ahead_len { OnOk result (length ahead.new.items ≡ length ahead.old.items) }
+    ensures same { IfOk result (λ changed. IsFalse changed → kept.new.items ≡ kept.old.items) }
+{
+    if at < to as usize {
+        into(ahead, to, description)?;
+        Ok(false)
+    } else {
+        into(kept, to, description)
     }
 }
 
@@ -124,29 +171,32 @@ fn note(flags: &mut Vec<bool>, flag: bool) -> Result<(), NoMemory>
     Ok(())
 }
 
-/// One sweep, which flags the redundant barriers; tells whether a jump brought something anew.
+/// One sweep, which flags the redundant barriers; tells whether a jump brought something anew to what is kept.
 fn one_sweep(
     code: &Code,
     ops: &[Op],
-    table: &mut Vec<Option<Description>>,
+    kept: &mut Vec<Option<Description>>,
+    ahead: &mut Vec<Option<Description>>,
     flags: &mut Vec<bool>,
 ) -> Result<bool, RoundFault>
-    requires len { length table.old.items ≡ length ops.now }
+    requires len { length kept.old.items ≡ length ops.now }
+    requires blank { ahead.old.items ≡ blank Plain (length ops.now) }
     requires room { length ops.now < 2 ^ 32 }
-    ensures len { OnOk result (length table.new.items ≡ length ops.now) }
-    ensures lowers { OnOk result (Lowers code.now ops.now table.old.items table.new.items) }
-    ensures ends { IfOk result (λ changed. IsFalse changed → Ends code.now ops.now table.new.items flags.new.items) }
+    ensures len { OnOk result (length kept.new.items ≡ length ops.now) }
+    ensures lowers { OnOk result (Lowers code.now ops.now kept.old.items kept.new.items) }
+    ensures ends { IfOk result (λ changed. IsFalse changed → Ends code.now ops.now kept.new.items flags.new.items) }
 {
     flags.clear();
     let mut changed = false;
     let mut fallen = None;
     for at in 0..ops.len() {
         let op = ops[at];
-        let row = arrive(at as u32, fallen, &table[at])?;
+        let landed = arrive(at as u32, fallen, taken(ahead, at))?;
+        let row = arrive(at as u32, landed, copied(kept, at)?)?;
         note(flags, is_redundant(op, &row))?;
         let left = act(code, at as u32, op, row)?;
-        let brought = jump(op, &left, table)?;
-        changed = either(changed, brought);
+        let anew = jump(at, op, &left, kept, ahead)?;
+        changed = either(changed, anew);
         fallen = onward(op, left);
     }
     nothing_falls(fallen, ops.len() as u32)?;
@@ -173,10 +223,11 @@ pub fn swept(alloc: Global, code: &Code, unit: &CodeUnit) -> Result<Vec<bool>, R
     ensures { IfOk result (λ v. v.items ≡ redundant_in code.now unit.now) }
 {
     let ops = unit.ops.as_slice();
-    let mut table = first_table(alloc, unit)?;
+    let mut kept = first_table(alloc, unit)?;
     let mut flags = Vec::new(alloc);
     for _i in 0..u64::MAX {
-        let changed = one_sweep(code, ops, &mut table, &mut flags)?;
+        let mut ahead = blank_table(alloc, ops.len())?;
+        let changed = one_sweep(code, ops, &mut kept, &mut ahead, &mut flags)?;
         if !changed {
             return Ok(flags);
         }

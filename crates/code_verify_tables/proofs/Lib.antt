@@ -1,3 +1,4 @@
+pub mod Deepest
 pub mod Fits
 pub mod Meets
 pub mod OnePlace

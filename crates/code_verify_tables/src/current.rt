@@ -3,7 +3,7 @@
 //! Along straight code an operation changes the top of the stack. So the stack is a deque with the top in front, and an
 //! operation takes no longer where the stack is deep, unless it changes what is known of a local that operands copy.
 
-ghost use Rattle.std.specs.Prelude.{◌≡◌, ◌<◌, ◌∷◌, length, map, drop, slice_get, Some, IfOk, OnOk};
+ghost use Rattle.std.specs.Prelude.{◌≡◌, ◌<◌, ◌≤◌, ◌∷◌, length, map, drop, slice_get, Some, IfOk, OnOk, IsFalse};
 ghost use Rattle.guarded_code.specs.Breaks.{is_tested_at};
 ghost use Rattle.guarded_code.specs.Changes.{Loads, Stores, Tests, Trades, known_at, forgotten, tested_operand, tested_copy, at_place, put};
 ghost use Rattle.code_verify_tables.specs.Again.{tests_again};
@@ -15,7 +15,7 @@ use crate::kinds::is_tested;
 use crate::packed::PackedKnown;
 use crate::places::{OpChange, Places};
 use crate::writing::{
-    forgotten, fresh, known_at, set_local, test_local, tested_copy, tested_operand,
+    forgotten, fresh, is_copy, known_at, set_local, test_local, tested_copy, tested_operand,
 };
 use guarded_code::{Access, Operand, ValueKind};
 use lam_bytecode::Op;
@@ -235,10 +235,45 @@ fn test_copies(access: Access, copies: Option<u32>, stack: &mut VecDeque<Operand
 fn test_copies_of(access: Access, local: u32, stack: &mut VecDeque<Operand>)
     ensures { stack.new.items ≡ map (tested_copy access (Some local)) stack.old.items }
 {
-    for i in 0..stack.len() {
+    let deep = untested_within(access, local, stack);
+    for i in 0..deep {
         let old = stack[i];
         stack[i] = tested_copy(access, Some(local), old);
     }
+}
+
+/// How many operands there are down to the deepest copy of the local that is not tested yet.
+fn untested_within(access: Access, local: u32, stack: &VecDeque<Operand>) -> usize
+    ensures within { result ≤ length stack.now.items }
+    ensures same { map (tested_copy access (Some local)) (drop result stack.now.items) ≡ drop result stack.now.items }
+{
+    let (front, back) = stack.as_slices();
+    let deep = untested_in(access, local, back);
+    if deep > 0 {
+        front.len() + deep
+    } else {
+        untested_in(access, local, front)
+    }
+}
+
+fn untested_in(access: Access, local: u32, part: &[Operand]) -> usize
+    ensures within { result ≤ length part.now }
+    ensures same { map (tested_copy access (Some local)) (drop result part.now) ≡ drop result part.now }
+{
+    for i in 0..part.len() {
+        let at = part.len() - 1 - i;
+        if is_untested_copy(access, local, part[at]) {
+            return at + 1;
+        }
+    }
+    0
+}
+
+/// Whether testing the copies of the local changes the operand.
+fn is_untested_copy(access: Access, local: u32, operand: Operand) -> bool
+    ensures { IsFalse result → tested_copy access (Some local) operand ≡ operand }
+{
+    is_copy(local, operand.copies) && !is_tested(access, operand.known)
 }
 
 /// One operand is tested.

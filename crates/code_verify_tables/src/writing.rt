@@ -50,7 +50,7 @@ pub fn fresh(kind: ValueKind) -> Operand
     }
 }
 
-fn is_copy(local: u32, copies: Option<u32>) -> bool
+pub fn is_copy(local: u32, copies: Option<u32>) -> bool
     ensures { result ≡ is_copy local copies }
 {
     match copies {

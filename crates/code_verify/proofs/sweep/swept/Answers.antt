@@ -2,7 +2,7 @@ use Rattle.code_verify.proofs.Sweeps.{first_swung, swung_on, swung_ends}
 use Rattle.code_verify.proofs.sweep.swept.Goals as goal
 
 pub loop-i-init : goal.loop-i-init
-loop-i-init c = first_swung c.args.code.now c.args.unit.now _ c.in_ok-table.ensures.ok c.in_ok-table.ensures.len
+loop-i-init c = first_swung c.args.code.now c.args.unit.now _ c.in_ok-kept.ensures.ok c.in_ok-kept.ensures.len
 
 pub loop-i-preserved : goal.loop-i-preserved
 loop-i-preserved c =
