@@ -12,6 +12,7 @@ import os
 import subprocess
 import sys
 import tempfile
+import time
 
 from lam_source import last_catch
 
@@ -64,6 +65,23 @@ def minting():
 def holding(body):
     tags = [f't{n}' for n in range(60_000)]
     return {'P': 'fn idle(): int { return 0; }\nfn main(): int {\n  let n: int = 0;\n' + body + '  return 0;\n}\n', 'W': world([thread(plus=tags)], tags)}
+
+
+def deep(item, count, units=1):
+    """Units with a barrier, each with a label of so many items in one expression."""
+    body = f'  let b: bool = c.b;\n  let l: label = label{{{", ".join([item] * count)};}};\n  return 0;\n'
+    return bare('class C { t: tag; b: bool; }\nfn f(b: bool): tag { return null; }\n'
+                + ''.join(f'fn g{n}(c: C): int {{\n{body}}}\n' for n in range(units))
+                + 'fn main(): int { return 0; }\n')
+
+
+def minted(count):
+    return bare(f'fn main(): int {{\n  let l: label = label{{{", ".join(["mint()"] * count)};}};\n  return 0;\n}}\n')
+
+
+def read_by_book(turns):
+    """A book of a run that reads 65,536 bytes again and again."""
+    return {**reading(), 'B': f'lam book 1\n0 {turns}\n'}
 
 
 def reading():
@@ -138,12 +156,32 @@ ROWS = [
     ('200 frames with 60 byte values of 64 KB, and then a loop, 1,000,000 turns',
      lambda: byte_frames('while (true) { n = n + 1; } return 0;'), run()),
     ('removing and making the first of 4,090 entries, 1,000,000 turns', removing, run()),
-    ('`next` of 16,000 files, each with a label of its own', lambda: own_labels(16_000), ['next', 'P', 'W', 'B', 'N']),
+    *((f'`label{{mint(), ..}}` of {count:,}, one turn', lambda count=count: minted(count), run('1'))
+      for count in (8_000, 16_000, 32_000, 60_000)),
+    *((f'jumps under a deep stack, `label{{f(b && b), ..}}` of {count:,}, one turn', lambda count=count: deep('f(b && b)', count), run('1'))
+      for count in (1_350, 2_700, 5_400, 10_800)),
+    ('eight units with 10,800 of them', lambda: deep('f(b && b)', 10_800, 8), run('1')),
+    *((f'barriers on copies, `label{{c.t, ..}}` of {count:,}, one turn', lambda count=count: deep('c.t', count), run('1'))
+      for count in (2_700, 5_400, 10_800, 21_600)),
+    ('eight units with 21,600 of them', lambda: deep('c.t', 21_600, 8), run('1')),
+    *((f'`walk` of {turns:,} turns that read 64 KB again and again', lambda turns=turns: read_by_book(turns), ['walk', 'P', 'W', 'B'])
+      for turns in (37_500, 75_000, 150_000, 300_000)),
+    ('`next` of 8,000 files, each with a label of its own', lambda: own_labels(8_000), ['next', 'P', 'W', 'B', 'N']),
+    ('`next` of 16,000 of them', lambda: own_labels(16_000), ['next', 'P', 'W', 'B', 'N']),
     ('`next` of 32,000 of them', lambda: own_labels(32_000), ['next', 'P', 'W', 'B', 'N']),
     ('`next` of 64,000 of them', lambda: own_labels(64_000), ['next', 'P', 'W', 'B', 'N']),
     ('`check` of a mebibyte', mebibyte, ['check', 'P']),
     ('`format` of a mebibyte', mebibyte, ['format', 'P']),
 ]
+
+
+def most_held(pid):
+    """The most memory that a running process has held, in MB. What the kernel tells after its end counts this tool's own, too."""
+    try:
+        with open(f'/proc/{pid}/status', encoding='utf-8') as status:
+            return next((int(line.split()[1]) / 1024 for line in status if line.startswith('VmHWM:')), 0)
+    except OSError:
+        return 0
 
 
 def taken(files, words):
@@ -152,10 +190,14 @@ def taken(files, words):
         for name, text in files.items():
             with open(os.path.join(room, name), 'w', encoding='utf-8') as file:
                 file.write(text)
-        done = subprocess.Popen([LAM] + words, cwd=room, stdout=subprocess.DEVNULL)
-        _, status, used = os.wait4(done.pid, 0)
-        done.returncode = os.waitstatus_to_exitcode(status)
-    return used.ru_utime + used.ru_stime, used.ru_maxrss / 1024, done.returncode
+        call = subprocess.Popen([LAM] + words, cwd=room, stdout=subprocess.DEVNULL)
+        most, ended = 0, 0
+        while not ended:
+            most = max(most, most_held(call.pid))
+            time.sleep(0.002)
+            ended, status, used = os.wait4(call.pid, os.WNOHANG)
+        call.returncode = os.waitstatus_to_exitcode(status)
+    return used.ru_utime + used.ru_stime, most, call.returncode
 
 
 def main():
