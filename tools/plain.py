@@ -1,10 +1,12 @@
 #!/usr/bin/env python3
-"""Builds `format` without contracts: the crates from the lexer to the printer as plain Rust, by rustc -O3.
+"""Builds `format` and `check` without contracts: the crates from the lexer to the compiler as plain Rust, by rustc -O3.
 
-Usage: tools/plain.py OUT      (then OUT format FILE prints what `lam format FILE` prints, for a program without faults)
+Usage: tools/plain.py OUT
+Then `OUT format FILE` and `OUT check FILE` print what `lam` prints, for a program without faults.
 
 It is what docs/MEASURED.md compares the proved program with: the same code, over the standard library of Rust. The
 clauses, proofs and models are dropped, `Result`s for want of memory stay, and std's own calls take the allocator.
+Maps in insertion order are made of std's `HashMap`, and of `lam_value` only what a constant may be is there.
 """
 import glob
 import os
@@ -17,20 +19,23 @@ from lam_source import last_catch
 
 HERE = os.path.dirname(os.path.dirname(os.path.abspath(__file__)))
 CRATES = ['want_of_memory', 'lam_operators', 'lam_syntax', 'lam_lexer', 'lam_grammar', 'lam_parser_tokens',
-          'lam_parser_parts', 'lam_parser_exprs', 'lam_parser_stmts', 'lam_parser', 'lam_print']
+          'lam_parser_parts', 'lam_parser_exprs', 'lam_parser_stmts', 'lam_parser', 'lam_print', 'lam_builtins',
+          'lam_resolve_tree', 'lam_types_kinds', 'lam_types_exprs', 'lam_types', 'region_check', 'lam_resolve_laws',
+          'lam_resolve_tables', 'lam_resolve_exprs', 'lam_resolve_units', 'lam_resolve_stmts', 'lam_resolve', 'lam_bytecode',
+          'barrier_compiler_ops', 'barrier_compiler_units', 'barrier_compiler']
 GHOST = re.compile(r'ghost |#!?\[tactic|#\[cycle|(requires|ensures)\b.*\{')
 
 # What the crates call that Rust's standard library has not, or has with other parameters.
 SHIM = r'''
+use std::{borrow::Borrow, collections::HashMap, hash::Hash};
 #[derive(Clone, Copy)] pub struct Global;
 pub struct AllocError;
 pub struct AllocFailed<T>(pub T);
-pub trait Drop {}
-impl<T> Drop for T {}
-pub fn boxed<T>(x: T) -> Result<Box<T>, AllocError> { Ok(Box::new(x)) }
+pub fn granted(_: ()) -> Result<(), AllocError> { Ok(()) }
+pub fn boxed<T>(_: Global, x: T) -> Result<Box<T>, AllocError> { Ok(Box::new(x)) }
 pub fn unboxed<T>(x: Box<T>) -> T { *x }
-pub fn string(x: &str) -> Result<String, AllocError> { Ok(String::from(x)) }
-pub fn list<T: Clone>(x: &[T]) -> Result<Vec<T>, AllocError> { Ok(x.to_vec()) }
+pub fn string(_: Global, x: &str) -> Result<String, AllocError> { Ok(String::from(x)) }
+pub fn list<T: Clone>(_: Global, x: &[T]) -> Result<Vec<T>, AllocError> { Ok(x.to_vec()) }
 pub mod itoa {
     pub struct Buffer(String);
     impl Buffer {
@@ -42,15 +47,76 @@ pub mod unicode_ident {
     pub fn is_xid_start(c: char) -> bool { c.is_alphabetic() }
     pub fn is_xid_continue(c: char) -> bool { c.is_alphanumeric() || c == '_' }
 }
+pub mod indexmap {
+    use super::*;
+    pub struct IndexSet<K> { places: HashMap<K, usize>, keys: Vec<K> }
+    impl<K: Hash + Eq + Clone> IndexSet<K> {
+        pub fn new(_: Global) -> Self { IndexSet { places: HashMap::new(), keys: Vec::new() } }
+        pub fn len(&self) -> usize { self.keys.len() }
+        pub fn as_slice(&self) -> &[K] { &self.keys }
+        pub fn place<Q: Hash + Eq + ?Sized>(&self, key: &Q) -> Option<usize> where K: Borrow<Q> { self.places.get(key).copied() }
+        pub fn contains<Q: Hash + Eq + ?Sized>(&self, key: &Q) -> bool where K: Borrow<Q> { self.place(key).is_some() }
+        pub fn insert(&mut self, key: K) -> Result<bool, AllocError> { Ok(self.insert_full(key)?.1) }
+        pub fn insert_full(&mut self, key: K) -> Result<(usize, bool), AllocError> {
+            let end = self.keys.len();
+            let at = *self.places.entry(key.clone()).or_insert(end);
+            if at == end { self.keys.push(key) }
+            Ok((at, at == end))
+        }
+        pub fn truncate(&mut self, n: usize) { for key in self.keys.drain(n.min(self.keys.len())..) { self.places.remove(&key); } }
+    }
+    pub struct IndexMap<K, V> { keys: IndexSet<K>, values: Vec<V> }
+    impl<K: Hash + Eq + Clone, V> IndexMap<K, V> {
+        pub fn new(alloc: Global) -> Self { IndexMap { keys: IndexSet::new(alloc), values: Vec::new() } }
+        pub fn len(&self) -> usize { self.values.len() }
+        pub fn contains_key<Q: Hash + Eq + ?Sized>(&self, key: &Q) -> bool where K: Borrow<Q> { self.keys.contains(key) }
+        pub fn get<Q: Hash + Eq + ?Sized>(&self, key: &Q) -> Option<&V> where K: Borrow<Q> {
+            self.keys.place(key).map(|at| &self.values[at])
+        }
+        pub fn insert(&mut self, key: K, value: V) -> Result<(), AllocError> {
+            let (at, new) = self.keys.insert_full(key)?;
+            if new { self.values.push(value) } else { self.values[at] = value }
+            Ok(())
+        }
+        pub fn truncate(&mut self, n: usize) { self.keys.truncate(n); self.values.truncate(n) }
+    }
+}
+pub mod lam_value {
+    use super::*;
+    #[derive(Clone, Copy, Debug, PartialEq, Eq)] pub enum Kind { Int, Bool, Null }
+    pub enum Value { Int(i64), Bool(bool), Bytes(ByteText), Nothing }
+    pub struct ByteText(std::sync::Arc<[u8]>);
+    impl ByteText { pub fn from_slice(_: Global, bytes: &[u8]) -> Result<ByteText, AllocError> { Ok(ByteText(bytes.into())) } }
+    pub struct Values(Vec<Value>);
+    impl Values {
+        pub fn new(_: Global) -> Values { Values(Vec::new()) }
+        pub fn push(&mut self, value: Value) { self.0.push(value) }
+        pub fn as_slice(&self) -> &[Value] { &self.0 }
+    }
+}
+pub mod lam_meaning_laws { pub fn compiled_code_acts_as_its_source() {} }
 '''
 MAIN = r'''
-fn main() {
-    let bytes = std::fs::read(std::env::args().nth(2).unwrap()).unwrap();
-    let text = std::str::from_utf8(&bytes).unwrap();
-    let Ok(tokens) = lam_lexer::lex(shim::Global, text) else { panic!() };
-    let Ok(program) = lam_parser::parse(shim::Global, tokens) else { panic!() };
+use shim::Global;
+fn formatted(program: lam_syntax::Program) -> String {
     let Ok(out) = lam_print::print(&program) else { panic!() };
     std::mem::forget(program);
+    out
+}
+fn checked(program: lam_syntax::Program) -> String {
+    let Ok(typed) = lam_types::check(program) else { panic!() };
+    let Ok(checked) = region_check::regions(typed) else { panic!() };
+    let Ok(_code) = barrier_compiler::compile(&checked) else { panic!() };
+    std::mem::forget(checked);
+    String::from("ok\n")
+}
+fn main() {
+    let words: Vec<String> = std::env::args().collect();
+    let bytes = std::fs::read(&words[2]).unwrap();
+    let text = std::str::from_utf8(&bytes).unwrap();
+    let Ok(tokens) = lam_lexer::lex(Global, text) else { panic!() };
+    let Ok(program) = lam_parser::parse(Global, tokens) else { panic!() };
+    let out = if words[1] == "check" { checked(program) } else { formatted(program) };
     std::io::Write::write_all(&mut std::io::stdout(), out.as_bytes()).unwrap();
 }
 '''
@@ -65,7 +131,9 @@ def without_ghosts(text):
         else:
             kept.append(line)
     text = re.sub(r'\nimpl(<[^>]*>)? Model for [^\n]*\{\n(.*?\n)?\}\n', '\n', '\n'.join(kept), flags=re.S)
-    text = text.replace('use std::marker::Model;\n', '').replace('//!', '//')
+    for old, new in (('//!', '//'), ('use std::marker::Model;\n', ''), (': Drop>', '>'), (': Drop,', ','),
+                     ('Hash, Drop)', 'Hash, Clone)'), ('mod text;\nmod unit;', 'mod unit;'), ('pub use text::listing;\n', '')):
+        text = text.replace(old, new)
     return re.sub(r'(derive\([^)]*?)(, )?Drop\)', r'\1)', text)
 
 
@@ -74,14 +142,19 @@ def in_rust(text, crate):
     text = text.replace('crate::', f'crate::{crate}::')
     for name in CRATES:
         text = re.sub(rf'(?<![\w:]){name}::', f'crate::{name}::', text)
+    for name in ('itoa', 'unicode_ident', 'indexmap', 'lam_value', 'lam_meaning_laws'):
+        text = re.sub(rf'(?<![\w:]){name}::', f'crate::shim::{name}::', text)
     text = re.sub(r'use std::alloc::', 'use crate::shim::', text)
-    text = re.sub(r'\b(Vec|String)::new\((alloc|\*[\w.]+allocator\(\))\)', r'\1::new()', text)
-    for call, ours in (('Box::new(alloc, ', 'boxed('), ('Box::into_inner(', 'unboxed('),
-                       ('String::from_str(alloc, ', 'string('), ('Vec::from_slice(alloc, ', 'list('),
-                       ('itoa::', 'itoa::'), ('unicode_ident::', 'unicode_ident::')):
+    text = re.sub(r'\*\w[\w.]*(\(\)[\w.]+)*\.allocator\(\)', 'crate::shim::Global', text)
+    text = re.sub(r'\b(Vec|String)::new\((alloc|crate::shim::Global)\)', r'\1::new()', text)
+    text = re.sub(r'\bVec::with_capacity\(alloc, (.*)\)\?;', r'Vec::with_capacity(\1);', text)
+    for call, ours in (('Box::new(', 'boxed('), ('Box::into_inner(', 'unboxed('), ('String::from_str(', 'string('),
+                       ('Vec::from_slice(', 'list(')):
         text = text.replace(call, f'crate::shim::{ours}')
     inner = r'(?:[^()]|\([^()]*\)|\((?:[^()]|\([^()]*\))*\))*'
-    text = re.sub(rf'(\.push(?:_str)?\({inner}\))\?', r'\1', text)
+    text = re.sub(rf'(\.(?:push|push_str|reserve|clone)\({inner}\))\?', r'\1', text)
+    text = re.sub(rf'(match|let Ok\(\(\)\) =) ([\w.]+\.push\({inner}\))', r'\1 crate::shim::granted(\2)', text)
+    text = text.replace('.to_string(alloc)?', '.to_string()')
     return re.sub(r'(\n    \w+\.extend_from_slice\(.*\))\n\}', r'\1;\n    Ok(())\n}', text)
 
 
@@ -99,7 +172,8 @@ def main():
             out.write(SHIM)
         with open(os.path.join(folder, 'main.rs'), 'w') as out:
             out.write('#![allow(warnings)]\nmod shim;\n' + ''.join(f'mod {it};\n' for it in CRATES) + MAIN)
-        words = ['rustc', '--edition', '2021', '-C', 'opt-level=3', '-o', os.path.abspath(sys.argv[1]), 'main.rs']
+        words = ['rustc', '--edition', '2021', '-C', 'opt-level=3', '-o', os.path.abspath(sys.argv[1]),
+                 '-C', 'codegen-units=1', 'main.rs']
         sys.exit(subprocess.run(words, cwd=folder).returncode)
 
 

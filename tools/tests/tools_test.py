@@ -292,6 +292,7 @@ class Measures(InFolder):
             made = made.read()
         self.assertIn('mod lam_lexer;', made)
         self.assertIn('pub fn lex', made)
+        self.assertIn('pub fn compile', made)
         self.assertIsNone(re.search(r'^\s*(ghost|requires|ensures) ', made, re.M))
 
     def test_refuse(self):
