@@ -32,8 +32,8 @@ use thinned_code_acts::thinned_scheme_acts;
 pub use units::thin_code;
 use want_of_memory::NoMemory;
 
-/// The code without each barrier that tests again, all left out at once. A code that has a break stays as it is. What is
-/// made of the code of a program has no break, and acts as the program.
+/// The code without its redundant barriers, all left out at once. A code that has a break stays as it is. What is made of
+/// the code of a program has no break, and acts as the program.
 ///
 /// # Errors
 ///

@@ -49,7 +49,7 @@ never_redundant : (op : Op) (o : Option Description) → is_barrier op ≡ false
 never_redundant op None never = refl
 never_redundant op (Some d) never = never_again op d never
 
-neither : (a b : Bool) → a || b ≡ false → (a ≡ false) × (b ≡ false)
+pub neither : (a b : Bool) → a || b ≡ false → (a ≡ false) × (b ≡ false)
 neither true b e = absurd (cc e)
 neither false b e = (refl, e)
 

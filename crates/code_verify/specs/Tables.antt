@@ -7,7 +7,7 @@ use Rattle.guarded_code.specs.Rounds.{Table, Found, Holds, Broke}
 use Rattle.guarded_code.specs.Descriptions.{Description}
 use Rattle.guarded_code.specs.Changes.{descriptions}
 use Rattle.guarded_code.specs.Breaks.{first_bad_target}
-use Rattle.code_verify_tables.specs.Again.{tests_again}
+use Rattle.code_verify.specs.Redundant.{is_redundant}
 
 abbrev pub table_found : Found Description → Option (Table Description)
 table_found (Holds t) = Some t
@@ -24,7 +24,7 @@ table_of code u = table_unless (first_bad_target code u) (table_found (descripti
 abbrev pub tables_of : CodeTree → List (Option (Table Description))
 tables_of code = map (table_of code) code.units
 
--- ---- barriers that test again
+-- ---- redundant barriers
 
 abbrev pub row_in : Option (Option (Table Description)) → ℕ → Option (Option Description)
 row_in None a = None
@@ -38,8 +38,7 @@ op_in (Some u) a = slice_get u.ops a
 abbrev pub again_by : Option Op → Option (Option Description) → Bool
 again_by None row = false
 again_by (Some op) None = false
-again_by (Some op) (Some None) = false
-again_by (Some op) (Some (Some d)) = tests_again op d
+again_by (Some op) (Some o) = is_redundant op o
 
 -- whether a barrier stands at an address, and its operand was tested by its rule already
 abbrev pub tests_again_at : CodeTree → List (Option (Table Description)) → ℕ → ℕ → Bool

@@ -1,8 +1,9 @@
 //! A verifier of guarded code, which names the first break of other code.
 //!
 //! The descriptions of a unit are found in rounds over its addresses. They are swept in order, as they are defined,
-//! since another order would meet another first break. The table of one unit stands in memory at a time, with a byte
-//! for each local of each address. Nothing is allocated where two paths meet.
+//! since another order would meet another first break. The rounds keep the table of one unit in memory at a time, with
+//! a byte for each local of each address, and allocate nothing where two paths meet. The sweeps, which find redundant
+//! barriers, keep fewer descriptions, and copy one where two paths meet.
 //!
 //! - `verify` makes a code into one that is known to be guarded, or names its first break.
 //! - `is_guarded` answers the same for a borrowed code.

@@ -1,6 +1,6 @@
 //! The rounds of a unit.
 
-ghost use Rattle.std.specs.Prelude.{◌≡◌, ℕ, ◌<◌, ◌+◌, ◌^◌, length, slice_get, OnOk, IfOk, IfErr, IsFalse, Option};
+ghost use Rattle.std.specs.Prelude.{◌≡◌, ℕ, ◌<◌, ◌+◌, ◌^◌, ◌||◌, length, slice_get, OnOk, IfOk, IfErr, IsFalse, Option};
 ghost use Rattle.guarded_code.specs.Rounds.{Sent, Holds, into, give, visit, round, first, blank};
 ghost use Rattle.guarded_code.specs.Descriptions.{Description as Plain, meet, starts, catch_starts};
 ghost use Rattle.guarded_code.specs.Changes.{sent, passes, descriptions};
@@ -119,7 +119,7 @@ fn visit(
 
 /// Whether one of them is true.
 pub fn either(a: bool, b: bool) -> bool
-    ensures { IsFalse result → (IsFalse a) × (IsFalse b) }
+    ensures { result ≡ a || b }
 {
     a || b
 }

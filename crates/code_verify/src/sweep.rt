@@ -1,9 +1,9 @@
 //! The sweeps of a unit, with one description in memory along straight code.
 //!
 //! What falls from an operation to the next one is not stored: it is changed in place. What a jump brings to an address
-//! further on stands in a table until the sweep comes there, which takes it. So memory is that of the jumps that have
-//! not landed yet. What jumps bring back, and the starts, are kept from sweep to sweep. What stands after the last sweep
-//! is what stands after the last round.
+//! further on stands in a table until the sweep comes there, which takes it. What jumps bring back, and the starts, are
+//! kept in another, from sweep to sweep. So a description stands in memory only for a jump that has not landed yet, for a
+//! target of a jump back, or for a start. What stands after the last sweep is what stands after the last round.
 
 ghost use Rattle.std.specs.Prelude.{◌≡◌, ℕ, ◌<◌, ◌^◌, ◌++◌, ◌∷◌, [], length, slice_get, slice_set, Some, None, Option, OnOk, IfOk, IsFalse};
 ghost use Rattle.guarded_code.specs.Rounds.{Sent, blank};
@@ -217,7 +217,8 @@ fn nothing_falls(fallen: Option<Current>, end: u32) -> Result<(), RoundFault>
 ///
 /// # Errors
 ///
-/// `Depth` where two paths may not meet or an operation finds too few operands. `NoMemory` where memory is refused.
+/// `Depth` where two paths may not meet or an operation finds too few operands: the rounds are taken then, and no clause
+/// says when it comes. `NoMemory` where memory is refused.
 pub fn swept(alloc: Global, code: &Code, unit: &CodeUnit) -> Result<Vec<bool>, RoundFault>
     requires { length unit.now.ops < 2 ^ 32 }
     ensures { IfOk result (λ v. v.items ≡ redundant_in code.now unit.now) }

@@ -1,4 +1,4 @@
--- Barriers that test again.
+-- Redundant barriers.
 use Rattle.std.specs.Prelude.{Bool, false, slice_get}
 use Rattle.lam_bytecode.specs.declared.op.Op.{Op}
 use Rattle.lam_bytecode.specs.declared.op.Op.TheVariants.{ReadBarrier, WriteBarrier}

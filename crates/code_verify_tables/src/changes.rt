@@ -1,13 +1,13 @@
 //! The table of operations, with what each takes and gives.
 
-ghost use Rattle.std.specs.Prelude.{◌≡◌, ◌∷◌, [], reverse, ◌++◌, slice_get, replicate, Some, None, length, unwrap_or};
+ghost use Rattle.std.specs.Prelude.{◌≡◌, ◌∷◌, [], reverse, ◌++◌, slice_get, replicate, Some, None, unwrap_or};
 ghost use Rattle.lam_operators.specs.Words.{Word};
 ghost use Rattle.lam_builtins.specs.Rows.{plain_type, place_taken, places_taken, answer_given};
 ghost use Rattle.thread_steps.specs.Ops.{function_takes, is_region, region_in, region_takes, captures_of};
 ghost use Rattle.guarded_code.specs.declared.known.ValueKind.TheVariants.{Number, Other};
 ghost use Rattle.lam_builtins.specs.Builtins.{row};
-ghost use Rattle.guarded_code.specs.Changes.{Change, Only, Trades, anything, kind_of_value, kind_of_type, kind_of_place, kind_of_answer, kind_of_result, constant_kind, result_kind, places_of, change};
-ghost use Rattle.code_verify_tables.specs.Seen.{place_seen, few_seen, places_seen, change_seen};
+ghost use Rattle.guarded_code.specs.Changes.{Only, Trades, anything, kind_of_value, kind_of_type, kind_of_place, kind_of_answer, kind_of_result, constant_kind, result_kind, places_of, change};
+ghost use Rattle.code_verify_tables.specs.Seen.{place_seen, few_seen, change_seen};
 
 use crate::places::{FewPlaces, OpChange, Place, repeated};
 use guarded_code::{Access, ValueKind};

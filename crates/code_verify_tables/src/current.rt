@@ -1,7 +1,7 @@
 //! A description that operations change in place.
 //!
-//! Along straight code an operation changes the top of the stack. So the stack is a deque with the top in front, and an
-//! operation takes no longer where the stack is deep, unless it changes what is known of a local that operands copy.
+//! Along straight code an operation changes the top of the stack. So the stack is a deque with the top in front. Only a
+//! store, and a barrier on a copy of a local, go through the stack.
 
 ghost use Rattle.std.specs.Prelude.{◌≡◌, ◌<◌, ◌≤◌, ◌∷◌, length, map, drop, slice_get, Some, IfOk, OnOk, IsFalse};
 ghost use Rattle.guarded_code.specs.Breaks.{is_tested_at};

@@ -1,6 +1,6 @@
 //! Knowledge about one local, in one byte.
 
-ghost use Rattle.std.specs.Prelude.{◌≡◌, Bool, true};
+ghost use Rattle.std.specs.Prelude.{◌≡◌, true};
 ghost use Rattle.code_verify_tables.specs.Packed.{chosen, state_for, known_of};
 
 use guarded_code::{Known, ValueKind};

@@ -2,7 +2,7 @@
 
 ghost use Rattle.std.specs.Prelude.{◌≡◌, ◌≤◌, ◌<◌, ◌+◌, length, slice_get, MatchOption};
 ghost use Rattle.guarded_code.specs.Changes.{wanted};
-ghost use Rattle.code_verify_tables.specs.Seen.{place_seen, places_of_option, few_seen, places_seen, change_seen};
+ghost use Rattle.code_verify_tables.specs.Seen.{places_of_option, few_seen, places_seen, change_seen};
 
 use guarded_code::{Access, ValueKind};
 

@@ -3,7 +3,7 @@
 //! A description is written anew at each operation, in the same memory. So nothing is allocated once it is large
 //! enough.
 
-ghost use Rattle.std.specs.Prelude.{◌≡◌, ◌<◌, ◌∷◌, ◌++◌, [], length, map, slice_get, slice_set, drop, OnOk, Some};
+ghost use Rattle.std.specs.Prelude.{◌≡◌, ◌<◌, ◌∷◌, length, map, slice_set, OnOk, Some};
 ghost use Rattle.guarded_code.specs.Descriptions.{untested, tested, fresh};
 ghost use Rattle.guarded_code.specs.Changes.{known_at, is_copy, forgotten, tested_operand, tested_copy, tested_local, at_place, put};
 

@@ -8,7 +8,7 @@ use lam_bytecode::Op;
 use std::test::Fail;
 use written_code::{Unit, code_of};
 
-/// The operations of a function of one parameter, and of some addresses whether a barrier stands there that tests again.
+/// The operations of a function of one parameter, and of some addresses whether a redundant barrier stands there.
 struct Case {
     units: &'static [Unit<'static>],
     tested: &'static [(u32, bool)],

@@ -124,7 +124,7 @@ fn text_of(program: Program) -> Result<String, NoMemory>
     text
 }
 
-/// The code that is run of the program that the bytes spell: what it is compiled to, without the barriers that test again. It is
+/// The code that is run of the program that the bytes spell: what it is compiled to, without its redundant barriers. It is
 /// guarded.
 ///
 /// # Errors

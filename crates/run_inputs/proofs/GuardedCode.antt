@@ -20,6 +20,6 @@ resolved_guarded p code typed numbered made =
     let of = λ (P : ResolvedTree → Type 0) (h : IsSomeAnd (resolved p) P). subst (λ (o : Option ResolvedTree). IsSomeAnd o P) made.resolves h in
     compiled_guarded made.tree code (of IsTypedTree typed) (of AreNumbered numbered) made.makes
 
--- without the barriers that test again it is what is run of the program
+-- without its redundant barriers it is what is run of the program
 pub is_run : (bytes : Text) (p : ProgramTree) (whole code : CodeTree) → IsFine bytes p → IsCompiledTo p (Ok whole) → code ≡ thinned whole → IsRunCode bytes code
 is_run bytes p whole code is made thin = record { whole = whole; makes = record { program = p; fine = is; makes = made }; thin = thin }

@@ -24,7 +24,7 @@ pub record IsCompiled (bytes : Text) (made : Result CodeTree ℕ) : Type 0 where
   pub fine : IsFine bytes program
   pub makes : IsCompiledTo program made
 
--- the code that is run of the program that the bytes spell: what it is compiled to, without the barriers that test again
+-- the code that is run of the program that the bytes spell: what it is compiled to, without its redundant barriers
 pub record IsRunCode (bytes : Text) (code : CodeTree) : Type 0 where
   pub whole : CodeTree
   pub makes : IsCompiled bytes (Ok whole)

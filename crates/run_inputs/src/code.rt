@@ -46,7 +46,7 @@ pub fn compiled_code(checked: &Checked) -> Result<Code, InputFault>
     Ok(compile(checked)?)
 }
 
-/// The code that is run of a checked program, which bytes spell: what it is compiled to, without the barriers that test again.
+/// The code that is run of a checked program, which bytes spell: what it is compiled to, without its redundant barriers.
 /// It is guarded.
 ///
 /// # Errors
@@ -75,7 +75,7 @@ fn whole_code(checked: &Checked) -> Result<Verified, CompileFault>
     }
 }
 
-/// A code without the barriers that test again.
+/// A code without its redundant barriers.
 fn thin(alloc: Global, whole: Verified) -> Result<Verified, NoMemory>
     requires { IsCode whole }
     ensures thinned { IfOk result (λ code. code ≡ thinned whole) }

@@ -1,4 +1,4 @@
--- Code without the barriers that test again.
+-- Code without its redundant barriers.
 use Rattle.std.specs.Prelude.{ℕ, zero, suc, Bool, true, false, not, List, [], ◌∷◌, map, Option, Some, None, slice_get}
 use Rattle.lam_bytecode.specs.Codes.{CodeTree}
 use Rattle.lam_bytecode.specs.declared.unit.CodeUnit.{CodeUnit}
@@ -79,6 +79,6 @@ abbrev pub thinned_unless : Option CodeBreak → CodeTree → CodeTree
 thinned_unless None code = thin_code code
 thinned_unless (Some b) code = code
 
--- the code without each barrier that tests again; a code that has a break stays as it is
+-- the code without each redundant barrier; a code that has a break stays as it is
 unfoldable pub thinned : CodeTree → CodeTree
 thinned code = thinned_unless (first_code_break code) code

@@ -32,7 +32,7 @@ pub fn thinned_code_keeps_units()
     ensures names { KeepsNames }
 {}
 
-/// No barrier of thinned code tests again: thinned once more, it stays as it is.
+/// No barrier of thinned code is redundant: thinned once more, it stays as it is.
 pub fn thinned_code_tests_once()
     ensures { ThinnedOnce }
 {}

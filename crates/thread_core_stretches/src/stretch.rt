@@ -1,7 +1,7 @@
 //! The type of stretches.
 
-ghost use Rattle.std.specs.Prelude.{◌≡◌, false, IfOk, OnOk, OnErr};
-ghost use Rattle.thread_core_stretches.specs.Stretches.{StretchStands, begun, goes_further, further, IsFurther, HasGone};
+ghost use Rattle.std.specs.Prelude.{◌≡◌, ◌+◌, ◌≤◌, false, IfOk, OnOk, OnErr};
+ghost use Rattle.thread_core_stretches.specs.Stretches.{StretchStands, begun, goes_further, IsFurther, HasGone};
 
 use crate::privately::go_privately;
 use guarded_code::Verified;
@@ -97,13 +97,14 @@ impl Stretch {
         Ok(())
     }
 
-    /// Takes as many private turns as there are, up to so many more.
+    /// Takes private turns, at most `most` more; the contract leaves open how many.
     ///
     /// # Errors
     ///
     /// `NoMemory` where memory is refused for the first of them; the stretch is then as it was. Where it is refused for a
     /// later one, the stretch stands as far as it came.
     pub fn go_for(&mut self, code: &Verified, most: u64) -> Result<(), NoMemory>
+        ensures few { self.new.count ≤ self.old.count + most }
         ensures same { (self.new.thread ≡ self.old.thread) × (self.new.before ≡ self.old.before) }
         ensures stands { StretchStands code.now self.old → StretchStands code.now self.new }
         ensures err { OnErr result (self.new ≡ self.old) }
