@@ -1,14 +1,13 @@
 -- The list of the ready threads from turn to turn: after a quiet turn it is as it was, or without the thread that moved.
-use Rattle.std.proofs.Common.{◌≡◌, ℕ, Bool, true, false, List, [], ◌∷◌, length, refl, sym, ap, ◌∙◌, subst}
+use Rattle.std.proofs.Common.{◌≡◌, ℕ, Bool, true, false, List, [], ◌∷◌, length, refl, sym, ap, ◌∙◌}
 use Rattle.std.specs.Prelude.{cond, ◌&&◌, not, eqb}
 use Rattle.std.specs.List.{filter, range_with_len}
 use Rattle.std.proofs.lemmas.Bool.{eqb-true, eqb-false}
 use Rattle.lam_bytecode.specs.Codes.{CodeTree}
 use Rattle.lam_machine_terms.specs.Worlds.{World}
 use Rattle.lam_machine_terms.specs.Turns.{ready}
-use Rattle.thread_host_run.specs.Runs.{Ran, HasTurn}
 use Rattle.thread_host_run.specs.ReadyLists.{ready_threads, is_other, kept_list}
-use Rattle.thread_host_run.proofs.Others.{Moved, quiet_moves, others_ready, as_many}
+use Rattle.thread_host_run.proofs.Others.{Moved, others_ready, as_many}
 
 -- ---- filters that agree
 
@@ -66,15 +65,3 @@ kept_moved code w t after h old =
 
 pub kept_list_moved : (code : CodeTree) (w : World) (t : ℕ) (after : World) (xs ys : List ℕ) → Moved w t after → ready code w t ≡ true → xs ≡ ready_threads code w → ys ≡ kept_list (ready code after t) t xs → ys ≡ ready_threads code after
 kept_list_moved code w t after xs ys moved old is new = new ∙ ap (kept_list (ready code after t) t) is ∙ sym (kept_moved code w t after moved old)
-
-pub kept_list_is : (code : CodeTree) (w : World) (t : ℕ) (after : World) (xs ys : List ℕ) → HasTurn code t w true after → ready code w t ≡ true → xs ≡ ready_threads code w → ys ≡ kept_list (ready code after t) t xs → ys ≡ ready_threads code after
-kept_list_is code w t after xs ys turn old is new = kept_list_moved code w t after xs ys (quiet_moves code w t _ turn.turn.is (sym turn.kind)) old is new
-
--- the list of a run after a turn, by that of its world
-pub relisted : (old new : Ran) (t : ℕ) (quiet : Bool) (xs ys : List ℕ) → new.code ≡ old.code → (w : World) (code : CodeTree) → w ≡ new.world → code ≡ new.code → HasTurn old.code t old.world quiet new.world → ready old.code old.world t ≡ true → xs ≡ ready_threads old.code old.world → ((before : World) → ready code before t ≡ true → HasTurn code t before quiet w → xs ≡ ready_threads code before → ys ≡ ready_threads code w) → ys ≡ ready_threads new.code new.world
-relisted old new t quiet xs ys same w code world_is code_is turn is_ready is lists =
-    let there : code ≡ old.code = code_is ∙ same in
-    let r = subst (λ (k : CodeTree). ready k old.world t ≡ true) (sym there) is_ready in
-    let h = subst (λ (k : CodeTree). HasTurn k t old.world quiet w) (sym there) (subst (HasTurn old.code t old.world quiet) (sym world_is) turn) in
-    let l = subst (λ (k : CodeTree). xs ≡ ready_threads k old.world) (sym there) is in
-    lists old.world r h l ∙ ap (λ (k : CodeTree). ready_threads k w) code_is ∙ ap (ready_threads new.code) world_is

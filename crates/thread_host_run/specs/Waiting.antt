@@ -13,6 +13,10 @@ use Rattle.thread_host_run.specs.declared.waiting.Prospect.{Prospect}
 use Rattle.thread_host_run.specs.declared.waiting.Touched.{Touched}
 use Rattle.thread_host_run.specs.declared.waiting.Touched.TheVariants.{OneMonitor, Everything}
 
+-- the most monitors that have a number
+abbrev pub most_names : ℕ
+most_names = 8192
+
 -- what the next ask of a thread waits for
 abbrev pub awaited_at : CodeTree → Option Thread → Awaited
 awaited_at code None = nobody

@@ -111,8 +111,8 @@ impl Course {
         Ok(taken)
     }
 
-    /// Takes private turns of a thread that is there, as many as there are in a row, up to so many: how many they were. They
-    /// are taken in place, and each is a turn of the course, of whatever code it is one.
+    /// Takes private turns of a thread that is there in a row, at most `most`: how many it took. The contract leaves open how
+    /// many it takes. They are taken in place, and each is a turn of the course, of whatever code it is one.
     ///
     /// # Errors
     ///

@@ -38,7 +38,6 @@ mod waiting;
 
 pub use books::{RunOf, run_of};
 pub use course::{Course, let_go_course};
-pub use listing::{check_in_listed, list_after, list_ready, relist, roomy_list, turn_listed};
 pub use readiness::ready;
 pub use ready_list::{ReadyList, check_in_ready, go_ready, list_after_turn};
 pub use run::{Run, RunParts, let_go_run, let_go_verified};

@@ -2,24 +2,21 @@
 //!
 //! After a quiet turn no monitor has changed its holder and no thread was started or has ended. So each other thread is
 //! ready where it was, and only the one that took the turn is looked at again. Private turns are quiet, and so are all
-//! asks but those that take monitors or give them back, start a thread or end one. After these the list is made anew.
-//! Its room is taken once, for as many threads as a run can have, and no turn takes more.
+//! asks but those that take monitors or give them back, start a thread or end one. After these,
+//! [`ReadyList`](crate::ReadyList) makes the list anew. The list's room is taken once, for as many threads as a run can
+//! have.
 
-ghost use Rattle.std.specs.Prelude.{◌≡◌, ◌<◌, ◌≤◌, true, length, IfOk, OnOk, OnErr, vec_capacity};
-ghost use Rattle.lam_machine_terms.specs.Worlds.{World as Plain};
+ghost use Rattle.std.specs.Prelude.{◌≡◌, ◌<◌, ◌≤◌, length, IfOk, OnOk, OnErr, vec_capacity};
 ghost use Rattle.lam_machine_terms.specs.Turns as turns;
 ghost use Rattle.lam_machine.specs.Worlds.{IsSound};
 ghost use Rattle.thread_core_stretches.specs.Stretches.{StretchStands};
-ghost use Rattle.thread_host_run.specs.Runs.{with_turn, HasTurn};
 ghost use Rattle.thread_host_run.specs.Stretched.{StretchFits, checked_in};
 ghost use Rattle.thread_host_run.specs.ReadyLists.{ready_threads, is_other, kept_list};
 ghost use Rattle.std.specs.List.{filter};
-ghost use Rattle.turn_book.specs.Limits.{most_turns};
 ghost use Rattle.lam_machine_terms.specs.Limits.{most_threads};
 
 use crate::course::Course;
 use crate::readiness::ready;
-use crate::run::Run;
 use guarded_code::Verified;
 use lam_machine::World;
 use lam_machine_effects::THREAD_LIMIT;
@@ -34,41 +31,12 @@ pub fn roomy_list(alloc: Global) -> Result<Vec<u32>, NoMemory>
     Ok(Vec::with_capacity(alloc, THREAD_LIMIT as usize)?)
 }
 
-/// Makes the list that of the ready threads of a world, in increasing order, by a walk over all threads.
-pub fn list_ready(list: &mut Vec<u32>, world: &World, code: &Verified)
-    requires sound { IsSound code.now world.now }
-    requires room { most_threads ≤ vec_capacity list.old }
-    ensures list { list.new.items ≡ ready_threads code.now world.now }
-    ensures room { most_threads ≤ vec_capacity list.new }
-{
-    list.clear();
-    for thread in 0..few_threads(world) {
-        if ready(world, code, thread) {
-            list.push_reserved(thread);
-        }
-    }
-}
-
 /// How many threads there are.
 pub fn few_threads(world: &World) -> u32
     ensures count { result ≡ length world.now.threads }
     ensures few { result ≤ most_threads }
 {
     world.threads().len() as u32
-}
-
-/// After a turn of a thread, which left this world: the list stays that of the ready threads.
-pub fn list_after(list: &mut Vec<u32>, world: &World, code: &Verified, thread: u32, quiet: bool)
-    requires sound { IsSound code.now world.now }
-    requires room { most_threads ≤ vec_capacity list.old }
-    ensures list { (before : Plain) → turns.ready code.now before thread ≡ true → HasTurn code.now thread before quiet world.now → list.old.items ≡ ready_threads code.now before → list.new.items ≡ ready_threads code.now world.now }
-    ensures room { most_threads ≤ vec_capacity list.new }
-{
-    if quiet {
-        after_quiet(list, world, code, thread);
-    } else {
-        list_ready(list, world, code);
-    }
 }
 
 /// Checks a stretch of some turns in; the list stays that of the ready threads, and only the stretch's thread is looked at.
@@ -96,31 +64,6 @@ pub fn check_in_listed(
     let thread = stretch.thread;
     course.check_in(stretch)?;
     after_quiet(list, course.world(), code, thread);
-    Ok(())
-}
-
-/// Makes the list that of the ready threads of a run, as [`list_ready`].
-pub fn relist(list: &mut Vec<u32>, run: &Run)
-    requires { most_threads ≤ vec_capacity list.old }
-    ensures list { list.new.items ≡ ready_threads run.now.code run.now.world }
-    ensures room { most_threads ≤ vec_capacity list.new }
-{
-    list_ready(list, run.now(), run.code());
-}
-
-/// One turn of a thread that is ready; the list stays that of the ready threads.
-pub fn turn_listed(run: &mut Run, list: &mut Vec<u32>, thread: u32) -> Result<(), NoMemory>
-    requires ready { turns.ready run.old.code run.old.world thread ≡ true }
-    requires turns { length run.old.turns < most_turns }
-    requires list { list.old.items ≡ ready_threads run.old.code run.old.world }
-    requires room { most_threads ≤ vec_capacity list.old }
-    ensures turn { OnOk result (run.new ≡ with_turn run.old thread run.new.world) }
-    ensures err { OnErr result (run.new ≡ run.old) }
-    ensures list { list.new.items ≡ ready_threads run.new.code run.new.world }
-    ensures room { most_threads ≤ vec_capacity list.new }
-{
-    let quiet = run.go(thread)?;
-    list_after(list, run.now(), run.code(), thread, quiet);
     Ok(())
 }
 

@@ -22,7 +22,7 @@ use thread_core_stretches::{Outlook, Standing, Waits, outlook};
 /// Whether a thread is there, is neither stuck nor ended, and its next ask, if it makes one, does not wait. Takes no
 /// memory.
 ///
-/// The world is one of the runs of the code, so that an access finds its rule, and nothing is tested.
+/// The world is sound for the code, so each access finds a reference whose rule holds, and none is tested again.
 pub fn ready(world: &World, code: &Verified, thread: u32) -> bool
     requires sound { IsSound code.now world.now }
     ensures { result ≡ turns.ready code.now world.now thread }
@@ -41,7 +41,7 @@ fn ready_at(stores: &Stores, threads: &[LamThread], code: &Verified, thread: u32
 }
 
 /// The thread of a number, where it is there.
-fn thread_in(threads: &[LamThread], thread: u32) -> Option<&LamThread>
+pub fn thread_in(threads: &[LamThread], thread: u32) -> Option<&LamThread>
     ensures { option_copied result ≡ slice_get threads.now thread }
 {
     threads.get(thread as usize)

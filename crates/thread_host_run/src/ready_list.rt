@@ -1,11 +1,12 @@
 //! The list of a run's ready threads, with what each thread waits for.
 //!
 //! A turn that enters or leaves a monitor touches the threads that wait for that monitor, and no others. So their
-//! readiness is read off who holds it, and the list is made anew without a look at any thread but the one that moved. A
-//! fault in a region, an end and a new thread touch all that wait for something. After a quiet turn the list stays, as
-//! [`list_after`](crate::list_after) keeps it.
+//! readiness is read off who holds it, and the list is made anew with a look at the thread that moved and at those of which
+//! nothing is known. A fault in a region, an end and a new thread touch all that wait for something. After a quiet turn
+//! only the thread that took it is looked at: it leaves the list where it is no longer ready.
 //!
-//! The room for as many threads as a run can have is taken once, and no turn takes more for the list.
+//! The room for as many threads as a run can have is taken once, and no turn takes more for the list. A monitor's name is
+//! copied when it gets its number; where that is refused, it gets none.
 
 ghost use Rattle.std.specs.Prelude.{◌≡◌, ◌<◌, ◌≤◌, true, length, IfOk, OnOk, OnErr, vec_capacity};
 ghost use Rattle.lam_asks.specs.declared.answer.Event.{Event as Turn};
@@ -265,8 +266,8 @@ fn refresh(
     }
 }
 
-/// Takes private turns of a thread that is ready, as many as there are in a row, up to so many; the list stays that of the
-/// ready threads, and only that thread is looked at. The answer is how many they were.
+/// Takes private turns of a thread that is ready in a row, at most `most`; the list stays that of the ready threads, and
+/// only that thread is looked at. The answer is how many it took. The contract leaves open how many it takes.
 ///
 /// # Errors
 ///
@@ -295,7 +296,7 @@ pub fn go_ready(
     Ok(taken)
 }
 
-/// Checks a stretch of some turns in, as [`check_in_listed`].
+/// Checks a stretch of some turns in; the list stays that of the ready threads, and only the stretch's thread is looked at.
 ///
 /// # Errors
 ///

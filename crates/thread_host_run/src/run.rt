@@ -15,7 +15,8 @@ ghost use Rattle.thread_host_run.specs.Stretched.{StretchFits, checked_in};
 ghost use Rattle.turn_book.specs.Limits.{most_turns};
 
 use crate::course::Course;
-use crate::seeking::{count_of, living_in, ready_in};
+use crate::listing::few_threads;
+use crate::seeking::{living_in, ready_in};
 use crate::taking::was_quiet;
 use guarded_code::Verified;
 use lam_asks::{Event, let_go_event};
@@ -154,7 +155,7 @@ impl Run {
     pub fn thread_count(&self) -> u32
         ensures { result ≡ length self.now.world.threads }
     {
-        count_of(self.course.world())
+        few_threads(self.course.world())
     }
 
     /// Whether a thread is ready for a turn. Takes no memory.

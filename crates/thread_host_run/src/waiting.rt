@@ -4,7 +4,6 @@
 //! number, so that many threads that wait for one monitor are told apart from others by a comparison of numbers.
 
 ghost use Rattle.std.specs.Prelude.{◌≡◌, ◌<◌, ◌≤◌, ◌++◌, ◌∷◌, [], true, length, slice_get, Some, IfOk, OnOk, OnErr, not, if◌then◌else◌};
-ghost use Rattle.std.specs.Option.{option_copied};
 ghost use Rattle.std.specs.List.{list_any};
 ghost use Rattle.lam_value.specs.Names.{name_eq};
 ghost use Rattle.monitor_core.specs.Held.{is_free, is_free_of};
@@ -17,9 +16,9 @@ ghost use Rattle.thread_core_effects.specs.Reading.{thing_in};
 ghost use Rattle.thread_core_stretches.specs.Turning.{awaited_by, a_monitor, standing_of};
 ghost use Rattle.lam_machine_effects.specs.Parts.{world_of};
 ghost use Rattle.thread_host_run.specs.Readiness.{waits_on, ready_by};
-ghost use Rattle.thread_host_run.specs.Waiting.{awaited_at, IsAwaited, Extends, Tells, TellsBut, IsHeldSo, Touches, is_stale, is_number, is_monitor, is_everything};
+ghost use Rattle.thread_host_run.specs.Waiting.{most_names, awaited_at, IsAwaited, Extends, Tells, TellsBut, IsHeldSo, Touches, is_stale, is_number, is_monitor, is_everything};
 
-use crate::readiness::stands_ready;
+use crate::readiness::{stands_ready, thread_in};
 use guarded_code::Verified;
 use indexmap::IndexSet;
 use lam_machine::World;
@@ -32,7 +31,8 @@ use thread_core_state::LamThread;
 use thread_core_stretches::{Outlook, Waits, outlook};
 use want_of_memory::NoMemory;
 
-/// The most monitors that have a number. A thread that waits for another one is looked at each time.
+/// The most monitors that have a number. While all are given, a thread that is looked at and waits for a monitor gets
+/// [`Awaits::Unknown`]. The next turn that touches other threads drops all numbers and looks at every thread.
 pub const MOST_NAMES: usize = 8_192;
 
 /// What the next ask of a thread waits for.
@@ -57,13 +57,13 @@ pub struct Prospect {
 /// What a turn may have changed for other threads than its own.
 #[derive(Clone, Copy, Debug, PartialEq, Eq)]
 pub enum Touched {
-    /// The monitor of this number, which this thread holds now, or one that has no number.
+    /// The monitor of this number with its holder now, if any; or a monitor that has no number.
     OneMonitor(Option<u32>, Option<Holder>),
     /// Any monitor, and who lives.
     Everything,
 }
 
-/// Looks at a thread.
+/// What a thread's next ask waits for, and whether the thread is ready, found from the world.
 pub fn look(world: &World, code: &Verified, names: &mut IndexSet<Name>, thread: u32) -> Prospect
     requires sound { IsSound code.now world.now }
     ensures more { Extends names.old.keys names.new.keys }
@@ -110,13 +110,6 @@ fn prospect_of(
     }
 }
 
-/// The thread of a number, where it is there.
-fn thread_in(threads: &[LamThread], thread: u32) -> Option<&LamThread>
-    ensures { option_copied result ≡ slice_get threads.now thread }
-{
-    threads.get(thread as usize)
-}
-
 /// What an ask waits for, where a monitor gets a number.
 fn numbered(names: &mut IndexSet<Name>, waits: Waits) -> Awaits
     ensures more { Extends names.old.keys names.new.keys }
@@ -129,7 +122,7 @@ fn numbered(names: &mut IndexSet<Name>, waits: Waits) -> Awaits
     }
 }
 
-/// The number of a monitor, which it gets where it has none and there is room.
+/// The number of a monitor, which it gets where it has none; `Unknown` where all numbers are given or memory is refused.
 fn number_of(names: &mut IndexSet<Name>, name: &Name) -> Awaits
     ensures more { Extends names.old.keys names.new.keys }
     ensures awaits { IsAwaited names.new.keys result (a_monitor name.now) }
@@ -144,7 +137,7 @@ fn number_of(names: &mut IndexSet<Name>, name: &Name) -> Awaits
 }
 
 fn put_name(names: &mut IndexSet<Name>, name: Name) -> Awaits
-    requires { length names.old.keys < 8192 }
+    requires { length names.old.keys < most_names }
     ensures more { Extends names.old.keys names.new.keys }
     ensures awaits { IsAwaited names.new.keys result (a_monitor name) }
 {
@@ -155,17 +148,17 @@ fn put_name(names: &mut IndexSet<Name>, name: Name) -> Awaits
 }
 
 fn insert_name(names: &mut IndexSet<Name>, name: Name) -> Result<usize, NoMemory>
-    requires { length names.old.keys < 8192 }
+    requires { length names.old.keys < most_names }
     ensures ok { OnOk result (names.new.keys ≡ (if list_any (name_eq name) names.old.keys then names.old.keys else names.old.keys ++ name ∷ [])) }
     ensures err { OnErr result (names.new.keys ≡ names.old.keys) }
     ensures stands { IfOk result (λ n. slice_get names.new.keys n ≡ Some name) }
-    ensures few { IfOk result (λ n. n ≤ 8192) }
+    ensures few { IfOk result (λ n. n ≤ most_names) }
 {
     let (at, _) = names.insert_full(name)?;
     Ok(at)
 }
 
-/// Looks at what a turn of another thread may have changed for a thread.
+/// The same as [`look`], after a turn of another thread: only what that turn touched, or what is unknown, is found anew.
 #[inline(always)]
 pub fn look_again(
     world: &World,
