@@ -20,9 +20,10 @@ use std::alloc::Global;
 use thread_host_run::Run;
 use want_of_memory::NoMemory;
 
-/// How the asks of a run stand to those of the source of a program, with its names resolved: each thread's asks are the first
-/// ones of its source, with as many units as it took turns; or the first thread whose are not, and the place of its first ask
-/// that is not. The run may be of any code; the threads of its start stand at entries of functions of the program.
+/// Compares a run's asks with those of its program's source, with its names resolved. `Same`: each thread's asks are the
+/// first ones of its source, with as many units as it took turns. `Departs`: the first thread where they are not, and the
+/// place of its first ask that is not. The run may be of any code; the threads of its start stand at entries of functions
+/// of the program.
 ///
 /// # Errors
 ///

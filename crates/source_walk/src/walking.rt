@@ -21,10 +21,11 @@ use source_walk_terms::Walked;
 use std::alloc::Global;
 use want_of_memory::NoMemory;
 
-/// How the asks of turns of a start stand to those of their source: each thread's asks are the first ones of its source,
-/// with as many units as it took turns; or the first thread whose are not, and the place of its first ask that is not.
+/// Compares the asks of turns of a start with those of their source. `Same`: each thread's asks are the first ones of its
+/// source, with as many units as it took turns. `Departs`: the first thread where they are not, and the place of its first
+/// ask that is not.
 ///
-/// It takes two steps for each turn, and a walk over the source of each thread.
+/// It goes over the turns twice, to count each thread's and to take them, and once over the source of each thread.
 ///
 /// # Errors
 ///

@@ -12,7 +12,8 @@ use Rattle.source_walk_follow.specs.Followed.{IsFollowed}
 use Rattle.source_walk_run.specs.declared.departures.Departures.{Departures}
 use Rattle.source_walk_run.specs.Beginnings.{all_begun}
 
--- what a thread that began so did with so many units, against its source: where it began at no entry it leaves it at once
+-- at is the place where a thread that began as b and did this departs from its source with n units, or None. One that
+-- began at no entry departs at 0.
 abbrev pub IsMet : ResolvedTree → ℕ → Beginning → List What → Option ℕ → Type 0
 IsMet r n b did at = (IsEntry r b.function b.args × IsFollowed r n b.function b.args b.caps did at) ⊎ ((IsEntry r b.function b.args → ⊥) × (at ≡ Some 0))
 

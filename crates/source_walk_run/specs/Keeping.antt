@@ -12,8 +12,8 @@ use Rattle.source_walk_follow.specs.Following.{asks_met}
 use Rattle.source_walk_run.specs.declared.keeping.Kept.{Kept}
 use Rattle.source_walk_run.specs.Walking.{AreWalking, Begins, FollowsAt}
 
--- This is kept of moments, where the threads of the start began so, with these numbers of turns. How the walks stand is
--- known of moments of threads that are there.
+-- What is kept after these moments, where the start's threads began as starts, and thread u takes (turns at u) turns in
+-- all. walks is known only where each moment is of a thread that is there.
 pub record IsKept (r : ResolvedTree) (starts : List Beginning) (turns : List ℕ) (ms : List Moment) (kept : Kept) : Type 0 where
   pub walks : AreOfThreads (length starts) ms → AreWalking r starts turns ms kept.walks.items
   pub few : (u : ℕ) (w : Follower) → slice_get kept.walks.items u ≡ Some w → asks_met w ≤ length ms

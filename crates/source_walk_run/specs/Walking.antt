@@ -13,8 +13,8 @@ use Rattle.source_walk_follow.specs.declared.followers.Follower.TheVariants.{Dep
 use Rattle.source_walk_follow.specs.Following.{IsFollowing, asks_met, FollowsTurn}
 use Rattle.source_walk_run.specs.Beginnings.{beginning_of, all_begun}
 
--- A thread began so and did this, with so many units for its source. Where it began at an entry its walk follows what it
--- did, and where it began elsewhere it departed at once.
+-- w is the walk of a thread that began as b and did this, over its source with n units. If b is an entry, w follows what
+-- the thread did; else the thread departed at once.
 abbrev pub IsMeeting : ResolvedTree → ℕ → Beginning → List What → Follower → Type 0
 IsMeeting r n b did w = (IsEntry r b.function b.args × IsFollowing r (asks_made r n b.function b.args b.caps) did w) ⊎ ((IsEntry r b.function b.args → ⊥) × (w ≡ Departed 0))
 

@@ -37,7 +37,8 @@ pub struct Departures {
 
 /// Where the threads depart from their source in the turns of a start, whose threads began so.
 ///
-/// It takes two steps for each turn, and a walk over the source of each thread. It keeps the state of each walk alone.
+/// It goes over the turns twice, to count each thread's and to take them, and once over the source of each thread. It
+/// keeps the state of each walk alone.
 ///
 /// # Errors
 ///
