@@ -9,7 +9,13 @@ use Rattle.lam_resolve_tree.specs.declared.ValueType.{ValueType}
 use Rattle.lam_resolve_tree.specs.Tree.{ResolvedType, type_tree, types_tree}
 use Rattle.lam_meaning.specs.Means.{sort_of}
 use Rattle.lam_meaning_typed.specs.Kinds.{AreOf}
-use Rattle.source_walk_run.specs.Entries.{are_of}
+
+-- whether arguments are of the sorts of parameters, as a test
+abbrev are_of : List ResolvedType → List Value → Bool
+are_of [] [] = true
+are_of [] (v ∷ vs) = false
+are_of (t ∷ ts) [] = false
+are_of (t ∷ ts) (v ∷ vs) = is_of (sort_of t) v && are_of ts vs
 
 -- the test says so
 pub says_of : (ts : List ResolvedType) (vs : List Value) → are_of ts vs ≡ true → AreOf ts vs

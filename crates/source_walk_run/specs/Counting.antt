@@ -1,5 +1,5 @@
 -- How many of the turns of a run are of each thread.
-use Rattle.std.specs.Prelude.{◌≡◌, ◌+◌, ◌<◌, ℕ, zero, suc, nat_eq, List, [], ◌∷◌, length, get_or}
+use Rattle.std.specs.Prelude.{◌≡◌, ◌+◌, ◌<◌, ℕ, nat_eq, List, length, get_or, slice_set}
 use Rattle.std.specs.List.{count_by}
 
 -- how many of the turns are of a thread
@@ -12,6 +12,4 @@ AreTurnsOf turns threads counts = (length counts ≡ threads) × ((u : ℕ) → 
 
 -- one more at a place
 abbrev pub counted : ℕ → List ℕ → List ℕ
-counted t [] = []
-counted zero (n ∷ ns) = (n + 1) ∷ ns
-counted (suc t) (n ∷ ns) = n ∷ counted t ns
+counted t ns = slice_set ns t (get_or ns t 0 + 1)

@@ -1,8 +1,11 @@
 -- Where the threads of a run depart from their source.
-use Rattle.std.specs.Prelude.{◌≡◌, ◌+◌, ◌⊎◌, ℕ, List, length, Option, Some, slice_get}
+use Rattle.std.specs.Prelude.{◌≡◌, ◌+◌, ◌≤◌, ◌⊎◌, ℕ, List, length, Option, Some, slice_get}
 use Rattle.lam_asks.specs.declared.answer.What.{What}
+use Rattle.lam_bytecode.specs.Codes.{CodeTree}
 use Rattle.lam_resolve_tree.specs.Tree.{ResolvedTree}
-use Rattle.lam_machine_terms.specs.Turns.{Moment}
+use Rattle.lam_machine_terms.specs.Limits.{most_threads}
+use Rattle.lam_machine_terms.specs.Worlds.{World}
+use Rattle.lam_machine_terms.specs.Turns.{Moment, moments}
 use Rattle.lam_machine_laws.specs.Own.{done_by}
 use Rattle.source_walk_terms.specs.Walks.{IsEntry}
 use Rattle.source_walk_state.specs.declared.Beginning.{Beginning}
@@ -22,3 +25,7 @@ pub record AreDepartures (r : ResolvedTree) (starts : List Beginning) (ms : List
   pub many : length d.places.items ≡ length starts + length (births ms)
   pub each : (u : ℕ) (b : Beginning) (at : Option ℕ) → slice_get (all_begun starts ms) u ≡ Some b → slice_get d.places.items u ≡ Some at → IsMet r (length (done_by u ms)) b (done_by u ms) at
   pub asks : d.asks ≡ asks_in ms
+
+-- where the threads depart in these turns of a start, of no more threads than a run can have
+abbrev pub DeparturesOf : ResolvedTree → List Beginning → CodeTree → List ℕ → World → Departures → Type 0
+DeparturesOf r starts code turns start d = AreDepartures r starts (moments code turns start) d × (length d.places.items ≤ most_threads)

@@ -1,6 +1,5 @@
 pub mod Beginnings
 pub mod Counting
-pub mod Entries
 pub mod Walking
 pub mod Keeping
 pub mod Departures

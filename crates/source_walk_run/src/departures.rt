@@ -1,15 +1,14 @@
 //! The places where a run's threads depart from their source.
 
-ghost use Rattle.std.specs.Prelude.{◌≡◌, ◌≤◌, length, map, None, IfOk, OnOk, IfErr};
+ghost use Rattle.std.specs.Prelude.{◌≡◌, length, map, None, IfOk, OnOk, IfErr};
 ghost use Rattle.lam_resolve_tree.specs.Tree.{resolved_tree};
 ghost use Rattle.lam_machine_terms.specs.Limits.{most_threads};
-ghost use Rattle.lam_machine_terms.specs.Turns.{moments};
 ghost use Rattle.lam_machine_replay.specs.Worlds.{IsSound};
 ghost use Rattle.lam_machine_runs.specs.Stops.{stopped_at};
 ghost use Rattle.lam_machine_replay.specs.Stops.{IsStop};
 ghost use Rattle.source_walk_follow.specs.Following.{place_left};
 ghost use Rattle.source_walk_run.specs.Counting.{AreTurnsOf};
-ghost use Rattle.source_walk_run.specs.Departures.{AreDepartures};
+ghost use Rattle.source_walk_run.specs.Departures.{DeparturesOf};
 
 use crate::counting::turns_of_each;
 use crate::keeping::{Kept, Walker, kept_of};
@@ -53,8 +52,7 @@ pub fn departures_of(
 ) -> Result<Departures, RunFault>
     requires sound { IsSound code.now start }
     requires starts { length starts.now ≡ length start.threads }
-    ensures ok { IfOk result (AreDepartures (resolved_tree program.now) starts.now (moments code.now turns.now start)) }
-    ensures few { IfOk result (λ d. length d.places.items ≤ most_threads) }
+    ensures ok { IfOk result (DeparturesOf (resolved_tree program.now) starts.now code.now turns.now start) }
     ensures run { OnOk result (stopped_at code.now turns.now start ≡ None) }
     ensures stops { IfErr result (λ f. IsStop f (stopped_at code.now turns.now start)) }
 {
@@ -85,8 +83,7 @@ fn departures_with(
     requires sound { IsSound code.now start }
     requires starts { length starts.now ≡ length start.threads }
     requires counts { AreTurnsOf turns.now most_threads counts.now }
-    ensures ok { IfOk result (AreDepartures (resolved_tree program.now) starts.now (moments code.now turns.now start)) }
-    ensures few { IfOk result (λ d. length d.places.items ≤ most_threads) }
+    ensures ok { IfOk result (DeparturesOf (resolved_tree program.now) starts.now code.now turns.now start) }
     ensures run { OnOk result (stopped_at code.now turns.now start ≡ None) }
     ensures stops { IfErr result (λ f. IsStop f (stopped_at code.now turns.now start)) }
 {
