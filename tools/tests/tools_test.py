@@ -279,10 +279,10 @@ class Measures(InFolder):
 
     def test_limits(self):
         lam = self.script('lam', 'exit 9\n')
-        done = self.tool('limits.py', 'mint', LAM=lam)
+        done = self.tool('limits.py', '65,000', LAM=lam)
         self.assertEqual(done.returncode, 0)
         self.assertRegex(done.stdout, r'\| `mint\(\)` 65,000 times \| 0\.\d\d \| \d+ \| 9 \|\n$')
-        done = self.tool('limits.py', 'mint', LAM=self.path('none'))
+        done = self.tool('limits.py', '65,000', LAM=self.path('none'))
         self.assertEqual((done.returncode, done.stderr), (70, f'limits.py: No such file or directory: {self.path("none")}\n'))
 
     def test_plain(self):
