@@ -76,7 +76,7 @@ build_proved() {
 # Builds the checked program and says what it is; where this toolchain cannot, the sources are proved.
 build_checked() {
     if build checked; then
-        say "this program is built from these sources, but it is not proved here and runs with checks, ten times slower" \
+        say "this program is built from these sources, but it is not proved here and runs with checks, and slower" \
             "./lam --prove (or rt ci) proves the sources and builds the proved one, which is then used"
     else
         build_proved

@@ -110,7 +110,7 @@ class Kinds(Repository):
         self.assertEqual(kind, 'none')
         status, out, said = self.lam('check', 'x')
         self.assertEqual((status, out), (0, 'checked check x\n'))
-        self.assertIn('not proved here and runs with checks, ten times slower', said)
+        self.assertIn('not proved here and runs with checks, and slower', said)
         self.assertIn('./lam --prove', said)
         self.assertEqual(self.lam('check', 'x'), (0, 'checked check x\n', ''))
         self.assertEqual(self.built(), ['checked', none_sum])
