@@ -38,7 +38,7 @@ file empty {}/{} ""
 file menu {}/{} "tea"
 pipe flag {}/{}
 pipe other {}/{}
-pipe ann {ann}/{}
+pipe hers {ann}/{}
 '''
 ALL = 1000
 # The lines 1 to 7 of a program: a thread that works in Ann's region for as long as the secret says, and then tells that it is out.
@@ -160,7 +160,18 @@ fn main(ann: tag): int {
   return 0;
 }
 ''', 'worker(ann, flag)|spy()', ((1, 60), (0, ALL), (1, ALL)), '{}/{}', 'stretch t0 3, loop 5, poll t1 13'),
-    'no poll: settings that are read again, and a counter of one thread': (
+    # Who reads settings again looks as who polls and gives up: it is named, and the counter that nobody else changes is not.
+    'settings that are read again, and a counter of one thread': (
+        WORKER % '' + '''class Box { value: int; }
+fn settings(): int {
+  let mine: Box = new Box();
+  while (mine.value < size(read(open_file(root(), "menu"), 0, 3))) {
+    mine.value = mine.value + 1;
+  }
+  return mine.value;
+}
+''', 'worker(ann, flag)|settings()', ((1, 20), (0, ALL), (1, ALL)), '{}/{}', 'stretch t0 2, loop 4, open poll t1 11'),
+    'settings that are read again where nobody works out of sight': (
         WORKER % '' + '''class Box { value: int; }
 fn settings(): int {
   let mine: Box = new Box();
@@ -186,7 +197,7 @@ fn settings(): int {
   } catch (e) { }
   return 0;
 }
-''', 'order(ann, "x", pipe:ann)', ((0, ALL),), '{}/{}', 'stretch t0 3, captured t0 3'),
+''', 'order(ann, "x", hers)', ((0, ALL),), '{}/{}', 'stretch t0 3, captured t0 3'),
     'a captured order, which is said to the public too': (
         '''fn order(ann: tag, to: pipe): int {
   let wanted: bytes = read(open_file(root(), "menu"), 0, 9);
@@ -196,5 +207,5 @@ fn settings(): int {
   } catch (e) { }
   return 0;
 }
-''', 'order(ann, pipe:ann)', ((0, ALL),), '{}/{}', 'stretch t0 4'),
+''', 'order(ann, hers)', ((0, ALL),), '{}/{}', 'stretch t0 4'),
 }
