@@ -188,5 +188,5 @@ def draw(course, die, number):
 
 
 def turns_of(path):
-    with open(path, encoding='ascii') as book:
+    with open(path, encoding='ascii', errors='surrogateescape', newline='') as book:
         return worlds.turns_of(book.read())
