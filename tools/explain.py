@@ -10,6 +10,7 @@ turn that it cannot have; which file is not there; which threads of a run live, 
 which region a closed run is held up; what it can mean that two runs differ. Nothing is printed where there is nothing more
 to say.
 """
+from lam_source import early    # pylint: disable=unused-import,wrong-import-order
 import difflib
 import errno
 import os

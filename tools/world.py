@@ -54,6 +54,7 @@ So two worlds differ in a secret by one word of the call. In a document the hole
 
 With `--json`, faults are printed as `{"ok": false, "faults": [{"line": 3, "text": ".."}]}`, `check` prints `{"ok": true,
 "faults": []}`, and `short` the tags, items, pipes and threads, each with its line."""
+from lam_source import early    # pylint: disable=unused-import,wrong-import-order
 import collections
 import difflib
 import json

@@ -289,3 +289,13 @@ def lines(run, turns, observer):
         said += [head, *found] if found else [f'{head}: none']
     warned = [f'  {line}' for line in words.of_captures()]
     return said + ([WARNED, *warned] if warned else [])
+
+
+def closed_lines(run, turns, observer, base, says):
+    """What there is to say of a run by the closed schedule: only that a region does not end can tell of what is in it."""
+    words = Words(Channels(run, observer).take(turns))
+    words.channels.stretches = {key: found for key, found in words.channels.stretches.items() if not key[-1]}
+    said = [f'the book is closed with the base {run.texts.label(base)} (by {says}):',
+            f'  the order of the turns that {run.texts.label(observer)} sees tells nothing of unseen work, so there are none of these channels']
+    opened = [f'  {line}' for line in words.of_stretches()]
+    return said + (['that a region does not end can tell of it:', *opened] if opened else [])
