@@ -31,10 +31,10 @@ def kept():
     return next((it for it in files if os.access(it, os.X_OK)), None)
 
 
-def called(program, *words, folder=None):
-    """What a call prints, as bytes, and its status."""
-    done = subprocess.run([program, *words], cwd=folder, stdin=subprocess.DEVNULL, stdout=subprocess.PIPE,
-                          stderr=subprocess.DEVNULL, check=False)
+def called(program, *words, folder=None, given=None):
+    """What a call prints, as bytes, and its status; `given` are the bytes of its input."""
+    source = {'input': given} if given is not None else {'stdin': subprocess.DEVNULL}
+    done = subprocess.run([program, *words], cwd=folder, stdout=subprocess.PIPE, stderr=subprocess.DEVNULL, check=False, **source)
     return done.stdout, done.returncode
 
 
