@@ -1,4 +1,4 @@
--- The length of the shortest numeral that is read as a float.
+-- The length of the shortest numeral that is read as a float: of that with the fewest digits.
 --
 -- `1.5` is that of 3/2: neither `1` nor `2` is read as it. A numeral is laid out as in JSON texts: `120.0`, `1.5`, `0.001`,
 -- `1.5e+30`, `1e-7`.
