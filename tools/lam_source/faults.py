@@ -74,6 +74,7 @@ def of_breaks(whole, breaks):
     def line(item, at):
         return whole.line(item.chunk.base + at)
     for broken in breaks[:MOST]:
+        broken.typing = whole.typing        # that it is kept from an earlier text does not show in its words
         at = broken.item.chunk.base + broken.at
         yield Found(broken.kind, at, end_of(whole.text, at), wording.of_types(broken.item.chunk.text, broken, line), broken)
 
