@@ -10,6 +10,7 @@ reading of the language. Where the program `lam` is built (that of LAM_PROGRAM, 
 `lam check` too, while nothing else is to be done, and tells its refusal where it is another one. tools/editor/README.md
 sets up editors.
 """
+from lam_source import early    # pylint: disable=unused-import,wrong-import-order
 import queue
 import sys
 import threading

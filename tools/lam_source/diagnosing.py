@@ -54,12 +54,8 @@ def of_world(positions, path, name, whole):
 
     `name` is the file of its program, and `whole` the document of that; both are None where it is not known."""
     is_document = positions.text.lstrip().startswith('{')
-    last = re.search(r'"version"\s*:\s*3\b', positions.text)
-    if not (is_document and last):
-        told = faults_by_tool(positions, path, is_document, name, whole)
-        if told or not is_document:
-            return told
-    return refused_start(positions, whole)
+    told = faults_by_tool(positions, path, is_document, name, whole)
+    return told or (refused_start(positions, whole) if is_document else [])
 
 
 def faults_by_tool(positions, path, is_document, name, whole):
