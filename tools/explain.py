@@ -17,7 +17,7 @@ import os
 import re
 import sys
 
-from lam_source import closed, habits, last_catch, pairs, places, printable, runs, world
+from lam_source import closed, faults, last_catch, pairs, places, printable, runs, world
 
 DONE, NO_MEMORY, WORDS, PROGRAM, WORLD, BOOK, MISSING, SHELF, OUTPUT, BUDGET, WAITING, STALLED, OVER = range(13)
 MANY = 200_000      # turns; of a longer book nothing is said where the program has refused nothing
@@ -247,7 +247,7 @@ def of_place(name, data, kind, at):
     shown = [places.Place(text, start).shown(name, width)]
     if kind == 'NotUtf8':
         return shown + ['a program is UTF-8, and this byte is not']
-    return shown + habits.sentences(kind, text, start)
+    return shown + faults.sentences(kind, text, start)
 
 
 def of_script_line(lines, is_ended):

@@ -326,7 +326,7 @@ class Server:
 
     def symbols(self, params):
         text = self.text(params)
-        return outline.of_world(text.positions) if is_world(uri_of(params)) else outline.of_program(text)
+        return text.once('outline', lambda: outline.of_world(text.positions) if is_world(uri_of(params)) else outline.of_program(text))
 
     def completion(self, params):
         text, at = self.text(params), self.at(params)
@@ -341,7 +341,7 @@ class Server:
 
     def folds(self, params):
         whole = self.program_text(params)
-        return showing.folds(whole) if whole else []
+        return whole.once('folds', lambda: showing.folds(whole)) if whole else []
 
     def labels(self, params):
         whole, (start, end) = self.program_text(params), self.span(params)
