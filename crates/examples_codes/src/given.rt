@@ -50,7 +50,14 @@ pub const THREE: &str =
 pub fn verified(alloc: Global) -> Result<Verified, Fail>
     ensures { IfOk result IsCode }
 {
-    Ok(verify(alloc, code_of(alloc, SAYS)?)?)
+    verified_of(alloc, SAYS)
+}
+
+/// What is written down as a code, where it has no break.
+pub fn verified_of(alloc: Global, written: Written<'_>) -> Result<Verified, Fail>
+    ensures { IfOk result IsCode }
+{
+    Ok(verify(alloc, code_of(alloc, written)?)?)
 }
 
 /// The world of a document. Runs of the code from there are sound.

@@ -7,6 +7,7 @@
 //! - Over runs of one small code (`given`): `answers` steps one thread and answers its ask, `workers` has runs that
 //!   workers take, `pairs` compares two runs, and `walks` follows one on the sources of programs. `entries` says whether
 //!   a run begins where such a program does.
+//! - `overlaps`: workers that are away with turns at one time.
 #![tactic(auto)]
 
 #[cfg(test)]
@@ -21,6 +22,8 @@ mod facts;
 mod given;
 #[cfg(test)]
 mod numbers;
+#[cfg(test)]
+mod overlaps;
 #[cfg(test)]
 mod pairs;
 #[cfg(test)]

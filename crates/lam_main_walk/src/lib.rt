@@ -4,8 +4,12 @@
 //! know what was asked and answered, and is then not looked at again. A walk over the source, with the answers, meets
 //! the asks again (`source_walk`). A run of a program's own code keeps to its source (`lam_main_laws`), so there is one
 //! answer, how many asks there were. What a call answers is what the plan of these files says (`lam_main_plan`).
+//!
+//! - `entries`: the law that a start's threads stand where a walk requires it.
+//! - `telling`: the line of the answer.
 #![tactic(auto)]
 
+mod entries;
 mod source;
 mod telling;
 
@@ -24,6 +28,7 @@ ghost use Rattle.lam_main_walk.specs.Sources.{IsSoundSource, Tells};
 
 use crate::source::{Source, let_go_source, read_source};
 use crate::telling::told;
+pub use entries::starts_stand_at_entries;
 use lam_io::Shelf;
 use lam_machine_world::{World, let_go_world};
 use lam_main_laws::sources_run_as_meant;

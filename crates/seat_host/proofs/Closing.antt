@@ -12,7 +12,7 @@ use Rattle.seat_host.specs.declared.law.View.{View}
 use Rattle.seat_host.specs.declared.law.Given.{Given}
 use Rattle.seat_host.specs.Places.{Shared, shared}
 use Rattle.seat_host.specs.Places.{turns_in}
-use Rattle.seat_host.specs.Seats.{Sitting, Closes, StaysOpen, AreLast, ClosesBy, sitting}
+use Rattle.seat_host.specs.Seats.{Closes, StaysOpen, ClosesBy, sitting}
 use Rattle.seat_host.specs.declared.answer.Closed.{Closed}
 use Rattle.seat_host.specs.declared.answer.CloseFault.{CloseFault}
 use Rattle.seat_host.specs.declared.answer.CloseFault.TheVariants.{Open, NoMemory as OutOfMemory}
@@ -48,21 +48,18 @@ last g id v ws xs drawn served y end w0 w1 x0 =
     home (inl is) same = some-injective _ _ (sym (end.4 0 (shared g.code g.start end.1.0.log) (ap (λ (l : List (mathlib.Core.Option.Option Shared)). get_elem? l 0) is)) ∙ x0)
     home (inr out) same = absurd (let lt = out.1 in omega arith)
 
--- what the last words are to a seat
-pub are_last : (id : TableId) (g : Given) (v : View) (drawn served : ℕ) (y : Shared) → Last g v drawn served y → AreLast (sitting id v) served drawn
-are_last id g v drawn served y l = record { order = l.order; seen = l.seen; known = l.known }
-
 below : (s d served drawn : ℕ) → served ≤ drawn → served ≢ drawn → s ≡ served → d ≡ drawn → s < d
 below s d served drawn o n e f = omega (arith, o, n, e, f)
 
-pub stays_open : (v : Sitting) (served drawn : ℕ) (r : Result Closed CloseFault) → AreLast v served drawn → ClosesBy served drawn r → IfErr r (StaysOpen v)
-stays_open v served drawn (Ok p) l by = tt
-stays_open v served drawn (Err (Open s d)) l by =
+-- an answer by the last words of a table is one that its seats allow
+pub stays_open : (id : TableId) (g : Given) (v : View) (drawn served : ℕ) (y : Shared) (r : Result Closed CloseFault) → Last g v drawn served y → ClosesBy served drawn r → IfErr r (StaysOpen (sitting id v))
+stays_open id g v drawn served y (Ok p) l by = tt
+stays_open id g v drawn served y (Err (Open s d)) l by =
     let o = l.order in
     let e = l.seen in
     let k = l.known in
     (below s d served drawn o by.0 by.1 by.2, omega (arith, e, by.1), omega (arith, k, by.2))
-stays_open v served drawn (Err OutOfMemory) l by = tt
+stays_open id g v drawn served y (Err OutOfMemory) l by = tt
 
 -- a run that is closed only where the words are equal
 pub closes_by : (served drawn : ℕ) (r : Result Closed CloseFault) → served ≡ drawn → IfErr r (λ e. e ≡ OutOfMemory) → ClosesBy served drawn r

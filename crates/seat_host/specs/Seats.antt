@@ -114,20 +114,12 @@ abbrev pub StaysOpen : Sitting → CloseFault → Type 0
 StaysOpen v (Open served drawn) = (served < drawn) × (length v.seen ≤ served) × (v.drawn ≤ drawn)
 StaysOpen v OutOfMemory = Unit {0}
 
--- the last words of the table: how many places are finished, and how many tickets were drawn
-pub record AreLast (v : Sitting) (served drawn : ℕ) : Type 0 where
-  pub order : served ≤ drawn
-  pub seen : length v.seen ≤ served
-  pub known : v.drawn ≤ drawn
-
--- a ticket is open exactly where the words differ, and the answer has both; else the run comes, or memory ran out
+-- of two words, how many places are finished and how many tickets were drawn: a ticket is open exactly where they differ,
+-- and the answer has both; else the run comes, or memory ran out
 abbrev pub ClosesBy : ℕ → ℕ → Result Closed CloseFault → Type 0
 ClosesBy served drawn (Ok c) = served ≡ drawn
 ClosesBy served drawn (Err (Open s d)) = (served ≢ drawn) × (s ≡ served) × (d ≡ drawn)
 ClosesBy served drawn (Err OutOfMemory) = served ≡ drawn
-
-abbrev pub ClosesExactly : Sitting → Result Closed CloseFault → Type 0
-ClosesExactly v r = (served : ℕ) × (drawn : ℕ) × AreLast v served drawn × ClosesBy served drawn r
 
 -- how many places are seen after an answer
 abbrev pub seen_after : ℕ → TurnAnswer → ℕ

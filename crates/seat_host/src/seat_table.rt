@@ -8,7 +8,7 @@ ghost use Rattle.thread_host_run.specs.Runs.{opened};
 ghost use Rattle.seat_host.specs.Places.{shared, turns_in};
 ghost use Rattle.seat_host.specs.Answers.{holding, Comes};
 ghost use Rattle.seat_host.specs.Law.{newcomer, fresh, learned, joined};
-ghost use Rattle.seat_host.specs.Seats.{IsIdle, IsWaiting, Drew, Came, sitting, TookTurn, Closes, StaysOpen, ClosesBy, ClosesExactly};
+ghost use Rattle.seat_host.specs.Seats.{IsIdle, IsWaiting, Drew, Came, sitting, TookTurn, Closes, StaysOpen, ClosesBy};
 
 use crate::answer::{CloseFault, Closed, TurnAnswer};
 use crate::book::{Book, let_go_book};
@@ -85,7 +85,6 @@ impl SeatTable {
         requires given { (pass.me.0.code ≡ self.table.shared.key.code) × (pass.me.0.start ≡ self.table.shared.key.start) }
         ensures ok { IfOk result (λ p. Closes (sitting pass.table_id pass.me.0) p.run p.places.items) }
         ensures err { IfErr result (StaysOpen (sitting pass.table_id pass.me.0)) }
-        ensures exact { ClosesExactly (sitting pass.table_id pass.me.0) result }
     {
         let SeatTable { table, .. } = self;
         let mut closed = table.close_with(pass);

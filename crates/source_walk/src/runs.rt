@@ -23,7 +23,8 @@ use want_of_memory::NoMemory;
 /// Compares a run's asks with those of its program's source, with its names resolved. `Same`: each thread's asks are the
 /// first ones of its source, with as many units as it took turns. `Departs`: the first thread where they are not, and the
 /// place of its first ask that is not. The run may be of any code; the threads of its start stand at entries of functions
-/// of the program.
+/// of the program. They do where the code is what is run of the program and the start is a document's world: the law
+/// `starts_stand_at_entries` of `lam_main_walk`.
 ///
 /// # Errors
 ///

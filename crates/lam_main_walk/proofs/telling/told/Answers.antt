@@ -18,8 +18,10 @@ pub returns-in_ok-same_text-in-Ok-Same-clause-says : goal.returns-in_ok-same_tex
 returns-in_ok-same_text-in-Ok-Same-clause-says c =
     same_says (resolved_tree c.args.source.now.program) c.args.source.now.code c.args.start c.args.turns.now c.in-Ok-Same.asks c.in_ok-same_text-in-Ok-Same.field-0 (rw c.in-Ok-Same.field-0-is at c.in-Ok-Same.ensures.ok) c.in-Ok-Same.ensures.run c.in_ok-same_text-in-Ok-Same.ensures
 
-pub unreachable-requires : goal.unreachable-requires
-unreachable-requires c = none_departs (resolved_tree c.args.source.now.program) c.args.source.now.code c.args.start c.args.turns.now c.meant_runs_are_same.ensures (c.requires.means c.args.turns.now) c.in-Ok-Departs.field-0 c.in-Ok-Departs.ensures.ok c.in-Ok-Departs.field-0-is
+-- the law makes this answer impossible
+pub returns-in_ok-departs_text-in-Ok-Departs-clause-says : goal.returns-in_ok-departs_text-in-Ok-Departs-clause-says
+returns-in_ok-departs_text-in-Ok-Departs-clause-says c =
+    absurd (none_departs (resolved_tree c.args.source.now.program) c.args.source.now.code c.args.start c.args.turns.now c.meant_runs_are_same.ensures (c.requires.means c.args.turns.now) c.in-Ok-Departs.field-0 c.in-Ok-Departs.ensures.ok c.in-Ok-Departs.field-0-is)
 
 pub returns-in-Err-clause-says : goal.returns-in-Err-clause-says
 returns-in-Err-clause-says c =

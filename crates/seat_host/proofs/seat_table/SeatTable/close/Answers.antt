@@ -1,5 +1,4 @@
-use Rattle.seat_host.specs.Seats.{sitting}
-use Rattle.seat_host.proofs.Closing.{last, are_last, stays_open, closes}
+use Rattle.seat_host.proofs.Closing.{last, stays_open, closes}
 use Rattle.seat_host.proofs.seat_table.SeatTable.close.Goals as goal
 
 pub returns-clause-ok : goal.returns-clause-ok
@@ -10,9 +9,4 @@ returns-clause-ok c =
 pub returns-clause-err : goal.returns-clause-err
 returns-clause-err c =
     let l = last _ _ _ _ _ _ _ c.take-book.result c.close_with-closed.ensures.values.2 c.word-drawn.ensures c.word-served.ensures c.take-book.ensures.value in
-    stays_open (sitting c.args.pass.table_id c.args.pass.me.0) c.word-served.result c.word-drawn.result c.closed_by.result (are_last c.args.pass.table_id _ c.args.pass.me.0 c.word-drawn.result c.word-served.result _ l) c.closed_by.ensures.words
-
-pub returns-clause-exact : goal.returns-clause-exact
-returns-clause-exact c =
-    let l = last _ _ _ _ _ _ _ c.take-book.result c.close_with-closed.ensures.values.2 c.word-drawn.ensures c.word-served.ensures c.take-book.ensures.value in
-    (c.word-served.result, c.word-drawn.result, are_last c.args.pass.table_id _ c.args.pass.me.0 c.word-drawn.result c.word-served.result _ l, c.closed_by.ensures.words)
+    stays_open c.args.pass.table_id _ c.args.pass.me.0 c.word-drawn.result c.word-served.result c.take-book.result c.closed_by.result l c.closed_by.ensures.words
