@@ -2,11 +2,13 @@
 """Draws the map of docs/ARCHITECTURE.md: every crate of crates.txt with the first sentence of its head.
 
 Usage: tools/map.py            writes the map into the page
-       tools/map.py --check    says whether the page has it, and whether docs/PROOFS.md names just these crates; changes
+       tools/map.py --check    says whether the page has it, and whether the pages know each crate and each floor; changes
                                nothing
 
-A floor is a section of crates.txt, the highest first. A room stands under the door that its name begins with. PROOFS has
-each crate somewhere, and its part 'Crate by crate' names no other in the first column.
+A floor is a section of crates.txt, the highest first, and each crate is drawn on its own. A room stands under the door
+that its name begins with, where both are on one floor. A base, marked by a star, is a room that a crate of another
+family names. Nothing is drawn where a crate stands on one of a higher floor. PROOFS has each crate somewhere, and its
+part 'Crate by crate' names no other in the first column. The table of owners in CONTRIBUTING has just the floors.
 """
 import os
 import re
@@ -56,28 +58,69 @@ def door_of(crate, crates):
     return max(doors, key=len) if doors else None
 
 
-def rows(crate, doors, depth):
-    """The line of a crate, and those of its rooms."""
-    name = ('  ' * depth) + ('└ ' if depth else '') + crate
+def family_of(crate, crates):
+    """The outermost door of a crate."""
+    door = door_of(crate, crates)
+    return family_of(door, crates) if door else crate
+
+
+def edges(crates):
+    """For each crate those that it lists or names: in crates.txt, in its code, its definitions and its proofs."""
+    found = {}
+    for line in read('crates.txt').split('\n'):
+        if ':' in line and not line.startswith('#'):
+            name, listed = line.split(':', 1)
+            found[name.split()[0]] = set(listed.split())
+    for crate in crates:
+        for part in ('src', 'specs', 'proofs'):
+            for folder, _, names in os.walk(os.path.join(HERE, 'crates', crate, part)):
+                for name in names:
+                    text = read(folder, name)
+                    found[crate].update(re.findall(r'\bRattle\.(\w+)\.', text))
+                    found[crate].update(re.findall(r'\b([a-z_]+)::', text))
+        found[crate] = (found[crate] & set(crates)) - {crate}
+    return found
+
+
+def rows(crate, names, doors, bases, depth):
+    """The line of a crate, and those of its rooms on the same floor."""
+    name = ('  ' * depth) + ('* ' if crate in bases else '└ ' if depth else '') + crate
     lead = name.ljust(COLUMN) + ('' if len(name) < COLUMN else ' ')
     body = textwrap.wrap(first_sentence(crate), WIDTH - max(len(lead), COLUMN)) or ['']
     yield lead + body[0]
     for more in body[1:]:
         yield ' ' * len(lead) + more
-    for room in reversed([it for it, door in doors.items() if door == crate]):
-        yield from rows(room, doors, depth + 1)
+    for room in reversed([it for it in names if doors[it] == crate]):
+        yield from rows(room, names, doors, bases, depth + 1)
 
 
-def drawn():
-    floors = sections()
-    crates = [crate for _, names in floors for crate in names]
+def drawn(floors, crates, named):
     doors = {crate: door_of(crate, crates) for crate in crates}
+    bases = {base for crate in crates for base in named[crate] if doors[base] and family_of(base, crates) != family_of(crate, crates)}
     out = []
     for heading, names in reversed(floors):
-        lines = [line for crate in reversed(names) if doors[crate] is None for line in rows(crate, doors, 0)]
+        lines = [line for crate in reversed(names) if doors[crate] not in names for line in rows(crate, names, doors, bases, 0)]
         if lines:
             out += ['', f'---- {heading}'] + lines
     return '\n'.join(out[1:])
+
+
+def floor_faults(floors, named):
+    """Crates that stand on one of a higher floor, and floors that the table of owners leaves out or has no more."""
+    floor = {crate: number for number, (_, names) in enumerate(floors) for crate in names}
+    for crate, below in named.items():
+        for it in sorted(below):
+            if floor[it] > floor[crate]:
+                yield f'{crate} stands on {it}, which is on a higher floor of crates.txt'
+    table = read('CONTRIBUTING.md').split('## Who owns what\n', 1)[1].split('\n## ', 1)[0]
+    owned = [row.split('|')[1].strip() for row in table.split('\n') if row.startswith('| ') and not row.startswith('| floor')]
+    headings = [heading for heading, names in floors if names]
+    for heading in headings:
+        if heading not in owned:
+            yield f'CONTRIBUTING.md has no owner of the floor {heading}'
+    for row in owned:
+        if row not in headings and not row.startswith('`'):
+            yield f'CONTRIBUTING.md has an owner of {row}, and crates.txt has no such floor'
 
 
 def crate_faults():
@@ -96,14 +139,17 @@ def main():
     page = read('docs', 'ARCHITECTURE.md')
     before, rest = page.split('## The map\n', 1)
     top, _, after = rest.split('```', 2)
-    new = f'{before}## The map\n{top}```\n{drawn()}\n```{after}'
+    floors = sections()
+    crates = [crate for _, names in floors for crate in names]
+    named = edges(crates)
+    new = f'{before}## The map\n{top}```\n{drawn(floors, crates, named)}\n```{after}'
     if sys.argv[1:] == ['--check']:
+        faults = [*floor_faults(floors, named), *crate_faults()]
         if new != page:
-            sys.exit('docs/ARCHITECTURE.md has another map: run tools/map.py')
-        faults = list(crate_faults())
+            faults.insert(0, 'docs/ARCHITECTURE.md has another map: run tools/map.py')
         if faults:
             sys.exit('\n'.join(faults))
-        print('same     the map of docs/ARCHITECTURE.md, and the crates of docs/PROOFS.md')
+        print('same     the map of docs/ARCHITECTURE.md, the floors of CONTRIBUTING.md, and the crates of docs/PROOFS.md')
     elif len(sys.argv) > 1:
         sys.exit(__doc__)
     else:
