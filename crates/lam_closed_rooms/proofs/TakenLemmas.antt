@@ -1,14 +1,23 @@
 -- The turns of a closed run, and what is made of them.
-use Rattle.std.proofs.Common.{◌≡◌, ℕ, List, [], Some, Result, Ok, Err, IfOk, IfErr, string_bytes, refl, sym, ap, subst, ◌∙◌}
+use Rattle.std.proofs.Common.{◌≡◌, ◌<◌, ◌≤◌, ℕ, List, [], ◌∷◌, All, length, arith, Some, Result, Ok, Err, IfOk, IfErr, string_bytes, refl, sym, ap, subst, ◌∙◌}
+use Rattle.std.proofs.lemmas.Option.{slice_get_within}
+use Rattle.std.proofs.lemmas.List.Elements.{All-cons, All-nil}
 use Rattle.want_of_memory.specs.declared.NoMemory.{NoMemory as NoMem}
 use Rattle.flow_labels.specs.LabelText.{label_of}
 use Rattle.flow_labels.specs.declared.Label.{Label}
 use Rattle.lam_bytecode.specs.Codes.{CodeTree}
 use Rattle.lam_machine_terms.specs.Worlds.{World}
-use Rattle.lam_machine_terms.specs.Turns.{Moment, moments}
-use Rattle.turn_book.specs.Book.{book}
+use Rattle.lam_machine_terms.specs.Turns.{Moment, step, moments}
+use Rattle.lam_machine_laws.proofs.TurnLemmas.{acts}
+use Rattle.guarded_code_runs.specs.Worlds.{IsSound}
+use Rattle.guarded_code_runs.proofs.Sound.{sound_step}
+use Rattle.turn_book.specs.Book.{AreTurns, book}
+use Rattle.turn_book.specs.Limits.{last_thread}
 use Rattle.closed_terms.specs.declared.End.{End}
+use Rattle.closed_terms.specs.declared.Slot.{Slot}
+use Rattle.closed_terms.specs.Schedule.{first_slot, after, IsClosed}
 use Rattle.closed_terms.specs.Ends.{IsEnded}
+use Rattle.closed_laws.specs.Once.{EndsOnce}
 use Rattle.lam_main_words.specs.Words.{Text}
 use Rattle.lam_main_replay.specs.declared.Status.TheVariants.{Done}
 use Rattle.lam_main_replay.specs.Refusals.{Plan}
@@ -26,6 +35,25 @@ use Rattle.lam_main_replay.specs.Asked.{lines_for}
 use Rattle.lam_closed_plan.specs.Closes.{Asked, base_word, IsOfClosed, ClosesOver, ClosesFrom}
 use Rattle.lam_closed_rooms.specs.declared.showing.Taken.{Taken}
 use Rattle.lam_closed_rooms.specs.Taken.{IsShown, planned, Offers}
+
+-- ---- the book
+
+last_is : (t n : ℕ) → t < n → n ≤ 4096 → t ≤ last_thread
+last_is t n h k = omega (arith, h, k)
+
+-- a thread that takes a turn is one of the 4,096
+thread_is : (code : CodeTree) (w : World) (t : ℕ) (m : Moment) → IsSound code w → step code w t ≡ Some m → t ≤ last_thread
+thread_is code w t m sound takes = let a = acts code w t m takes in last_is t (length w.threads) (slice_get_within w.threads t a.thread a.at) sound.valid.number
+
+threads_are : (b : Label) (code : CodeTree) (turns : List ℕ) (w : World) (s : Slot) → IsSound code w → IsClosed b code turns w s → All (λ t. t ≤ last_thread) turns
+threads_are b code [] w s sound h = All-nil _
+threads_are b code (t ∷ ts) w s sound h =
+    All-cons (λ u. u ≤ last_thread) t ts (thread_is code w t h.it sound h.takes) (threads_are b code ts h.it.world (after b h.slot h.it) (sound_step code w t h.it sound h.takes) h.rest)
+
+-- a book can be made of the turns of a closed run that has ended
+pub has_book : (b : Label) (code : CodeTree) (n : ℕ) (e : End) (turns : List ℕ) (start : World) → EndsOnce code b → IsSound code start → IsEnded b code n e turns start → AreTurns turns
+has_book b code n e turns start once sound ended =
+    record { few = once.within n start turns e ended; threads = threads_are b code turns start first_slot sound (once.closed n start turns e ended) }
 
 -- of no turns nothing is shown
 pub none_shown : (who : Viewer) (names : List Text) → [] ≡ lines_for who names []

@@ -11,6 +11,7 @@ ghost use Rattle.lam_closed_rooms.specs.Asked.{asked_of};
 ghost use Rattle.lam_closed_rooms.specs.Taken.{IsShown, planned, Offers};
 
 use crate::Asked;
+use closed_laws::each_start_ends_once;
 use closed_run::{Closed, End, RunParts, World, closed_kept};
 use flow_labels::Label;
 use guarded_code::Verified;
@@ -87,6 +88,7 @@ fn viewed(
     requires turns { (0 < turns) × (turns ≤ most_turns) }
     ensures { IfOk result (λ taken. (out : Text) → IsOfClosed code start base.now turns out (lines_for viewer.now.who viewer.now.names) taken.end (planned out taken)) }
 {
+    each_start_ends_once();
     let text = String::new(alloc);
     match closed_kept(alloc, code, start, base, turns, viewer, text) {
         Ok(closed) => {

@@ -1,10 +1,15 @@
 use Rattle.std.proofs.Common.{◌∙◌, IfOk, string_bytes}
 use Rattle.lam_main_replay.specs.Asked.{lines_for}
-use Rattle.lam_closed_rooms.proofs.TakenLemmas.{none_shown, closed_shown}
+use Rattle.lam_closed_rooms.proofs.TakenLemmas.{has_book, none_shown, closed_shown}
 use Rattle.lam_closed_rooms.proofs.showing.viewed.Goals as goal
 
 pub closed_kept-requires-clause-nothing : goal.closed_kept-requires-clause-nothing
 closed_kept-requires-clause-nothing c = c.new-text.ensures.bytes ∙ none_shown c.args.viewer.now.who c.args.viewer.now.names
+
+pub with_book-requires : goal.with_book-requires
+with_book-requires c =
+    let closed = c.in-Ok.closed in
+    has_book c.args.base.now c.args.code c.args.turns closed.end closed.parts.turns.items c.args.start (c.each_start_ends_once.ensures c.args.code c.args.base.now) c.requires.sound c.in-Ok.ensures.ended
 
 pub returns-in-Ok : goal.returns-in-Ok
 returns-in-Ok c =
