@@ -8,7 +8,8 @@ use Rattle.closed_terms.specs.declared.Departure.{Departure}
 use Rattle.closed_terms.specs.declared.Slot.{Slot}
 use Rattle.closed_terms.specs.Schedule.{first_slot, next_slot, after}
 
--- A thread departs here, unless it has the slot for the next turn and takes it; then the rest decides.
+-- A thread departs here, unless it has the slot for the next turn and takes it; then the rest decides. Who is next is ready,
+-- so that the second clause stands for nothing.
 abbrev pub departs_unless : Option Slot → Option Moment → Departure → (Slot → Moment → Option Departure) → Option Departure
 departs_unless None it here rest = Some here
 departs_unless (Some next) None here rest = Some here

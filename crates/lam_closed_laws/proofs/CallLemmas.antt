@@ -7,18 +7,15 @@ use Rattle.lam_bytecode.specs.Codes.{CodeTree}
 use Rattle.lam_machine_terms.specs.Worlds.{World}
 use Rattle.lam_machine_terms.specs.Turns.{moments}
 use Rattle.lam_machine_terms.specs.Views.{Agree}
-use Rattle.lam_machine_laws.specs.Isolation.{AreWellLabelled, ValidAreWellLabelled}
 use Rattle.audit_log.specs.Log.{view_lines}
 use Rattle.turn_book.specs.Book.{book}
-use Rattle.world_save_laws.specs.Starts.{TextsStart}
 use Rattle.closed_terms.specs.declared.End.{End}
 use Rattle.closed_terms.specs.declared.End.TheVariants as ends
-use Rattle.closed_terms.specs.Schedule.{OthersOpen}
 use Rattle.closed_terms.specs.Ends.{is_public_end, IsEnded}
-use Rattle.closed_laws.specs.Ordered.{IsOrdered, ReleasesFollow}
+use Rattle.closed_laws.specs.Ordered.{AreStarts, IsOrdered, ReleasesFollow}
 use Rattle.closed_laws.specs.Ended.{EndsAreSame, EndsAreLast, QuietAreSame}
 use Rattle.closed_laws.specs.Once.{EndsOnce}
-use Rattle.closed_starts.specs.Texts.{TextsAreOpen}
+use Rattle.closed_starts.specs.Texts.{TextsAreStarts}
 use Rattle.lam_main_words.specs.Words.{Text}
 use Rattle.lam_closed_words.specs.Words.{request_of}
 use Rattle.lam_closed_plan.specs.declared.Status.{Status}
@@ -98,19 +95,19 @@ module _ (code : CodeTree) (start : World) (o b : Label) (n : ℕ) (out : Text) 
   keeps_run : KeepsRun code start b n out p.turns p.end old.files new.files
   keeps_run = let d = does_run in record { ended = p.ended; recorded = d.files.0; others = d.files.1 }
 
--- a start that a document gives
-module _ (labelled : ValidAreWellLabelled) (starts : (code : CodeTree) → TextsStart code) (opened : (code : CodeTree) (b : Label) → TextsAreOpen code b) where
+-- starts that documents give
+module _ (starts : (code : CodeTree) (b o : Label) → TextsAreStarts code b o) where
   module _ (ws : List Text) (files : Files) (code : CodeTree) (start : World) (o b : Label) (n : ℕ) (out : Text) (r : AsksRun ws files code start o b n out) where
-    start_labelled : AreWellLabelled start
-    start_labelled = labelled start (starts code r.starts.bytes start r.starts.follows).valid
-
-    start_open : OthersOpen b start 0
-    start_open = opened code b (is_open ws files code start o b n out r) r.starts.bytes start r.starts.follows
+    -- one is like itself
+    own_start : AreStarts b o start start
+    own_start =
+        starts code b o (is_open ws files code start o b n out r) r.starts.bytes r.starts.bytes start start r.starts.follows r.starts.follows
+        (record { names = refl; public = refl; views = refl })
 
   module _ (ordered : (code : CodeTree) (b o : Label) → IsOrdered code b o) (same : (code : CodeTree) (b o : Label) → EndsAreSame code b o) (last : (code : CodeTree) (b o : Label) → EndsAreLast code b o) (follow : (code : CodeTree) (b o : Label) → ReleasesFollow code b o) (once : (code : CodeTree) (b : Label) → EndsOnce code b) where
     alone : (ws : List Text) (files : Files) (code : CodeTree) (start : World) (o b : Label) (n : ℕ) (out : Text) (r : AsksRun ws files code start o b n out) (turns : List ℕ) (e : End) → IsEnded b code n e turns start → flows b o ≡ true → TellsNoMore code b o n start turns e
     alone ws files code start o b n out r turns e ended =
-        tells_no_more ordered same last follow once code b o n start turns e (is_open ws files code start o b n out r) (start_labelled ws files code start o b n out r) (start_open ws files code start o b n out r) ended
+        tells_no_more ordered same last follow once code b o n start turns e (is_open ws files code start o b n out r) (own_start ws files code start o b n out r).labelled (own_start ws files code start o b n out r).others ended
 
     pub recorded : (ws : List Text) (status : Status) (old new : Outside) → IsAnswer (written_by (request_of ws)) status (IsPlan ws old.files) old new → Headline ws status old new
     recorded ws status old new answer code start o b n out r end =
@@ -157,13 +154,7 @@ module _ (labelled : ValidAreWellLabelled) (starts : (code : CodeTree) → Texts
         let all' = ended_whole IsPublicEnd no_fault_ends_publicly status' end' (status_of p'.end) lines' old'.taken new'.taken does'.printed in
         let looks =
             quiet code b o (is_open ws old.files code start o b n out r) sees start start' p.turns p'.turns n p.end p'.end
-            (record {
-              labelled = start_labelled ws old.files code start o b n out r;
-              labelled' = start_labelled ws' old'.files code start' o b n out' r';
-              others = start_open ws old.files code start o b n out r;
-              others' = start_open ws' old'.files code start' o b n out' r';
-              agree = agree;
-            }) p.ended p'.ended (public_end status p.end all.0 end) (public_end status' p'.end all'.0 end') (none p.turns p.end p.ended) (none' p'.turns p'.end p'.ended) in
+            (starts code b o (is_open ws old.files code start o b n out r) r.starts.bytes r'.starts.bytes start start' r.starts.follows r'.starts.follows agree) p.ended p'.ended (public_end status p.end all.0 end) (public_end status' p'.end all'.0 end') (none p.turns p.end p.ended) (none' p'.turns p'.end p'.ended) in
         record {
           text = lines;
           first = all.1;

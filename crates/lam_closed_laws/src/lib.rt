@@ -28,11 +28,9 @@ use closed_laws::{
     departures_are_first, each_start_ends_once, ends_are_the_same, order_is_a_conclusion,
     releases_follow,
 };
-use closed_starts::texts_are_open;
+use closed_starts::texts_are_starts;
 use lam_closed_plan::plans_are_one;
-use lam_machine_laws::worlds_stay_well_labelled;
 use lam_machine_runs::runs_stop;
-use world_save_laws::texts_start;
 
 /// A law: where words, files and labels are in order, and a call ends as a closed run ends (`Done`, `Cut`, `Waits`,
 /// `Stalled` or `Over`), the file of the book holds the turns of the closed run of the program's code from the start of
@@ -45,9 +43,7 @@ pub fn closed_runs_are_recorded()
     ends_are_the_same();
     releases_follow();
     each_start_ends_once();
-    texts_are_open();
-    texts_start();
-    worlds_stay_well_labelled();
+    texts_are_starts();
 }
 
 /// A law: where the output failed in such a call, the book stands all the same, and a front of what the observer sees was
@@ -59,9 +55,7 @@ pub fn broken_runs_are_recorded()
     ends_are_the_same();
     releases_follow();
     each_start_ends_once();
-    texts_are_open();
-    texts_start();
-    worlds_stay_well_labelled();
+    texts_are_starts();
 }
 
 /// A law: two worlds agree below an observer's label, and are run closed with the same number of open turns. Where nothing is
@@ -70,9 +64,7 @@ pub fn closed_calls_show_the_same()
     ensures { (ws : List Text) (status : Status) (old new : Outside) → IsAnswer (written_by (request_of ws)) status (IsPlan ws old.files) old new → CallsShowSame ws status old new }
 {
     ends_are_the_same();
-    texts_are_open();
-    texts_start();
-    worlds_stay_well_labelled();
+    texts_are_starts();
 }
 
 /// A law: a call of `run` ends as a closed run ends only where the program has code, the document gives a start, and both
