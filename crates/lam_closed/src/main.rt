@@ -16,12 +16,7 @@ fn main(rt: HostRuntime) -> ExitCode {
     };
     let mut shelf = DirShelf::new(&rt);
     let mut out = StdSink::new(&rt);
-    end(lam_closed(
-        rt.alloc(),
-        words.as_slice(),
-        &mut shelf,
-        &mut out,
-    ))
+    end(lam_closed(rt.alloc(), words.as_slice(), &mut shelf, &mut out))
 }
 
 fn end(status: Status) -> ExitCode {

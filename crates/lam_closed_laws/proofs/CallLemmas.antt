@@ -153,8 +153,8 @@ module _ (starts : (code : CodeTree) (b o : Label) → TextsAreStarts code b o) 
         let all = ended_whole IsPublicEnd no_fault_ends_publicly status end (status_of p.end) lines old.taken new.taken does.printed in
         let all' = ended_whole IsPublicEnd no_fault_ends_publicly status' end' (status_of p'.end) lines' old'.taken new'.taken does'.printed in
         let looks =
-            quiet code b o (is_open ws old.files code start o b n out r) sees start start' p.turns p'.turns n p.end p'.end
-            (starts code b o (is_open ws old.files code start o b n out r) r.starts.bytes r'.starts.bytes start start' r.starts.follows r'.starts.follows agree) p.ended p'.ended (public_end status p.end all.0 end) (public_end status' p'.end all'.0 end') (none p.turns p.end p.ended) (none' p'.turns p'.end p'.ended) in
+        quiet code b o (is_open ws old.files code start o b n out r) sees start start' p.turns p'.turns n p.end p'.end
+        (starts code b o (is_open ws old.files code start o b n out r) r.starts.bytes r'.starts.bytes start start' r.starts.follows r'.starts.follows agree) p.ended p'.ended (public_end status p.end all.0 end) (public_end status' p'.end all'.0 end') (none p.turns p.end p.ended) (none' p'.turns p'.end p'.ended) in
         record {
           text = lines;
           first = all.1;

@@ -71,9 +71,9 @@ module _ (ws : List Text) (files : Files) (code : CodeTree) (start : World) (o b
       let e : End = planned.0 in
       let so = planned.1 in
       let c : IsOfClosed code start b n out shown e so.of_lam =
-          closed_planned files run_files asked code start b shown e so.of_lam r.starts eyes r.opens
-          (of_code (ClosesCode files run_files asked e) r.compiled.bytes code so.of_lam r.compiled.follows
-          (of_bytes (files r.program) r.program program_limit (λ bytes. IsRunCode bytes code) (Closes files run_files asked e) so.of_lam r.compiled so.is)) in
+      closed_planned files run_files asked code start b shown e so.of_lam r.starts eyes r.opens
+      (of_code (ClosesCode files run_files asked e) r.compiled.bytes code so.of_lam r.compiled.follows
+      (of_bytes (files r.program) r.program program_limit (λ bytes. IsRunCode bytes code) (Closes files run_files asked e) so.of_lam r.compiled so.is)) in
       record { turns = c.turns; end = e; ended = c.ends; is = so.same ∙ ap (ended_plan e) c.is }
 
   -- there is a plan, since the closed run ends
@@ -82,13 +82,17 @@ module _ (ws : List Text) (files : Files) (code : CodeTree) (start : World) (o b
       let it = once.some n start in
       let turns : List ℕ = it.0 in
       let e : End = it.1 in
-      let p : LamPlan = shows_turns code start out shown turns in
-      (ended_plan e p, subst (λ (request : Result Request ℕ). IsPlanOf request files (ended_plan e p)) (sym r.asks)
-      (e, record {
-        of_lam = p;
-        is = thin_program_then (files r.program) r.program (ClosesCode files run_files asked e) p code r.compiled (closed_then files run_files asked code start b shown e p r.starts eyes r.opens (record { turns = turns; ends = it.2; is = refl }));
-        same = refl;
-      }))
+      let p : LamPlan = shows_turns code start out shown turns in (
+        ended_plan e p,
+        subst (λ (request : Result Request ℕ). IsPlanOf request files (ended_plan e p)) (sym r.asks) (
+          e,
+          record {
+            of_lam = p;
+            is = thin_program_then (files r.program) r.program (ClosesCode files run_files asked e) p code r.compiled (closed_then files run_files asked code start b shown e p r.starts eyes r.opens (record { turns = turns; ends = it.2; is = refl }));
+            same = refl;
+          },
+        ),
+      )
 
   pub is_planned : EndsOnce code b → RunIsPlanned ws files code start o b n out
   is_planned once = record { each = asks_planned; some = plan_of once }

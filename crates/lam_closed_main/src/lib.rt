@@ -124,11 +124,7 @@ fn answer_of<H: Shelf>(alloc: Global, words: &[String], shelf: &mut H) -> Result
 }
 
 /// What a command answers.
-fn command_answer<H: Shelf>(
-    alloc: Global,
-    command: Command,
-    shelf: &mut H,
-) -> Result<Report, Halt>
+fn command_answer<H: Shelf>(alloc: Global, command: Command, shelf: &mut H) -> Result<Report, Halt>
     requires ranges { InRange (asked command) }
     ensures gives { IsTrue (H.tells shelf.old) → Reports result (IsPlanOf (Ok (asked command)) (H.files shelf.old)) (H.files shelf.old) (H.files shelf.new) }
     ensures kept { IsTrue (H.tells shelf.old) → OthersKept (written_by (Ok (asked command))) (H.files shelf.old) (H.files shelf.new) }

@@ -105,14 +105,7 @@ impl Form {
                 Kind::Turns,
             ],
             Form::Check => &[CHECK, Kind::File, Kind::File, Kind::File],
-            Form::CheckOnBase => &[
-                CHECK,
-                Kind::File,
-                Kind::File,
-                Kind::File,
-                BASE,
-                Kind::Base,
-            ],
+            Form::CheckOnBase => &[CHECK, Kind::File, Kind::File, Kind::File, BASE, Kind::Base],
             Form::Help => &[Kind::Literal(Literal::Help)],
         }
     }
