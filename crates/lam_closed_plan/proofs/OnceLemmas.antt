@@ -24,7 +24,7 @@ use Rattle.closed_laws.specs.Once.{EndsOnce}
 use Rattle.lam_main_words.specs.Words.{Text}
 use Rattle.lam_main_plan.specs.declared.Status.{Status as LamStatus}
 use Rattle.lam_main_plan.specs.declared.Status.TheVariants as lam
-use Rattle.lam_main_plan.specs.Refusals.{Plan as LamPlan, no_program, no_world, no_book, no_turn}
+use Rattle.lam_main_plan.specs.Refusals.{Plan as LamPlan, no_word, no_program, no_code, no_world, no_book, no_turn, absent, too_long}
 use Rattle.lam_main_plan.specs.Reading.{IsUnread, HasFile, WithFile, unread, of_file, program_limit, world_limit, book_limit, ByCode, Compiles, fine, broken, Thins}
 use Rattle.lam_main_plan.specs.Replays.{RunFiles, an_observer, read_by, ByReader, ByWorld}
 use Rattle.lam_main_plan.specs.Threads.{ThreadFiles}
@@ -87,16 +87,16 @@ module _ (e e' : End) (p q : LamPlan) where
       ∙ ap (λ s. let plan : Plan = record { status = s; text = it.text; writes = it.writes } in plan) (same_status e e' it.status h)
       ∙ sym (ap (ended_plan e') was)
 
+  one_unread : (found : Option Text) (name : Text) (limit : ℕ) → IsUnread found name limit p → IsUnread found name limit q → Same
+  one_unread None name limit h k = one_refusal (absent name) tt h k
+  one_unread (Some bytes) name limit h k = one_refusal (too_long name) tt h.1 k.1
+
   module _ (found : Option Text) (name : Text) (limit : ℕ) (A B : Text → LamPlan → Type 0) (one : (bytes : Text) → A bytes p → B bytes q → Same) where
     one_there : HasFile found limit (λ bytes. A bytes p) → HasFile found limit (λ bytes. B bytes q) → Same
     one_there h k = one k.bytes (subst (λ (bytes : Text). A bytes p) (one_bytes (sym h.there ∙ k.there)) h.follows) k.follows
 
     one_file : WithFile found name limit A p → WithFile found name limit B q → Same
-    one_file (unread h) (unread k) = one_unread found h k
-      where
-        one_unread : (f : Option Text) → IsUnread f name limit p → IsUnread f name limit q → Same
-        one_unread None h k = one_refusal _ tt h k
-        one_unread (Some bytes) h k = one_refusal _ tt h.1 k.1
+    one_file (unread h) (unread k) = one_unread found name limit h k
     one_file (unread h) (of_file k) = absurd (unread_or_of_file found name limit B p q h k)
     one_file (of_file h) (unread k) = absurd (unread_or_of_file found name limit A q p k h)
     one_file (of_file h) (of_file k) = one_there h k
@@ -104,7 +104,7 @@ module _ (e e' : End) (p q : LamPlan) where
   module _ (A B : CodeTree → LamPlan → Type 0) (one : (code : CodeTree) → A code p → B code q → Same) where
     one_code : (made : Result CodeTree ℕ) → ByCode (λ tree. A (thinned tree)) made p → ByCode (λ tree. B (thinned tree)) made q → Same
     one_code (Ok tree) h k = one (thinned tree) h k
-    one_code (Err unit) h k = one_refusal _ tt h k
+    one_code (Err unit) h k = one_refusal (no_code unit) tt h k
 
     one_program : (bytes : Text) → Thins A bytes p → Thins B bytes q → Same
     one_program bytes (fine m c h) (fine n d k) = one_code m h (subst (λ (x : Result CodeTree ℕ). ByCode (λ tree. B (thinned tree)) x q) (one_made bytes n m d c) k)
@@ -123,11 +123,11 @@ module _ (e e' : End) (p q : LamPlan) where
 
   one_label : (index : ℕ) (A B : Label → LamPlan → Type 0) → ((o : Label) → A o p → B o q → Same) → (read : Result Label LabelFault) → ByLabel index A read p → ByLabel index B read q → Same
   one_label index A B one (Ok o) h k = one o h k
-  one_label index A B one (Err fault) h k = one_refusal _ tt h k
+  one_label index A B one (Err fault) h k = one_refusal (no_word index) tt h k
 
   one_reader : (A B : (List Moment → Text) → LamPlan → Type 0) → ((shown : List Moment → Text) → A shown p → B shown q → Same) → (read : Result (List Moment → Text) ℕ) → ByReader A read p → ByReader B read q → Same
   one_reader A B one (Ok shown) h k = one shown h k
-  one_reader A B one (Err index) h k = one_refusal _ tt h k
+  one_reader A B one (Err index) h k = one_refusal (no_word index) tt h k
 
   one_ready : (A B : LamPlan → Type 0) → (A p → B q → Same) → (stop : Option NotReady) → WhereReady A stop p → WhereReady B stop q → Same
   one_ready A B one None h k = one h k
