@@ -16,19 +16,19 @@ does not follow to the end: that is a property test of a program. --turns N boun
 The status is 0 where each run followed the whole agenda and `lam pair` agrees, else 1, with the thread that departs and
 its line. BOOK2 then ends with the turn that departs, so that `lam pair` names it.
 """
+from lam_source import early    # pylint: disable=unused-import,wrong-import-order
 import argparse
 import os
 import random
 import sys
 
-from lam_source import courses, machine, runs
+from lam_source import courses, last_catch, machine, pairs, printable, runs
 from why import LAM, label_of
 
 
 def words_of():
-    words = argparse.ArgumentParser(usage=__doc__.split('Usage: ')[1].split('\n')[0],
-                                    description='\n'.join(__doc__.split('\n')[4:]),
-                                    formatter_class=argparse.RawDescriptionHelpFormatter)
+    words = last_catch.Words(usage=__doc__.split('Usage: ')[1].split('\n')[0], description=__doc__.split('\n\n', 2)[2],
+                             formatter_class=argparse.RawDescriptionHelpFormatter)
     for name in ('program', 'world', 'book', 'other', 'observer'):
         words.add_argument(name)
     words.add_argument('-o', dest='out', required=True)
@@ -42,7 +42,7 @@ def words_of():
 def first_steps(words, observer_text):
     """The turns of the first run, each with its entry in the observer's agenda; the observer; and how many entries."""
     run = runs.Run(words.lam, words.program, words.world)
-    observer = label_of(observer_text, run.texts.tags)
+    observer = label_of(observer_text, run.texts.tags, 'align')
     course = courses.Course(run.world, observer)
     steps = []
     for thread in courses.turns_of(words.book):
@@ -70,7 +70,7 @@ def followed(words, other, steps, observer, seed):
         follower.follow(steps)
     except courses.Off as off:
         why = departs(other, off.args[0], off.args[1])
-    courses.write_book(words.out, course.turns)
+    courses.put_book('align', words.out, course.turns)
     whole = [entry for _, entry in steps if entry]
     count = next((at for at, (mine, first) in enumerate(zip(course.agenda, whole)) if mine != first),
                  min(len(course.agenda), len(whole)))
@@ -84,24 +84,31 @@ def tried(words, other, steps, observer, whole, seed):
                           words.observer).strip()
     drawn = '' if seed is None else f', drawn from {seed}'
     lines = [answer, f'followed {count} of {whole} entries in {turns} turns{drawn}; the first run has {len(steps)}']
-    return lines + (why or []), answer == f'agree {whole}'
+    return lines + (why or []) + meaning(words, observer, answer), answer == f'agree {whole}'
+
+
+def meaning(words, observer, answer):
+    """What it can mean that the two runs part: another order, or a release that only one has."""
+    if not answer.startswith(('turns differ', 'releases differ')):
+        return []
+    both = [runs.Run(words.lam, words.program, it) for it in (words.world, words.other)]
+    agendas = [pairs.agenda(run, courses.turns_of(book), observer) for run, book in zip(both, (words.book, words.out))]
+    return pairs.lines(both, agendas)
 
 
 def main():
     words = words_of()
+    courses.look_at_place('align', words.out)
+    if os.path.exists(words.out) and os.path.exists(words.book) and os.path.samefile(words.out, words.book):
+        sys.exit(f'align: {printable.name(words.out)} is the first book, and would be written over')
     try:
-        if courses.is_other(words.out) or os.path.exists(words.out) and os.path.samefile(words.out, words.book):
-            sys.exit(f'align: {words.out} is the first book, or no book, and would be written over')
         steps, observer, whole = first_steps(words, words.observer)
         other = runs.Run(words.lam, words.program, words.other)
     except (OSError, ValueError, runs.NotToRun) as fault:
-        sys.exit(f'align: this is no run ({fault}); `lam replay P W BOOK OBS` says why')
+        sys.exit(f'align: this is no run ({runs.why_none(fault)}); `lam replay P W BOOK OBS` says why')
     first = 0 if words.seed is None and words.tries > 1 else words.seed
     for at in range(max(words.tries, 1)):
-        try:
-            lines, is_whole = tried(words, other, steps, observer, whole, None if first is None else first + at)
-        except OSError as fault:
-            sys.exit(f'align: {words.out} could not be written: {fault.strerror}')
+        lines, is_whole = tried(words, other, steps, observer, whole, None if first is None else first + at)
         if not is_whole or words.tries <= 1:
             print('\n'.join(lines))
         if not is_whole:
@@ -111,4 +118,4 @@ def main():
 
 
 if __name__ == '__main__':
-    main()
+    last_catch.run(main)

@@ -1,13 +1,13 @@
 #!/usr/bin/env python3
-"""Proves and builds the program lam, and says how far it is. ./lam --prove runs this.
+"""Proves and builds the program lam, or another one, and says how far it is. ./lam --prove runs this.
 
-Usage: tools/build.py
+Usage: tools/build.py [PROGRAM]
 
-The crates that lam stands on are copied to a temporary folder, without the crates of tests and without the edits that
+The crates that PROGRAM, lam where none is named, stands on are copied to a temporary folder, without the crates of tests and without the edits that
 must fail, and `rt ci` proves them there, beside each other where their order allows it; LAM_JOBS=N keeps to N
 processors. Where the toolchain keeps what an earlier run on this machine has proved, that is not proved again. Each crate
-has a line when it is proved. All that the tools said is in build.log. The program, crates/lam/out/lam, is given the time
-at which its sources were read, so that a source that changed meanwhile is newer.
+has a line when it is proved. All that the tools said is in build.log. The program, crates/PROGRAM/out/PROGRAM, is given the
+time at which its sources were read, so that a source that changed meanwhile is newer.
 """
 import os
 import re
@@ -22,8 +22,7 @@ import trial
 
 from lam_source import last_catch
 
-HERE = os.path.dirname(os.path.dirname(os.path.abspath(__file__)))
-PROGRAM = 'lam'
+HERE = trial.HERE
 LOG = os.path.join(HERE, 'build.log')
 QUIET = 30          # seconds after which a line says what goes on
 
@@ -128,9 +127,9 @@ class Progress:
                 self.last = at
 
 
-def prove(folder, log):
+def prove(program, folder, log):
     """Proves the crates and builds the program in a folder, and answers the lines of those that failed."""
-    lines, processors = lines_below(PROGRAM), kept_to()
+    lines, processors = lines_below(program), kept_to()
     say(f'proving {len(lines)} crates, {len(processors)} at a time; ./lam without --prove does not wait for it')
     copy_to(folder, lines)
     tool = subprocess.Popen(['rt', 'ci'], cwd=folder, stdin=subprocess.DEVNULL, stdout=subprocess.PIPE,
@@ -167,12 +166,15 @@ def put(made, place, moment):
 
 
 def main():
+    if len(sys.argv) > 2:
+        sys.exit(__doc__)
     start, moment = time.monotonic(), time.time()
-    program = os.path.join('crates', PROGRAM, 'out', PROGRAM)
+    program = sys.argv[1] if len(sys.argv) > 1 else 'lam'
+    made = os.path.join('crates', program, 'out', program)
     with tempfile.TemporaryDirectory(prefix='lam-build-') as folder, open(LOG, 'w', encoding='utf-8') as log:
-        failed = prove(folder, log)
+        failed = prove(program, folder, log)
         if not failed:
-            put(os.path.join(folder, program), os.path.join(HERE, program), moment)
+            put(os.path.join(folder, made), os.path.join(HERE, made), moment)
     for line in failed:
         say(line)
     if not failed:

@@ -1,22 +1,25 @@
 #!/usr/bin/env python3
 """Says to a person at a terminal more of a call that was refused, or that did not come to its end.
 
-Usage: explain.py PROGRAM STATUS [WORD..]
+Usage: explain.py [--closed] PROGRAM STATUS [WORD..]
 
-PROGRAM is the built program, which was given the WORDs and ended with STATUS. Where it refused them, it has written
-nothing but its line, so it is asked for that line again. Then this says, on standard error: which word fits no form;
-what stands at the place of a program or a world document, and what could; what the book has at the turn that it cannot
-have; which file is not there; which threads of a run live, where they stand and for whom they wait. Nothing is printed
-where there is nothing more to say.
+PROGRAM is the built program, which was given the WORDs and ended with STATUS; with --closed it is `lam_closed`. Where it
+refused them, it has written nothing but its line, so it is asked for that line again. Then this says, on standard error:
+which word fits no form; what stands at the place of a program or a world document, and what could; what the book has at the
+turn that it cannot have; which file is not there; which threads of a run live, where they stand and for whom they wait; in
+which region a closed run is held up; what it can mean that two runs differ. Nothing is printed where there is nothing more
+to say.
 """
+from lam_source import early    # pylint: disable=unused-import,wrong-import-order
 import difflib
+import errno
 import os
 import re
 import sys
 
-from lam_source import faults, last_catch, places, printable, runs, world
+from lam_source import closed, faults, last_catch, pairs, places, printable, runs, world
 
-DONE, NO_MEMORY, WORDS, PROGRAM, WORLD, BOOK, MISSING, SHELF, OUTPUT, BUDGET, WAITING = range(11)
+DONE, NO_MEMORY, WORDS, PROGRAM, WORLD, BOOK, MISSING, SHELF, OUTPUT, BUDGET, WAITING, STALLED, OVER = range(13)
 MANY = 200_000      # turns; of a longer book nothing is said where the program has refused nothing
 
 # What the words of the forms stand for.
@@ -29,15 +32,15 @@ MEANT = {'FILE': 'the name of a script', 'P': 'the name of a program', 'W': 'the
          'BOOK': 'the name of a book', 'OBS': "an observer's label, as '{}/{}'", 'BOOKOUT': 'a name for the book to be written',
          'W1': 'the name of the first world document', 'BOOK1': 'the name of the first book',
          'W2': 'the name of a world document', 'BOOK2': 'the name of the second book'}
-RANGES = {'--workers': 'a number from 1 to 16', '--turns': 'a number from 1 to 1000000',
+RANGES = {'--workers': 'a number from 1 to 16', '--turns': 'a number from 1 to 1000000', '--base': "a label without integrity, as '{a}/{}'",
           'SEED': 'a number from 0 to 18446744073709551615', 'THREADS': 'a number from 1 to 64'}
 
 
 class Call:
     """A call: the program, the words that it was given, and the form of its command, where it has one."""
 
-    def __init__(self, program, words):
-        self.program, self.words = program, words
+    def __init__(self, program, words, is_closed=False):
+        self.program, self.words, self.is_closed = program, words, is_closed
         self.forms = [line.split()[1:] for line in runs.printed(program, 'help').splitlines()]
         self.form = next((form for form in self.forms if form[:1] == words[:1]), [])
 
@@ -60,7 +63,12 @@ class Call:
         return [it for it in given if it[0] and (it[1] or self.form[:1] != ['next'])]
 
     def run(self, document=None):
-        return runs.Run(self.program, self.word('P'), document or self.word('W'))
+        """The run of a world; `lam_closed` prints no code, so that of a closed run is compiled here."""
+        return runs.Run(None if self.is_closed else self.program, self.word('P'), document or self.word('W'))
+
+    def label(self, run, text):
+        sides = world.LABEL.fullmatch(text).groups()
+        return tuple(frozenset(run.start.tags.index(name) for name in side.split(',') if name) for side in sides)
 
 
 # ---- words
@@ -96,7 +104,10 @@ def split_label(words):
 
 def of_label(call, word):
     """Why a word is no label of an observer."""
-    if not world.LABEL.fullmatch(word) or re.search(r'\s', word):
+    bare = re.sub(r'\s+', '', word)
+    if bare != word and world.LABEL.fullmatch(bare):
+        return f"a label has no blank: '{bare}'"
+    if not world.LABEL.fullmatch(word):
         if any(map(world.LABEL.fullmatch, call.words)):
             return 'the label stands in another place of the words than that of OBS'
         return f"a label is {{SECRECY}}/{{INTEGRITY}}, with no blank: '{{a,b}}/{{c}}'; the public's is '{{}}/{{}}'"
@@ -121,19 +132,31 @@ def tags_of(call):
         return []
 
 
-def of_options(words):
-    """What is wrong with the options of `run`, or None."""
-    given = [word for word in words[:-1] if word in ('--workers', '--turns')]
+def options_of(call):
+    """The names of the options of a form, in their order."""
+    return [word[1:] for word in call.form if word.startswith('[--')]
+
+
+def of_options(call):
+    """What is wrong with the options of a call, or None."""
+    words, known = call.words, options_of(call)
+    given = [word for word in words[:-1] if word in known]
     for name in given:
         value = words[words.index(name) + 1]
+        if name == '--base':
+            if not world.LABEL.fullmatch(value) or not value.endswith('/{}'):
+                return f'{name} takes {RANGES[name]}'
+            continue
         limit = 16 if name == '--workers' else 1_000_000
         if not re.fullmatch(r'[1-9][0-9]{0,6}', value) or int(value) > limit:
             return f'{name} takes {RANGES[name]}'
-    unknown = [word for word in words if word.startswith('-') and word not in ('--workers', '--turns')]
+    unknown = [word for word in words if word.startswith('-') and word not in known]
     if unknown:
-        return f'there is no option {printable.name(unknown[0])}; `run` has --workers N and --turns N'
+        has = ' and '.join(f'{name} {"LABEL" if name == "--base" else "N"}' for name in known)
+        return f'there is no option {printable.name(unknown[0])}; `{call.form[0]}` has {has}'
     if given:
-        return 'the options stand last, after the book: .. BOOKOUT [--workers N] [--turns N], in this order'
+        form = ' '.join(call.form[call.form.index(f'[{known[0]}'):])
+        return f'the options stand last: .. {call.form[call.form.index(f"[{known[0]}") - 1]} {form}, in this order'
     return None
 
 
@@ -149,8 +172,8 @@ def hint_of_words(call, index):
     wanted = form[index] if index < len(form) else ''
     if words and index == len(words) and wanted in MEANT:
         return f'{wanted} is missing: {MEANT[wanted]}'
-    if words and words[0] == 'run':
-        return of_options(words)
+    if words and options_of(call):
+        return of_options(call)
     return f'{wanted} is {RANGES[wanted]}' if wanted in RANGES and index < len(words) else None
 
 
@@ -160,7 +183,7 @@ def names_observer(call, index):
         return False
     required = [word for word in call.form if '[' not in word and not word.endswith(']')]
     rest = call.words[len(required):]
-    options = [it for it in ('--workers', '--turns') if it in rest[::2]]
+    options = [it for it in options_of(call) if it in rest[::2]]
     return len(call.words) >= len(required) and rest[::2] == options and len(rest) % 2 == 0
 
 
@@ -248,9 +271,24 @@ def of_world(call, line):
     return next((it for it in said if it is not None), [])
 
 
+def of_other_file(call, name, text):
+    """What stands at the place of a world and is none: a book, or a program."""
+    if text.startswith('lam book 1'):
+        book = dict(call.runs()).get(name)
+        is_world = book and os.path.isfile(book) and runs.text_of(book).lstrip().startswith('{')
+        more = f'; {printable.name(book)} is a world: the world stands before the book' if is_world else ''
+        return f'{printable.name(name)} is a book, and stands in the place of a world{more}'
+    if re.match(r'\s*(//|fn\b|class\b)', text):
+        return f'{printable.name(name)} is a program, and stands in the place of a world: the program stands before it'
+    return None
+
+
 def of_document(call, name, line):
     """Explains the refusal of this document, or gives None where it is in order."""
     text = runs.text_of(name)
+    other = of_other_file(call, name, text)
+    if other:
+        return [other]
     odd = re.search(r'[\udc80-\udcff]', text)
     if odd:
         shown = places.Place(text, odd.start()).shown(name)
@@ -292,6 +330,12 @@ def of_broken(name, broken):
     """Explains where the text of a book is none."""
     lines, name = runs.text_of(name).split('\n'), printable.name(name)
     text = lines[broken.line - 1] if broken.line <= len(lines) else ''
+    if text.endswith('\r'):
+        return [f'{name}: line {broken.line}', 'its lines end with a carriage return and a line feed, and those of a book with a line feed '
+                'alone: another program has changed it']
+    other = 'a world document' if lines[0].lstrip().startswith('{') else 'a program' if re.match(r'\s*(//|fn\b|class\b)', lines[0]) else None
+    if other:
+        return [f'{name} is {other}, and stands in the place of a book']
     return [f'{name}: line {broken.line}', f'  {printable.name(text[:100])}', LINES[broken.kind],
             f'is {name} a book that `lam run` wrote?']
 
@@ -340,8 +384,19 @@ def of_missing(call, line):
     return [f'{role} is not there{more}']
 
 
+def is_circle(name):
+    """Whether the links of a name lead to themselves."""
+    try:
+        os.stat(name)
+    except OSError as fault:
+        return fault.errno == errno.ELOOP
+    return False
+
+
 def not_written(name):
     """Why a file could not be written."""
+    if is_circle(name):
+        return 'its links lead in a circle'
     folder = os.path.dirname(name) or '.'
     if not os.path.isdir(folder):
         return 'there is no such folder'
@@ -357,7 +412,8 @@ def of_shelf(call):
         if role in WRITTEN:
             return [f'{shown}, {role}, could not be written: {not_written(name)}']
         if os.path.isdir(name) or not os.access(name, os.R_OK):
-            return [f'{shown}, {role}, could not be read: {"it is a folder" if os.path.isdir(name) else "it may not be read"}']
+            why = 'it is a folder' if os.path.isdir(name) else 'its links lead in a circle' if is_circle(name) else 'it may not be read'
+            return [f'{shown}, {role}, could not be read: {why}']
     return ['a file could not be read or written']
 
 
@@ -370,8 +426,7 @@ def observer_of(call, run):
     """The observer's label; an audit has none, since it tells all."""
     if not call.word('OBS'):
         return None
-    sides = world.LABEL.fullmatch(call.word('OBS')).groups()
-    return tuple(frozenset(run.start.tags.index(name) for name in side.split(',') if name) for side in sides)
+    return call.label(run, call.word('OBS'))
 
 
 def standing(run, observer):
@@ -423,6 +478,57 @@ def of_unended(call, status):
     return [f'{head}; --turns N gives more, up to 1000000', SEES_ALL, *lines, last_turns(turns)]
 
 
+def of_closed(call, status):
+    """How a closed run ended that did not come to its end: in which region it is held up, or for whom its threads wait."""
+    if not os.path.isfile(call.word('BOOKOUT')):
+        return []
+    turns = world.turns_of(runs.text_of(call.word('BOOKOUT')))
+    run = call.run()
+    base = call.label(run, call.words[call.words.index('--base') + 1]) if '--base' in call.words else runs.machine.PUBLIC
+    last = next((at for at in range(len(turns) - 1, -1, -1) if turns[at] != turns[-1]), -1) + 1     # where the last stretch begins
+    if last > MANY:
+        return []
+    run.take(turns[:last + MANY // 4])
+    number = turns[-1] if turns else 0
+    if status == OVER and not closed.is_inside(run.world, number, base):
+        return [f'all 1,000,000 turns are used up, and {counted(len(run.world.lives()))}']
+    if status in (STALLED, OVER):
+        return held_up(run, number, base, status, len(turns) - last)
+    observer = observer_of(call, run)
+    if status == WAITING:
+        return ['no thread that lives can go on: they wait for each other', SEES_ALL, *standing(run, observer)]
+    return [f'all open turns are used up and {counted(len(run.world.lives()))}; --turns N gives more, up to 1000000', SEES_ALL,
+            *standing(run, observer)]
+
+
+def held_up(run, number, base, status, stretch):
+    """In which region a thread stays, and why."""
+    thread = run.world.threads[number]
+    first = next(at for at, it in enumerate(thread.contexts) if not runs.machine.flows(it.label, base))
+    entry = thread.contexts[first - 1].frame
+    where = f't{number} ({run.called(number)}) is in the region at {run.texts.label(thread.contexts[first].label)} of ' \
+            f'{run.line_of(entry.unit, entry.at - 1)}'
+    why = f'it {run.waiting(number)}, at {run.now_at(number)}' if status == STALLED else \
+        f'it does not come out: all 1,000,000 turns are used up, its own {stretch} last, near {run.now_at(number)}'
+    return [SEES_ALL, where, why, 'by the closed schedule no other thread runs until it is out of its region',
+            'wait before the region: who has done its part raises a public flag after its own region, and who needs it enters then']
+
+
+def of_pair(call):
+    """What it can mean that two runs differ."""
+    answer = runs.printed(call.program, *call.words).strip()
+    if not re.match('(turns|releases) differ ', answer):
+        return []
+    both, agendas = [], []
+    for document, book in call.runs():
+        turns = world.turns_of(runs.text_of(book))
+        if len(turns) > MANY:
+            return []
+        both.append(call.run(document))
+        agendas.append(pairs.agenda(both[-1], turns, observer_of(call, both[-1])))
+    return pairs.lines(both, agendas)
+
+
 def read_once(call):
     """The first input of a call that cannot be read a second time: a pipe, or another thing that is no file."""
     return next((name for name, role in call.files() if role not in WRITTEN and os.path.exists(name)
@@ -432,16 +538,20 @@ def read_once(call):
 REFUSALS = {WORDS: of_words, PROGRAM: of_program, WORLD: of_world, BOOK: of_book, MISSING: of_missing}
 
 
-def explained(program, status, words):
-    call = Call(program, words)
+def explained(program, status, words, is_closed=False):
+    call = Call(program, words, is_closed)
     if read_once(call):
         return [] if status == DONE else [f'{printable.name(read_once(call))} can be read only once, so there is no more to say']
     if status in REFUSALS:
         return REFUSALS[status](call, runs.printed(program, *words).rstrip('\n'))
+    if is_closed and status in (BUDGET, WAITING, STALLED, OVER):
+        return of_closed(call, status)
     if status in (BUDGET, WAITING):
         return of_unended(call, status)
+    if status == DONE and call.form[:1] == ['pair']:
+        return of_pair(call)
     if status == DONE:
-        return of_short_book(call) if call.word('BOOK') else []
+        return of_short_book(call) if call.word('BOOK') and not is_closed else []
     if status == OUTPUT:
         written = '; the book is written' if call.word('BOOKOUT') else ''
         return [f'the output could not be written to its end{written}']
@@ -449,11 +559,13 @@ def explained(program, status, words):
 
 
 def main():
-    if len(sys.argv) < 3 or not sys.argv[2].isdigit():
+    is_closed, given = sys.argv[1:2] == ['--closed'], sys.argv[1:]
+    given = given[1:] if is_closed else given
+    if len(given) < 2 or not given[1].isdigit():
         return __doc__
-    program, status, *words = sys.argv[1:]
+    program, status, *words = given
     try:
-        said = explained(program, int(status), words)
+        said = explained(program, int(status), words, is_closed)
     except (OSError, runs.NotToRun, ValueError, RecursionError):
         return 0        # there is nothing more to say
     if said:

@@ -15,8 +15,9 @@ import subprocess
 import sys
 
 from lam_source import last_catch
+from trial import home
 
-HERE = os.path.dirname(os.path.dirname(os.path.abspath(__file__)))
+HERE = home(__file__)
 ROOTS = ('crates', 'docs', 'tools', 'examples')
 ENDS = ('.rt', '.antt', '.md', '.py')
 

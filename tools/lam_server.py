@@ -3,40 +3,33 @@
 
 Usage: tools/lam_server.py      an editor starts it and speaks the Language Server Protocol over its input and output
 
-It tells the fault of a program by `lam check` with an explanation, and the faults of a world as tools/world.py does. It
-formats by `lam format` and keeps the comments. It shows the type of a name, the rules that a call tests and the label of
-a region, goes to definitions, lists what a text declares, and completes fields, names and calls. The program is that of
-LAM_PROGRAM, or the one that ./lam keeps. Where none is built it says so once, goes by tools/lam_source alone and formats
-nothing. tools/editor/README.md sets up editors.
+Of a program it tells all faults with explanations and quick fixes, and formats it with its comments. It shows types, the
+rules that calls test and the labels of regions, finds and renames what is declared, and completes names. A world is
+checked against its program as it stands in the editor. All of that is by tools/lam_source, this repository's second
+reading of the language. Where the program `lam` is built (that of LAM_PROGRAM, or the one that ./lam keeps), the server asks
+`lam check` too, while nothing else is to be done, and tells its refusal where it is another one. tools/editor/README.md
+sets up editors.
 """
-import os
+import queue
 import sys
-import tempfile
-import urllib.parse
+import threading
 
-from lam_source import comments, completing, diagnosing, last_catch, outline, pointing, program, protocol
-from lam_source.positions import Positions
+from lam_source import completing, diagnosing, faults, fixing, in_world, last_catch, layout, outline, pointing, program
+from lam_source import protocol, session, showing, uses
+from lam_source.session import is_world
 
+NOT_BUILT = 'lam is not built, so faults are told by tools/lam_source alone. `./lam help` builds it without proof, ' \
+            '`./lam --prove` with its proofs.'
+NOTE = 3            # a kind of messages
+AT_REST, QUIET = 0.02, 0.4      # seconds without a message, before faults are told and before the program is asked
 CAPABILITIES = {
     'textDocumentSync': {'openClose': True, 'change': 1}, 'hoverProvider': True, 'definitionProvider': True,
-    'documentSymbolProvider': True, 'documentFormattingProvider': True,
-    'completionProvider': {'triggerCharacters': ['.', ':']},
+    'referencesProvider': True, 'documentHighlightProvider': True, 'renameProvider': {'prepareProvider': True},
+    'documentSymbolProvider': True, 'documentFormattingProvider': True, 'foldingRangeProvider': True,
+    'inlayHintProvider': True, 'codeActionProvider': {'codeActionKinds': ['quickfix']},
+    'completionProvider': {'triggerCharacters': ['.', ':', '"', '{', '(']},
+    'signatureHelpProvider': {'triggerCharacters': ['(', ',']},
 }
-NOT_BUILT = 'lam is not built, so faults are told by tools/lam_source and nothing is formatted. `./lam help` builds it without ' \
-            'proof, `./lam --prove` with its proofs.'
-ERROR, NOTE = 1, 3      # kinds of messages
-
-
-def path_of(uri):
-    parts = urllib.parse.urlsplit(uri)
-    return urllib.parse.unquote(parts.path) if parts.scheme == 'file' else uri
-
-
-def uri_of(params):
-    document = params.get('textDocument')
-    if not isinstance(document, dict) or not isinstance(document.get('uri'), str):
-        raise Refusal(protocol.BAD_WORDS, 'the request names no text')
-    return document['uri']
 
 
 class Refusal(Exception):
@@ -47,55 +40,109 @@ class Refusal(Exception):
         self.code, self.text = code, text
 
 
+def part(params, name, kind, what):
+    """A member of a message's parameters, of a kind."""
+    found = params.get(name) if isinstance(params, dict) else None
+    if not isinstance(found, kind) or isinstance(found, bool):
+        raise Refusal(protocol.BAD_WORDS, f'the message names no {what}')
+    return found
+
+
+def uri_of(params):
+    return part(part(params, 'textDocument', dict, 'text'), 'uri', str, 'text')
+
+
+def is_place(place):
+    return isinstance(place, dict) and all(type(place.get(it)) is int and 0 <= place[it] < 1 << 31 for it in ('line', 'character'))
+
+
 class Server:
     def __init__(self, channel):
-        self.channel, self.texts = channel, {}
+        self.channel, self.texts, self.inbox = channel, session.Texts(), queue.SimpleQueue()
         self.is_ready, self.is_down, self.has_said = False, False, False
+        self.stale, self.unasked, self.asking = {}, {}, None     # by their URIs, in the order of changes
 
     # ---- messages
 
     def run(self):
         """Answers messages until the editor ends the session; the status of the server."""
+        threading.Thread(target=self.listen, daemon=True).start()
         while True:
+            message = self.next()
+            if message is None or isinstance(message, protocol.Cut):
+                if message:
+                    last_catch.say('lam_server: the input ended within a message')
+                self.tell_all()
+                return 0 if self.is_down else 1
+            if isinstance(message, protocol.Unreadable):
+                self.channel.refuse(None, protocol.UNREADABLE, str(message))
+            elif callable(message):
+                message()
+            elif message.get('method') == 'exit' and 'id' not in message:
+                return 0 if self.is_down else 1
+            else:
+                self.take(message)
+
+    def listen(self):
+        """Puts what comes in into the inbox, up to the end."""
+        message = self
+        while message is not None and not isinstance(message, protocol.Cut):
             try:
                 message = self.channel.receive()
-            except protocol.Unreadable:
-                self.channel.refuse(None, protocol.UNREADABLE, 'this is no JSON object')
-                continue
-            if message is None or message.get('method') == 'exit':
-                return 0 if self.is_down else 1
-            self.take(message)
+            except (protocol.Unreadable, protocol.Cut) as broken:
+                message = broken
+            except (OSError, ValueError):
+                message = None
+            self.inbox.put(message)
+
+    def next(self):
+        """The next message. While none comes, faults are told, and then the program is asked."""
+        while True:
+            try:
+                return self.inbox.get(timeout=AT_REST if self.stale else QUIET if self.can_ask() else None)
+            except queue.Empty:
+                if self.stale:
+                    self.tell_faults(next(iter(self.stale)))
+                else:
+                    self.ask_program()
 
     def take(self, message):
         """Answers a request, or takes note of a notification."""
         method, number, is_request = message.get('method'), message.get('id'), 'id' in message
-        if method is None:
+        if method is None and ('result' in message or 'error' in message):
             return      # an answer, and this server asks nothing
         try:
-            result = self.done(method, message.get('params') or {}, is_request)
+            if is_request and (type(number) not in (int, str)):
+                number = None
+                raise Refusal(protocol.NO_REQUEST, 'the id of a request is a whole number or a text')
+            result = self.done(method, message.get('params'))
         except Refusal as refusal:
             if is_request:
                 self.channel.refuse(number, refusal.code, refusal.text)
         except Exception as fault:      # pylint: disable=broad-except
             # one message that goes wrong must not end the session
-            print(f'lam_server: {method}: {type(fault).__name__}: {fault}', file=sys.stderr)
+            last_catch.say(f'lam_server: {method}: {last_catch.told(fault)}')
             if is_request:
-                self.channel.refuse(number, protocol.FAILED, f'{type(fault).__name__}: {fault}')
+                self.channel.refuse(number, protocol.FAILED, last_catch.told(fault))
         else:
             if is_request:
                 self.channel.answer(number, result)
 
-    def done(self, method, params, is_request):
-        handler = HANDLERS.get(method)
-        if handler is None:
-            raise Refusal(protocol.NO_METHOD, f'{method} is not known')
+    def done(self, method, params):
+        if not isinstance(method, str):
+            raise Refusal(protocol.NO_REQUEST, 'a message has a method, which is a text')
         if self.is_down:
             raise Refusal(protocol.NO_REQUEST, 'the server is shut down')
         if not self.is_ready and method != 'initialize':
             raise Refusal(protocol.NOT_READY, 'initialize comes first')
+        handler = HANDLERS.get(method)
+        if handler is None:
+            raise Refusal(protocol.NO_METHOD, f'{method[:100]} is not known')
         return handler(self, params)
 
     def initialize(self, _):
+        if self.is_ready:
+            raise Refusal(protocol.NO_REQUEST, 'initialize comes once')
         self.is_ready = True
         return {'capabilities': CAPABILITIES, 'serverInfo': {'name': 'lam_server'}}
 
@@ -104,119 +151,234 @@ class Server:
 
     def shutdown(self, _):
         self.is_down = True
-
-    def program(self):
-        """The program, or None, which is said once."""
-        found = program.found()
-        if not found and not self.has_said:
-            self.has_said = True
-            self.say(NOTE, NOT_BUILT)
-        return found
-
-    def say(self, kind, text):
-        self.channel.tell('window/showMessage', {'type': kind, 'message': text})
+        self.stale, self.unasked = {}, {}
 
     # ---- texts
 
-    def open(self, params):
+    def opened(self, params):
         uri = uri_of(params)
-        self.texts[uri] = Positions(params['textDocument'].get('text', ''))
+        self.texts.take(uri, part(params['textDocument'], 'text', str, 'text'))
+        self.changed(uri)
         self.tell_faults(uri)
 
     def change(self, params):
         uri = uri_of(params)
-        for change in params.get('contentChanges', []):
-            self.texts[uri] = Positions(change.get('text', ''))
-        if uri in self.texts:
-            self.tell_faults(uri)
+        for change in part(params, 'contentChanges', list, 'changes'):
+            text = part(change, 'text', str, 'text')
+            if uri in self.texts.open and 'range' not in change:
+                self.texts.take(uri, text)
+                self.changed(uri)
+
+    def changed(self, uri):
+        """Faults of a text are to be told, and those of the worlds that go by it."""
+        for it in [uri, *([] if is_world(uri) else self.texts.worlds_of(uri))]:
+            self.stale[it] = self.unasked[it] = True
 
     def close(self, params):
         uri = uri_of(params)
-        self.texts.pop(uri, None)
-        self.channel.tell('textDocument/publishDiagnostics', {'uri': uri, 'diagnostics': []})
+        for those in (self.texts.open, self.stale, self.unasked):
+            those.pop(uri, None)
+        self.publish(uri, [])
+
+    def publish(self, uri, found):
+        self.channel.tell('textDocument/publishDiagnostics', {'uri': uri, 'diagnostics': found})
 
     def tell_faults(self, uri):
-        positions, path = self.texts[uri], path_of(uri)
-        faults = diagnosing.of_world(positions, path) if is_world(uri) else diagnosing.of_program(positions, self.program())
-        self.channel.tell('textDocument/publishDiagnostics', {'uri': uri, 'diagnostics': faults})
+        self.stale.pop(uri, None)
+        if uri in self.texts.open:
+            self.publish(uri, self.texts.faults(uri))
+
+    def tell_all(self):
+        while self.stale:
+            self.tell_faults(next(iter(self.stale)))
+
+    # ---- the program, which has the last word
+
+    def can_ask(self):
+        return bool(self.unasked) and self.asking is None
+
+    def ask_program(self):
+        """Asks the program for its refusal of a text, beside all else."""
+        uri = next(iter(self.unasked))
+        del self.unasked[uri]
+        if uri in self.texts.open and not is_world(uri):
+            self.asking = threading.Thread(target=self.asked, args=(uri, self.texts.open[uri].text), daemon=True)
+            self.asking.start()
+
+    def asked(self, uri, text):
+        """What a thread of its own does: its result comes by the inbox."""
+        try:
+            lam = program.found()
+            line = diagnosing.refusal_of(text, lam) if lam else None
+        except OSError:
+            line = None
+        self.inbox.put(lambda: self.answered(uri, text, line))
+
+    def answered(self, uri, text, line):
+        self.asking = None
+        if line is None:
+            self.say_once()
+        elif uri in self.texts.open and self.texts.open[uri].text == text:
+            whole = self.texts.open[uri]
+            told = faults.of_document(whole)
+            if line != (told[0].line(text) if told else ''):
+                more = [diagnosing.of_refusal(whole, line)] if line else []
+                self.publish(uri, more + (self.texts.faults(uri) if line else []))
+
+    def say_once(self):
+        if not self.has_said:
+            self.has_said = True
+            self.channel.tell('window/showMessage', {'type': NOTE, 'message': NOT_BUILT})
+
+    # ---- what a request is about
 
     def text(self, params):
         uri = uri_of(params)
-        if uri not in self.texts:
-            raise Refusal(protocol.NO_REQUEST, f'{uri} is not open')
-        return self.texts[uri]
+        if uri not in self.texts.open:
+            raise Refusal(protocol.NO_REQUEST, f'{uri[:200]} is not open')
+        return self.texts.open[uri]
+
+    def program_text(self, params):
+        """The document of a program, or None where the text is a world."""
+        found = self.text(params)
+        return None if is_world(uri_of(params)) else found
 
     def at(self, params):
         """The place of a request, by characters."""
-        positions, place = self.text(params), params.get('position')
-        if not isinstance(place, dict) or not all(isinstance(place.get(it), int) for it in ('line', 'character')):
-            raise Refusal(protocol.BAD_WORDS, 'the request names no position')
-        return positions.at(place)
+        place = part(params, 'position', dict, 'position')
+        if not is_place(place):
+            raise Refusal(protocol.BAD_WORDS, 'the message names no position')
+        return self.text(params).positions.at(place)
+
+    def span(self, params):
+        """The range of a request, by characters."""
+        found = part(params, 'range', dict, 'range')
+        if not is_place(found.get('start')) or not is_place(found.get('end')):
+            raise Refusal(protocol.BAD_WORDS, 'the message names no range')
+        positions = self.text(params).positions
+        return positions.at(found['start']), positions.at(found['end'])
 
     def place(self, params):
-        """The text that a request is about, and what stands at its place; in a world that is None."""
-        positions, at = self.text(params), self.at(params)
-        return positions, None if is_world(uri_of(params)) else pointing.Place(positions.text, at)
+        """What stands at the place of a request in a program; None in a world."""
+        whole, at = self.program_text(params), self.at(params)
+        return whole and pointing.Place(whole, at)
 
     # ---- requests
 
     def hover(self, params):
-        positions, place = self.place(params)
-        told = place.told() if place else None
+        text, at = self.text(params), self.at(params)
+        if is_world(uri_of(params)):
+            found = in_world.told(text.pieces, at, self.texts.program_of(uri_of(params))[1])
+            told, start, end = found or (None, 0, 0)
+        else:
+            place = pointing.Place(text, at)
+            told = place.told()
+            start, end = (place.base + place.token.at, place.base + place.token.end) if told else (0, 0)
         if not told:
             return None
-        head, said = told
-        value = f'```lam\n{head}\n```' + ''.join(f'\n\n{sentence}' for sentence in said)
-        return {'contents': {'kind': 'markdown', 'value': value}, 'range': positions.range(place.token.at, place.token.end)}
+        value = f'```lam\n{told[0]}\n```' + ''.join(f'\n\n{sentence}' for sentence in told[1])
+        return {'contents': {'kind': 'markdown', 'value': value}, 'range': text.positions.range(start, end)}
 
     def definition(self, params):
-        positions, place = self.place(params)
-        found = place.declared() if place else None
-        return {'uri': uri_of(params), 'range': positions.range(*found)} if found else None
+        place = self.place(params)
+        found = place and place.declared()
+        return {'uri': uri_of(params), 'range': self.text(params).positions.range(*found)} if found else None
+
+    def ranges(self, params, found):
+        positions = self.text(params).positions
+        return [positions.range(base + use.at, base + use.at + len(use.name)) for base, use in found]
+
+    def references(self, params):
+        place = self.place(params)
+        found = uses.all_of(place) if place else []
+        context = params.get('context')
+        if isinstance(context, dict) and not context.get('includeDeclaration', True):
+            found = [it for it in found if it[1].how != uses.DECLARED]
+        return [{'uri': uri_of(params), 'range': it} for it in self.ranges(params, found)]
+
+    def highlights(self, params):
+        place = self.place(params)
+        found = uses.all_of(place) if place else []
+        kinds = [2 if use.how == uses.READ else 3 for _, use in found]      # of the protocol: read, write
+        return [{'range': it, 'kind': kind} for it, kind in zip(self.ranges(params, found), kinds)]
+
+    def to_rename(self, params):
+        place = self.place(params)
+        try:
+            return uses.to_rename(place) if place else []
+        except uses.NoRename as why:
+            raise Refusal(protocol.BAD_WORDS, str(why)) from None
+
+    def prepare_rename(self, params):
+        found = self.to_rename(params)
+        token = self.place(params).token if found else None
+        base = self.place(params).base if found else 0
+        return token and self.text(params).positions.range(base + token.at, base + token.end)
+
+    def rename(self, params):
+        whole, name, found = self.text(params), part(params, 'newName', str, 'new name'), self.to_rename(params)
+        if not uses.is_name(name):
+            raise Refusal(protocol.BAD_WORDS, f'`{name[:100]}` is no name of the language')
+        why = uses.why_not(whole, found, name) if found else None
+        if why:
+            raise Refusal(protocol.BAD_WORDS, why)
+        return {'changes': {uri_of(params): [{'range': it, 'newText': name} for it in self.ranges(params, found)]}}
 
     def symbols(self, params):
-        positions = self.text(params)
-        return (outline.of_world if is_world(uri_of(params)) else outline.of_program)(positions)
+        text = self.text(params)
+        return text.once('outline', lambda: outline.of_world(text.positions) if is_world(uri_of(params)) else outline.of_program(text))
 
     def completion(self, params):
-        positions = self.text(params)
-        at = self.at(params)
-        return [] if is_world(uri_of(params)) else completing.completions(positions.text, at)
+        text, at = self.text(params), self.at(params)
+        if not is_world(uri_of(params)):
+            return completing.completions(text, at)
+        found = in_world.completions(text.pieces, at, self.texts.program_of(uri_of(params))[1])
+        return [completing.item(name, kind, detail) for name, kind, detail in found]
+
+    def signature(self, params):
+        whole, at = self.program_text(params), self.at(params)
+        return whole and showing.signature(whole, at)
+
+    def folds(self, params):
+        whole = self.program_text(params)
+        return whole.once('folds', lambda: showing.folds(whole)) if whole else []
+
+    def labels(self, params):
+        whole, (start, end) = self.program_text(params), self.span(params)
+        found = showing.hints(whole, start, end) if whole else ()
+        return [{'position': whole.positions.place(at), 'label': label, 'paddingLeft': True} for at, label in found]
+
+    def actions(self, params):
+        whole, (start, end) = self.program_text(params), self.span(params)
+        found = []
+        for fault in faults.of_document(whole) if whole else ():
+            if fault.at is not None and fault.at <= end and start <= fault.end:
+                told = diagnosing.of_fault(whole, fault)
+                found += [self.action(params, told, fix) for fix in fixing.fixes_of(whole, fault)]
+        return found
+
+    def action(self, params, told, fix):
+        positions = self.text(params).positions
+        edits = [{'range': positions.range(start, end), 'newText': text} for start, end, text in fix.edits]
+        return {'title': fix.title, 'kind': 'quickfix', 'diagnostics': [told], 'edit': {'changes': {uri_of(params): edits}}}
 
     def formatting(self, params):
-        positions = self.text(params)
-        lam = None if is_world(uri_of(params)) else self.program()
-        if not lam:
-            return None
-        made, status = formatted(positions.text, lam)
-        if status:
+        whole = self.program_text(params)
+        if not whole or any(chunk.odd or chunk.broken for chunk in whole.chunks):
             return None     # its fault is told already
-        whole = comments.joined(positions.text, made)
-        if whole is None:
-            self.say(ERROR, 'not formatted: the comments of this text cannot be put back')
-            return None
-        return [] if whole == positions.text else [{'range': positions.whole(), 'newText': whole}]
-
-
-def formatted(text, lam):
-    """What `lam format` prints of a text, and its status."""
-    with tempfile.TemporaryDirectory(prefix='lam-server-') as folder:
-        name = os.path.join(folder, 'program.lam')
-        with open(name, 'wb') as file:
-            file.write(text.encode(errors='replace'))
-        made, status = program.called(lam, 'format', name)
-    return made.decode(errors='replace'), status
-
-
-def is_world(uri):
-    return uri.endswith(('.world', '.short'))
+        made = whole.once('layout', lambda: layout.laid_out(whole.text))
+        return layout.edits(whole.positions, made)
 
 
 HANDLERS = {
     'initialize': Server.initialize, 'initialized': Server.nothing, 'shutdown': Server.shutdown,
-    'textDocument/didOpen': Server.open, 'textDocument/didChange': Server.change, 'textDocument/didClose': Server.close,
+    'textDocument/didOpen': Server.opened, 'textDocument/didChange': Server.change, 'textDocument/didClose': Server.close,
     'textDocument/didSave': Server.nothing, 'textDocument/hover': Server.hover, 'textDocument/definition': Server.definition,
+    'textDocument/references': Server.references, 'textDocument/documentHighlight': Server.highlights,
+    'textDocument/prepareRename': Server.prepare_rename, 'textDocument/rename': Server.rename,
     'textDocument/documentSymbol': Server.symbols, 'textDocument/completion': Server.completion,
+    'textDocument/signatureHelp': Server.signature, 'textDocument/foldingRange': Server.folds,
+    'textDocument/inlayHint': Server.labels, 'textDocument/codeAction': Server.actions,
     'textDocument/formatting': Server.formatting, '$/cancelRequest': Server.nothing, '$/setTrace': Server.nothing,
     'workspace/didChangeConfiguration': Server.nothing,
 }
@@ -226,7 +388,7 @@ def main():
     if len(sys.argv) > 1 and sys.argv[1:] != ['--stdio']:
         print(__doc__)
         return 0 if sys.argv[1] in ('--help', '-h', 'help') else 2
-    return Server(protocol.Channel(sys.stdin.buffer, sys.stdout.buffer)).run()
+    return Server(protocol.Channel(protocol.Input(0), sys.stdout.buffer)).run()
 
 
 if __name__ == '__main__':

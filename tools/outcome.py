@@ -8,6 +8,7 @@ Usage: tools/outcome.py PROGRAM run P W OBS BOOK [OPTION..]
 ended, and how, is told by going through the run beside it, if that has few turns. The line counts all threads: the one who
 calls has the world and the book, and may see all.
 """
+from lam_source import early    # pylint: disable=unused-import,wrong-import-order
 import collections
 import os
 import re

@@ -8,8 +8,11 @@ does not remember these checksums: it follows every path of crates.txt and reads
 the paths and the files for the crates named, or for the twenty costliest, and names the entry of each list that costs
 most. Crates of tests (`staticlib`) and programs have no checksum. A file takes some 96 microseconds of one processor.
 """
+from lam_source import early    # pylint: disable=unused-import,wrong-import-order
 import os
 import sys
+
+from lam_source import last_catch, printable
 
 HERE = os.path.dirname(os.path.dirname(os.path.abspath(__file__)))
 SECONDS = 2 * 96e-6     # a file is read before the proof and after it
@@ -52,6 +55,11 @@ def main():
     below, alone = crates()
     found = counted(below)
     libraries = [it for it in below if it not in alone]
+    unknown = [it for it in sys.argv[1:] if it not in found]
+    if sys.argv[1:2] in (['--help'], ['-h']):
+        sys.exit(__doc__)
+    if unknown:
+        sys.exit(f'paths: there is no crate {printable.name(unknown[0])} in crates.txt')
     shown = sys.argv[1:] or sorted(libraries, key=lambda it: -found[it][1])[:20]
     for name in shown:
         paths, files = found[name]
@@ -62,4 +70,4 @@ def main():
 
 
 if __name__ == '__main__':
-    main()
+    last_catch.run(main)

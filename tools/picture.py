@@ -7,6 +7,7 @@ Usage: tools/picture.py            takes the picture by Chromium (Debian's packa
 The page is that of the calendar in examples/worlds, by tools/timeline.py, with the release chosen. The text has the lanes,
 each event, what the page says of the release, and the picture's checksum.
 """
+from lam_source import early    # pylint: disable=unused-import,wrong-import-order
 import difflib
 import hashlib
 import json

@@ -14,6 +14,7 @@ Filters are those of tools/why.py: --thread, --file, --object, --tag, --label, -
 them. --json writes the run as JSON instead: its threads with their regions, and the events that fit the filters, each with
 whether OBS sees it.
 """
+from lam_source import early    # pylint: disable=unused-import,wrong-import-order
 import argparse
 import json
 import os
@@ -145,8 +146,8 @@ def why_not(out, begins, what):
 
 
 def words_of():
-    words = argparse.ArgumentParser(usage=__doc__.split('Usage: ')[1].split('\n\n')[0], add_help=True,
-                                    description=__doc__.split('\n\n', 2)[2], formatter_class=argparse.RawDescriptionHelpFormatter)
+    words = last_catch.Words(usage=__doc__.split('Usage: ')[1].split('\n\n')[0], add_help=True,
+                             description=__doc__.split('\n\n', 2)[2], formatter_class=argparse.RawDescriptionHelpFormatter)
     for name in ('program', 'world', 'book', 'observer', 'out'):
         words.add_argument(name)
     words.add_argument('--json', action='store_true')
@@ -169,7 +170,7 @@ def run_of(words):
     if run.stopped is not None:
         sys.exit('timeline: this is not the book of this program and this world')
     told = telling.Telling(run)
-    observer = label_of(words.observer, run.texts.tags)
+    observer = label_of(words.observer, run.texts.tags, 'timeline')
     try:
         choice = choosing.Choice(told, words)
     except choosing.Unknown as unknown:

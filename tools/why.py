@@ -3,13 +3,16 @@
 
 Usage: tools/why.py P W BOOK [TURN | TEXT]..  [--as OBS] [--json] [FILTER VALUE]..
        tools/why.py P W BOOK --channels [--as OBS]
+       tools/why.py P W BOOK --beside W2 BOOK2 [--as OBS]
 
 P, W and BOOK are a program, a world and the book of a run (`lam run` writes it, `lam audit` numbers its turns). For each
 TURN, and for each event whose line has a TEXT in it, it says which thread asked what, at which line, with which
 capabilities, and what was released or which rule refused it. Without a TURN or a TEXT it lists the events, a line for
 each: turn, thread, line of the program, what was asked and the answer. --as OBS leaves out what that observer does not
 see. --json prints the same events as one JSON object. --channels names the places where that observer (the public, where
-none is named) could tell unseen work by the order of visible turns.
+none is named) could tell unseen work by the order of visible turns; a closed book has none. --beside compares the run with
+another, of the world W2 and its book, as `lam pair` does, and says what it can mean that they part: another order, or a
+release that only one run has.
 
 Filters keep the events that fit each of them: --thread, --file, --object, --tag, --label, --kind (one of them said twice
 keeps what fits either), --declassifications, --endorsements, --refusals, and --no-polling, which leaves out looks into
@@ -18,27 +21,28 @@ empty pipes. So `--kind release --tag ann` lists where ann's secrets were releas
 Like the audit, this is for who may see all. The run is gone through beside the proved program, and compared with what
 `lam audit` and `lam replay` print of it; where they differ, that is said and the status is 1.
 """
+from lam_source import early    # pylint: disable=unused-import,wrong-import-order
 import argparse
 import json
 import os
 import re
 import sys
 
-from lam_source import as_data, channels, choosing, last_catch, machine, printable, releases, runs, telling, world
+from lam_source import as_data, channels, choosing, last_catch, machine, pairs, printable, program, releases, runs, telling, world
 
 LAM = os.path.join(os.path.dirname(os.path.dirname(os.path.abspath(__file__))), 'lam')
 
 
 def words_of():
-    words = argparse.ArgumentParser(usage=__doc__.split('Usage: ')[1].split('\n')[0], add_help=True,
-                                    description='\n'.join(__doc__.split('\n')[4:]),
-                                    formatter_class=argparse.RawDescriptionHelpFormatter)
+    words = last_catch.Words(usage=__doc__.split('Usage: ')[1].split('\n\n')[0], add_help=True,
+                             description=__doc__.split('\n\n', 2)[2], formatter_class=argparse.RawDescriptionHelpFormatter)
     for name in ('program', 'world', 'book'):
         words.add_argument(name)
     words.add_argument('wanted', nargs='*')
     for name in ('--declassifications', '--endorsements', '--refusals', '--no-polling', '--channels'):
         words.add_argument(name, action='store_true')
     words.add_argument('--as', dest='observer')
+    words.add_argument('--beside', nargs=2, metavar=('W2', 'BOOK2'))
     words.add_argument('--json', action='store_true')
     choosing.add_to(words)
     words.add_argument('--lam', default=LAM, help=argparse.SUPPRESS)
@@ -55,14 +59,14 @@ def kept(told, event, words, observer, choice):
         and (observer is None or machine.seen_line(told.texts, event, observer))
 
 
-def label_of(text, tags):
+def label_of(text, tags, tool='why'):
     found = world.LABEL.fullmatch(text)
     if not found:
-        sys.exit(f"why: {printable.name(text)} is no label: '{{a,b}}/{{c}}'")
+        sys.exit(f"{tool}: {printable.name(text)} is no label: '{{a,b}}/{{c}}'")
     sides = [[name for name in side.split(',') if name] for side in found.groups()]
     for name in sides[0] + sides[1]:
         if name not in tags:
-            sys.exit(f'why: there is no tag {printable.name(name)}; the tags are {world.listed(tags)}')
+            sys.exit(f'{tool}: there is no tag {printable.name(name)}; the tags are {world.listed(tags)}')
     return tuple(frozenset(map(tags.index, side)) for side in sides)
 
 
@@ -134,15 +138,33 @@ def tell(told, shown, wanted, turns):
             say(in_short(told, event))
 
 
+def observer_of(told, words):
+    return label_of(words.observer, told.texts.tags) if words.observer else machine.PUBLIC
+
+
 def channels_of(told, words, turns):
     """Where the observer of the call could tell unseen work."""
-    observer = label_of(words.observer, told.texts.tags) if words.observer else machine.PUBLIC
-    return channels.lines(told.run, turns, observer)
+    observer = observer_of(told, words)
+    found = program.closed_by(words.program, words.world, words.book, told.run, turns, observer)
+    return channels.closed_lines(told.run, turns, observer, *found) if found else channels.lines(told.run, turns, observer)
+
+
+def beside(told, words, turns):
+    """What `lam pair` answers of this run and another, and what it can mean."""
+    observer, (document, book) = observer_of(told, words), words.beside
+    said = [runs.printed(words.lam, 'pair', words.program, words.world, words.book, document, book, told.texts.label(observer)).strip()]
+    try:
+        both = [runs.Run(words.lam, words.program, it) for it in (words.world, document)]
+        agendas = [pairs.agenda(run, its, observer) for run, its in zip(both, (turns, world.turns_of(runs.text_of(book))))]
+    except (OSError, ValueError, runs.NotToRun) as fault:
+        sys.exit(f'why: the other is no run ({runs.why_none(fault)}); `lam replay P W2 BOOK2 OBS` says why')
+    return said + (pairs.lines(both, agendas) if re.match('(turns|releases) differ', said[0]) else [])
 
 
 def tell_as_data(told, shown, words, turns):
     """Prints the same as JSON."""
     more = {'channels': channels_of(told, words, turns)} if words.channels else {}
+    more.update({'beside': beside(told, words, turns)} if words.beside else {})
     events = [it for it in shown if not words.wanted or any(fits(told, it, wanted) for wanted in words.wanted)]
     print(json.dumps({**as_data.run_of(told, events, (words.program, words.world, words.book)), **more}, indent=1))
 
@@ -171,8 +193,10 @@ def main():
     shown = shown_of(told, words)
     if words.json:
         tell_as_data(told, shown, words, turns)
-    elif not words.channels or words.wanted:
+    elif not (words.channels or words.beside) or words.wanted:
         tell(told, shown, words.wanted, turns)
+    if words.beside and not words.json:
+        say('\n'.join(beside(told, words, turns)))
     if words.channels and not words.json:
         say('\n'.join(channels_of(told, words, turns)))
     line = telling.differs(run, words.lam, words.world, words.book)

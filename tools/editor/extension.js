@@ -32,9 +32,10 @@ class Session {
     this.send({ method, params });
   }
 
-  ask(method, params) {
+  // The result of a request; null where it is refused, but where the words of the refusal are wanted.
+  ask(method, params, wantsWords = false) {
     const id = ++this.count;
-    const answer = new Promise(done => this.waiting.set(id, done));
+    const answer = new Promise((done, refused) => this.waiting.set(id, { done, refused: wantsWords && refused }));
     this.send({ id, method, params });
     return answer;
   }
@@ -50,14 +51,16 @@ class Session {
       this.rest = this.rest.subarray(head + 4 + length);
       if (message.method) this.told(message);
       else if (this.waiting.has(message.id)) {
-        this.waiting.get(message.id)(message.result);
+        const { done, refused } = this.waiting.get(message.id);
         this.waiting.delete(message.id);
+        if (message.error && refused) refused(new Error(message.error.message));
+        else done(message.result);
       }
     }
   }
 
   end() {
-    for (const done of this.waiting.values()) done(null);
+    for (const { done } of this.waiting.values()) done(null);
     this.waiting.clear();
   }
 }
@@ -78,10 +81,92 @@ function completionOf(it) {
   return made;
 }
 
-function providers(session) {
-  const text = document => ({ textDocument: { uri: document.uri.toString() } });
-  const at = (document, position) => ({ ...text(document), position: { line: position.line, character: position.character } });
+// The edits of the protocol as those of the editor.
+function editOf(changes) {
+  const made = new vscode.WorkspaceEdit();
+  for (const [uri, edits] of Object.entries(changes)) {
+    for (const it of edits) made.replace(vscode.Uri.parse(uri), inEditor(it.range), it.newText);
+  }
+  return made;
+}
+
+function signatureOf(found) {
+  const made = new vscode.SignatureHelp();
+  made.signatures = found.signatures.map(it => {
+    const one = new vscode.SignatureInformation(it.label, it.documentation);
+    one.parameters = it.parameters.map(part => new vscode.ParameterInformation(part.label));
+    return one;
+  });
+  made.activeSignature = found.activeSignature;
+  made.activeParameter = found.activeParameter;
+  return made;
+}
+
+function actionOf(it) {
+  const made = new vscode.CodeAction(it.title, vscode.CodeActionKind.QuickFix);
+  made.edit = editOf(it.edit.changes);
+  return made;
+}
+
+const text = document => ({ textDocument: { uri: document.uri.toString() } });
+const placed = position => ({ line: position.line, character: position.character });
+const at = (document, position) => ({ ...text(document), position: placed(position) });
+const within = (document, range) => ({ ...text(document), range: { start: placed(range.start), end: placed(range.end) } });
+
+// What goes by the uses of a name.
+function usesOf(session) {
   return [
+    vscode.languages.registerReferenceProvider(SELECTOR, { async provideReferences(document, position, context) {
+      const found = await session.ask('textDocument/references', { ...at(document, position), context });
+      return (found || []).map(it => new vscode.Location(vscode.Uri.parse(it.uri), inEditor(it.range)));
+    } }),
+    vscode.languages.registerDocumentHighlightProvider(SELECTOR, { async provideDocumentHighlights(document, position) {
+      const found = await session.ask('textDocument/documentHighlight', at(document, position));
+      return (found || []).map(it => new vscode.DocumentHighlight(inEditor(it.range), it.kind - 1));
+    } }),
+    vscode.languages.registerRenameProvider(SELECTOR, {
+      async prepareRename(document, position) {
+        const found = await session.ask('textDocument/prepareRename', at(document, position), true);
+        return found && inEditor(found);
+      },
+      async provideRenameEdits(document, position, newName) {
+        const found = await session.ask('textDocument/rename', { ...at(document, position), newName }, true);
+        return found && editOf(found.changes);
+      },
+    }),
+  ];
+}
+
+// What is shown beside the text. Inlay labels came with VS Code 1.67.
+function shownOf(session) {
+  const labels = vscode.languages.registerInlayHintsProvider;
+  return [
+    vscode.languages.registerFoldingRangeProvider(SELECTOR, { async provideFoldingRanges(document) {
+      const found = await session.ask('textDocument/foldingRange', text(document));
+      return (found || []).map(it => new vscode.FoldingRange(it.startLine, it.endLine, it.kind && vscode.FoldingRangeKind.Comment));
+    } }),
+    vscode.languages.registerSignatureHelpProvider(SELECTOR, { async provideSignatureHelp(document, position) {
+      const found = await session.ask('textDocument/signatureHelp', at(document, position));
+      return found && signatureOf(found);
+    } }, '(', ','),
+    vscode.languages.registerCodeActionsProvider(SELECTOR, { async provideCodeActions(document, range) {
+      const context = { diagnostics: [] };
+      return ((await session.ask('textDocument/codeAction', { ...within(document, range), context })) || []).map(actionOf);
+    } }),
+    ...(labels ? [labels(SELECTOR, { async provideInlayHints(document, range) {
+      const found = await session.ask('textDocument/inlayHint', within(document, range));
+      return (found || []).map(it => {
+        const made = new vscode.InlayHint(new vscode.Position(it.position.line, it.position.character), it.label);
+        made.paddingLeft = true;
+        return made;
+      });
+    } })] : []),
+  ];
+}
+
+function providers(session) {
+  return [
+    ...usesOf(session), ...shownOf(session),
     vscode.languages.registerHoverProvider(SELECTOR, { async provideHover(document, position) {
       const found = await session.ask('textDocument/hover', at(document, position));
       return found && new vscode.Hover(new vscode.MarkdownString(found.contents.value), inEditor(found.range));
@@ -95,7 +180,7 @@ function providers(session) {
     } }),
     vscode.languages.registerCompletionItemProvider(SELECTOR, { async provideCompletionItems(document, position) {
       return ((await session.ask('textDocument/completion', at(document, position))) || []).map(completionOf);
-    } }, '.', ':'),
+    } }, '.', ':', '"', '{', '('),
     vscode.languages.registerDocumentFormattingEditProvider(SELECTOR, { async provideDocumentFormattingEdits(document) {
       const edits = await session.ask('textDocument/formatting', { ...text(document), options: {} });
       return (edits || []).map(it => vscode.TextEdit.replace(inEditor(it.range), it.newText));

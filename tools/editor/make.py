@@ -183,7 +183,7 @@ def package(_words):
         "name": "lam",
         "displayName": "lam",
         "description": "Colours and a language server for lam",
-        "version": "1.1.0",
+        "version": "1.2.0",
         "engines": {"vscode": "^1.40.0"},
         "main": "./extension.js",
         "activationEvents": ["onLanguage:lam", "onLanguage:lam-world", "onLanguage:lam-short"],

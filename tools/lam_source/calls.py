@@ -49,8 +49,10 @@ FORMS = {
     'spawn': ('the acting label is equal to {}/{}; c is held', 'Null, HomeFull'),
     'sync': ("equal to x's label; then it waits while another thread is inside", 'Null, Deep'),
     'new': ('none: it gets the acting label', 'HomeFull'),
-    'get': ('read the object', 'Null, Index'),
-    'put': ('write the object', 'Null, Index'),
+    'get': ('read the object', 'Null'),
+    'put': ('write the object', 'Null'),
+    'get element': ('read the array', 'Null, Index'),
+    'put element': ('write the array', 'Null, Index'),
 }
 
 

@@ -38,7 +38,7 @@ def checked(text):
         regions.look(items)
     except types.Break as found:
         return None, Fault(found.kind, found.at)
-    made = code.Code(text)
+    made = code.Code(text, legal=items)
     for unit in made.units:
         if len(unit.ops) > LONGEST_UNIT:
             return None, Fault('CodeTooLong', 0, unit.number)

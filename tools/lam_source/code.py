@@ -279,15 +279,22 @@ def shown_bytes(value):
     return '"' + ''.join(map(shown, value)) + '"'
 
 
+def legal_items(text):
+    """The items of a program with their types. Raises Broken or Break at its first fault."""
+    items = grammar.read(text)
+    types.typed(items)
+    regions.look(items)
+    return items
+
+
 class Code:
     """The units of a program, and the names of what it declares.
 
-    With a listing, the operations are those that `lam code` printed, each with the place of the one that the scheme has."""
+    With a listing, the operations are those that `lam code` printed, each with the place of the one that the scheme has.
+    Who has read the text already, and found it legal, gives its items."""
 
-    def __init__(self, text, listing=None):
-        items = grammar.read(text)
-        types.typed(items)
-        regions.look(items)
+    def __init__(self, text, listing=None, legal=None):
+        items = legal or legal_items(text)
         emitter = Emitter(items)
         self.text, self.units = text, emitter.units()
         self.classes, self.functions = emitter.classes, emitter.functions

@@ -1,51 +1,33 @@
 """What could be typed at a place of a program: fields after a point, else names, calls, types and words.
 
 A program that is being typed is seldom whole, so this goes by the tokens before the place alone."""
-from . import calls, grammar
+from . import calls, grammar, pointing
 
 FUNCTION, FIELD, VARIABLE, CLASS, KEYWORD = 3, 5, 6, 7, 14     # kinds of completions in the protocol
 OPENS, CLOSES = {'(': ')', '[': ']', '{': '}'}, {')': '(', ']': '[', '}': '{'}
 
 
 class Tokens:
-    """The tokens of a text, the ones before a place, and what the whole text declares."""
+    """The tokens of a chunk before a place, and what the whole text declares."""
 
-    def __init__(self, text, at):
-        self.all = grammar.tokens_of(text)[:-1]
-        self.before = [it for it in self.all if it.end <= at and it.kind != 'bad']
-        self.before = self.before[:-1] if self.before and self.before[-1].kind in ('name', 'word') and self.before[-1].end == at \
-            else self.before
+    def __init__(self, whole, at):
+        chunk = whole.chunk_at(at)
+        self.typing = whole.typing
+        self.before = [it for it in chunk.tokens if it.end <= at - chunk.base and it.kind != 'end']
+        self.before = self.before[:-1] if self.before and self.before[-1].kind in ('name', 'word') and \
+            self.before[-1].end == at - chunk.base else self.before
 
     def texts(self, at, count):
         return [it.text for it in self.before[at:at + count]]
 
-    def classes(self):
-        """The fields of each class with their types, as tokens."""
-        found = {}
-        for at, it in enumerate(self.all):
-            if it.text == 'class' and it.kind == 'word' and at + 2 < len(self.all):
-                found[self.all[at + 1].text] = self.fields(at + 3)
-        return found
-
-    def fields(self, at):
-        found = {}
-        while at + 2 < len(self.all) and self.all[at].kind == 'name' and self.all[at + 1].text == ':':
-            end = at + 2
-            while end < len(self.all) and self.all[end].text not in (';', '}'):
-                end += 1
-            found[self.all[at].text] = ''.join(it.text for it in self.all[at + 2:end])
-            at = end + 1
-        return found
+    def fields(self, of):
+        """The fields of a class with their types."""
+        item = self.typing.classes.get(of)
+        return {it.name: pointing.written(it.of) for it in item.fields} if item else {}
 
     def functions(self):
         """The result's type of each function, or None."""
-        found = {}
-        for at, it in enumerate(self.all):
-            if it.text == 'fn' and it.kind == 'word' and at + 1 < len(self.all):
-                close = next((n for n in range(at, len(self.all)) if self.all[n].text == ')'), len(self.all))
-                end = next((n for n in range(close, len(self.all)) if self.all[n].text == '{'), len(self.all))
-                found[self.all[at + 1].text] = ''.join(token.text for token in self.all[close + 2:end]) or None
-        return found
+        return {name: pointing.written(it.result) if it.result else None for name, it in self.typing.functions.items()}
 
     def variables(self):
         """The variables of the function that is typed that are in scope, with their types."""
@@ -100,8 +82,7 @@ class Tokens:
 
     def type_of(self, chain):
         """The type of a thing: a name, a call or `new C()`, and then fields and elements."""
-        classes, at = self.classes(), 0
-        texts = [it.text for it in chain]
+        texts, at = [it.text for it in chain], 0
         if texts[:1] == ['new']:
             of, at = (texts + [''])[1], 2
         elif texts:
@@ -110,7 +91,7 @@ class Tokens:
             of, at = result if called else self.variables().get(texts[0]), 1
         while of and at < len(texts):
             if texts[at] == '.':
-                of, at = classes.get(of, {}).get((texts + [''])[at + 1]), at + 2
+                of, at = self.fields(of).get((texts + [''])[at + 1]), at + 2
             else:
                 of, at = of[1:-1] if texts[at] == '[' else of, matching(texts, at) + 1
         return of
@@ -137,14 +118,13 @@ def item(label, kind, detail=None, told=None):
     return {name: value for name, value in found.items() if value}
 
 
-def completions(text, at):
+def completions(whole, at):
     """What could be typed at a place."""
-    tokens = Tokens(text, at)
+    tokens = Tokens(whole, at)
     chain = tokens.chain()
     if chain is not None:
-        fields = tokens.classes().get(tokens.type_of(chain), {}) if chain else {}
-        return [item(name, FIELD, of) for name, of in fields.items()]
-    classes = [item(name, CLASS) for name in tokens.classes()]
+        return [item(name, FIELD, of) for name, of in (tokens.fields(tokens.type_of(chain)) if chain else {}).items()]
+    classes = [item(name, CLASS) for name in tokens.typing.classes]
     if tokens.before and tokens.before[-1].text == ':':
         return [item(name, KEYWORD) for name in grammar.TYPES] + classes
     if tokens.before and tokens.before[-1].text == 'new':

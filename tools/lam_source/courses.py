@@ -5,9 +5,11 @@ A *noted* turn is one that the observer sees, or a release past it; the noted tu
 and `lam replay` take its turns again.
 """
 import copy
+import sys
 
 from . import world as worlds
 from .labels import flows
+from .printable import name as printable
 
 MANY = 1_000_000        # turns of a book, at most
 STRETCH = 64            # turns of one thread before another gets a share
@@ -41,6 +43,23 @@ def is_other(path):
 def write_book(path, turns):
     with open(path, 'w', encoding='ascii') as out:
         out.write(book_of(turns))
+
+
+def look_at_place(tool, path):
+    """Ends a tool whose book would be written over something else, or that cannot look there."""
+    try:
+        if is_other(path):
+            sys.exit(f'{tool}: {printable(path)} is no book, and would be written over')
+    except OSError as fault:
+        sys.exit(f'{tool}: {printable(path)} cannot be a book: {fault.strerror}')
+
+
+def put_book(tool, path, turns):
+    """Writes a book, or ends the tool with why not."""
+    try:
+        write_book(path, turns)
+    except OSError as fault:
+        sys.exit(f'{tool}: {printable(path)} could not be written: {fault.strerror}')
 
 
 def looked_ahead(world, number):
@@ -188,5 +207,5 @@ def draw(course, die, number):
 
 
 def turns_of(path):
-    with open(path, encoding='ascii') as book:
+    with open(path, encoding='ascii', errors='surrogateescape', newline='') as book:
         return worlds.turns_of(book.read())

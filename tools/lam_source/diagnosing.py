@@ -1,11 +1,10 @@
-"""What is wrong with a program or a world, for an editor: the program's refusal with its explanation."""
+"""What is wrong with a program or a world, for an editor."""
 import os
 import re
-import tempfile
 
 import world as world_tool
 
-from . import checking, faults as explaining, grammar, holes, program, world
+from . import faults, holes, program, types, world
 
 ERROR = 1
 
@@ -15,58 +14,30 @@ def found(positions, start, end, text, code=None):
     return {**told, 'code': code} if code else told
 
 
-def of_program(positions, lam):
-    """The fault of a program: by `lam check` where it is built, else by this reading."""
-    text = positions.text
-    kind, at = refusal_of(text, lam) if lam else own_refusal_of(text)
-    if kind is None:
-        return []
-    try:
-        said = explaining.sentences(kind, text, at) if at is not None else []
-    except (RecursionError, ValueError):
-        said = []       # the fault has its name, and nothing more is known
-    at = at or 0
-    return [found(positions, at, end_of(text, at), '\n'.join([kind, *said]), kind.split()[0])]
+def of_program(whole):
+    """All faults of a program, the one that counts first."""
+    return [of_fault(whole, it) for it in faults.of_document(whole)]
+
+
+def of_fault(whole, it):
+    name = it.kind if it.unit is None else f'{it.kind} {it.unit}'
+    return found(whole.positions, it.at or 0, it.end or 0, '\n'.join([name, *it.said]), it.kind)
 
 
 def refusal_of(text, lam):
-    """The kind and the place of the program's refusal; a unit that is too long has no place."""
-    with tempfile.TemporaryDirectory(prefix='lam-server-') as folder:
-        name = os.path.join(folder, 'program.lam')
-        with open(name, 'wb') as file:
-            file.write(text.encode(errors='replace'))
-        line = program.called(lam, 'check', name)[0].decode(errors='replace').strip()
+    """The line by which the program refuses a text, or an empty text."""
+    said, status = program.called(lam, 'check', '/dev/stdin', given=text.encode(errors='replace'))
+    return said.decode(errors='replace').strip() if status == 3 else ''
+
+
+def of_refusal(whole, line):
+    """The refusal of the program as a fault of its own; this reading of the language has told another one first."""
     at = re.fullmatch(r'lam: 3 (\w+) at (\d+)', line)
-    if at:
-        return at[1], len(text.encode(errors='replace')[:int(at[2])].decode(errors='replace'))
-    return (line[7:], None) if line.startswith('lam: 3 ') else (None, None)
-
-
-def own_refusal_of(text):
-    _, fault = checking.checked(text)
-    if fault is None:
-        return None, None
-    return (fault.kind, fault.at) if fault.unit is None else (f'{fault.kind} {fault.unit}', None)
-
-
-def end_of(text, at):
-    """Where the word or the mark at a place ends."""
-    if at >= len(text):
-        return at
-    token = next((it for it in grammar.tokens_of(text[at:at + 200]) if it.kind != 'end'), None)
-    return at + len(token.text) if token and token.at == 0 else at + 1
+    place = len(whole.text.encode(errors='replace')[:int(at[2])].decode(errors='replace')) if at else 0
+    return found(whole.positions, place, faults.end_of(whole.text, place), f'{line[7:]}\nso says the program', line[7:].split()[0])
 
 
 # ---- worlds
-
-def functions_in(name):
-    """The text of a program, or None."""
-    try:
-        with open(name, encoding='utf-8') as file:
-            return file.read()
-    except (OSError, UnicodeError):
-        return None
-
 
 def program_of(path):
     """The program that a world is probably for: that of its name, else the only one in its folder; None where unclear."""
@@ -78,37 +49,54 @@ def program_of(path):
     return os.path.join(folder, names[0]) if len(names) == 1 else None
 
 
-def of_world(positions, path):
-    """The faults of a world: those of tools/world.py, and else what the program would refuse."""
+def of_world(positions, path, name, whole):
+    """The faults of a world: those of tools/world.py, and else what the program would refuse.
+
+    `name` is the file of its program, and `whole` the document of that; both are None where it is not known."""
     is_document = positions.text.lstrip().startswith('{')
-    name = program_of(path)
     last = re.search(r'"version"\s*:\s*3\b', positions.text)
     if not (is_document and last):
-        told = faults_by_tool(positions, path, is_document, name)
+        told = faults_by_tool(positions, path, is_document, name, whole)
         if told or not is_document:
             return told
-    return refused_start(positions, name)
+    return refused_start(positions, whole)
 
 
-def faults_by_tool(positions, path, is_document, name):
-    text, faults = (positions.text, []) if is_document else holes.shown(positions.text)
+def faults_by_tool(positions, path, is_document, name, whole):
+    text, more = (positions.text, []) if is_document else holes.shown(positions.text)
     read_world = (world_tool.read_document if is_document else world_tool.read_short)(path, text)
-    read_world.faults += faults
+    read_world.faults += more
     world_tool.look_at(read_world)
-    if name and functions_in(name) is not None:
-        world_tool.look_with(read_world, name)
+    if whole:
+        look_with(read_world, name, whole)
     return [{**found(positions, 0, 0, text), 'range': positions.line(line - 1)}
             for line, text in sorted(read_world.faults, key=lambda fault: fault[0])]
 
 
-def refused_start(positions, name):
+def look_with(read_world, name, whole):
+    """Looks whether the threads of a world run functions of the program, with arguments of their kinds."""
+    functions = whole.once('threads', lambda: world_tool.functions_of(whole.text))
+    for place, thread in enumerate(read_world.threads):
+        function = functions.get(thread.run)
+        if function:
+            world_tool.look_at_arguments(read_world, place, thread, function, name)
+        else:
+            near = world_tool.like(thread.run, functions)
+            read_world.fault(thread.line, f'thread {place}: {name} has no function `{thread.run}`{near}')
+
+
+def functions_of(whole):
+    """The functions that a thread may run, of a program without faults: names and types of parameters."""
+    return [(it.name, [local.type for local in it.locals]) for it in whole.items if it.kind == 'fn' and it.type == types.INT]
+
+
+def refused_start(positions, whole):
     """What the program would refuse of a document, where it is known with which program it is run."""
-    text = functions_in(name) if name else None
-    code, _ = checking.checked(text) if text is not None else (None, None)
+    is_known = bool(whole) and not faults.of_document(whole)
     try:
-        world.Start(positions.text, world.functions_of(code) if code else [])
+        world.Start(positions.text, functions_of(whole) if is_known else [])
     except world.Wrong as wrong:
-        if code or not wrong.kind.endswith((' run', ' args')):
+        if is_known or not wrong.kind.endswith((' run', ' args')):
             at = min(wrong.at, len(positions.text))
             message = f'{wrong.kind}\n' + (f'{wrong.where}; ' if wrong.where else '') + f'wanted: {wrong.wanted}'
             return [found(positions, at, end_of_value(positions.text, at), message, wrong.kind.split()[0])]

@@ -148,7 +148,7 @@ class Drawn:
         return getattr(self, 'some_' + {'[int]': 'list', '[Pair]': 'pairs'}.get(of, of))(depth)
 
     def call(self, name, depth=1):
-        given = {'[]': '[int]', 'thing': 'Pair', 'labelled': self.one('Pair', 'file', 'pipe')}
+        given = {'[]': '[int]', 'a thing': 'Pair', 'what is labelled': self.one('Pair', 'file', 'pipe')}
         takes = types.BUILTINS[name][0]
         return f'{name}({", ".join(self.argument(given.get(of, of), depth) for of in takes)})'
 

@@ -1,319 +1,90 @@
-"""A sentence for each fault of a program: what stands at its place, what could stand there, and what often helps."""
-import difflib
+"""All faults of a program's text, each with sentences for a person. The first one is the fault that `lam check` names."""
 import re
 
-from . import grammar, types
+from . import code, document, wording
 
-EXPRESSION = ['!', '-', 'a number', 'a text', 'true', 'false', 'null', '(', 'a name', 'new', 'label', 'caps', 'spawn']
-STATEMENT = ['let', 'if', 'while', 'return', 'throw', 'sync', 'region']
-OPERATOR = ['||', '&&', '==', '!=', '<', '<=', '>', '>=', '+', '-', '*', '/', '%', '.', '[']
-TYPE = grammar.TYPES + ['a name', '[']
-
-PLAIN = {
-    'BadNumber': 'a number is at most 9223372036854775807, and no letter stands directly after it',
-    'BadEscape': r'in a text stand \n, \t, \\, \" and \xHH with two hexadecimal digits, and no other escape',
-    'OpenText': 'the text that begins here has no " at its end on this line, or is longer than 65,536 bytes',
-    'TooDeep': 'more than 128 constructs are open in each other here: make a function of what is inside',
-    'TooMany': 'with this declaration a limit is passed: 1,024 classes, functions, or locals of a function or region, '
-               '256 fields, 64 parameters, 4,096 regions',
-    'ReturnInRegion': 'a region ends at its }, and a return would take out what was learnt inside',
-}
-# Names that people bring from other languages.
-OFTEN = {'print': 'say(..)', 'println': 'say(..)', 'echo': 'say(..)', 'puts': 'say(..)', 'log': 'say(..)',
-         'concat': 'cat(..)', 'str': 'text(..) of a number, and the type bytes', 'parse': 'number(..)',
-         'string': 'the type bytes, and text(..) of a number', 'String': 'the type bytes', 'Int': 'the type int',
-         'boolean': 'the type bool', 'char': 'byte(..), which gives an int', 'float': 'the type int; there are no fractions',
-         'void': 'no type: a function without a result has none', 'list': 'an array: [int]', 'array': 'an array: [int]',
-         'declassify': 'a region with a lower label: region (label{;}, caps{}) [x] { .. } catch (e) { }',
-         'open': 'open_file(..) or open_dir(..)', 'write': 'append(..)', 'exit': 'return, or throw with a number',
-         'for': 'while (i < n) { .. }', 'try': 'a region, which has a catch block',
-         'thread_join': 'join(..)', 'lock': 'sync (x) { .. }', 'endorse': 'a region whose label has the integrity tag'}
+LONGEST_UNIT = 65535
+MOST = 200      # of one text
+WORD = re.compile(r'\w+|==|!=|<=|>=|&&|\|\||.', re.S)
 
 
-def told(wanted):
-    """What could stand at a place, in words."""
-    left, said = list(wanted), []
-    groups = [('a statement', STATEMENT + EXPRESSION), ('an expression', EXPRESSION), ('a type', TYPE),
-              ('an operator', OPERATOR[:13])]
-    for name, group in groups:
-        if all(it in left for it in group):
-            said.append(name)
-            left = [it for it in left if it not in group]
-    if sum(it in left for it in OPERATOR) > 4:
-        said.append('an operator')
-        left = [it for it in left if it not in OPERATOR]
-    said += [it if it.startswith(('a ', 'the ')) else f'`{it}`' for it in left]
-    return said[0] if len(said) == 1 else ', '.join(said[:-1]) + ' or ' + said[-1]
+class Found:
+    """A fault: its kind, its place by characters, and what there is to say; of a unit that is too long, its number."""
+
+    def __init__(self, kind, at, end, said, broken=None, unit=None):
+        self.kind, self.at, self.end, self.said, self.broken, self.unit = kind, at, end, said, broken, unit
+
+    def line(self, text):
+        """The line by which a command refuses a program with this fault first."""
+        if self.unit is not None:
+            return f'lam: 3 {self.kind} {self.unit}'
+        return f'lam: 3 {self.kind} at {len(text[:self.at].encode(errors="surrogatepass"))}'
 
 
-def unexpected(text, at):
-    reader = grammar.Reader(text)
-    try:
-        reader.program()
-    except grammar.Broken as broken:
-        if broken.token.at != at:
-            return []
-        token = broken.token
-        here = 'the text ends here' if token.kind == 'end' else f'`{token.text}` cannot stand here'
-        return [f'{here}; what could: {told(broken.wanted)}', *hints(reader, token, broken.wanted)]
-    return []
-
-
-# Words that begin a statement in other languages, and what is written here.
-BEGINNINGS = {
-    'for': 'there is no for: let i: int = 0; while (i < n) { .. i = i + 1; }',
-    'try': 'there is no try: a region catches faults: region (my_label(), my_caps()) [] { .. } catch (e) { }',
-    'var': 'a variable is declared by let, with its type: let n: int = ..;',
-}
-SETS = re.compile(r'\{([\w\s,]*)\}(?:\s*/\s*\{([\w\s,]*)\})?')
-
-
-def beginning(reader):
-    """The word with which the statement of the next token begins, where other languages have a statement of it."""
-    at = reader.at
-    while at > 0 and reader.tokens[at - 1].text not in (';', '{', '}'):
-        at -= 1
-    first, second = reader.tokens[at], reader.tokens[min(at + 1, len(reader.tokens) - 1)]
-    return first.text if at < reader.at and second.text not in ('=', '.', '[') else ''
-
-
-def opening(reader):
-    """The word before the `{` or `(` that is open where the next token stands."""
-    depth = 0
-    for at in range(reader.at - 1, 0, -1):
-        text = reader.tokens[at].text
-        depth += (text in ('}', ')')) - (text in ('{', '('))
-        if depth < 0:
-            return reader.tokens[at - 1].text
-    return ''
-
-
-def names_in(text):
-    return [it.strip() for it in text.split(',') if it.strip()]
-
-
-def label_meant(text, at):
-    """The label that sets between braces at a place seem to be meant as."""
-    found = SETS.match(text, at)
-    secrecy, integrity = (names_in(side or '') for side in found.groups()) if found else ([], [])
-    more = f' {", ".join(integrity)}' if integrity else ''
-    return f'label{{{", ".join(secrecy)};{more}}}' if secrecy or integrity else 'label{a; b}'
-
-
-def caps_meant(text, at):
-    """The capabilities of the tags that are named between braces at a place."""
-    names = list(dict.fromkeys(re.findall(r'\w+', text[at:text.find('}', at) + 1])))
-    return f'caps{{{", ".join(f"{it}+, {it}-" for it in names)}}}' if 1 <= len(names) <= 4 else 'caps{a+, b-}'
-
-
-def of_braces(reader, token, wanted):
-    """What was meant in a label or in capabilities that are not written as such."""
-    text, inside = reader.text, opening(reader)
-    start = text.rfind('{', 0, token.at)
-    if token.text == '{' and 'a number' in wanted:
-        if inside == 'region' and reader.before.text == ',':
-            return f'capabilities are written {caps_meant(text, token.at)}, a sign behind each tag'
-        return f'a label is written {label_meant(text, token.at)}: secrecy before the `;`, integrity behind it'
-    if token.text == '(' and reader.before.text in ('label', 'caps'):
-        return f'{reader.before.text} has braces: ' + ('label{a; b}' if reader.before.text == 'label' else 'caps{a+, b-}')
-    if inside == 'label' and token.text == '}':
-        return f'a label has a `;` between secrecy and integrity: {label_meant(text, start)}' if text[start + 1:token.at].strip() \
-            else 'the public label is label{;}, with secrecy before the `;` and integrity behind it'
-    if inside == 'caps' and token.text in ('}', ',', '+', '-', ';'):
-        return f'each tag of caps has a sign behind it, and a comma stands between two: {caps_meant(text, start)}'
-    return ''
-
-
-def is_comment(reader, token):
-    text = reader.text
-    return text.startswith('/*', token.at) or token.text == '*' and text.startswith('/*', token.at - 1)
-
-
-def hints(reader, token, wanted):
-    """What often was meant where a token is unexpected."""
-    before = [it.text for it in reader.tokens[max(0, reader.at - 4):reader.at]]
-    last = before[-1] if before else ''
-    word, braces = beginning(reader), of_braces(reader, token, wanted)
-    return [say for fits, say in (
-        (is_comment(reader, token), 'a comment begins with // and goes to the end of its line'),
-        (last == 'else' and token.text == 'if', 'after else stands a block: else { if (..) { .. } }'),
-        (word in BEGINNINGS, BEGINNINGS.get(word)),
-        (braces, braces),
-        (before[-2:-1] == ['let'] and token.text == '=', f'a let says its type: let {last}: int = ..;'),
-        (token.text == '=' and last in '+-*/%' and last, f'there is no {last}=: x = x {last} ..;'),
-        (token.text == '+' and last == '+', 'there is no ++: x = x + 1;'),
-        (token.text == ')' and ',' in wanted and opening(reader) == 'region',
-         'a region has a label and capabilities: region (label{a;}, my_caps()) [] { .. } catch (e) { }'),
-        (wanted == ['['] and last == ')', 'a region lists the names that it copies, or none: '
-                                          'region (label{;}, caps{}) [] { .. } catch (e) { }'),
-        (wanted == ['catch'], 'a region ends with the block that gets the number of a fault: } catch (e) { }'),
-        (token.kind == 'word' and 'a name' in wanted and 'a number' not in wanted,
-         f'`{token.text}` is a word of the language, and cannot be a name'),
-        (token.text == '-' and ':' in wanted and '{' in wanted, 'a result stands after a colon: fn f(): int { .. }'),
-        (token.text == '=' and ')' in wanted, '`=` sets a variable; `==` compares'),
-        (wanted == ['('] and last in ('if', 'while', 'sync'), f'what {last} tests or takes stands in ( )'),
-        (';' in wanted and on_later_line(reader, token), 'perhaps the line before lacks its `;`'),
-        (token.text == ';' and '{' in wanted, 'after the head stands a block: { .. }'),
-        (token.text == '{' and not before, 'a world document begins so; the program is the word before the world'),
-        (wanted == ['the end of the program', 'class', 'fn'] and token.kind != 'mark',
-         'all statements stand in functions: fn main(): int { .. return 0; }'),
-    ) if fits][:1]
-
-
-def on_later_line(reader, token):
-    return reader.at > 0 and '\n' in reader.text[reader.before.end:token.at]
-
-
-def bad_char(text, at):
-    if text[at:at + 1] == '\ufeff':
-        return ['a byte order mark stands here: save the program without one']
-    meant = {'&': 'and is `&&`', '|': 'or is `||`', "'": 'a text stands between two `"`', '?': 'a choice is an if with an else',
-             '#': 'a comment begins with `//`', '`': 'a text stands between two `"`'}
-    more = f': {meant[text[at]]}' if text[at:at + 1] in meant else ''
-    return [f'`{text[at:at + 1]}` begins nothing of the language{more}']
-
-
-# ---- types
-
-def type_break(text, at):
-    """The break of the types and regions at a place, with what was known there, or None."""
-    try:
-        items = grammar.read(text)
-        typing = types.Typing(items)
-        typing.program()
-    except types.Break as found:
-        return found if found.at == at else None, typing
-    except grammar.Broken:
-        return None, None
-    return None, typing
-
-
-def kind_of(of):
-    if of in types.SEVERAL:
-        return types.SEVERAL[of]
-    return {types.NULL: 'null', types.NOTHING: 'a call without a result', None: 'nothing'}.get(of, f'of type {types.shown(of)}')
-
-
-def parts_of(node):
-    """A part of a tree and all parts below it, each before its own."""
-    if isinstance(node, list):
-        for part in node:
-            yield from parts_of(part)
-    elif isinstance(node, grammar.Node):
-        yield node
-        for part in list(vars(node).values()):
-            if isinstance(part, (list, grammar.Node)):
-                yield from parts_of(part)
-
-
-def joined(text, node):
-    """A sum as the call of `cat` that is meant by it."""
-    if node.kind == 'binary' and node.op == '+':
-        return f'cat({joined(text, node.left)}, {joined(text, node.right)})'
-    source = text[slice(*getattr(node, 'outer', (node.at, node.end)))]
-    return f'text({source})' if node.kind == 'number' else source
-
-
-def of_sum(text, found, items):
-    """What is meant where bytes stand in a sum, or None."""
-    sums = (it for it in parts_of(items) if it.kind == 'binary' and it.op == '+' and found.at in (it.left.at, it.right.at))
-    whole = next(sums, None)
-    if found.got != types.BYTES or found.want != types.INT or not whole:
-        return None
-    meant = joined(text, whole)
-    return '`+` adds numbers; bytes are joined by ' + (meant if len(meant) < 70 and '\n' not in meant else 'cat(a, b)')
-
-
-def mismatch(text, found, typing):
-    if found.want is None and found.got == types.NOTHING:
-        return ['a call without a result stands here, and there is nothing to compare']
-    if found.want is None:
-        return [f'this is {kind_of(found.got)}, and the function has no result: return ;'
-                if found.got not in (types.INT, types.BOOL) else
-                'null is compared with what has a name or bytes, and an int or a bool is never null; '
-                'and a function without a result returns none']
-    wanted = kind_of(found.want) if found.want in types.SEVERAL else \
-        found.want if found.want == 'an object' else types.shown(found.want)
-    said = [f'wanted here: {wanted}; what stands here is {kind_of(found.got)}']
-    turns = {(types.BYTES, types.INT): 'text(n) writes a number as bytes',
-             (types.INT, types.BYTES): 'number(b) reads a number, size(b) counts the bytes, byte(b, i) takes one',
-             (types.BOOL, types.INT): 'a test compares: n != 0',
-             (types.INT, types.BOOL): 'there is no number of a truth: let n: int = 0; if (b) { n = 1; }',
-             (types.DIR, types.FILE): 'a directory is root() or open_dir(d, name)',
-             (types.FILE, types.BYTES): 'a name is no file yet: open_file(root(), name)',
-             (types.DIR, types.BYTES): 'a name is no directory yet: open_dir(root(), name)',
-             (types.PIPE, types.BYTES): 'a pipe is an argument of the thread in the world document, or make_pipe(l)',
-             (types.LABEL, types.TAG): 'a label of one secrecy tag is label{t;}',
-             (types.CAPS, types.TAG): 'capabilities of a tag are caps{t+, t-}'}
-    more = of_sum(text, found, typing.items) or turns.get((found.want, found.got))
-    if found.got == types.NULL and found.want in (types.INT, types.BOOL):
-        more = 'an int begins as 0 and a bool as false'
-    return said + ([more] if more else [])
-
-
-def no_name(text, found, typing):
-    name = found.name or re.match(r'\w*', text[found.at:])[0]
-    called = re.match(r'\s*\(', text[found.at + len(name):])
-    known = [local for scope in typing.scopes for local in scope]
-    takes = types.BUILTINS[name][0] if name in types.BUILTINS else \
-        typing.functions[name].parameters if name in typing.functions else None
-    if not called and takes is not None:
-        return [f'{name} is a function, and is called: {name}({".." if takes else ""})']
-    known += [*typing.functions, *types.BUILTINS] if called else [*typing.classes, *grammar.TYPES]
-    near = difflib.get_close_matches(name, known, 1)
-    kind = 'function' if called else 'variable or type'
-    more = f'; what comes near is {OFTEN[name]}' if name in OFTEN else f'; did you mean {near[0]}?' if near else ''
-    return [f'no {kind} {name} is declared here{more}']
-
-
-def twice(text, found, typing):
-    name = found.name or re.match(r'\w*', text[found.at:])[0]
-    if name in types.BUILTINS and not typing.local(name):
-        return [f'{name} is a built-in call, and no other function has its name']
-    earlier = typing.local(name) or typing.functions.get(name) or typing.classes.get(name)
-    place = getattr(earlier, 'name_at', getattr(earlier, 'at', None))
-    more = '' if place is None or place >= found.at else f', at line {text.count(chr(10), 0, place) + 1}'
-    return [f'{name} is declared already{more}; a name is declared once where it is in scope']
-
-
-def counted(number, what):
-    return f'{number} {what}' if number == 1 else f'{number} {what}s'
-
-
-def of_types(kind, text, at):
-    found, typing = type_break(text, at)
-    name = re.match(r'\w*', text[at:])[0]
-    if kind == 'OuterRead':
-        return [f'{name} is a variable of the outside, and a region has its own and those in its [ ]: [{name}] takes a copy along']
-    if kind == 'OuterWrite':
-        return [f'{name} is a variable of the outside, and what a region learns would leave by it;',
-                'a result leaves in an object, a file or a message, whose label says who may read it']
-    if kind == 'CaptureTwice':
-        return [f'{name} stands in these [ ] already']
-    if not found:
-        return []
-    if kind == 'Mismatch':
-        return mismatch(text, found, typing)
-    if kind == 'NoName':
-        return no_name(text, found, typing)
-    if kind == 'Twice':
-        return twice(text, found, typing)
-    if kind == 'Arity':
-        return [f'{found.name} takes {counted(found.want, "argument")}, and {found.got} stand{"s" if found.got == 1 else ""} here']
-    if kind == 'NoField':
-        fields = ', '.join(it.name for it in typing.classes[found.want].fields) or 'none'
-        return [f'the class {found.want} has no field {found.name}; its fields: {fields}']
-    if kind == 'NoReturn':
-        return [f'{found.name} has a result, and can come to its end without a return or a throw']
-    return []
+def faults_of(text):
+    """The faults of a text, the one that counts first and then the others by their places; at most MOST."""
+    return of_document(document.Document(text))
 
 
 def sentences(kind, text, at):
-    """What there is to say of a fault of this kind at a place of the program's text, by characters."""
-    if kind == 'Unexpected':
-        return unexpected(text, at)
-    if kind == 'BadChar':
-        return bad_char(text, at)
-    if kind in PLAIN:
-        return [PLAIN[kind]]
-    return of_types(kind, text, at)
+    """What there is to say of the fault of this kind at a place of the text, by characters."""
+    return next((it.said for it in faults_of(text) if (it.kind, it.at) == (kind, at)), [])
+
+
+def of_document(whole):
+    return whole.once('faults', lambda: all_of(whole))
+
+
+def all_of(whole):
+    odd = [found for chunk in whole.chunks for found in of_pieces(whole, chunk)]
+    lines = {whole.positions.line_of(it.at) for it in odd}
+    broken = [found for chunk in whole.chunks for found in of_grammar(whole, chunk)]
+    broken = [it for it in broken if whole.positions.line_of(it.at) not in lines]
+    found = odd + broken + [it for breaks in whole.breaks() for it in of_breaks(whole, breaks)]
+    if not found:
+        return too_long(whole)
+    rest = {(it.at, it.kind): it for it in reversed(found) if (it.at, it.kind) != (found[0].at, found[0].kind)}
+    return [found[0], *(rest[key] for key in sorted(rest))][:MOST]
+
+
+def end_of(text, at):
+    """Where the word or the mark at a place ends."""
+    word = WORD.match(text, at)
+    return word.end() if word else at
+
+
+def of_pieces(whole, chunk):
+    for kind, at in chunk.odd[:MOST]:
+        said = wording.bad_char(chunk.text, at) if kind == 'BadChar' else [wording.PLAIN[kind]]
+        yield Found(kind, chunk.base + at, end_of(whole.text, chunk.base + at), said)
+
+
+def of_grammar(whole, chunk):
+    for broken in chunk.broken[:MOST]:
+        at = chunk.base + broken.token.at
+        here = wording.Here(chunk.text, chunk.tokens, broken.index)
+        if isinstance(broken, document.grammar.TooDeep):
+            yield Found('TooDeep', at, end_of(whole.text, at), [wording.PLAIN['TooDeep']], broken)
+        else:
+            end = at + len(broken.token.text) if broken.token.text else at
+            yield Found('Unexpected', at, end, wording.unexpected(here, broken), broken)
+
+
+def of_breaks(whole, breaks):
+    def line(item, at):
+        return whole.line(item.chunk.base + at)
+    for broken in breaks[:MOST]:
+        at = broken.item.chunk.base + broken.at
+        yield Found(broken.kind, at, end_of(whole.text, at), wording.of_types(broken.item.chunk.text, broken, line), broken)
+
+
+def too_long(whole):
+    """The first unit of a legal program that is too long for its code; it is compiled only where that can be."""
+    for chunk in whole.chunks:
+        words = [it.text for it in chunk.tokens]
+        most = 4 * len(words) + 2 * words.count('return') * min(words.count('sync'), 128)
+        if most > LONGEST_UNIT:
+            units = code.Code(whole.text).units
+            long = next((it.number for it in units if len(it.ops) > LONGEST_UNIT), None)
+            return [] if long is None else [Found('CodeTooLong', None, None, [], unit=long)]
+    return []

@@ -13,6 +13,7 @@ PIECES = re.compile(r'(?P<space>[ \t\r\n]+|//[^\n]*)|(?P<name>(?a:[A-Za-z_]\w*))
                     r'|(?P<text>"(?:[^"\\\n]|\\.)*")|(?P<mark>==|!=|<=|>=|&&|\|\||[{}()\[\],;:.=<>+\-*/%!])')
 BINARY = [['||'], ['&&'], ['==', '!=', '<', '<=', '>', '>='], ['+', '-'], ['*', '/', '%']]
 COMPARING = 2
+SORTS = {'name': ('a name',), 'number': ('a number',), 'text': ('a text',), 'end': ('the end of the program',)}
 DEEPEST = 128       # rules that are open in each other, with the operators that were read in them
 
 
@@ -29,12 +30,11 @@ class TooDeep(Broken):
 
 
 class Token:
+    __slots__ = ('kind', 'text', 'at', 'end')
+
     def __init__(self, kind, text, at):
         self.kind, self.text, self.at = kind, text, at
-
-    @property
-    def end(self):
-        return self.at + len(self.text)
+        self.end = at + len(text)
 
 
 class Node:
@@ -97,9 +97,14 @@ def opened(rule):
 class Reader:
     """Reads a program by the next token alone, and remembers what that could have been."""
 
-    def __init__(self, text):
-        self.text, self.tokens, self.at, self.depth = text, tokens_of(text), 0, 0
-        self.wanted = []
+    def __init__(self, text, tokens=None):
+        self.text, self.tokens, self.at, self.depth = text, tokens or tokens_of(text), 0, 0
+        self.missed = []        # what was looked for at the next token and is not there
+
+    @property
+    def wanted(self):
+        """What the next token could have been, in the order in which it was looked for."""
+        return list(dict.fromkeys(it for texts in self.missed for it in texts))
 
     @property
     def next(self):
@@ -112,21 +117,22 @@ class Reader:
     # ---- single tokens
 
     def sees(self, *texts):
-        self.wanted += [text for text in texts if text not in self.wanted]
-        return self.next.kind in ('mark', 'word') and self.next.text in texts
+        token = self.tokens[self.at]
+        if token.text in texts and token.kind in ('mark', 'word'):
+            return True
+        self.missed.append(texts)
+        return False
 
     def sees_a(self, kind):
-        named = {'name': 'a name', 'number': 'a number', 'text': 'a text', 'end': 'the end of the program'}[kind]
-        if named not in self.wanted:
-            self.wanted.append(named)
-        return self.next.kind == kind
+        self.missed.append(SORTS[kind])
+        return self.tokens[self.at].kind == kind
 
     def go_on(self):
-        token = self.next
+        token = self.tokens[self.at]
         if self.depth > DEEPEST:
             raise TooDeep(token, self.wanted)
         self.at += 1
-        self.wanted = []
+        self.missed = []
         return token
 
     def take(self, *texts):
@@ -233,8 +239,11 @@ class Reader:
 
     def a_if(self, start):
         test, then = self.in_parentheses(), self.block()
-        other = self.block() if self.took('else') else None
+        other = self.other_block() if self.took('else') else None
         return Node('if', start.at, (other or then).end, test=test, then=then, other=other)
+
+    def other_block(self):
+        return self.block()
 
     def a_while(self, start):
         test, body = self.in_parentheses(), self.block()
@@ -261,13 +270,17 @@ class Reader:
         self.take('[')
         captures = [] if self.sees(']') else self.list_of(self.name)
         self.take(']')
-        body, word = self.block(), self.take('catch')
+        body = self.block()
+        word, name, catch = self.a_catch()
+        return Node('region', start.at, catch.end, label=label, caps=caps, captures=captures, body=body,
+                    catch=catch, catch_at=word.at, name=name.text, name_at=name.at)
+
+    def a_catch(self):
+        word = self.take('catch')
         self.take('(')
         name = self.name()
         self.take(')')
-        catch = self.block()
-        return Node('region', start.at, catch.end, label=label, caps=caps, captures=captures, body=body,
-                    catch=catch, catch_at=word.at, name=name.text, name_at=name.at)
+        return word, name, self.block()
 
     # ---- expressions
 

@@ -1,5 +1,7 @@
 """The last catch of a tool: what goes wrong is one line for a person and a status, and never a traceback."""
+import argparse
 import os
+import signal
 import sys
 
 from . import printable
@@ -25,9 +27,17 @@ def say(text):
         print(printable.lines(text), file=sys.stderr)
 
 
+class Words(argparse.ArgumentParser):
+    """The words of a call; what is said of wrong ones steers no terminal."""
+
+    def error(self, message):
+        super().error(printable.name(message))
+
+
 def ended(tool, main):
     """Runs a tool, and answers its status, or a text for standard error."""
     try:
+        signal.signal(signal.SIGINT, signal.default_int_handler)
         status = main()
         if sys.stdout:
             sys.stdout.flush()

@@ -1,5 +1,5 @@
 """What a program or a world document declares, as an outline for an editor."""
-from . import grammar, pointing, tolerant, world
+from . import grammar, pointing, world
 
 FUNCTION, CLASS, FIELD, OBJECT, FILE, EVENT, KEY = 12, 5, 8, 19, 1, 24, 20    # kinds of symbols in the protocol
 
@@ -9,10 +9,21 @@ def symbol(positions, name, kind, whole, chosen, detail='', children=()):
             'selectionRange': positions.range(*chosen), 'children': list(children)}
 
 
-def of_program(positions):
+class Shifted:
+    """The positions of a chunk, whose places are counted from its base."""
+
+    def __init__(self, positions, chunk):
+        self.positions, self.base, self.text = positions, chunk.base, chunk.text
+
+    def range(self, start, end):
+        return self.positions.range(self.base + start, self.base + end)
+
+
+def of_program(whole):
     """The classes with their fields, and the functions with their regions."""
     found = []
-    for item in tolerant.items_of(positions.text):
+    for item in whole.items:
+        positions = Shifted(whole.positions, item.chunk)
         chosen = item.name_at, item.name_at + len(item.name)
         kind, children = (CLASS, fields_of(positions, item)) if item.kind == 'class' else \
             (FUNCTION, regions_of(positions, item.body))

@@ -1,5 +1,5 @@
 """What stands at a place of a program: its part of the tree, what there is to say of it, and where it is declared."""
-from . import calls, grammar, tolerant, types
+from . import calls, grammar, types
 
 HIDDEN = ('local', 'locals', 'captured', 'type', 'kind', 'name')
 
@@ -30,13 +30,15 @@ def path_to(items, at):
 
 
 class Place:
-    """A place of a program: the word there, and the parts round it."""
+    """A place of a program: the word there, and the parts round it. Places are those of its chunk, from the base on."""
 
-    def __init__(self, text, at):
-        self.text, self.typing = text, tolerant.read(text)
-        tokens = [it for it in grammar.tokens_of(tolerant.without_bad(text)) if it.at <= at <= it.end and it.kind != 'end']
+    def __init__(self, whole, at):
+        self.whole, self.typing, self.chunk = whole, whole.typing, whole.chunk_at(at)
+        self.text, self.base = self.chunk.text, self.chunk.base
+        whole.judge(self.chunk)
+        tokens = self.chunk.tokens_at(at - self.base)
         self.token = next((it for it in reversed(tokens) if it.kind in ('name', 'word')), tokens[-1] if tokens else None)
-        self.path = path_to(self.typing.items, self.token.at) if self.token else []
+        self.path = path_to(self.chunk.items, self.token.at) if self.token else []
         self.node = self.path[-1] if self.path else None
 
     def is_at(self, name):
@@ -44,7 +46,10 @@ class Place:
         return getattr(self.node, name, None) == self.token.at
 
     def line(self, at):
-        return self.text.count('\n', 0, at) + 1
+        return self.whole.line(self.base + at)
+
+    def line_of(self, item):
+        return self.whole.line(item.chunk.base + item.name_at)
 
     # ---- where it is declared
 
@@ -52,7 +57,8 @@ class Place:
         """The variable that the word names."""
         node, token = self.node, self.token
         if node.kind in ('let', 'region') and self.is_at('name_at') or node.kind == 'name':
-            return getattr(node, 'local', None)
+            local = getattr(node, 'local', None)
+            return None if node.kind == 'name' and local and local.at == node.at else local     # it is not declared
         if node.kind == 'region':
             return named(zip(node.captures, getattr(node, 'captured', [])), token)
         if node.kind == 'caps':
@@ -83,15 +89,16 @@ class Place:
         return None
 
     def declared(self):
-        """Where the word is declared: from and to, or None."""
+        """Where the word is declared in the whole text: from and to, or None."""
         if not self.node:
             return None
         local, field, item = self.local(), self.field(), self.item()
         if local:
-            return local.at, local.at + len(local.name)
-        if field:
-            return field[0].at, field[0].at + len(field[0].name)
-        return (item.name_at, item.name_at + len(item.name)) if item else None
+            return self.base + local.at, self.base + local.at + len(local.name)
+        if not field and not item:
+            return None
+        start = field[1].chunk.base + field[0].at if field else item.chunk.base + item.name_at
+        return start, start + len((field[0] if field else item).name)
 
     # ---- what there is to say
 
@@ -117,7 +124,7 @@ class Place:
             tests = self.of_access() if self.node.kind == 'member' else []
             return f'{field[0].name}: {written(field[0].of)}', [f'A field of {field[1].name}.', *tests]
         if item:
-            return head_of(item), [f'Declared at line {self.line(item.name_at)}.'] + \
+            return head_of(item), [f'Declared at line {self.line_of(item)}.'] + \
                 (calls.tests_of(*calls.FORMS['new']) if self.node.kind == 'new' else [])
         if self.node.kind == 'call' and self.is_at('at') and self.token.text in calls.CALLS:
             signature, tests, faults = calls.CALLS[self.token.text]
@@ -125,10 +132,11 @@ class Place:
         return None
 
     def of_access(self):
-        """Which rule an access tests: a part before `=` is written."""
+        """Which rule an access tests: a part before `=` is written. A field has no index that could be outside."""
         before = self.path[-2] if len(self.path) > 1 else None
         is_target = before is not None and before.kind == 'assign' and before.target is self.node
-        return calls.tests_of(*calls.FORMS['put' if is_target else 'get'])
+        form = ('put' if is_target else 'get') + (' element' if self.node.kind == 'element' else '')
+        return calls.tests_of(*calls.FORMS[form])
 
     def of_form(self):
         node, word = self.node, self.token.text
@@ -170,8 +178,7 @@ class Place:
 
     def is_called(self):
         """Whether a function calls this one; else threads alone run it, which begin at {}/{}."""
-        name = self.path[0].name
-        return any(node.kind == 'call' and node.name == name for node in all_parts(self.typing.items))
+        return self.path[0].name in self.whole.once('called', lambda: called_in(self.whole))
 
     def region_round(self, inner=None):
         """The innermost region in whose blocks the word stands, or that has this other region in them."""
@@ -194,10 +201,11 @@ def named(pairs, token):
     return next((local for name, local in pairs if name.at == token.at), None)
 
 
-def all_parts(nodes):
-    for node in nodes:
-        yield node
-        yield from all_parts(parts_of(node))
+def called_in(whole):
+    """The names that stand before a `(`: of each function that is called, and of some more."""
+    return {one.text for chunk in whole.chunks for before, one, other in
+            zip([None, *chunk.tokens], chunk.tokens, chunk.tokens[1:])
+            if one.kind == 'name' and other.text == '(' and (before is None or before.text not in ('fn', ')'))}
 
 
 def sides_of(label):

@@ -12,9 +12,12 @@ class Positions:
         self.text = text
         self.starts = [0] + [end.end() for end in re.finditer(r'\r\n|\n|\r', text)]
 
+    def line_of(self, at):
+        return bisect.bisect_right(self.starts, at) - 1
+
     def place(self, at):
         """The place of a character."""
-        line = bisect.bisect_right(self.starts, at) - 1
+        line = self.line_of(at)
         return {'line': line, 'character': units(self.text[self.starts[line]:at])}
 
     def range(self, start, end):

@@ -5,7 +5,7 @@ from .types import Break
 PARTS = {'binary': ['left', 'right'], 'unary': ['value'], 'member': ['of'], 'element': ['of', 'index'], 'new array': ['length'],
          'label': ['secrecy', 'integrity'], 'call': ['arguments'], 'spawn': ['caps', 'arguments'], 'let': ['value'],
          'if': ['test', 'then', 'other'], 'while': ['test', 'body'], 'throw': ['value'], 'sync': ['thing', 'body'],
-         'expr': ['value'], 'block': ['statements'], 'fn': ['body']}
+         'expr': ['value'], 'block': ['statements'], 'fn': ['body'], 'broken': ['blocks']}
 
 
 class Walk:
@@ -14,9 +14,13 @@ class Walk:
     def __init__(self):
         self.own = None
 
+    def breaks(self, kind, at, name=None):
+        """A rule is broken."""
+        raise Break(kind, at, name=name)
+
     def uses(self, local, at, kind='OuterRead'):
         if self.own is not None and local not in self.own:
-            raise Break(kind, at, name=local.name)
+            self.breaks(kind, at, local.name)
 
     def over(self, part):
         if isinstance(part, list):
@@ -54,7 +58,7 @@ class Walk:
 
     def of_return(self, it):
         if self.own is not None:
-            raise Break('ReturnInRegion', it.at)
+            self.breaks('ReturnInRegion', it.at)
         self.over(it.value)
 
     def of_region(self, it):
@@ -64,8 +68,12 @@ class Walk:
         for local, name in zip(it.captured, it.captures):
             self.uses(local, name.at)
             if local in taken:
-                raise Break('CaptureTwice', name.at, name=name.text)
+                self.breaks('CaptureTwice', name.at, name.text)
             taken.append(local)
+        self.inside(it, taken)
+
+    def inside(self, it, taken):
+        """The blocks of a region that has taken these locals."""
         around, self.own = self.own, taken
         self.over(it.body)
         self.declares(it.local)

@@ -17,7 +17,8 @@ def why_none(fault):
 
 
 def text_of(name):
-    with open(name, encoding='utf-8', errors='surrogateescape') as file:
+    """The text of a file, with the ends of its lines as they are."""
+    with open(name, encoding='utf-8', errors='surrogateescape', newline='') as file:
         return file.read()
 
 
@@ -27,12 +28,14 @@ def printed(*words):
 
 
 class Run:
-    """The turns of a book, taken one after another, with the events that asked. `lam` is the program that compiles."""
+    """The turns of a book, taken one after another, with the events that asked.
+
+    `lam` is the program that compiles; None where this reading of the language does."""
 
     def __init__(self, lam, program, document):
         self.program = program
-        listing = printed(lam, 'code', program)
-        if not listing.startswith('unit '):
+        listing = printed(lam, 'code', program) if lam else None
+        if lam and not listing.startswith('unit '):
             raise NotToRun(listing.strip() or 'the program has no functions')
         try:
             self.code = thinning.thin(codes.Code(text_of(program), listing))

@@ -14,17 +14,24 @@ class Shares:
 
     def __init__(self, course, share, rounds):
         self.course, self.share, self.rounds = course, share, rounds
-        self.due, self.entries, self.late, self.round = {}, 0, 0, 0
+        self.due, self.entries, self.late, self.round, self.most = {}, 0, 0, 0, courses.MANY
 
     def go(self, most):
         """Takes rounds until no thread can go on, or the run has this many turns."""
-        idle = 0
-        while self.course.world.lives() and idle <= self.rounds and len(self.course.turns) < most:
+        self.most, last = most, 0       # the last round in which somebody took a turn
+        while self.course.world.lives() and len(self.course.turns) < most:
             before = len(self.course.turns)
             for number in range(len(self.course.world.threads)):
                 self.serve(number)
-            self.round += 1
-            idle = 0 if len(self.course.turns) > before else idle + 1
+            if len(self.course.turns) > before:
+                last = self.round
+                self.round += 1
+                continue
+            # Nobody can go on before a round that somebody waits for, if there is one.
+            due = min((due for number, due in self.due.items() if due > self.round and self.lives(number)), default=None)
+            if due is None or due - last > self.rounds + 1:
+                break
+            self.round = due
         return self
 
     def serve(self, number):
@@ -47,7 +54,7 @@ class Shares:
 
     def unseen(self, number):
         for _ in range(self.share):
-            if not self.can_go(number) or self.course.is_seen(number):
+            if not self.can_go(number) or self.course.is_seen(number) or len(self.course.turns) >= self.most:
                 break
             self.course.take(number)
 

@@ -1,19 +1,21 @@
 """The types of a program's expressions, by the rules of docs/LANGUAGE.md, for the tools that help a person.
 
 `typed` writes to each expression of a tree its type, and to each name of a local which local it is. What breaks a rule
-is raised as a Break, with what the place wants and what stands there, where that is known.
+is raised as a Break, with what the place wants and what stands there, where that is known. The module `judging` goes on
+behind a break: it has another `breaks`, and what broke has the type UNKNOWN, which fits everywhere.
 """
 from .grammar import TYPES
 
 INT, BOOL, BYTES, TAG, LABEL, CAPS, FILE, DIR, PIPE, THREAD = TYPES
-NULL, NOTHING = 'null', 'nothing'       # of the word null, and of a call without a result
+# Of the word null, of a call without a result, and of what breaks a rule. No class has such a name.
+NULL, NOTHING, UNKNOWN = 'null', 'no result', '?'
 
-# The built-in calls: what they take, and what they give. `[]` is an array, `thing` an object or an array, `labelled` all
-# that has a label; `same` gives the type of the first argument.
+# The built-in calls: what they take, and what they give. `[]` is an array, `a thing` an object or an array, `what is
+# labelled` all that has a label; `the same` gives the type of the first argument.
 BUILTINS = {
     'len': (['[]'], INT), 'size': ([BYTES], INT), 'byte': ([BYTES, INT], INT), 'slice': ([BYTES, INT, INT], BYTES),
     'cat': ([BYTES, BYTES], BYTES), 'text': ([INT], BYTES), 'number': ([BYTES], INT), 'my_label': ([], LABEL),
-    'my_caps': ([], CAPS), 'root': ([], DIR), 'label_of': (['labelled'], LABEL), 'copy': (['thing', LABEL], 'same'),
+    'my_caps': ([], CAPS), 'root': ([], DIR), 'label_of': (['what is labelled'], LABEL), 'copy': (['a thing', LABEL], 'the same'),
     'mint': ([], TAG), 'say': ([BYTES], NOTHING), 'make_file': ([DIR, BYTES, LABEL], FILE),
     'make_dir': ([DIR, BYTES, LABEL], DIR), 'open_file': ([DIR, BYTES], FILE), 'open_dir': ([DIR, BYTES], DIR),
     'remove': ([DIR, BYTES], NOTHING), 'read': ([FILE, INT, INT], BYTES), 'length': ([FILE], INT),
@@ -22,7 +24,7 @@ BUILTINS = {
     'receive_caps': ([PIPE], CAPS), 'join': ([THREAD], INT),
 }
 MOST = {'class': 1024, 'fn': 1024, 'field': 256, 'parameter': 64, 'region': 4096, 'local': 1024}
-SEVERAL = {'[]': 'an array', 'thing': 'an object or an array', 'labelled': 'something that has a label'}
+SEVERAL = {'[]': 'an array', 'a thing': 'an object or an array', 'what is labelled': 'something that has a label'}
 
 
 class Break(Exception):
@@ -36,12 +38,6 @@ class Break(Exception):
 class Local:
     def __init__(self, name, of, at):
         self.name, self.type, self.at = name, of, at
-
-
-def room(kind, count, at):
-    """That there may be one more of a kind."""
-    if count >= MOST[kind]:
-        raise Break('TooMany', at)
 
 
 def is_array(of):
@@ -59,16 +55,29 @@ class Typing:
         self.slots, self.regions = 0, 0     # of the unit, and of the program so far
         self.classes, self.functions = {}, {}
 
+    def breaks(self, kind, at, want=None, got=None, name=None):
+        """A rule is broken."""
+        raise Break(kind, at, want, got, name)
+
+    def room(self, kind, count, at):
+        """That there may be one more of a kind."""
+        if count == MOST[kind]:
+            self.breaks('TooMany', at)
+
     # ---- names
 
     def declare_all(self):
         for kind, table in (('class', self.classes), ('fn', self.functions)):
             for item in self.items:
                 if item.kind == kind:
-                    if item.name in table or kind == 'fn' and item.name in BUILTINS:
-                        raise Break('Twice', item.name_at, name=item.name)
-                    room(kind, len(table), item.name_at)
-                    table[item.name] = item
+                    self.declare_item(item, kind, table)
+
+    def declare_item(self, item, kind, table):
+        if item.name in table or kind == 'fn' and item.name in BUILTINS:
+            self.breaks('Twice', item.name_at, name=item.name)
+        else:
+            self.room(kind, len(table), item.name_at)
+            table[item.name] = item
 
     def local(self, name):
         for scope in reversed(self.scopes):
@@ -79,11 +88,11 @@ class Typing:
     def new(self, name, at):
         """That a name may be declared: it is new, and its unit has a slot for it."""
         if self.local(name):
-            raise Break('Twice', at, name=name)
+            self.breaks('Twice', at, name=name)
         self.slot(at)
 
     def slot(self, at):
-        room('local', self.slots, at)
+        self.room('local', self.slots, at)
         self.slots += 1
 
     def declare(self, name, of, at):
@@ -93,14 +102,15 @@ class Typing:
     def named(self, name, at):
         found = self.local(name)
         if not found:
-            raise Break('NoName', at, name=name)
-        return found
+            self.breaks('NoName', at, name=name)
+        return found or Local(name, UNKNOWN, at)
 
     def type_of(self, node):
         if node.kind == 'array':
             return ('array', self.type_of(node.of))
         if node.name not in TYPES and node.name not in self.classes:
-            raise Break('NoName', node.at, name=node.name)
+            self.breaks('NoName', node.at, name=node.name)
+            return UNKNOWN
         return node.name
 
     # ---- items
@@ -108,29 +118,32 @@ class Typing:
     def program(self):
         self.declare_all()
         for item in self.items:
-            if item.kind == 'class':
-                self.of_class(item)
-            else:
-                self.of_function(item)
+            self.of_item(item)
+
+    def of_item(self, item):
+        if item.kind == 'class':
+            self.of_class(item)
+        else:
+            self.of_function(item)
 
     def of_class(self, item):
         known = set()
         for field in item.fields:
             if field.name in known:
-                raise Break('Twice', field.at, name=field.name)
-            room('field', len(known), field.at)
+                self.breaks('Twice', field.at, name=field.name)
+            self.room('field', len(known), field.at)
             known.add(field.name)
             field.type = self.type_of(field.of)
 
     def of_function(self, item):
         if item.result and not self.ends(item.body):
-            raise Break('NoReturn', item.name_at, name=item.name)
+            self.breaks('NoReturn', item.name_at, name=item.name)
         self.scopes, self.slots = [{}], 0
         item.locals = []
         for parameter in item.parameters:
             if self.local(parameter.name):
-                raise Break('Twice', parameter.at, name=parameter.name)
-            room('parameter', self.slots, parameter.at)
+                self.breaks('Twice', parameter.at, name=parameter.name)
+            self.room('parameter', self.slots, parameter.at)
             self.slots += 1
             of = self.type_of(parameter.of)
             item.locals.append(self.declare(parameter.name, of, parameter.at))
@@ -172,9 +185,9 @@ class Typing:
     def of_return(self, it):
         if it.value is None:
             if self.result != NOTHING:
-                raise Break('Mismatch', it.at, self.result, NOTHING)
+                self.breaks('Mismatch', it.at, self.result, NOTHING)
         elif self.result == NOTHING:
-            raise Break('Mismatch', it.value.at, None, self.of(it.value))
+            self.breaks('Mismatch', it.value.at, None, self.of(it.value))
         else:
             self.wants(it.value, self.result)
 
@@ -183,7 +196,7 @@ class Typing:
 
     def of_sync(self, it):
         self.slot(it.at)
-        self.wants(it.thing, 'thing')
+        self.wants(it.thing, 'a thing')
         self.statements(it.body)
 
     def captures(self, it):
@@ -193,7 +206,7 @@ class Typing:
             self.slot(name.at)
 
     def of_region(self, it):
-        room('region', self.regions, it.at)
+        self.room('region', self.regions, it.at)
         self.regions += 1
         outer = self.slots
         self.wants(it.label, LABEL)
@@ -220,7 +233,8 @@ class Typing:
         """That an expression has a type that fits: a type, or one of several."""
         got = self.of(node)
         if not fits(got, want):
-            raise Break('Mismatch', node.at, want, got)
+            self.breaks('Mismatch', node.at, want, got)
+            return UNKNOWN
         return got
 
     def of(self, node):
@@ -241,7 +255,8 @@ class Typing:
         return node.local.type
 
     def is_unary(self, node):
-        return self.wants(node.value, BOOL if node.op == '!' else INT)
+        self.wants(node.value, BOOL if node.op == '!' else INT)
+        return BOOL if node.op == '!' else INT
 
     def is_binary(self, node):
         if node.op in ('==', '!='):
@@ -254,34 +269,44 @@ class Typing:
     def is_comparison(self, node):
         left = self.of(node.left)
         if left == NOTHING:
-            raise Break('Mismatch', node.left.at, None, NOTHING)
+            self.breaks('Mismatch', node.left.at, None, NOTHING)
+            left = UNKNOWN
         right = self.of(node.right)
         if left == NULL and right in (INT, BOOL, NOTHING):
-            raise Break('Mismatch', node.right.at, None, right)
+            self.breaks('Mismatch', node.right.at, None, right)
         if left != NULL and not fits(right, left):
-            raise Break('Mismatch', node.right.at, left, right)
+            self.breaks('Mismatch', node.right.at, left, right)
         return BOOL
 
     def is_member(self, node):
         of = self.of(node.of)
-        if of not in self.classes:
-            raise Break('Mismatch', node.of.at, 'an object', of)
-        for place, field in enumerate(self.classes[of].fields):
+        if of == UNKNOWN:
+            return UNKNOWN
+        if is_array(of) or of in (*TYPES, NULL, NOTHING):
+            self.breaks('Mismatch', node.of.at, 'an object', of)
+            return UNKNOWN
+        for place, field in enumerate(self.classes[of].fields if of in self.classes else ()):
             if field.name == node.name:
                 node.place = place
-                return self.type_of(field.of)
-        raise Break('NoField', node.name_at, name=node.name, want=of)
+                return self.declared_type(field.of)
+        self.breaks('NoField', node.name_at, name=node.name, want=of)
+        return UNKNOWN
+
+    def declared_type(self, node):
+        """The type in the head of an item that is used elsewhere; whether there is such a class is tested at that head."""
+        return ('array', self.declared_type(node.of)) if node.kind == 'array' else node.name
 
     def is_element(self, node):
         of = self.of(node.of)
-        if not is_array(of):
-            raise Break('Mismatch', node.of.at, '[]', of)
+        if not is_array(of) and of != UNKNOWN:
+            self.breaks('Mismatch', node.of.at, '[]', of)
         self.wants(node.index, INT)
-        return of[1]
+        return of[1] if is_array(of) else UNKNOWN
 
     def is_new(self, node):
         if node.name not in self.classes:
-            raise Break('NoName', node.name_at, name=node.name)
+            self.breaks('NoName', node.name_at, name=node.name)
+            return UNKNOWN
         return node.name
 
     def is_new_array(self, node):
@@ -298,8 +323,8 @@ class Typing:
         node.locals = []
         for name, _ in node.items:
             local = self.named(name.text, name.at)
-            if local.type != TAG:
-                raise Break('Mismatch', name.at, TAG, local.type)
+            if local.type not in (TAG, UNKNOWN):
+                self.breaks('Mismatch', name.at, TAG, local.type)
             node.locals.append(local)
         return CAPS
 
@@ -307,46 +332,72 @@ class Typing:
         called = self.functions.get(node.name)
         if not called:
             self.wants(node.caps, CAPS)
-            raise Break('NoName', node.name_at, name=node.name)
-        self.arity(node, [it.of for it in called.parameters])
+            return self.unknown_call(node, node.name_at)
+        fits_in = self.arity(node, called.parameters)
         self.wants(node.caps, CAPS)
-        self.arguments(node, called)
-        result = self.type_of(called.result) if called.result else NOTHING
-        if result != INT:
-            raise Break('Mismatch', node.at, INT, result)
+        self.arguments(node, called, fits_in)
+        result = self.declared_type(called.result) if called.result else NOTHING
+        if result not in (INT, UNKNOWN):
+            self.breaks('Mismatch', node.at, INT, result)
         return THREAD
 
     def arity(self, node, wanted):
+        """Whether a call has as many arguments as are wanted."""
         if len(node.arguments) != len(wanted):
-            raise Break('Arity', node.at, want=len(wanted), got=len(node.arguments), name=node.name)
+            self.breaks('Arity', node.at, want=len(wanted), got=len(node.arguments), name=node.name)
+        return len(node.arguments) == len(wanted)
 
-    def arguments(self, node, called):
+    def arguments(self, node, called, fits_in):
+        if not fits_in:
+            self.any_arguments(node)
+            return
         for argument, parameter in zip(node.arguments, called.parameters):
-            self.wants(argument, self.type_of(parameter.of))
+            self.wants(argument, self.declared_type(parameter.of))
+
+    def any_arguments(self, node):
+        """The arguments of a call of which is not known what it takes."""
+        for argument in node.arguments:
+            self.of(argument)
+
+    def unknown_call(self, node, at):
+        self.breaks('NoName', at, name=node.name)
+        self.any_arguments(node)
+        return UNKNOWN
 
     def is_call(self, node):
         if node.name in BUILTINS:
-            takes, gives = BUILTINS[node.name]
-            self.arity(node, takes)
-            got = [self.wants(argument, want) for argument, want in zip(node.arguments, takes)]
-            return got[0] if gives == 'same' else gives
+            return self.built_in_call(node, *BUILTINS[node.name])
         called = self.functions.get(node.name)
         if not called:
-            raise Break('NoName', node.at, name=node.name)
-        self.arity(node, called.parameters)
-        self.arguments(node, called)
-        return self.type_of(called.result) if called.result else NOTHING
+            return self.unknown_call(node, node.at)
+        self.arguments(node, called, self.arity(node, called.parameters))
+        return self.declared_type(called.result) if called.result else NOTHING
+
+    def built_in_call(self, node, takes, gives):
+        got = [UNKNOWN]
+        if self.arity(node, takes):
+            got = [self.wants(argument, want) for argument, want in zip(node.arguments, takes)]
+        else:
+            self.any_arguments(node)
+        return got[0] if gives == 'the same' else gives
+
+
+def is_unknown(of):
+    """Whether a type is not known, or that of the elements is not."""
+    return is_unknown(of[1]) if is_array(of) else of == UNKNOWN
 
 
 def fits(got, want):
     """Whether an expression of a type may stand where a type, or one of several, is wanted."""
+    if is_unknown(got) or is_unknown(want):
+        return True
     if got == NOTHING or want in SEVERAL and got == NULL:
         return False
     if want == '[]':
         return is_array(got)
-    if want == 'thing':
+    if want == 'a thing':
         return is_array(got) or got not in TYPES
-    if want == 'labelled':
+    if want == 'what is labelled':
         return is_array(got) or got not in TYPES or got in (FILE, DIR, PIPE)
     return got == want or got == NULL and want not in (INT, BOOL)
 

@@ -6,6 +6,7 @@ Usage: tools/tests/channels_test.py
 Each test makes runs of small programs, and has the proved program (or the one that LAM_PROGRAM names) compare them.
 """
 import os
+import re
 import subprocess
 import sys
 import tempfile
@@ -13,8 +14,11 @@ import tempfile
 HERE = os.path.dirname(os.path.realpath(__file__))
 TOOLS = os.path.dirname(HERE)
 CLOCK = os.path.join(TOOLS, '..', 'examples', 'cases', 'clock')
-sys.path.insert(0, TOOLS)
-from lam_source import channels, courses, machine, runs    # pylint: disable=wrong-import-position
+sys.path[:0] = [TOOLS, HERE]
+import world as worlds                                      # pylint: disable=wrong-import-position
+from channels_planted import EXAMPLES, PLANTED, TAGS        # pylint: disable=wrong-import-position
+from lam_source import channels, courses, machine, runs, world    # pylint: disable=wrong-import-position
+from why import label_of                                    # pylint: disable=wrong-import-position
 
 LAM = os.path.join(TOOLS, '..', 'lam')
 ALL = 1000
@@ -149,8 +153,62 @@ def named(folder):
     check('polls', said[6:], ['loops that poll at a visible label: none'])
 
 
+# The lines that tell of a channel, as facts.
+FACTS = (('stretch', r'  t(\d+) \(\w+\), region \d+ at \S+, line (\d+): (not over)?'),
+         ('stretch', r'  t(\d+) \(\w+\), at \S+ from its (start), which is out of sight: (not over)?'),
+         ('loop', r'    the loop of line (\d+):'),
+         ('monitor', r'  t(\d+) \(\w+\), the monitor of \S+, taken at line (\d+):'),
+         ('poll', r'  t(\d+) \(\w+\), lines? ([\d, ]+): (?:[\d to]+ looks?, and (nothing) had changed)?'),
+         ('captured', r'  t(\d+) \(\w+\), line (\d+): the entry shows '))
+
+
+def facts(lines):
+    """What the lines of `why.py --channels` say, in the words of channels_planted.py."""
+    found = set()
+    for line in lines:
+        found |= {f'waits t{number}' for number in re.findall(r't(\d+) \(\w+\) waits for it', line)}
+        kind, parts = next(((kind, match.groups()) for kind, match in reversed([(kind, re.match(form, line)) for kind, form in FACTS])
+                            if match), (None, ()))
+        if kind == 'loop':
+            found.add(f'loop {parts[0]}')
+        elif kind:
+            numbers = ' '.join([f't{parts[0]}', *re.findall(r'\w+', parts[1])])
+            found.add(f'{"open " if parts[2:] and parts[2] else ""}{kind} {numbers}')
+    return sorted(found)
+
+
+def wanted_of(text):
+    return sorted(text.split(', ')) if text else []
+
+
+def examples(folder):
+    """What is said of the examples: but for the loops of cases, how many of which there are is the schedule's."""
+    del folder
+    for place, programs in EXAMPLES.items():
+        for (program, document, book), wanted in programs.items():
+            where = os.path.join(TOOLS, '..', 'examples', *place.split('/'))
+            run = runs.Run(LAM, os.path.join(where, f'{program}.lam'), os.path.join(where, f'{document}.world'))
+            said = facts(channels.lines(run, world.turns_of(runs.text_of(os.path.join(where, f'{book}.book'))), machine.PUBLIC))
+            if place.startswith('cases/') and 'loop' not in wanted:
+                said = [it for it in said if not it.startswith('loop ')]
+            check(f'{place}, {book}.book', said, wanted_of(wanted))
+
+
+def planted(folder):
+    """What is said of planted channels, and of what is none."""
+    for name, (program, threads, stretches, observer, wanted) in PLANTED.items():
+        room = Room(folder, program)
+        short = room.write('it.short', TAGS + ''.join(f'thread {it}\n' for it in threads.split('|')))
+        made = worlds.read_world(short, {})
+        check(f'{name}, the world', made.faults, [])
+        document = room.write('it.world', worlds.document_of(made))
+        run, turns = room.turns(document, *stretches)
+        said = channels.lines(runs.Run(LAM, room.program, document), turns, label_of(observer, run.texts.tags))
+        check(f'{name}\n  ' + '\n  '.join(said), facts(said), wanted_of(wanted))
+
+
 def main():
-    for test in (aligned, shared, named):
+    for test in (aligned, shared, named, examples, planted):
         with tempfile.TemporaryDirectory() as folder:
             test(folder)
     print('same     tools/tests/channels_test.py')

@@ -9,20 +9,25 @@ import json
 import os
 import re
 import shutil
+import signal
 import subprocess
 import sys
 import tempfile
+import time
 import unittest
 
 TOOLS = os.path.dirname(os.path.dirname(os.path.abspath(__file__)))
 sys.path.insert(0, TOOLS)
-from lam_source import grammar, faults, places, printable, world
+from lam_source import closed, code as codes, courses, faults, grammar, machine, places, printable, world
 import timeline
 
-CAUGHT = ('at_terminal.py', 'edits.py', 'explain.py', 'limits.py', 'map.py', 'measure.py', 'plain.py', 'timeline.py', 'why.py',
-          'world.py', 'editor/make.py', 'refuse/run')
+CAUGHT = ('align.py', 'at_terminal.py', 'edits.py', 'explain.py', 'limits.py', 'map.py', 'measure.py', 'paths.py', 'plain.py',
+          'share.py', 'timeline.py', 'why.py', 'world.py', 'editor/make.py', 'refuse/run')
+EARLY = ('align.py', 'explain.py', 'outcome.py', 'paths.py', 'picture.py', 'share.py', 'timeline.py', 'why.py', 'world.py')
 HELP = 'lam check P\nlam replay P W BOOK OBS\nlam pair P W1 BOOK1 W2 BOOK2 OBS\n'
 CODE = 'fn main(): int {\n  return 0;\n}\n'
+CLOSED_HELP = 'lam_closed run P W OBS BOOKOUT [--base LABEL] [--turns N]\nlam_closed check P W BOOK [--base LABEL]\n'
+LISTING = 'unit 0 main locals 0\n0 const 0\n1 ret\n2 const null\n3 ret\n'
 STEERING = re.compile('[\0-\x08\x0b-\x1f\x7f-\x9f\u202a-\u202e]')
 
 
@@ -43,6 +48,10 @@ class InFolder(unittest.TestCase):
         with open(self.path(name), 'w', encoding='utf-8', errors='surrogateescape') as file:
             file.write(text)
         return self.path(name)
+
+    def read(self, name):
+        with open(self.path(name), encoding='utf-8') as file:
+            return file.read()
 
     def script(self, name, body):
         """A command of this folder."""
@@ -103,6 +112,49 @@ class Ends(InFolder):
         for name in CAUGHT:
             with open(os.path.join(TOOLS, name), encoding='utf-8') as file:
                 self.assertIn("    last_catch.run(", file.read(), name)
+
+
+    def test_a_signal_while_the_modules_are_read(self):
+        for name in EARLY:
+            with open(os.path.join(TOOLS, name), encoding='utf-8') as file:
+                lines = file.read().split('"""', 2)[2].strip().splitlines()
+            self.assertTrue(lines[0].startswith('from lam_source import early'), name)
+        for wait in (0.02, 0.05, 0.1):
+            done = subprocess.Popen([sys.executable, '-S', os.path.join(TOOLS, 'world.py'), 'make', '/dev/stdin'], cwd=self.folder,
+                                    stdin=subprocess.PIPE, stdout=subprocess.PIPE, stderr=subprocess.PIPE, text=True)
+            time.sleep(wait)
+            done.send_signal(signal.SIGINT)
+            said = done.communicate(timeout=60)[1]
+            if 'site.py' not in said and 'importlib' not in said:       # Python's own start is not the tool's
+                self.assertNotIn('Traceback', said)
+
+    def test_a_full_device(self):
+        self.file('s', 'thread main()\n')
+        for words in (('paths.py',), ('world.py', 'make', 's'), ('share.py', '--help'), ('align.py', '--help')):
+            with open('/dev/full', 'w', encoding='ascii') as full:
+                done = subprocess.run([sys.executable, os.path.join(TOOLS, words[0]), *words[1:]], cwd=self.folder, stdout=full,
+                                      stderr=subprocess.PIPE, text=True, check=False)
+            self.assertNotIn('Traceback', done.stderr, words)
+            self.assertNotEqual(done.returncode, 0, words)
+
+    def test_wrong_words_steer_no_terminal(self):
+        for words in (('share.py', 'p', 'w', '{}/{}', '-o', 'b', '--share', '1', '--rounds', '1\x1b[31m'), ('why.py', 'p', 'w', 'b', '--\x1b'),
+                      ('align.py', '--\x1b[31m'), ('timeline.py', 'p', 'w', 'b', 'o', 'x', '--\x1b'), ('paths.py', 'no\x1b\n')):
+            done = self.tool(*words)
+            self.assertIn(r'\x1b', done.stderr, words)
+            self.assertIn(done.returncode, (1, 2), words)
+
+    def test_books_that_cannot_be_written(self):
+        lam = self.script('lam', f'cat {self.file("listing", LISTING)}\n')
+        self.file('p.lam', CODE)
+        self.file('w', json.dumps({'version': 1, 'tags': [], 'tree': [], 'pipes': [],
+                                   'threads': [{'run': 'main', 'args': [], 'caps': {'plus': [], 'minus': []}}]}))
+        words = ('p.lam', 'w', '{}/{}', '--lam', lam, '--share', '1', '--rounds', '99999999999')
+        done = self.tool('share.py', *words, '-o', 'no\x1bwhere/b')
+        self.assertEqual((done.returncode, done.stderr), (1, 'share: no\\x1bwhere/b could not be written: No such file or directory\n'))
+        self.assertEqual(self.tool('share.py', *words, '-o', 'b').stdout, '3 turns in 3 rounds; times out of sight: 0, late: 0\n')
+        done = self.tool('align.py', 'p.lam', 'w', 'b', 'w', '{}/{}', '--lam', lam, '-o', 'b')
+        self.assertEqual((done.returncode, done.stderr), (1, 'align: b is the first book, and would be written over\n'))
 
 
 class Pages(unittest.TestCase):
@@ -217,6 +269,43 @@ class Explained(InFolder):
         self.assertIn('this is no run (lam: 3 CodeTooLong 0)', done.stderr)
 
 
+    def test_exchanged_files(self):
+        self.file('b', 'lam book 1\n0 3\n')
+        self.file('w', '{"version": 1}')
+        said = self.explained(4, 'lam: 4 NotJson', 'replay', 'p.lam', 'b', 'w', '{}/{}')
+        self.assertEqual(said, 'b is a book, and stands in the place of a world; w is a world: the world stands before the book\n')
+
+    def test_a_book_with_carriage_returns(self):
+        self.file('w', json.dumps({'version': 1, 'tags': [], 'tree': [], 'pipes': [], 'threads': []}))
+        self.file('b', 'lam book 1\r\n0 3\r\n')
+        said = self.explained(5, 'lam: 5 BadHead line 1', 'replay', 'p.lam', 'w', 'b', '{}/{}')
+        self.assertIn('carriage return', said)
+
+    def test_a_label_with_a_blank(self):
+        said = self.explained(2, 'lam: 2 word 4', 'replay', 'p.lam', 'w', 'b', '{ ann }/{}')
+        self.assertTrue(said.endswith("a label has no blank: '{ann}/{}'\n"), said)
+
+    def test_links_in_a_circle(self):
+        os.symlink('p.lam', self.path('p.lam'))
+        self.assertEqual(self.explained(7, '', 'check', 'p.lam'), 'p.lam, the program, could not be read: its links lead in a circle\n')
+
+    def test_closed_runs(self):
+        """In which region a closed run is held up, and for what."""
+        self.file('p.lam', 'fn other(): int { return 0; }\nfn main(t: tag): int {\n  let o: thread = spawn(caps{}) other();\n'
+                           '  region (label{t;}, caps{}) [o] {\n    join(o);\n  } catch (e) { }\n  return 0;\n}\n')
+        self.file('w', json.dumps({'version': 2, 'tags': [{'name': 't', 'kind': 'export'}], 'tree': [], 'pipes': [], 'threads': [
+            {'run': 'main', 'args': [{'tag': 't'}], 'caps': {'plus': [], 'minus': []}}]}))
+        code = codes.Code(self.read('p.lam'))
+        made = closed.Closed(machine.World(code, world.Start(self.read('w'), world.functions_of(code))), machine.PUBLIC)
+        self.assertEqual(made.go(), closed.STALLED)
+        courses.write_book(self.path('b'), made.turns)
+        program = self.script('lam_closed', 'printf "%s" "$HELP"\n')
+        said = self.tool('explain.py', '--closed', program, '11', 'run', 'p.lam', 'w', '{}/{}', 'b', HELP=CLOSED_HELP).stderr
+        self.assertIn('t0 (main) is in the region at {t}/{} of p.lam line 4: region (label{t;}, caps{}) [o] {\n'
+                      'it waits for the end of t1, at p.lam line 5: join(o);\n', said)
+        self.assertIn('no other thread runs until it is out of its region\nwait before the region', said)
+
+
 class Short(InFolder):
     """Short texts of worlds."""
 
@@ -236,6 +325,44 @@ class Short(InFolder):
         done = self.tool('world.py', 'short', 'w')
         self.assertEqual((done.returncode, done.stdout), (1, ''))
         self.assertTrue(done.stderr.startswith('w:2: a short text cannot hold this path'))
+
+    def test_a_saved_world(self):
+        """What `lam next` writes is read, and its short text makes the same document."""
+        saved = {'version': 3, 'tags': [{'name': 'ann', 'kind': 'read'}], 'counts': [
+            {'maker': '{}/{}', 'own': '{}/{}', 'next': 4}, {'maker': '{}/{}', 'own': '{ann}/{}', 'next': 1}], 'tree': [
+            {'path': 'notes', 'label': '{}/{}', 'maker': '{}/{}', 'number': 3, 'dir': True},
+            {'path': 'notes/photo', 'label': '{ann}/{}', 'maker': '{}/{}', 'number': 0, 'hex': '89504e47'}], 'pipes': [],
+            'threads': [{'run': 'main', 'args': [], 'caps': {'plus': [], 'minus': []}}]}
+        self.file('w', json.dumps(saved))
+        self.file('p.lam', CODE)
+        self.assertEqual(self.tool('world.py', 'check', 'w', 'p.lam').stdout, 'ok\n')
+        short = self.tool('world.py', 'short', 'w').stdout
+        self.assertIn('count {}/{} {ann}/{} 1\ndir notes {}/{} {}/{} 3\nfile notes/photo {ann}/{} {}/{} 0 hex 89504e47\n', short)
+        self.file('s', short)
+        self.assertEqual(json.loads(self.tool('world.py', 'make', 's').stdout), saved)
+        for change, said in (('"next": 1', 'has made 1 to 65,536'), ('"number": 0', 'has made no number 7'), ('"hex": "89504e47"', '`hex` is to be')):
+            broken = json.dumps(saved).replace(change, {'"next": 1': '"next": 0', '"number": 0': '"number": 7'}.get(change, '"hex": "8"'))
+            self.file('x', broken)
+            self.assertIn(said, self.tool('world.py', 'check', 'x', 'p.lam').stdout)
+
+    def test_a_folder_of_files(self):
+        self.file('s', 'tag ann\ndir notes {}/{}\nfile notes/diary {ann}/{} "sun"\nthread main()\n')
+        self.assertEqual(self.tool('world.py', 'files', 's', 'out').returncode, 0)
+        self.assertEqual(self.read('out/files/notes/diary'), 'sun')
+        self.assertEqual(self.tool('world.py', 'pack', 'out').stdout, self.read('s'))
+        self.assertEqual(self.tool('world.py', 'files', 's', 'out').returncode, 2)
+        with open(self.path('out/files/notes/photo'), 'wb') as file:
+            file.write(b'\x89PNG')
+        done = self.tool('world.py', 'pack', 'out')
+        self.assertEqual((done.returncode, done.stdout), (1, ''))
+        self.assertIn('the index gives notes/photo no label: a line `file notes/photo LABEL < files/notes/photo`', done.stderr)
+        with open(self.path('out/index'), 'a', encoding='utf-8') as file:
+            file.write('below notes {ann}/{}\n')
+        self.file('t', self.tool('world.py', 'pack', 'out').stdout)
+        self.assertIn('file notes/photo {ann}/{} hex 89504e47\n', self.read('t'))
+        self.assertEqual(json.loads(self.tool('world.py', 'make', 't').stdout)['version'], 3)
+        os.symlink('/etc/passwd', self.path('out/files/notes/link'))
+        self.assertIn('is neither a file nor a folder', self.tool('world.py', 'pack', 'out').stderr)
 
     def test_texts_are_escaped(self):
         self.file('s', 'file f {}/{} "\\u009b\\u202e"\nthread main()\n')

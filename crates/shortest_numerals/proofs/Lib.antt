@@ -1,0 +1,2 @@
+pub mod OneLength
+pub mod Readings
