@@ -21,7 +21,7 @@ use Rattle.world_doc_terms.specs.declared.breaks.WorldBreak.TheVariants.{NotJson
 use Rattle.lam_main_replay.specs.declared.report.Report.{Report}
 use Rattle.lam_main_replay.specs.Halts.{refuses, Reports}
 use Rattle.lam_main.specs.Ends.{Ends}
-use Rattle.lam_main.specs.Lines.{Prints, ended}
+use Rattle.lam_main_print.specs.Lines.{Prints, ended}
 
 -- the statuses that no plan has
 pub record IsPlain (status : Status) : Type 0 where

@@ -1,4 +1,3 @@
-pub mod PrintLemmas
 pub mod EndLemmas
 pub mod WordLemmas
 pub mod DoneLemmas

@@ -9,7 +9,7 @@
 //! - `lam_main_words` tells which command is asked.
 //! - `lam_main_replay`, `lam_main_threads`, `lam_main_pair`, `lam_main_next` and `lam_main_walk` read the files that it
 //!   names, run its threads and make its text.
-//! - `print` prints that, or the line of a refusal.
+//! - `lam_main_print` prints that, or the line of a refusal.
 //!
 //! The program `lam` calls it with the current folder and standard output, and tests with a store and a stream in
 //! memory (`lam_io`).
@@ -18,8 +18,6 @@
 //! the printed text passes its limit at no token, and its length does not pass that of a program file. docs/LANGUAGE.md
 //! has both, and how far a text can grow.
 #![tactic(auto)]
-
-mod print;
 
 ghost use Rattle.std.specs.Prelude.{◌≡◌, ◌≢◌, false, [], None, Ok, Err, IsErr, IfErr, map, string_bytes, IsTrue};
 ghost use Rattle.lam_io.specs.Outside.{Rose, AllStay, Took};
@@ -40,9 +38,8 @@ ghost use Rattle.lam_main_laws.specs.Walks.{WalksAreTold};
 ghost use Rattle.lam_main_replay.specs.Halts.{Says, Gives, Reports};
 ghost use Rattle.lam_main_threads.specs.Asked.{reader_of};
 ghost use Rattle.lam_main.specs.Ends.{Ends};
-ghost use Rattle.lam_main.specs.Lines.{ended};
+ghost use Rattle.lam_main_print.specs.Lines.{ended};
 
-use crate::print::{print_refusal, print_text};
 use lam_io::{Gate, Shelf, Sink, SinkFault};
 use lam_main_laws::{
     audits_are_printed, broken_makes_are_recorded, broken_runs_are_recorded, calls_run_as_meant,
@@ -54,6 +51,7 @@ use lam_main_laws::{
 use lam_main_next::next;
 use lam_main_pair::pair;
 pub use lam_main_plan::Status;
+use lam_main_print::{print_refusal, print_text};
 use lam_main_replay::{Halt, Refusal, Report, check, code, done, format, play};
 use lam_main_threads::{Bounds, Reader, RunFiles, ThreadFiles, make, replay, run};
 use lam_main_walk::walk;

@@ -1,0 +1,106 @@
+-- A base has no integrity, so what is public flows to it.
+use Rattle.std.proofs.Common.{◌≡◌, ℕ, zero, suc, ◌+◌, ◌&&◌, true, false, Bool, cond, if◌then◌else◌, nat_eq, List, [], ◌∷◌, length, take, drop, Option, Some, None, Result, Ok, Err, find, codes, slice_get, refl, sym, ap, subst, ◌∙◌, arith}
+use Rattle.std.proofs.lemmas.Bool.{and_parts}
+use Rattle.std.proofs.Math.Bool.{true≢false}
+use Rattle.std.proofs.lemmas.Slice.Eq.{bytes_eq-Decides}
+use Rattle.std.specs.Cmp.{nat_cmp, nat_cmp_total}
+use Rattle.std.specs.FinSet.{empty, from_list, is_subset, contains-is_subset, contains-empty}
+use Rattle.flow_labels.specs.Tags.{Tags}
+use Rattle.flow_labels.specs.Flow.{flows, public_label}
+use Rattle.flow_labels.specs.LabelText.{label_of, label_or}
+use Rattle.flow_labels.specs.Reading.{bad_place, words, first_end, tags_of_names, sets_of, sets_in, ◌>>=◌}
+use Rattle.flow_labels.specs.declared.Label.{Label}
+use Rattle.flow_labels.specs.declared.two_lists.Form.TheVariants.{Label as label_form}
+use Rattle.flow_labels.specs.declared.two_lists.TwoSets.{TwoSets}
+use Rattle.lam_machine_laws.proofs.FlowLemmas.{and_true}
+use Rattle.lam_main_words.specs.Words.{Text, word}
+use Rattle.lam_closed_words.specs.declared.Kind.{Kind}
+use Rattle.lam_closed_words.specs.declared.Kind.TheVariants as kind
+use Rattle.lam_closed_words.specs.declared.Form.{Form}
+use Rattle.lam_closed_words.specs.declared.Form.TheVariants as form
+use Rattle.lam_closed_words.specs.Words.{Request, run, check, help, has_no_integrity, fits, kinds, forms, agreed, is_in, request_in, request_of}
+
+-- ---- the words of a form fit it
+
+nat_same : (a b : ℕ) → nat_eq a b ≡ true → a ≡ b
+nat_same a b e = omega (arith, e)
+
+fits_at : (ks : List Kind) (ws : List Text) (i : ℕ) (k : Kind) → agreed ks ws ≡ length ks → slice_get ks i ≡ Some k → fits k (word ws i) ≡ true
+fits_at [] ws i k e at = absurd cc
+fits_at (x ∷ ks) [] i k e at = absurd (let n : 0 ≡ length ks + 1 = e ∙ refl in omega (arith, n))
+fits_at (x ∷ ks) (w ∷ ws) i k e at = go (fits x w) refl i e at
+  where
+    go : (b : Bool) → fits x w ≡ b → (j : ℕ) → (if b then 1 + agreed ks ws else 0) ≡ length (x ∷ ks) → slice_get (x ∷ ks) j ≡ Some k → fits k (word (w ∷ ws) j) ≡ true
+    go true f zero e at = subst (λ (y : Kind). fits y w ≡ true) (let same : x ≡ k = cc in same) f
+    go true f (suc j) e at = fits_at ks ws j k (omega (arith, e)) at
+    go false f j e at = absurd (omega (arith, e))
+
+in_form : (ws : List Text) (f : Form) (i : ℕ) (k : Kind) → is_in ws f ≡ true → slice_get (kinds f) i ≡ Some k → fits k (word ws i) ≡ true
+in_form ws f i k e at = fits_at (kinds f) ws i k (nat_same _ _ (and_parts _ _ e).0) at
+
+based : (ws : List Text) (f : Form) (i : ℕ) → is_in ws f ≡ true → slice_get (kinds f) i ≡ Some kind.Base → has_no_integrity (word ws i) ≡ true
+based ws f i e at = (and_parts _ _ (in_form ws f i kind.Base e at)).1
+
+-- ---- what holds of each form that the words are in holds of the one that is found
+
+abbrev Each : {A : Type 0} → (A → Type 0) → List A → Type 0
+Each P [] = Unit {0}
+Each P (x ∷ xs) = P x × Each P xs
+
+module _ {A : Type 0} (P : Option A → Type 0) (p : A → Bool) (none : P None) where
+  of_test : (b : Bool) (x : A) (o : Option A) → p x ≡ b → (p x ≡ true → P (Some x)) → P o → P (cond b (Some x) o)
+  of_test true x o e h k = h e
+  of_test false x o e h k = k
+
+  of_found : (xs : List A) → Each (λ x. p x ≡ true → P (Some x)) xs → P (find p xs)
+  of_found [] h = none
+  of_found (x ∷ xs) h = of_test (p x) x (find p xs) refl h.0 (of_found xs h.1)
+
+-- the base of a request has no integrity
+abbrev pub HasOpenBase : Result Request ℕ → Type 0
+HasOpenBase (Ok (run program world observer out base turns)) = has_no_integrity base ≡ true
+HasOpenBase (Ok (check program world book base)) = has_no_integrity base ≡ true
+HasOpenBase (Ok help) = Unit {0}
+HasOpenBase (Err at) = Unit {0}
+
+pub open_base : (ws : List Text) → HasOpenBase (request_of ws)
+open_base ws =
+    of_found (λ o. HasOpenBase (request_in ws o)) (is_in ws) tt forms
+    (λ e. refl, (λ e. based ws form.RunOnBase 6 e refl, (λ e. refl, (λ e. based ws form.RunOfBoth 6 e refl, (λ e. refl, (λ e. based ws form.CheckOnBase 5 e refl, (λ e. tt, tt)))))))
+
+-- ---- a label without integrity
+
+-- behind the first list stand no names
+no_words : (w : Text) (at : ℕ) → has_no_integrity w ≡ true → words (drop (first_end w) w) [] at ≡ []
+no_words w at e = ap (λ (rest : Text). words rest [] at) ((bytes_eq-Decides (drop (first_end w) w) (codes "}/{}")).0 e)
+
+abbrev NoIntegrity : Result TwoSets ℕ → Type 0
+NoIntegrity (Ok sets) = sets.second ≡ empty
+NoIntegrity (Err at) = Unit {0}
+
+no_second : (read : Result (List ℕ) ℕ) → NoIntegrity (read >>= λ s. (Ok [] >>= λ i. Ok (let sets : TwoSets = record { first = from_list s; second = from_list i } in sets)))
+no_second (Ok s) = refl
+no_second (Err at) = tt
+
+read_sets : (names : List Text) (w : Text) → has_no_integrity w ≡ true → NoIntegrity (sets_in names w)
+read_sets names w e =
+    subst (λ (second : List (ℕ × Text)). NoIntegrity (sets_of names (words (take (first_end w) w) [] 0) second)) (sym (no_words w (first_end w) e))
+    (no_second (tags_of_names names (words (take (first_end w) w) [] 0)))
+
+by_sets : (bad : Option ℕ) (read : Result TwoSets ℕ) (b : Label) → NoIntegrity read → label_or bad read ≡ Ok b → b.i ≡ empty
+by_sets (Some at) read b h is = absurd (let no : ⊥ = cc in no)
+by_sets None (Ok sets) b h is = let same : (let l : Label = record { s = sets.first; i = sets.second } in l) ≡ b = cc in sym (ap (λ (l : Label). l.i) same) ∙ h
+by_sets None (Err at) b h is = absurd (let no : ⊥ = cc in no)
+
+without_integrity : (names : List Text) (w : Text) (b : Label) → has_no_integrity w ≡ true → label_of names w ≡ Ok b → b.i ≡ empty
+without_integrity names w b e is = by_sets (bad_place label_form w) (sets_in names w) b (read_sets names w e) is
+
+nothing_in : (i : Tags) → is_subset empty i ≡ true
+nothing_in i = contains-is_subset nat_cmp_total empty i (λ q h. absurd (true≢false (sym h ∙ contains-empty nat_cmp q)))
+
+public_flows : (b : Label) → b.i ≡ empty → flows public_label b ≡ true
+public_flows b e = and_true (is_subset empty b.s) (is_subset b.i empty) (nothing_in b.s) (subst (λ (i : Tags). is_subset i empty ≡ true) (sym e) (nothing_in empty))
+
+-- what is public flows to the base that a text without integrity spells
+pub text_is_open : (names : List Text) (w : Text) (b : Label) → has_no_integrity w ≡ true → label_of names w ≡ Ok b → flows public_label b ≡ true
+text_is_open names w b e is = public_flows b (without_integrity names w b e is)

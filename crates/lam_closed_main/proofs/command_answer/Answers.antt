@@ -1,0 +1,23 @@
+use Rattle.std.proofs.Common.{string_bytes, sym, subst}
+use Rattle.lam_io.specs.Outside.{Rose}
+use Rattle.closed_terms.specs.declared.End.{End}
+use Rattle.lam_main_plan.specs.Refusals.{prints}
+use Rattle.lam_main_plan.specs.Reading.{WithFile, program_limit}
+use Rattle.lam_main_plan.specs.Replays.{Reader}
+use Rattle.lam_main_replay.specs.declared.halt.Halt.TheVariants.{ShelfFailed}
+use Rattle.lam_closed_words.specs.Words.{commands, help_lines}
+use Rattle.lam_closed_plan.specs.Closes.{Closes}
+use Rattle.lam_closed_plan.specs.Checks.{Checks}
+use Rattle.lam_closed_rooms.specs.Reports as rooms
+use Rattle.lam_closed_main.proofs.ReportLemmas.{run_reported, reported, help_reported, halted, spared}
+use Rattle.lam_closed_main.proofs.command_answer.Goals as goal
+
+pub returns-in-Run-clause-gives : goal.returns-in-Run-clause-gives
+returns-in-Run-clause-gives g c = λ told.
+    let files = g.H.Shelf.files c.args.shelf.now in
+    let new = g.H.Shelf.files c.run.new.shelf in
+    let program = string_bytes c.in-Run.program in
+    let Of = λ (r : Reader) (e : End). WithFile (files program) program program_limit (Closes files (record { world = string_bytes c.in-Run.world; out = string_bytes c.in-Run.book_out }) (record { reader = r; base = string_bytes c.in-Run.base; turns = c.in-Run.turns }) e) in
+    rw c.in-Run.is
+    (run_reported c.run.result _ files new
+    (subst (λ (r : Reader). rooms.Reports c.run.result (Of r) files new) c.observer-reader.ensures (c.run.ensures.gives told)))
