@@ -30,7 +30,7 @@ module _ (ws : List Text) (files : Files) (code : CodeTree) (start : World) (b :
   check_planned =
       let p : refusals.Plan = refusals.prints text in
       let run : RunFiles = record { world = a.world; book = a.book } in
-      let Over = λ x. WithRun files a.book code start (IsOfDeparture code start x) in
+      let Over : Label → refusals.Plan → Type 0 = λ x. WithRun files a.book code start (IsOfDeparture code start x) in
       subst (λ (request : Result Request ℕ). IsPlanOf request files (prints text)) (sym a.asks) (record {
         of_lam = p;
         is =
