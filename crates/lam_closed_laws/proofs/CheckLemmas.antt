@@ -1,5 +1,5 @@
 -- From what files hold to what `check` tells.
-use Rattle.std.proofs.Common.{◌≡◌, ℕ, List, Result, Ok, refl, sym, subst}
+use Rattle.std.proofs.Common.{ℕ, List, Result, refl, sym, subst}
 use Rattle.flow_labels.specs.LabelText.{label_of}
 use Rattle.flow_labels.specs.declared.Label.{Label}
 use Rattle.lam_io.specs.Outside.{Files}

@@ -1,5 +1,5 @@
 -- From a plan of words and files to the closed run that it is of, and back.
-use Rattle.std.proofs.Common.{◌≡◌, ℕ, true, List, Some, Result, Ok, Err, refl, sym, ap, subst, ◌∙◌}
+use Rattle.std.proofs.Common.{◌≡◌, ℕ, true, List, Result, Ok, Err, refl, sym, ap, subst, ◌∙◌}
 use Rattle.flow_labels.specs.Flow.{flows, public_label}
 use Rattle.flow_labels.specs.LabelText.{label_of}
 use Rattle.flow_labels.specs.declared.Label.{Label}
@@ -7,11 +7,10 @@ use Rattle.flow_labels.specs.declared.texts.LabelFault.{LabelFault}
 use Rattle.lam_io.specs.Outside.{Files}
 use Rattle.lam_bytecode.specs.Codes.{CodeTree}
 use Rattle.lam_machine_terms.specs.Worlds.{World}
-use Rattle.lam_machine_terms.specs.Turns.{Moment, moments}
+use Rattle.lam_machine_terms.specs.Turns.{Moment}
 use Rattle.audit_log.specs.Log.{view_lines}
 use Rattle.world_doc_terms.specs.Start.{start_of}
 use Rattle.closed_terms.specs.declared.End.{End}
-use Rattle.closed_terms.specs.Ends.{IsEnded}
 use Rattle.closed_laws.specs.Once.{EndsOnce}
 use Rattle.lam_main_words.specs.Words.{Text}
 use Rattle.lam_main_plan.specs.declared.Status.{Status as LamStatus}
@@ -27,7 +26,7 @@ use Rattle.lam_main_laws.specs.Headline.{IsRunEnd as IsLamEnd}
 use Rattle.lam_main_laws.proofs.PlanLemmas.{of_bytes, of_code, of_reader, file_there, code_there, start_there, label_there}
 use Rattle.lam_main_laws.proofs.PairLemmas.{of_start}
 use Rattle.lam_closed_words.specs.Words.{Request, run, request_of}
-use Rattle.lam_closed_plan.specs.Outcome.{Plan, ended, ended_plan, EndsSo}
+use Rattle.lam_closed_plan.specs.Outcome.{Plan, ended, ended_plan}
 use Rattle.lam_closed_plan.specs.Closes.{Asked, base_word, shows_turns, IsOfClosed, ClosesOver, ClosesFrom, ClosesCode, Closes}
 use Rattle.lam_closed_plan.specs.Plan.{IsPlan, IsPlanOf}
 use Rattle.lam_closed_laws.specs.Asks.{AsksRun, IsRunEnd}
