@@ -1,11 +1,11 @@
-//! Worked calls of the tool, as data.
+//! Worked calls of the tool's two programs, as data.
 //!
 //! The program makes each call that a line of the file `calls` asks, over the files beside it, and prints what a
-//! terminal would show. A line of `calls` is what stands at a terminal: `lam` and the words of the call, each after one
-//! space, so that a second space begins an empty word. It is printed after `$ `, then what the call prints, and then
-//! the number of its status. A line `cat NAME` is printed so, too, and then the text of that file and the end of a
-//! line. A line that is empty or begins with `#` is printed as it is. The calls are made from the first to the last, so
-//! that one can read the book that another has written.
+//! terminal would show. A line of `calls` is what stands at a terminal: `lam` or `lam_closed`, and the words of the call,
+//! each after one space, so that a second space begins an empty word. It is printed after `$ `, then what the call
+//! prints, and then the number of its status. A line `cat NAME` is printed so, too, and then the text of that file and
+//! the end of a line. A line that is empty or begins with `#` is printed as it is. The calls are made from the first to
+//! the last, so that one can read the book that another has written.
 //!
 //! The program ends with 0 where it made each call, however these ended, and else with the status of what failed.
 #![tactic(auto)]
@@ -19,6 +19,9 @@ use std::thread::Threads;
 
 /// The name of the file of the calls.
 const CALLS: &str = "calls";
+
+/// How a line begins that calls the program of the closed schedule.
+const CLOSED: &str = "lam_closed";
 
 /// The greatest length of a file that is read here.
 const LONGEST: u64 = 1_048_576;
@@ -94,8 +97,12 @@ fn make_call<R: Threads + Wait + Sync + AllocGlobal, H: Shelf, O: Sink>(
     print(out, line)?;
     print(out, "\n")?;
     let words = words_of(rt.alloc(), line)?;
-    let status = lam_main::lam(rt, rt.alloc(), words.as_slice(), shelf, out, &OpenGate);
-    print_status(rt.alloc(), out, status)
+    let number = if line.starts_with(CLOSED) {
+        lam_closed_main::lam_closed(rt.alloc(), words.as_slice(), shelf, out).code()
+    } else {
+        lam_main::lam(rt, rt.alloc(), words.as_slice(), shelf, out, &OpenGate).code()
+    };
+    print_status(rt.alloc(), out, number)
 }
 
 /// The words of a call: those of its line after the first, which is the program's name.
@@ -112,8 +119,8 @@ fn words_of(alloc: Global, line: &str) -> Result<Vec<String>, Status> {
 }
 
 /// Prints the number of a status, in a line.
-fn print_status<O: Sink>(alloc: Global, out: &mut O, status: Status) -> Result<(), Status> {
-    match format!(in alloc; "status {}\n", status.code()) {
+fn print_status<O: Sink>(alloc: Global, out: &mut O, number: u8) -> Result<(), Status> {
+    match format!(in alloc; "status {}\n", number) {
         Ok(line) => print(out, line.as_str()),
         Err(AllocError) => Err(Status::NoMemory),
     }
