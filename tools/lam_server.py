@@ -10,6 +10,7 @@ reading of the language. Where the program `lam` is built (that of LAM_PROGRAM, 
 `lam check` too, while nothing else is to be done, and tells its refusal where it is another one. tools/editor/README.md
 sets up editors.
 """
+from lam_source import early    # pylint: disable=unused-import,wrong-import-order
 import queue
 import sys
 import threading
@@ -207,18 +208,19 @@ class Server:
 
     def asked(self, uri, text):
         """What a thread of its own does: its result comes by the inbox."""
+        lam, line = None, None
         try:
             lam = program.found()
             line = diagnosing.refusal_of(text, lam) if lam else None
-        except OSError:
-            line = None
-        self.inbox.put(lambda: self.answered(uri, text, line))
+        except (OSError, UnicodeError):
+            pass        # then the program has no word
+        self.inbox.put(lambda: self.answered(uri, text, line, bool(lam)))
 
-    def answered(self, uri, text, line):
+    def answered(self, uri, text, line, is_built):
         self.asking = None
-        if line is None:
+        if not is_built:
             self.say_once()
-        elif uri in self.texts.open and self.texts.open[uri].text == text:
+        elif line is not None and uri in self.texts.open and self.texts.open[uri].text == text:
             whole = self.texts.open[uri]
             told = faults.of_document(whole)
             if line != (told[0].line(text) if told else ''):
@@ -354,7 +356,7 @@ class Server:
         for fault in faults.of_document(whole) if whole else ():
             if fault.at is not None and fault.at <= end and start <= fault.end:
                 told = diagnosing.of_fault(whole, fault)
-                found += [self.action(params, told, fix) for fix in fixing.fixes_of(whole, fault)]
+                found += [self.action(params, told, fix) for fix in fixing.fixes_of(fault)]
         return found
 
     def action(self, params, told, fix):

@@ -5,8 +5,9 @@ Usage: tools/share.py P W OBS -o BOOK --share N --rounds M
 
 P is a program, W a world, OBS the label of an observer. In each round each thread takes one turn that OBS sees, or up to
 N turns that it does not see. A thread that goes out of the observer's sight takes its next visible turn M rounds later;
-where it is not back by then it is late, and has M rounds more. Rounds in which nobody can take a turn are passed over. The run is written to BOOK, and a line says how many
-turns and rounds it has, how often a thread went out of sight, and how often one was late.
+where it is not back by then it is late, and has M rounds more. Rounds in which nobody can take a turn are passed over. The
+run is written to BOOK, and a line says how many turns and rounds it has, how often a thread went out of sight, and how often
+one was late.
 """
 from lam_source import early    # pylint: disable=unused-import,wrong-import-order
 import argparse

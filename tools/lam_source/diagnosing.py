@@ -25,15 +25,15 @@ def of_fault(whole, it):
 
 
 def refusal_of(text, lam):
-    """The line by which the program refuses a text, or an empty text."""
-    said, status = program.called(lam, 'check', '/dev/stdin', given=text.encode(errors='replace'))
-    return said.decode(errors='replace').strip() if status == 3 else ''
+    """The line by which the program refuses a text, an empty one where it does not, and None where it cannot say."""
+    said, status = program.called(lam, 'check', '/dev/stdin', given=text.encode())
+    return {0: '', 3: said.decode(errors='replace').strip()}.get(status)
 
 
 def of_refusal(whole, line):
     """The refusal of the program as a fault of its own; this reading of the language has told another one first."""
     at = re.fullmatch(r'lam: 3 (\w+) at (\d+)', line)
-    place = len(whole.text.encode(errors='replace')[:int(at[2])].decode(errors='replace')) if at else 0
+    place = len(whole.text.encode()[:int(at[2])].decode(errors='replace')) if at else 0
     return found(whole.positions, place, faults.end_of(whole.text, place), f'{line[7:]}\nso says the program', line[7:].split()[0])
 
 
@@ -54,12 +54,8 @@ def of_world(positions, path, name, whole):
 
     `name` is the file of its program, and `whole` the document of that; both are None where it is not known."""
     is_document = positions.text.lstrip().startswith('{')
-    last = re.search(r'"version"\s*:\s*3\b', positions.text)
-    if not (is_document and last):
-        told = faults_by_tool(positions, path, is_document, name, whole)
-        if told or not is_document:
-            return told
-    return refused_start(positions, whole)
+    told = faults_by_tool(positions, path, is_document, name, whole)
+    return told or (refused_start(positions, whole) if is_document else [])
 
 
 def faults_by_tool(positions, path, is_document, name, whole):

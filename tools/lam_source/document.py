@@ -2,7 +2,7 @@
 
 A line that begins with `fn` or `class` begins an item whatever stands before it, since no token goes over a line's end. So
 the text is cut into chunks there. Each is read alone, with places from its own beginning, and kept until it changes. What is
-known of a chunk's types is kept until the head of an item changes, in whichever chunk."""
+known of a chunk's types is kept until the head of an item changes that it names, or that such a head names."""
 import bisect
 import re
 import sys
@@ -24,14 +24,14 @@ class Chunk:
         self.starts = [it.at for it in self.tokens]
         reader = recovering.Reader(text, self.tokens)
         self.items, self.broken, self.unread = reader.program(), reader.faults, reader.unread
+        for broken in self.broken:
+            broken.chunk = self
+        self.names = {it.text for it in self.tokens if it.kind == 'name'}
         for item in self.items:
-            item.chunk = self
-        self.heads = tuple(map(self.head_of, self.items)) + tuple(it.text for it in self.unread)
+            end = item.end if item.kind == 'class' else item.body.at
+            item.chunk, item.head = self, self.text[item.at:end]
+            item.names_of_head = {it.text for it in self.tokens if it.kind == 'name' and item.at <= it.at < end}
         self.regions = sum(it.text == 'region' and it.kind == 'word' for it in self.tokens)
-
-    def head_of(self, item):
-        end = item.end if item.kind == 'class' else item.body.at
-        return item.at, self.text[item.at:end]
 
     def tokens_at(self, at):
         """The tokens that a place touches, at most two."""
@@ -43,6 +43,27 @@ def cuts_of(text):
     """Where chunks begin, and the words with which they begin."""
     found = [(it.start(1), it[1]) for it in BEGINS.finditer(text)]
     return found if found and found[0][0] == 0 else [(0, ''), *found]
+
+
+def heads_of(typing):
+    """By each name that is declared: the heads of its items, and the names in them."""
+    found = {name: (('unread',), ()) for name in typing.unread}
+    for table in (typing.classes, typing.functions):
+        for name, item in table.items():
+            heads, names = found.get(name, ((), ()))
+            found[name] = (*heads, item.head), {*names, *item.names_of_head}
+    return found
+
+
+def reached(names, heads):
+    """The heads that these names lead to, by their names."""
+    found, left = {}, [name for name in names if name in heads]
+    while left:
+        name = left.pop()
+        if name not in found:
+            found[name], more = heads[name]
+            left += [it for it in more if it in heads and it not in found]
+    return found
 
 
 class Document:
@@ -94,10 +115,10 @@ class Document:
         typing.declare_all()
         typing.declaring, typing.found = typing.found, []
         count, many = 0, sum(chunk.regions for chunk in self.chunks) > MOST_REGIONS
-        heads = tuple(chunk.heads for chunk in self.chunks)
+        heads = heads_of(typing)
         typing.keys = {}
         for chunk in self.chunks:
-            typing.keys[chunk] = heads, count if many else 0
+            typing.keys[chunk] = reached(chunk.names, heads), count if many else 0
             count += chunk.regions
         return typing
 

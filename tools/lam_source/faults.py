@@ -74,6 +74,7 @@ def of_breaks(whole, breaks):
     def line(item, at):
         return whole.line(item.chunk.base + at)
     for broken in breaks[:MOST]:
+        broken.typing = whole.typing        # that it is kept from an earlier text does not show in its words
         at = broken.item.chunk.base + broken.at
         yield Found(broken.kind, at, end_of(whole.text, at), wording.of_types(broken.item.chunk.text, broken, line), broken)
 
@@ -84,7 +85,7 @@ def too_long(whole):
         words = [it.text for it in chunk.tokens]
         most = 4 * len(words) + 2 * words.count('return') * min(words.count('sync'), 128)
         if most > LONGEST_UNIT:
-            units = code.Code(whole.text).units
+            units = code.Code(whole.text, legal=whole.items).units
             long = next((it.number for it in units if len(it.ops) > LONGEST_UNIT), None)
             return [] if long is None else [Found('CodeTooLong', None, None, [], unit=long)]
     return []

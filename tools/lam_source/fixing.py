@@ -11,7 +11,7 @@ class Fix:
         self.title, self.edits = title, edits
 
 
-def fixes_of(whole, found):
+def fixes_of(found):
     """The quick fixes of a fault."""
     broken = found.broken
     if broken is None:
@@ -20,11 +20,11 @@ def fixes_of(whole, found):
         return [Fix(f'Write {name}', (found.at, found.at + len(broken.name), name)) for name in wording.near(
             broken.item.chunk.text, broken)]
     if found.kind == 'OuterRead':
-        return [taken_along(whole, broken)]
-    return of_token(whole, found) if found.kind == 'Unexpected' else []
+        return [taken_along(broken)]
+    return of_token(found) if found.kind == 'Unexpected' else []
 
 
-def taken_along(whole, broken):
+def taken_along(broken):
     """A name is added to the `[ ]` of each region that lacks it."""
     chunk, edits = broken.item.chunk, []
     base = broken.item.chunk.base
@@ -35,11 +35,10 @@ def taken_along(whole, broken):
     return Fix(f'Add {broken.name} to {lists}', *edits)
 
 
-def of_token(whole, found):
+def of_token(found):
     """What helps where a token cannot stand."""
-    chunk, broken = whole.chunk_at(found.at), found.broken
-    if broken.index >= len(chunk.tokens) or chunk.tokens[broken.index] is not broken.token:
-        chunk = whole.chunks[max(0, whole.chunks.index(chunk) - 1)]      # it is the end of the chunk before
+    broken = found.broken
+    chunk = broken.chunk
     here = wording.Here(chunk.text, chunk.tokens, broken.index)
     end = chunk.base + here.before.end if broken.index else found.at
     if broken.wanted == ['catch']:

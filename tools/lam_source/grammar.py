@@ -12,6 +12,7 @@ TYPES = ['int', 'bool', 'bytes', 'tag', 'label', 'caps', 'file', 'dir', 'pipe', 
 PIECES = re.compile(r'(?P<space>[ \t\r\n]+|//[^\n]*)|(?P<name>(?a:[A-Za-z_]\w*))|(?P<number>[0-9]+)'
                     r'|(?P<text>"(?:[^"\\\n]|\\.)*")|(?P<mark>==|!=|<=|>=|&&|\|\||[{}()\[\],;:.=<>+\-*/%!])')
 BINARY = [['||'], ['&&'], ['==', '!=', '<', '<=', '>', '>='], ['+', '-'], ['*', '/', '%']]
+OPERATORS = {op for ops in BINARY for op in ops}
 COMPARING = 2
 SORTS = {'name': ('a name',), 'number': ('a number',), 'text': ('a text',), 'end': ('the end of the program',)}
 DEEPEST = 128       # rules that are open in each other, with the operators that were read in them
@@ -289,17 +290,20 @@ class Reader:
         return self.between(0)
 
     def between(self, level):
-        """Operands with the operators of a level between them."""
-        if level == len(BINARY):
-            return self.unary()
-        left = self.between(level + 1)
-        while self.sees(*BINARY[level]):
+        """Operands with operators between them, of a level or of those that bind stronger."""
+        left, here = self.unary(), len(BINARY) - 1
+        while here >= level:
+            if self.tokens[self.at].text not in OPERATORS:      # the same as to look for each in turn
+                self.missed += reversed(BINARY[level:here + 1])
+                break
+            if not self.sees(*BINARY[here]):
+                here -= 1
+                continue
             op = self.go_on()
             self.depth += 1
-            right = self.between(level + 1)
+            right = self.between(here + 1)
             left = Node('binary', left.at, right.end, op=op.text, op_at=op.at, left=left, right=right)
-            if level == COMPARING:
-                break
+            here -= here == COMPARING
         return left
 
     @opened

@@ -143,12 +143,16 @@ def loaded(mark):
 
 # ---- short texts
 
+# The words of a line, as members of which list of a document.
+LINES = {'tag': ('tags', 'name', 'kind'), 'dir': ('tree', 'path', 'label', 'maker'), 'file': ('tree', 'path', 'label', 'maker'),
+         'pipe': ('pipes', 'name', 'label'), 'count': ('counts', 'maker', 'own'), 'below': ('below', 'path', 'label')}
+
+
 class Short:
     """The pieces of a short text: words of its lines, with paths as those of a document have them."""
 
     def __init__(self, text):
-        self.text, self.pieces, self.counts = text, [], {'tag': 0, 'dir': 0, 'file': 0, 'pipe': 0, 'thread': 0}
-        self.lines = list(re.finditer(r'[^\n]*', text))
+        self.text, self.pieces, self.counts = text, [], dict.fromkeys(('thread', *LINES), 0)
         at = 0
         for line in text.split('\n'):
             if not line.lstrip().startswith('#'):
@@ -168,10 +172,10 @@ class Short:
         if kind == 'thread':
             self.thread(line, start, words[0].end(), number)
             return
-        members = {'tag': ('tags', 'name', 'kind'), 'dir': ('tree', 'path', 'label'), 'file': ('tree', 'path', 'label'),
-                   'pipe': ('pipes', 'name', 'label')}[kind]
-        for word, member in zip(words[1:], members[1:]):
-            self.put(word[0], start + word.start(), (members[0], number, member))
+        of, *members = LINES[kind]
+        for word, member in zip(words[1:], members):
+            if member != 'maker' or word[0].startswith('{'):        # else it is a content
+                self.put(word[0], start + word.start(), (of, number, member))
 
     def thread(self, line, start, end, number):
         run = WORD.search(line, end)
@@ -214,8 +218,8 @@ class Short:
             path = ('threads', 0, 'caps', 'plus') if re.search(r'\)\s*\+', line) else \
                 ('threads', 0, 'args', 0, 'argument') if '(' in line else ('threads', 0, 'run')
             return Piece('', place, place, path)
-        member = {'tag': ['name', 'kind'], 'pipe': ['name', 'label']}.get(kind, ['path', 'label'])[min(len(words), 2) - 1]
-        return Piece('', place, place, ('tags' if kind == 'tag' else 'pipes' if kind == 'pipe' else 'tree', 0, member))
+        of, *members = LINES.get(kind, ('', ''))
+        return Piece('', place, place, (of, 0, members[min(len(words), len(members)) - 1]))
 
 
 def read(text):
@@ -286,7 +290,7 @@ def completions(world, at, program):
     tags = [(name, VARIABLE, kind) for name, kind in world.tags().items()]
     pipes = [(name, VARIABLE, label) for name, label in world.pipes().items()]
     if role in ('member', 'line'):
-        names = ['tag', 'dir', 'file', 'pipe', 'thread', 'hole'] if role == 'line' else MEMBERS.get(piece.names, [])
+        names = [*LINES, 'thread', 'hole'] if role == 'line' else MEMBERS.get(piece.names, [])
         return [(name, FIELD, None) for name in names]
     if role == 'run':
         items = program.typing.functions.values() if program else ()

@@ -12,7 +12,7 @@ class Typing(types.Typing):
 
     def breaks(self, kind, at, want=None, got=None, name=None):
         broken = Break(kind, at, want, got, name)
-        broken.item, broken.scopes, broken.typing = self.item, [dict(scope) for scope in self.scopes], self
+        broken.item, broken.scopes = self.item, [dict(scope) for scope in self.scopes]
         self.found.append(broken)
 
     def declare_item(self, item, kind, table):

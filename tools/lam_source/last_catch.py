@@ -33,17 +33,22 @@ class Words(argparse.ArgumentParser):
     def error(self, message):
         super().error(printable.name(message))
 
+    def print_help(self, file=None):
+        """argparse itself would pass over a device that is full."""
+        print(self.format_help(), end='', file=file)
+
 
 def ended(tool, main):
     """Runs a tool, and answers its status, or a text for standard error."""
     try:
         signal.signal(signal.SIGINT, signal.default_int_handler)
-        status = main()
+        try:
+            status = main()
+        except SystemExit as end:
+            status = end.code
         if sys.stdout:
             sys.stdout.flush()
         return status
-    except SystemExit as end:
-        return end.code
     except BrokenPipeError:
         return NO_READER
     except KeyboardInterrupt:

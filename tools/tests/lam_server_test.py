@@ -584,11 +584,12 @@ class Sessions(unittest.TestCase):
     def test_the_program_has_the_last_word(self):
         server = lam_server.Server(protocol.Channel(None, io.BytesIO()))
         server.texts.take('file:///none/x.lam', 'fn f() { }')
-        server.answered('file:///none/x.lam', 'fn f() { }', 'lam: 3 NoName at 3')
+        server.answered('file:///none/x.lam', 'fn f() { }', 'lam: 3 NoName at 3', True)
         self.assertIn(b'NoName at 3\\nso says the program', server.channel.sink.getvalue())
         before = server.channel.sink.getvalue()
-        server.answered('file:///none/x.lam', 'fn f() { }', '')
-        server.answered('file:///none/x.lam', 'fn g() { }', 'lam: 3 NoName at 3')
+        server.answered('file:///none/x.lam', 'fn f() { }', '', True)
+        server.answered('file:///none/x.lam', 'fn f() { }', None, True)
+        server.answered('file:///none/x.lam', 'fn g() { }', 'lam: 3 NoName at 3', True)
         self.assertEqual(server.channel.sink.getvalue(), before)
 
 

@@ -139,7 +139,7 @@ class Ends(InFolder):
 
     def test_wrong_words_steer_no_terminal(self):
         for words in (('share.py', 'p', 'w', '{}/{}', '-o', 'b', '--share', '1', '--rounds', '1\x1b[31m'), ('why.py', 'p', 'w', 'b', '--\x1b'),
-                      ('align.py', '--\x1b[31m'), ('timeline.py', 'p', 'w', 'b', 'o', 'x', '--\x1b'), ('paths.py', 'no\x1b\n')):
+                      ('align.py', 'p', 'w', 'b', 'v', '{}/{}', '-o', 'x', '--\x1b[31m'), ('timeline.py', 'p', 'w', 'b', 'o', 'x', '--\x1b'), ('paths.py', 'no\x1b\n')):
             done = self.tool(*words)
             self.assertIn(r'\x1b', done.stderr, words)
             self.assertIn(done.returncode, (1, 2), words)
@@ -152,7 +152,7 @@ class Ends(InFolder):
         words = ('p.lam', 'w', '{}/{}', '--lam', lam, '--share', '1', '--rounds', '99999999999')
         done = self.tool('share.py', *words, '-o', 'no\x1bwhere/b')
         self.assertEqual((done.returncode, done.stderr), (1, 'share: no\\x1bwhere/b could not be written: No such file or directory\n'))
-        self.assertEqual(self.tool('share.py', *words, '-o', 'b').stdout, '3 turns in 3 rounds; times out of sight: 0, late: 0\n')
+        self.assertEqual(self.tool('share.py', *words, '-o', 'b').stdout, '2 turns in 2 rounds; times out of sight: 0, late: 0\n')
         done = self.tool('align.py', 'p.lam', 'w', 'b', 'w', '{}/{}', '--lam', lam, '-o', 'b')
         self.assertEqual((done.returncode, done.stderr), (1, 'align: b is the first book, and would be written over\n'))
 
