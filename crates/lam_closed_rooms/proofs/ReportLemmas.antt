@@ -6,7 +6,7 @@ use Rattle.lam_machine_terms.specs.Worlds.{World}
 use Rattle.world_doc_terms.specs.Start.{start_of}
 use Rattle.closed_terms.specs.declared.End.{End}
 use Rattle.lam_main_words.specs.Words.{Text}
-use Rattle.lam_main_replay.specs.declared.Status.TheVariants.{Done}
+use Rattle.lam_main_replay.specs.Status.TheVariants.{Done}
 use Rattle.lam_main_replay.specs.Refusals.{Plan}
 use Rattle.lam_main_replay.specs.Reading.{HasFile, WithFile, Never, Compiles, IsRunCode, program_limit, world_limit}
 use Rattle.lam_main_replay.specs.Replays.{NoStart}

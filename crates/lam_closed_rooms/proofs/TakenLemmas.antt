@@ -19,7 +19,7 @@ use Rattle.closed_terms.specs.Schedule.{first_slot, after, IsClosed}
 use Rattle.closed_terms.specs.Ends.{IsEnded}
 use Rattle.closed_laws.specs.Once.{EndsOnce}
 use Rattle.lam_main_words.specs.Words.{Text}
-use Rattle.lam_main_replay.specs.declared.Status.TheVariants.{Done}
+use Rattle.lam_main_replay.specs.Status.TheVariants.{Done}
 use Rattle.lam_main_replay.specs.Refusals.{Plan}
 use Rattle.lam_main_replay.specs.Reading.{Never}
 use Rattle.lam_main_replay.specs.Replays.{read_by, ByReader}

@@ -3,7 +3,7 @@ use Rattle.std.specs.Prelude.{◌≡◌, Option, Result, Ok, Err, string_bytes}
 use Rattle.lam_io.specs.Outside.{Files, AllStay}
 use Rattle.closed_terms.specs.declared.End.{End}
 use Rattle.lam_main_words.specs.Words.{Text}
-use Rattle.lam_main_replay.specs.declared.Status.TheVariants.{Done}
+use Rattle.lam_main_replay.specs.Status.TheVariants.{Done}
 use Rattle.lam_main_replay.specs.Refusals.{Plan}
 use Rattle.lam_main_replay.specs.Answer.{IsWritten}
 use Rattle.lam_main_replay.specs.declared.halt.Halt.{Halt}

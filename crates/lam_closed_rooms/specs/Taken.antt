@@ -3,7 +3,7 @@ use Rattle.std.specs.Prelude.{◌≡◌, ℕ, List, Some, Result, Ok, Err, strin
 use Rattle.turn_book.specs.Book.{book}
 use Rattle.closed_terms.specs.declared.End.{End}
 use Rattle.lam_main_words.specs.Words.{Text}
-use Rattle.lam_main_replay.specs.declared.Status.TheVariants.{Done}
+use Rattle.lam_main_replay.specs.Status.TheVariants.{Done}
 use Rattle.lam_main_replay.specs.Refusals.{Plan}
 use Rattle.lam_main_replay.specs.declared.halt.Halt.{Halt}
 use Rattle.lam_main_replay.specs.declared.halt.Halt.TheVariants.{Refused, NoMemory, ShelfFailed}

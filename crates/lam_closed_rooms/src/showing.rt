@@ -17,6 +17,7 @@ use flow_labels::Label;
 use guarded_code::Verified;
 use lam_main_replay::{Halt, NamedViewer, let_go_world, read_label, viewer_of};
 use std::alloc::Global;
+use thread_host_run::let_go_verified;
 use turn_book::write_book;
 use want_of_memory::NoMemory;
 
@@ -106,7 +107,7 @@ fn with_book(alloc: Global, parts: RunParts, end: End, text: String) -> Result<T
 {
     let RunParts { code, start, turns } = parts;
     let_go_world(start);
-    drop(code);
+    let_go_verified(code);
     let book = write_book(alloc, turns.as_slice())?;
     Ok(Taken { end, text, book })
 }
