@@ -98,9 +98,11 @@ fn make_call<R: Threads + Wait + Sync + AllocGlobal, H: Shelf, O: Sink>(
     print(out, "\n")?;
     let words = words_of(rt.alloc(), line)?;
     let number = if line.starts_with(CLOSED) {
-        lam_closed_main::lam_closed(rt.alloc(), words.as_slice(), shelf, out).code()
+        let status = lam_closed_main::lam_closed(rt.alloc(), words.as_slice(), shelf, out);
+        status.code()
     } else {
-        lam_main::lam(rt, rt.alloc(), words.as_slice(), shelf, out, &OpenGate).code()
+        let status = lam_main::lam(rt, rt.alloc(), words.as_slice(), shelf, out, &OpenGate);
+        status.code()
     };
     print_status(rt.alloc(), out, number)
 }
