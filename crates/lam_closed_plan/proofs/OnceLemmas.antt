@@ -1,5 +1,5 @@
 -- Words and files have at most one plan. A run ends by one end, and a refusal is the same whatever the end would be.
-use Rattle.std.proofs.Common.{◌≡◌, ◌≤◌, ℕ, List, length, Option, Some, None, Result, Ok, Err, refl, sym, ap, subst, ◌∙◌}
+use Rattle.std.proofs.Common.{◌≡◌, ℕ, List, Option, Some, None, Result, Ok, Err, refl, sym, ap, subst, ◌∙◌}
 use Rattle.flow_labels.specs.LabelText.{label_of}
 use Rattle.flow_labels.specs.declared.Label.{Label}
 use Rattle.flow_labels.specs.declared.texts.LabelFault.{LabelFault}
@@ -19,19 +19,18 @@ use Rattle.turn_book.specs.declared.BookFault.{BookFault}
 use Rattle.turn_book.specs.declared.BookFault.TheVariants.{BadHead, BadLine, SameThread, TooMany, NoMemory as no_memory_of_book}
 use Rattle.closed_terms.specs.declared.End.{End}
 use Rattle.closed_terms.specs.declared.End.TheVariants.{Done as all_ended}
-use Rattle.closed_terms.specs.Ends.{IsEnded}
 use Rattle.closed_laws.specs.Once.{EndsOnce}
 use Rattle.lam_main_words.specs.Words.{Text}
 use Rattle.lam_main_plan.specs.declared.Status.{Status as LamStatus}
 use Rattle.lam_main_plan.specs.declared.Status.TheVariants as lam
 use Rattle.lam_main_plan.specs.Refusals.{Plan as LamPlan, no_word, no_program, no_code, no_world, no_book, no_turn, absent, too_long}
-use Rattle.lam_main_plan.specs.Reading.{IsUnread, HasFile, WithFile, unread, of_file, program_limit, world_limit, book_limit, ByCode, Compiles, fine, broken, Thins}
+use Rattle.lam_main_plan.specs.Reading.{IsUnread, HasFile, WithFile, unread, of_file, program_limit, world_limit, book_limit, ByCode, fine, broken, Thins}
 use Rattle.lam_main_plan.specs.Replays.{RunFiles, an_observer, read_by, ByReader, ByWorld}
 use Rattle.lam_main_plan.specs.Threads.{ThreadFiles}
 use Rattle.lam_main_plan.specs.Books.{WithStart, WithRun, ByLabel, ByTurns, WhereReady}
 use Rattle.lam_main_plan.proofs.PlanLemmas.{one_bytes, unread_or_of_file, one_made}
 use Rattle.lam_closed_words.specs.Words.{Request, run, check, help, request_of}
-use Rattle.lam_closed_plan.specs.Outcome.{Plan, ended, ended_plan, EndsSo}
+use Rattle.lam_closed_plan.specs.Outcome.{Plan, ended, ended_plan}
 use Rattle.lam_closed_plan.specs.Closes.{observer_word, base_word, Asked, shows_turns, IsOfClosed, ClosesOver, ClosesFrom, ClosesCode, Closes}
 use Rattle.lam_closed_plan.specs.Checks as checks
 use Rattle.lam_closed_plan.specs.Plan.{IsPlanOf, PlansAreOne}

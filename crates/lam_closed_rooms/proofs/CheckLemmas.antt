@@ -1,5 +1,5 @@
 -- What is said of the turns of a book, one part after another.
-use Rattle.std.proofs.Common.{◌≡◌, ℕ, List, Option, Some, None, Result, Ok, Err, String, string_bytes, refl, sym, ap, subst, ◌∙◌}
+use Rattle.std.proofs.Common.{◌≡◌, ℕ, List, Option, None, Result, Ok, Err, String, string_bytes, refl, sym, ap, subst, ◌∙◌}
 use Rattle.std.specs.declared.alloc.Global.{Global}
 use Rattle.flow_labels.specs.LabelText.{label_of}
 use Rattle.flow_labels.specs.declared.Label.{Label}
@@ -22,7 +22,7 @@ use Rattle.lam_main_replay.specs.Books.{WithRun, ByLabel, NoTurns, WhereReady}
 use Rattle.lam_main_replay.proofs.ReadLemmas.{same_files, thin_program_then, no_thin_program_then}
 use Rattle.lam_main_replay.proofs.BookLemmas.{start_then, no_start_then, label_then, no_label_then, run_then, no_turns_then, ready_then, stop_then}
 use Rattle.lam_main_replay.specs.declared.halt.Halt.{Halt}
-use Rattle.lam_main_replay.specs.declared.halt.Halt.TheVariants.{Refused, NoMemory, ShelfFailed}
+use Rattle.lam_main_replay.specs.declared.halt.Halt.TheVariants.{ShelfFailed}
 use Rattle.lam_main_replay.specs.Halts.{Finds, Says, Gives}
 use Rattle.lam_main_replay.specs.Asked.{halt_of_run}
 use Rattle.lam_main_replay.proofs.FileLemmas.{says_map, not_found, gives_of}

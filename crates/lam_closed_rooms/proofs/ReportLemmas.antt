@@ -1,5 +1,5 @@
 -- What is reported after the parts that were read, and what became of the files.
-use Rattle.std.proofs.Common.{◌≡◌, ◌^◌, ℕ, Some, Result, Ok, Err, IfErr, string_bytes, refl, subst, sym, ap, ◌∙◌}
+use Rattle.std.proofs.Common.{◌≡◌, ℕ, Some, Result, Ok, Err, IfErr, string_bytes, subst, sym, ap, ◌∙◌}
 use Rattle.lam_io.specs.Outside.{Files, AllStay, OthersStay, Rose}
 use Rattle.lam_bytecode.specs.Codes.{CodeTree}
 use Rattle.lam_machine_terms.specs.Worlds.{World}

@@ -1,5 +1,5 @@
 -- The turns of a closed run, and what is made of them.
-use Rattle.std.proofs.Common.{◌≡◌, ◌<◌, ◌≤◌, ℕ, List, [], ◌∷◌, All, length, arith, Some, Result, Ok, Err, IfOk, IfErr, string_bytes, refl, sym, ap, subst, ◌∙◌}
+use Rattle.std.proofs.Common.{◌≡◌, ◌<◌, ◌≤◌, ℕ, List, [], ◌∷◌, All, length, arith, Some, Result, Ok, Err, IfOk, refl, sym, ap, subst, ◌∙◌}
 use Rattle.std.proofs.lemmas.Option.{slice_get_within}
 use Rattle.std.proofs.lemmas.List.Elements.{All-cons, All-nil}
 use Rattle.want_of_memory.specs.declared.NoMemory.{NoMemory as NoMem}
@@ -11,7 +11,7 @@ use Rattle.lam_machine_terms.specs.Turns.{Moment, step, moments}
 use Rattle.lam_machine_laws.proofs.TurnLemmas.{acts}
 use Rattle.guarded_code_runs.specs.Worlds.{IsSound}
 use Rattle.guarded_code_runs.proofs.Sound.{sound_step}
-use Rattle.turn_book.specs.Book.{AreTurns, book}
+use Rattle.turn_book.specs.Book.{AreTurns}
 use Rattle.turn_book.specs.Limits.{last_thread}
 use Rattle.closed_terms.specs.declared.End.{End}
 use Rattle.closed_terms.specs.declared.Slot.{Slot}

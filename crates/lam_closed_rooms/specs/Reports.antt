@@ -1,5 +1,5 @@
 -- What the answer of a command means as a plan, where the plan is by the end of a closed run.
-use Rattle.std.specs.Prelude.{◌≡◌, Option, Result, Ok, Err, string_bytes}
+use Rattle.std.specs.Prelude.{Option, Result, Ok, Err, string_bytes}
 use Rattle.lam_io.specs.Outside.{Files, AllStay}
 use Rattle.closed_terms.specs.declared.End.{End}
 use Rattle.lam_main_words.specs.Words.{Text}

@@ -19,6 +19,7 @@ use lam_main_replay::{
     Halt, RunFiles, let_go_world, read_code, read_label, read_start, read_turns,
 };
 use std::alloc::Global;
+use thread_host_run::let_go_verified;
 
 /// The index of the word that is the base.
 const BASE_WORD: u64 = 5;
@@ -43,7 +44,11 @@ pub fn check<H: Shelf>(
     ensures failed { IfErr result (λ halt. halt ≡ Halt.ShelfFailed → Rose (H.faults shelf.old) (H.faults shelf.new)) }
 {
     match read_code(alloc, shelf, program) {
-        Ok(code) => check_code(alloc, shelf, &code, files, base),
+        Ok(code) => {
+            let answer = check_code(alloc, shelf, &code, files, base);
+            let_go_verified(code);
+            answer
+        }
         Err(halt) => Err(halt),
     }
 }

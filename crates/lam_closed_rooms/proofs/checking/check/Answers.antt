@@ -8,14 +8,14 @@ use Rattle.lam_closed_rooms.proofs.checking.check.Goals as goal
 
 pub returns-in-Ok-clause-stay : goal.returns-in-Ok-clause-stay
 returns-in-Ok-clause-stay g c = λ told.
-    stays_on (g.H.Shelf.files c.args.shelf.now) (g.H.Shelf.files c.read_code.new.shelf) (g.H.Shelf.files c.check_code.new.shelf) (c.in-Ok.ensures.stay told) (c.check_code.ensures.stay (c.in-Ok.ensures.tells_on told))
+    stays_on (g.H.Shelf.files c.args.shelf.now) (g.H.Shelf.files c.read_code.new.shelf) (g.H.Shelf.files c.check_code-answer.new.shelf) (c.in-Ok.ensures.stay told) (c.check_code-answer.ensures.stay (c.in-Ok.ensures.tells_on told))
 
 pub returns-in-Ok-clause-gives : goal.returns-in-Ok-clause-gives
 returns-in-Ok-clause-gives g c = λ told.
-    program_gives (g.H.Shelf.files c.args.shelf.now) (string_bytes c.args.program) (files_of c.args.files) (string_bytes c.args.base) (g.H.Shelf.files c.check_code.new.shelf) (g.H.Shelf.files c.read_code.new.shelf) c.in-Ok.code c.check_code.result (c.in-Ok.ensures.stay told) (returns-in-Ok-clause-stay g c told) (c.in-Ok.ensures.finds told) (c.check_code.ensures.says (c.in-Ok.ensures.tells_on told))
+    program_gives (g.H.Shelf.files c.args.shelf.now) (string_bytes c.args.program) (files_of c.args.files) (string_bytes c.args.base) (g.H.Shelf.files c.check_code-answer.new.shelf) (g.H.Shelf.files c.read_code.new.shelf) c.in-Ok.code c.check_code-answer.result (c.in-Ok.ensures.stay told) (returns-in-Ok-clause-stay g c told) (c.in-Ok.ensures.finds told) (c.check_code-answer.ensures.says (c.in-Ok.ensures.tells_on told))
 
 pub returns-in-Ok-clause-failed : goal.returns-in-Ok-clause-failed
-returns-in-Ok-clause-failed g c = failed_later c.check_code.result (g.H.Shelf.faults c.args.shelf.now) (g.H.Shelf.faults c.read_code.new.shelf) (g.H.Shelf.faults c.check_code.new.shelf) c.in-Ok.ensures.later c.check_code.ensures.failed
+returns-in-Ok-clause-failed g c = failed_later c.check_code-answer.result (g.H.Shelf.faults c.args.shelf.now) (g.H.Shelf.faults c.read_code.new.shelf) (g.H.Shelf.faults c.check_code-answer.new.shelf) c.in-Ok.ensures.later c.check_code-answer.ensures.failed
 
 pub returns-in-Err-clause-gives : goal.returns-in-Err-clause-gives
 returns-in-Err-clause-gives g c = λ told.

@@ -1,4 +1,4 @@
-use Rattle.std.proofs.Common.{◌∙◌, IfOk, string_bytes}
+use Rattle.std.proofs.Common.{◌∙◌, string_bytes}
 use Rattle.lam_main_replay.specs.Asked.{lines_for}
 use Rattle.lam_closed_rooms.proofs.TakenLemmas.{has_book, none_shown, closed_shown}
 use Rattle.lam_closed_rooms.proofs.showing.viewed.Goals as goal
