@@ -39,8 +39,8 @@ def called(program, *words, folder=None, given=None):
 
 
 def closed():
-    """The file of the program `lam_closed` where it is built: that of LAM_CLOSED_PROGRAM, else one that is kept; or None."""
-    given = os.environ.get('LAM_CLOSED_PROGRAM')
+    """The file of the program `lam_closed` where it is built: that of LAM_CLOSED, else one that is kept; or None."""
+    given = os.environ.get('LAM_CLOSED')
     if given:
         return os.path.abspath(given) if os.access(given, os.X_OK) else None
     files = [os.path.join(HERE, 'crates', 'lam_closed', 'out', 'lam_closed')]
