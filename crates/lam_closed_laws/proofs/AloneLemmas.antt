@@ -1,5 +1,5 @@
 -- What an observer can tell of a closed run.
-use Rattle.std.proofs.Common.{◌≡◌, ℕ, true, List, [], ◌∷◌, refl, sym, ap, ◌∙◌}
+use Rattle.std.proofs.Common.{◌≡◌, ℕ, true, List, [], ◌∷◌, sym, ap, ◌∙◌}
 use Rattle.std.specs.List.{flat_map}
 use Rattle.flow_labels.specs.Flow.{flows, public_label}
 use Rattle.flow_labels.specs.declared.Label.{Label}
@@ -12,12 +12,12 @@ use Rattle.audit_log.specs.Log.{entry_line, view_lines}
 use Rattle.closed_terms.specs.declared.End.{End}
 use Rattle.closed_terms.specs.declared.Slot.{Slot}
 use Rattle.closed_terms.specs.Schedule.{OthersOpen, RunsTo}
-use Rattle.closed_terms.specs.Ends.{IsEnded, IsFront}
+use Rattle.closed_terms.specs.Ends.{IsEnded}
 use Rattle.closed_laws.specs.Ordered.{AreStarts, IsOrdered, ReleasesFollow}
 use Rattle.closed_laws.specs.Ended.{EndsAreSame, EndsAreLast}
 use Rattle.closed_laws.specs.Once.{EndsOnce}
 use Rattle.lam_main_words.specs.Words.{Text}
-use Rattle.lam_closed_laws.specs.Alone.{IsLike, ShownSame, TellsNoMore}
+use Rattle.lam_closed_laws.specs.Alone.{IsLike, TellsNoMore}
 
 -- the same entries have the same lines
 pub same_lines : (o : Label) (names names' : List Text) (ms ms' : List Moment) → names ≡ names' → trace o ms ≡ trace o ms' → view_lines names o ms ≡ view_lines names' o ms'

@@ -1,9 +1,9 @@
 -- A base has no integrity, so what is public flows to it.
-use Rattle.std.proofs.Common.{◌≡◌, ℕ, zero, suc, ◌+◌, ◌&&◌, true, false, Bool, cond, if◌then◌else◌, nat_eq, List, [], ◌∷◌, length, take, drop, Option, Some, None, Result, Ok, Err, find, codes, slice_get, refl, sym, ap, subst, ◌∙◌, arith}
+use Rattle.std.proofs.Common.{◌≡◌, nat_cmp, ℕ, zero, suc, ◌+◌, ◌&&◌, true, false, Bool, cond, if◌then◌else◌, nat_eq, List, [], ◌∷◌, length, take, drop, Option, Some, None, Result, Ok, Err, is_none, find, codes, slice_get, refl, sym, ap, subst, ◌∙◌, arith}
 use Rattle.std.proofs.lemmas.Bool.{and_parts}
 use Rattle.std.proofs.Math.Bool.{true≢false}
 use Rattle.std.proofs.lemmas.Slice.Eq.{bytes_eq-Decides}
-use Rattle.std.specs.Cmp.{nat_cmp, nat_cmp_total}
+use Rattle.std.specs.Cmp.{nat_cmp_total}
 use Rattle.std.specs.FinSet.{empty, from_list, is_subset, contains-is_subset, contains-empty}
 use Rattle.flow_labels.specs.Tags.{Tags}
 use Rattle.flow_labels.specs.Flow.{flows, public_label}
@@ -13,33 +13,28 @@ use Rattle.flow_labels.specs.declared.Label.{Label}
 use Rattle.flow_labels.specs.declared.two_lists.Form.TheVariants.{Label as label_form}
 use Rattle.flow_labels.specs.declared.two_lists.TwoSets.{TwoSets}
 use Rattle.lam_machine_laws.proofs.FlowLemmas.{and_true}
+use Rattle.lam_machine_laws.proofs.OwnLemmas.{same_number}
 use Rattle.lam_main_words.specs.Words.{Text, word}
-use Rattle.lam_closed_words.specs.declared.Kind.{Kind}
-use Rattle.lam_closed_words.specs.declared.Kind.TheVariants as kind
-use Rattle.lam_closed_words.specs.declared.Form.{Form}
-use Rattle.lam_closed_words.specs.declared.Form.TheVariants as form
-use Rattle.lam_closed_words.specs.Words.{Request, run, check, help, has_no_integrity, fits, kinds, forms, agreed, is_in, request_in, request_of}
+use Rattle.lam_closed_words.specs.Words.{Request, run, check, help, has_no_integrity, fits, run_kinds, check_kinds, base_option, turns_option, forms, agreed, is_in, request_in, request_of}
 
 -- ---- the words of a form fit it
 
-nat_same : (a b : ℕ) → nat_eq a b ≡ true → a ≡ b
-nat_same a b e = omega (arith, e)
-
-fits_at : (ks : List Kind) (ws : List Text) (i : ℕ) (k : Kind) → agreed ks ws ≡ length ks → slice_get ks i ≡ Some k → fits k (word ws i) ≡ true
-fits_at [] ws i k e at = absurd cc
-fits_at (x ∷ ks) [] i k e at = absurd (let n : 0 ≡ length ks + 1 = e ∙ refl in omega (arith, n))
-fits_at (x ∷ ks) (w ∷ ws) i k e at = go (fits x w) refl i e at
+fits_at : (ks : List _) (ws : List Text) (i : ℕ) (k : _) → agreed ks ws ≡ length ks → slice_get ks i ≡ Some k → fits k (word ws i) ≡ true
+fits_at [] ws i k e at = absurd (let no : ⊥ = cc in no)
+fits_at (x ∷ ks) [] i k e at = absurd (let n : 0 ≡ suc (length ks) = e in omega (arith, n))
+fits_at (x ∷ ks) (w ∷ ws) i k e at = go (fits x w) refl (λ j. fits_at ks ws j k) i e at
   where
-    go : (b : Bool) → fits x w ≡ b → (j : ℕ) → (if b then 1 + agreed ks ws else 0) ≡ length (x ∷ ks) → slice_get (x ∷ ks) j ≡ Some k → fits k (word (w ∷ ws) j) ≡ true
-    go true f zero e at = subst (λ (y : Kind). fits y w ≡ true) (let same : x ≡ k = cc in same) f
-    go true f (suc j) e at = fits_at ks ws j k (omega (arith, e)) at
-    go false f j e at = absurd (omega (arith, e))
+    go : (b : Bool) → fits x w ≡ b → ((j : ℕ) → agreed ks ws ≡ length ks → slice_get ks j ≡ Some k → fits k (word ws j) ≡ true) → (j : ℕ) → (if b then 1 + agreed ks ws else 0) ≡ length (x ∷ ks) → slice_get (x ∷ ks) j ≡ Some k → fits k (word (w ∷ ws) j) ≡ true
+    go true f rest zero e at = subst (λ (y : _). fits y w ≡ true) (let same : x ≡ k = cc in same) f
+    go true f rest (suc j) e at = rest j (omega (arith, e)) at
+    go false f rest j e at = absurd (omega (arith, e))
 
-in_form : (ws : List Text) (f : Form) (i : ℕ) (k : Kind) → is_in ws f ≡ true → slice_get (kinds f) i ≡ Some k → fits k (word ws i) ≡ true
-in_form ws f i k e at = fits_at (kinds f) ws i k (nat_same _ _ (and_parts _ _ e).0) at
+-- the word of the index has no integrity, where words are in a form and its word is a base
+based : (ws : List Text) (ks : List _) (i : ℕ) (k : _) → slice_get ks i ≡ Some k → ((w : Text) → fits k w ≡ true → has_no_integrity w ≡ true) → (nat_eq (agreed ks ws) (length ks) && nat_eq (length ws) (length ks)) ≡ true → has_no_integrity (word ws i) ≡ true
+based ws ks i k at opens e = opens (word ws i) (fits_at ks ws i k (same_number _ _ (and_parts _ _ e).0) at)
 
-based : (ws : List Text) (f : Form) (i : ℕ) → is_in ws f ≡ true → slice_get (kinds f) i ≡ Some kind.Base → has_no_integrity (word ws i) ≡ true
-based ws f i e at = (and_parts _ _ (in_form ws f i kind.Base e at)).1
+opened : (w : Text) → (is_none (bad_place label_form w) && has_no_integrity w) ≡ true → has_no_integrity w ≡ true
+opened w e = (and_parts (is_none (bad_place label_form w)) (has_no_integrity w) e).1
 
 -- ---- what holds of each form that the words are in holds of the one that is found
 
@@ -66,7 +61,7 @@ HasOpenBase (Err at) = Unit {0}
 pub open_base : (ws : List Text) → HasOpenBase (request_of ws)
 open_base ws =
     of_found (λ o. HasOpenBase (request_in ws o)) (is_in ws) tt forms
-    (λ e. refl, (λ e. based ws form.RunOnBase 6 e refl, (λ e. refl, (λ e. based ws form.RunOfBoth 6 e refl, (λ e. refl, (λ e. based ws form.CheckOnBase 5 e refl, (λ e. tt, tt)))))))
+    (λ e. refl, (λ e. based ws (run_kinds (base_option [])) 6 _ refl opened e, (λ e. refl, (λ e. based ws (run_kinds (base_option (turns_option []))) 6 _ refl opened e, (λ e. refl, (λ e. based ws (check_kinds (base_option [])) 5 _ refl opened e, (λ e. tt, tt)))))))
 
 -- ---- a label without integrity
 

@@ -1,12 +1,11 @@
 -- From what a call did of its plan to what it tells of a closed run.
-use Rattle.std.proofs.Common.{◌≡◌, ℕ, true, List, Option, Some, Result, Ok, refl, sym, ap, subst, ◌∙◌}
+use Rattle.std.proofs.Common.{◌≡◌, ℕ, true, List, Option, Some, refl, sym, ap, subst, ◌∙◌}
 use Rattle.flow_labels.specs.Flow.{flows}
 use Rattle.flow_labels.specs.declared.Label.{Label}
 use Rattle.lam_io.specs.Outside.{Files, Took, TookFront}
 use Rattle.lam_bytecode.specs.Codes.{CodeTree}
 use Rattle.lam_machine_terms.specs.Worlds.{World}
 use Rattle.lam_machine_terms.specs.Turns.{moments}
-use Rattle.lam_machine_terms.specs.Views.{Agree}
 use Rattle.audit_log.specs.Log.{view_lines}
 use Rattle.turn_book.specs.Book.{book}
 use Rattle.closed_terms.specs.declared.End.{End}

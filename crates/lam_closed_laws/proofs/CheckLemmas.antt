@@ -1,5 +1,5 @@
 -- From what files hold to what `check` tells.
-use Rattle.std.proofs.Common.{◌≡◌, ℕ, List, Result, Ok, refl, sym, subst}
+use Rattle.std.proofs.Common.{ℕ, List, Result, refl, sym, subst}
 use Rattle.flow_labels.specs.LabelText.{label_of}
 use Rattle.flow_labels.specs.declared.Label.{Label}
 use Rattle.lam_io.specs.Outside.{Files}
@@ -30,7 +30,7 @@ module _ (ws : List Text) (files : Files) (code : CodeTree) (start : World) (b :
   check_planned =
       let p : refusals.Plan = refusals.prints text in
       let run : RunFiles = record { world = a.world; book = a.book } in
-      let Over = λ x. WithRun files a.book code start (IsOfDeparture code start x) in
+      let Over : Label → refusals.Plan → Type 0 = λ x. WithRun files a.book code start (IsOfDeparture code start x) in
       subst (λ (request : Result Request ℕ). IsPlanOf request files (prints text)) (sym a.asks) (record {
         of_lam = p;
         is =

@@ -1,11 +1,10 @@
 -- How calls end that nothing failed.
-use Rattle.std.proofs.Common.{◌≡◌, ℕ, List, Result, Ok, sym, ap, subst, ◌∙◌}
-use Rattle.lam_io.specs.Outside.{Files}
+use Rattle.std.proofs.Common.{◌≡◌, ℕ, List, Result, sym, ap, subst, ◌∙◌}
 use Rattle.lam_main_words.specs.Words.{Text}
 use Rattle.lam_closed_words.specs.Words.{Request, request_of}
 use Rattle.lam_closed_plan.specs.declared.Status.{Status}
 use Rattle.lam_closed_plan.specs.declared.Status.TheVariants.{Done, NoMemory, Words, Program, World, Book, Missing, ShelfFault, SinkFault, Cut, Waits, Stalled, Over}
-use Rattle.lam_closed_plan.specs.Outcome.{Plan, status_of}
+use Rattle.lam_closed_plan.specs.Outcome.{Plan}
 use Rattle.lam_closed_plan.specs.Plan.{IsPlan, IsPlanOf, written_by, PlansAreOne, IsRefused}
 use Rattle.lam_closed_plan.specs.Answer.{Outside, IsAnswer}
 use Rattle.lam_closed_laws.specs.Asks.{IsRunEnd, IsUnfailed}

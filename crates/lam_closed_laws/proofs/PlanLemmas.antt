@@ -1,5 +1,5 @@
 -- From a plan of words and files to the closed run that it is of, and back.
-use Rattle.std.proofs.Common.{◌≡◌, ℕ, List, Some, Result, Ok, Err, refl, sym, ap, subst, ◌∙◌}
+use Rattle.std.proofs.Common.{◌≡◌, ℕ, true, List, Result, Ok, Err, refl, sym, ap, subst, ◌∙◌}
 use Rattle.flow_labels.specs.Flow.{flows, public_label}
 use Rattle.flow_labels.specs.LabelText.{label_of}
 use Rattle.flow_labels.specs.declared.Label.{Label}
@@ -7,11 +7,10 @@ use Rattle.flow_labels.specs.declared.texts.LabelFault.{LabelFault}
 use Rattle.lam_io.specs.Outside.{Files}
 use Rattle.lam_bytecode.specs.Codes.{CodeTree}
 use Rattle.lam_machine_terms.specs.Worlds.{World}
-use Rattle.lam_machine_terms.specs.Turns.{Moment, moments}
+use Rattle.lam_machine_terms.specs.Turns.{Moment}
 use Rattle.audit_log.specs.Log.{view_lines}
 use Rattle.world_doc_terms.specs.Start.{start_of}
 use Rattle.closed_terms.specs.declared.End.{End}
-use Rattle.closed_terms.specs.Ends.{IsEnded}
 use Rattle.closed_laws.specs.Once.{EndsOnce}
 use Rattle.lam_main_words.specs.Words.{Text}
 use Rattle.lam_main_plan.specs.declared.Status.{Status as LamStatus}
@@ -27,7 +26,7 @@ use Rattle.lam_main_laws.specs.Headline.{IsRunEnd as IsLamEnd}
 use Rattle.lam_main_laws.proofs.PlanLemmas.{of_bytes, of_code, of_reader, file_there, code_there, start_there, label_there}
 use Rattle.lam_main_laws.proofs.PairLemmas.{of_start}
 use Rattle.lam_closed_words.specs.Words.{Request, run, request_of}
-use Rattle.lam_closed_plan.specs.Outcome.{Plan, ended, ended_plan, EndsSo}
+use Rattle.lam_closed_plan.specs.Outcome.{Plan, ended, ended_plan}
 use Rattle.lam_closed_plan.specs.Closes.{Asked, base_word, shows_turns, IsOfClosed, ClosesOver, ClosesFrom, ClosesCode, Closes}
 use Rattle.lam_closed_plan.specs.Plan.{IsPlan, IsPlanOf}
 use Rattle.lam_closed_laws.specs.Asks.{AsksRun, IsRunEnd}
@@ -38,6 +37,9 @@ use Rattle.lam_closed_laws.proofs.Bases.{HasOpenBase, open_base, text_is_open}
 
 of_label : (index : ℕ) (IsOf : Label → LamPlan → Type 0) (read : Result Label LabelFault) (b : Label) (p : LamPlan) → read ≡ Ok b → ByLabel index IsOf read p → IsOf b p
 of_label index IsOf read b p reads is = subst (λ (r : Result Label LabelFault). ByLabel index IsOf r p) reads is
+
+observed : (names : List Text) (label : Text) (o : Label) → label_of names label ≡ Ok o → read_by (an_observer 3 label) names ≡ Ok (view_lines names o)
+observed names label o e = ap (view_by 3 names) e
 
 module _ (files : Files) (run_files : ThreadFiles) (asked : Asked) (code : CodeTree) (start : World) (b : Label) (shown : List Moment → Text) (e : End) (p : LamPlan) where
   closed_planned : HasFile (files run_files.world) world_limit (λ bytes. start_of bytes code ≡ Ok start) → read_by asked.reader start.names ≡ Ok shown → label_of start.names asked.base ≡ Ok b → ClosesCode files run_files asked e code p → IsOfClosed code start b asked.turns run_files.out shown e p
@@ -63,7 +65,7 @@ module _ (ws : List Text) (files : Files) (code : CodeTree) (start : World) (o b
   shown = view_lines start.names o
 
   eyes : read_by asked.reader start.names ≡ Ok shown
-  eyes = ap (view_by 3 start.names) r.observes
+  eyes = observed start.names r.label o r.observes
 
   pub asks_planned : (plan : Plan) → IsPlan ws files plan → IsOfRun code start o b n out plan
   asks_planned plan is =
@@ -138,7 +140,7 @@ module _ (ws : List Text) (files : Files) (program world label out base : Text) 
       let s = start_there (ClosesFrom out this e c.code) (start_of w.bytes c.code) plan end w.follows in
       let Over = ClosesOver out this e c.code s.start in
       let o = label_there Over 3 s.start.names (label_of s.start.names label) plan end s.follows in
-      let b = base_there base_word (λ x. IsOfClosed c.code s.start x n out (view_lines s.start.names o.0) e) (label_of s.start.names base) plan end (of_reader Over (read_by this.reader s.start.names) (view_lines s.start.names o.0) plan (ap (view_by 3 s.start.names) o.1) s.follows) in
+      let b = base_there base_word (λ x. IsOfClosed c.code s.start x n out (view_lines s.start.names o.0) e) (label_of s.start.names base) plan end (of_reader Over (read_by this.reader s.start.names) (view_lines s.start.names o.0) plan (observed s.start.names label o.0 o.1) s.follows) in
       record {
         code = c.code;
         start = s.start;
