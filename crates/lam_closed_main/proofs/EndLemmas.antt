@@ -1,5 +1,5 @@
 -- From the answer of a command to how the call ended.
-use Rattle.std.proofs.Common.{◌≡◌, ℕ, [], Option, Some, None, Result, Ok, Err, IsOk, IsErr, IfErr, string_bytes, refl, sym, subst, ◌∙◌}
+use Rattle.std.proofs.Common.{◌≡◌, ℕ, [], Option, None, Result, Ok, Err, IsOk, IsErr, IfErr, string_bytes, refl, sym, subst, ◌∙◌}
 use Rattle.lam_io.specs.Outside.{Files, AllStay, Took}
 use Rattle.lam_io.specs.declared.SinkFault.{SinkFault as Failure}
 use Rattle.closed_terms.specs.declared.End.{End}

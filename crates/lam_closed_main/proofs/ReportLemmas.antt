@@ -1,5 +1,5 @@
 -- From what a command answers to what is reported of it.
-use Rattle.std.proofs.Common.{◌≡◌, Result, Ok, Err, IfErr, String, refl, sym, ap, subst}
+use Rattle.std.proofs.Common.{◌≡◌, Result, Ok, Err, IfErr, String, refl, sym, subst}
 use Rattle.std.specs.declared.alloc.Global.{Global}
 use Rattle.lam_io.specs.Outside.{Files, AllStay}
 use Rattle.closed_terms.specs.declared.End.{End}

@@ -1,15 +1,10 @@
-use Rattle.std.proofs.Common.{string_bytes, sym, subst}
-use Rattle.lam_io.specs.Outside.{Rose}
+use Rattle.std.proofs.Common.{string_bytes, subst}
 use Rattle.closed_terms.specs.declared.End.{End}
-use Rattle.lam_main_plan.specs.Refusals.{prints}
 use Rattle.lam_main_plan.specs.Reading.{WithFile, program_limit}
 use Rattle.lam_main_plan.specs.Replays.{Reader}
-use Rattle.lam_main_replay.specs.declared.halt.Halt.TheVariants.{ShelfFailed}
-use Rattle.lam_closed_words.specs.Words.{commands, help_lines}
 use Rattle.lam_closed_plan.specs.Closes.{Closes}
-use Rattle.lam_closed_plan.specs.Checks.{Checks}
 use Rattle.lam_closed_rooms.specs.Reports as rooms
-use Rattle.lam_closed_main.proofs.ReportLemmas.{run_reported, reported, help_reported, halted, spared}
+use Rattle.lam_closed_main.proofs.ReportLemmas.{run_reported}
 use Rattle.lam_closed_main.proofs.command_answer.Goals as goal
 
 pub returns-in-Run-clause-gives : goal.returns-in-Run-clause-gives
