@@ -110,7 +110,7 @@ def aligned(folder):
     check('the same length', align('xyz', '--tries', '2'), (0, ['2 runs, drawn from 0 to 1, each agree 22']))
     status, lines = align('abcd')
     check('another length, pair', (status, lines[0]), (1, 'releases differ 6'))
-    check('another length, why', lines[2:], [
+    check('another length, why', lines[2:4], [
         't0 (main) releases `enter {}/{} caps +{}-{} depth 2 region 1 (4)`, and in the first run it releases `enter {}/{} '
         'caps +{}-{} depth 2 region 1 (3)`', '  it.lam line 5: region (label{;}, caps{}) [n] { say(text(n)); } catch (e) { }'])
     status, lines = align('abcdefg', '--turns', '50')

@@ -119,14 +119,26 @@ class Ends(InFolder):
             with open(os.path.join(TOOLS, name), encoding='utf-8') as file:
                 lines = file.read().split('"""', 2)[2].strip().splitlines()
             self.assertTrue(lines[0].startswith('from lam_source import early'), name)
-        for wait in (0.02, 0.05, 0.1):
+        for wait in (0, 0.02, 0.05):
             done = subprocess.Popen([sys.executable, '-S', os.path.join(TOOLS, 'world.py'), 'make', '/dev/stdin'], cwd=self.folder,
                                     stdin=subprocess.PIPE, stdout=subprocess.PIPE, stderr=subprocess.PIPE, text=True)
+            self.past_start(done.pid)
             time.sleep(wait)
             done.send_signal(signal.SIGINT)
-            said = done.communicate(timeout=60)[1]
-            if 'site.py' not in said and 'importlib' not in said:       # Python's own start is not the tool's
-                self.assertNotIn('Traceback', said)
+            self.assertNotIn('Traceback', done.communicate(timeout=60)[1])
+
+    @staticmethod
+    def past_start(process):
+        """Waits until a tool has taken the signal from Python's own start, which is not the tool's, or three seconds."""
+        by_python, until = False, time.monotonic() + 3
+        while time.monotonic() < until:
+            with open(f'/proc/{process}/status', encoding='ascii') as file:
+                caught = int(next(line for line in file if line.startswith('SigCgt:')).split()[1], 16)
+            if caught >> signal.SIGINT - 1 & 1:
+                by_python = True
+            elif by_python:
+                return
+            time.sleep(0.0005)
 
     def test_a_full_device(self):
         self.file('s', 'thread main()\n')
