@@ -12,6 +12,10 @@
 //! - `texts`: the text of capabilities, `+{a}-{a,b}`, both ways.
 //!
 //! Functions without a `Result` allocate nothing.
+//!
+//! A public promise rests on `Caps::change_rule` and `covers` (clauses `value` and `none`), on `Caps::used` and on
+//! `public_of`: which label changes are allowed, and what a release took. Free to change for speed: the walks behind
+//! them.
 
 #![tactic(auto)]
 

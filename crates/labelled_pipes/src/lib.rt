@@ -9,6 +9,9 @@
 //! `flow_labels` and `capabilities`. Names and the counters of their homes are those of `lam_value`.
 //!
 //! [`Message`] is the type of messages, and [`Pipes`] has all pipes of a run, each a queue (`queue`).
+//!
+//! The promises about runs rest on `Pipes::make`, `send`, `receive` and `front`: what each call gives and leaves.
+//! Free to change for speed: the map of queues, and how a queue lies in memory.
 #![tactic(auto)]
 
 mod message;

@@ -8,6 +8,9 @@
 //!   nothing of contents.
 //! - A [`Gate`] is a scheduler hook, which picks the thread that goes on. [`OpenGate`] is the program's own, and a
 //!   [`TableGate`] picks what a test lists.
+//!
+//! The promises about printed text and written files rest on `Shelf`, `Sink` and `write_all` (clauses `set`,
+//! `others`, `failed`, `refused`, `all` and `front`).
 #![tactic(auto)]
 
 mod device;

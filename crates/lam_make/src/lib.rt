@@ -4,6 +4,9 @@
 //! the sum in a public region inside. The world has the wanted number of threads. Each has a tag, the capabilities of
 //! that tag, and a number below 1000 that is drawn from the seed. So a seed and a number of threads make one input, on
 //! every machine.
+//!
+//! What `make` prints rests on `make` (its one clause): the same texts for the same seed and number. Free to change
+//! for speed: how the texts are put together.
 #![tactic(auto)]
 
 mod document;

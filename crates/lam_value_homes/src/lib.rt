@@ -9,6 +9,9 @@
 //! Names, made of a home and a number, stand above in `lam_value`, to which this crate passes labels on. The laws that
 //! relate a hash map to the finite map of its contracts (`Maps`, `Rows`, `Keys` in `proofs/`) stand here once for all
 //! stores.
+//!
+//! The promises of the stores above rest on `Counters` (its calls' values) and on `same_maps`. Free to change for
+//! speed: the maps behind the counters, and the order in which homes are listed.
 #![tactic(auto)]
 
 mod counters;

@@ -8,6 +8,9 @@
 //! equal. Functions without a `Result` allocate nothing. A call looks one name up in constant time, whatever the number
 //! of monitors; `drop_all` does so for each name that it is given. `holder` alone answers all questions before an
 //! entry: who holds a monitor, and how often.
+//!
+//! The promises about runs rest on `enter`, `leave`, `drop_all` and `holder`: what each call gives and leaves. Free
+//! to change for speed: the map of holders.
 #![tactic(auto)]
 
 ghost use Rattle.std.specs.Prelude.{◌≡◌, ◌<◌, ◌↔◌, IsTrue, IfOk, OnOk, OnErr, Some, cond};

@@ -11,6 +11,9 @@
 //! [`scripts_are_isolated`] is non-interference up to declassification for scripts. Take two scripts that differ only
 //! in the numbers of unseen cells. They print the same as far as the observer sees the same steps and the same releases
 //! past it.
+//!
+//! The promises of `play` rest on `play_text` (its one clause) and on the laws `scripts_are_isolated`,
+//! `notes_are_exact` and `releases_are_allowed`. Free to change for speed: how the text is put together.
 #![tactic(auto)]
 
 mod lines;

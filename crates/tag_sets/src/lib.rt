@@ -5,8 +5,8 @@
 //! walk over both. Contracts see it as the finite set of its tags: two sets with the same tags are
 //! equal, however they were made.
 //!
-//! The promises about rules and labels in `flow_labels` and `capabilities` rest on the values of `TagSet`'s calls (clause
-//! `value` and its like). Free to change for speed: how the tags are kept and shared, and each walk and search.
+//! The promises about rules and labels in `flow_labels` and `capabilities` rest on what the calls of `TagSet` give
+//! (clause `value`). Free to change for speed: how the tags are kept and shared, and each walk and search.
 
 #![tactic(auto)]
 

@@ -2,6 +2,8 @@
 //!
 //! Every call that allocates returns a `Result` whose error is `NoMemory` or has it as a variant. The crate lies below
 //! all others, so that the crates of the language need not depend on those of labels for it.
+//!
+//! Nothing here is a matter of speed.
 #![tactic(auto)]
 
 use std::alloc::{AllocError, AllocFailed};
