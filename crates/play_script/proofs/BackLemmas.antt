@@ -1,7 +1,9 @@
 -- What is read was spelt.
-use Rattle.std.proofs.Common.{◌≡◌, ℕ, zero, suc, ◌+◌, ◌<◌, ◌≤◌, ◌&&◌, codes, Bool, true, false, cond, eqb, leb, List, [], ◌∷◌, ◌++◌, length, refl, sym, ap, ◌∙◌, subst, arith, Option, Some, None, Result, Ok, Err, append_assoc}
+use Rattle.std.proofs.Common.{◌≡◌, ℕ, zero, suc, ◌+◌, ◌<◌, ◌≤◌, codes, Bool, true, false, cond, eqb, leb, List, [], ◌∷◌, ◌++◌, length, refl, sym, ap, ◌∙◌, subst, arith, Option, Some, None, Result, Ok, Err, append_assoc, append-nil}
 use Rattle.std.specs.Str.{bytes_eq}
+use Rattle.std.proofs.lemmas.Bool.{and_parts}
 use Rattle.std.proofs.lemmas.Bool.Decides.{nat_tests}
+use Rattle.std.proofs.lemmas.Option.{none-some, same_Some}
 use Rattle.std.proofs.lemmas.Slice.Eq.{bytes_eq-Decides}
 use Rattle.flow_labels.specs.Names.{place_of}
 use Rattle.flow_labels.specs.LabelText.{label_of}
@@ -21,7 +23,7 @@ use Rattle.play_script.specs.Grammar.{begins_step, Says, LineSays, Goes, Spells,
 use Rattle.play_script.specs.Grammar.Says.{tag, kind, actor, holder, cell, reads, writes, copies}
 use Rattle.play_script.specs.Grammar.Breaks.{open_line, says_nothing, one_too_many}
 use Rattle.play_script.proofs.LineLemmas.{more_pieces}
-use Rattle.play_script.proofs.GrammarLemmas.{line_first, one_piece, line_read, lines_go, script_read, append_nil}
+use Rattle.play_script.proofs.GrammarLemmas.{line_first, one_piece, line_read, lines_go, script_read}
 
 -- ---- pieces
 
@@ -61,9 +63,6 @@ pieces_lack mark (b ∷ bs) = split (eqb b mark) refl (pieces_lack mark bs)
 
 -- ---- words
 
-same_some : {A : Type 0} (x y : A) → Some x ≡ Some y → x ≡ y
-same_some x y e = cc
-
 when_some : {A : Type 0} (b : Bool) (o : Option A) (q : A) → when b o ≡ Some q → (b ≡ true) × (o ≡ Some q)
 when_some true o q e = (refl, e)
 when_some false o q e = absurd cc
@@ -80,7 +79,7 @@ is_text : (a b : Word) → bytes_eq a b ≡ true → b ≡ a
 is_text a b e = sym ((bytes_eq-Decides a b).0 e)
 
 said_tag : (p : Play) (n : Word) (rest : List Word) (k : TagKind) → may_declare p n ≡ true → kind_in rest ≡ Some k → Says p (codes "tag" ∷ n ∷ rest) (with_tag p n k)
-said_tag p n [] k may e = subst (λ x. Says p (codes "tag" ∷ n ∷ []) (with_tag p n x)) (same_some read_kind k e) (tag n may)
+said_tag p n [] k may e = subst (λ x. Says p (codes "tag" ∷ n ∷ []) (with_tag p n x)) (same_Some read_kind k e) (tag n may)
 said_tag p n (w ∷ []) k may e = kind n w k may e
 said_tag p n (v ∷ w ∷ ws) k may e = absurd cc
 
@@ -89,7 +88,7 @@ back_tag p q [] e = absurd cc
 back_tag p q (n ∷ rest) e =
     let may = when_some (may_declare p n) (then_some (kind_in rest) (λ k. Some (with_tag p n k))) q e in
     let there = then_some_some (kind_in rest) (λ k. Some (with_tag p n k)) q may.1 in
-    subst (Says p (codes "tag" ∷ n ∷ rest)) (same_some (with_tag p n there.0) q there.2) (said_tag p n rest there.0 may.0 there.1)
+    subst (Says p (codes "tag" ∷ n ∷ rest)) (same_Some (with_tag p n there.0) q there.2) (said_tag p n rest there.0 may.0 there.1)
 
 -- the label and the capabilities of an actor, read from the words after its name
 data Holds (tags : List Word) (l : Word) : List Word → Actor → Type 0 where
@@ -99,71 +98,59 @@ data Holds (tags : List Word) (l : Word) : List Word → Actor → Type 0 where
 back_holds : (tags : List Word) (l : Word) (rest : List Word) (a : Actor) → actor_in tags l rest ≡ Some a → Holds tags l rest a
 back_holds tags l [] a e =
     let labelled = then_some_some (ok_of (label_of tags l)) (λ x. Some (record { label = x; caps = no_caps })) a e in
-    subst (Holds tags l []) (same_some (record { label = labelled.0; caps = no_caps }) a labelled.2) (bare labelled.0 (ok_some (label_of tags l) labelled.0 labelled.1))
+    subst (Holds tags l []) (same_Some (record { label = labelled.0; caps = no_caps }) a labelled.2) (bare labelled.0 (ok_some (label_of tags l) labelled.0 labelled.1))
 back_holds tags l (c ∷ []) a e =
     let labelled = then_some_some (ok_of (label_of tags l)) (λ x. then_some (ok_of (caps_of tags c)) (λ y. Some (record { label = x; caps = y }))) a e in
     let holding = then_some_some (ok_of (caps_of tags c)) (λ y. Some (record { label = labelled.0; caps = y })) a labelled.2 in
-    subst (Holds tags l (c ∷ [])) (same_some (record { label = labelled.0; caps = holding.0 }) a holding.2) (held c labelled.0 holding.0 (ok_some (label_of tags l) labelled.0 labelled.1) (ok_some (caps_of tags c) holding.0 holding.1))
+    subst (Holds tags l (c ∷ [])) (same_Some (record { label = labelled.0; caps = holding.0 }) a holding.2) (held c labelled.0 holding.0 (ok_some (label_of tags l) labelled.0 labelled.1) (ok_some (caps_of tags c) holding.0 holding.1))
 back_holds tags l (c ∷ d ∷ ws) a e =
     let labelled = then_some_some (ok_of (label_of tags l)) (λ x. None) a e in
-    absurd (nothing_some a labelled.2)
-  where
-    nothing_some : (a : Actor) → None ≡ Some a → ⊥
-    nothing_some a e = cc
+    absurd (none-some a labelled.2)
 
 said_actor : (p : Play) (n l : Word) (rest : List Word) (a : Actor) → may_declare p n ≡ true → Holds p.tags l rest a → Says p (codes "actor" ∷ n ∷ l ∷ rest) (with_actor p n a)
 said_actor p n l rest a may (bare label labelled) = actor n l label may labelled
 said_actor p n l rest a may (held c label caps labelled holding) = holder n l c label caps may labelled holding
 
 back_actor : (p q : Play) (ws : List Word) → after_actor p ws ≡ Some q → Says p (codes "actor" ∷ ws) q
-back_actor p q [] e = absurd cc
-back_actor p q (n ∷ []) e = absurd cc
 back_actor p q (n ∷ l ∷ rest) e =
     let may = when_some (may_declare p n) (then_some (actor_in p.tags l rest) (λ a. Some (with_actor p n a))) q e in
     let there = then_some_some (actor_in p.tags l rest) (λ a. Some (with_actor p n a)) q may.1 in
-    subst (Says p (codes "actor" ∷ n ∷ l ∷ rest)) (same_some (with_actor p n there.0) q there.2) (said_actor p n l rest there.0 may.0 (back_holds p.tags l rest there.0 there.1))
+    subst (Says p (codes "actor" ∷ n ∷ l ∷ rest)) (same_Some (with_actor p n there.0) q there.2) (said_actor p n l rest there.0 may.0 (back_holds p.tags l rest there.0 there.1))
+back_actor p q ws e = absurd cc
 
 back_cell : (p q : Play) (ws : List Word) → after_cell p ws ≡ Some q → Says p (codes "cell" ∷ ws) q
-back_cell p q [] e = absurd cc
-back_cell p q (n ∷ []) e = absurd cc
-back_cell p q (n ∷ l ∷ []) e = absurd cc
 back_cell p q (n ∷ l ∷ v ∷ []) e =
     let may = when_some (may_declare p n) (then_some (cell_in p.tags l v) (λ c. Some (with_cell p n c))) q e in
     let there = then_some_some (cell_in p.tags l v) (λ c. Some (with_cell p n c)) q may.1 in
     let labelled = then_some_some (ok_of (label_of p.tags l)) (λ x. then_some (int_of v) (λ z. Some (record { label = x; value = z }))) there.0 there.1 in
     let number = then_some_some (int_of v) (λ z. Some (record { label = labelled.0; value = z })) there.0 labelled.2 in
-    let made : with_cell p n (record { label = labelled.0; value = number.0 }) ≡ q = ap (with_cell p n) (same_some (record { label = labelled.0; value = number.0 }) there.0 number.2) ∙ same_some (with_cell p n there.0) q there.2 in
+    let made : with_cell p n (record { label = labelled.0; value = number.0 }) ≡ q = ap (with_cell p n) (same_Some (record { label = labelled.0; value = number.0 }) there.0 number.2) ∙ same_Some (with_cell p n there.0) q there.2 in
     subst (Says p (codes "cell" ∷ n ∷ l ∷ v ∷ [])) made (cell n l v labelled.0 number.0 may.0 (ok_some (label_of p.tags l) labelled.0 labelled.1) number.1)
-back_cell p q (n ∷ l ∷ v ∷ m ∷ ws) e = absurd cc
+back_cell p q ws e = absurd cc
 
 -- the step `s` that an actor was read to take
 abbrev Steps : Play → Word → Word → List Word → Step → Type 0
 Steps p a v ws s = Says p (a ∷ v ∷ ws) (with_step p s)
 
 back_read : (p : Play) (a : Word) (who : ℕ) (ws : List Word) (s : Step) → begins_step a ≡ true → place_of p.actor_names a ≡ Some who → read_of p.cell_names who ws ≡ Some s → Steps p a (codes "read") ws s
-back_read p a who [] s plain named e = absurd cc
 back_read p a who (c ∷ []) s plain named e =
     let there = then_some_some (place_of p.cell_names c) (λ x. Some (Read who x)) s e in
-    subst (Steps p a (codes "read") (c ∷ [])) (same_some (Read who there.0) s there.2) (reads a c who there.0 plain named there.1)
-back_read p a who (c ∷ m ∷ ws) s plain named e = absurd cc
+    subst (Steps p a (codes "read") (c ∷ [])) (same_Some (Read who there.0) s there.2) (reads a c who there.0 plain named there.1)
+back_read p a who ws s plain named e = absurd cc
 
 back_write : (p : Play) (a : Word) (who : ℕ) (ws : List Word) (s : Step) → begins_step a ≡ true → place_of p.actor_names a ≡ Some who → write_of p.cell_names who ws ≡ Some s → Steps p a (codes "write") ws s
-back_write p a who [] s plain named e = absurd cc
-back_write p a who (c ∷ []) s plain named e = absurd cc
 back_write p a who (c ∷ v ∷ []) s plain named e =
     let there = then_some_some (place_of p.cell_names c) (λ x. then_some (int_of v) (λ z. Some (Write who x z))) s e in
     let number = then_some_some (int_of v) (λ z. Some (Write who there.0 z)) s there.2 in
-    subst (Steps p a (codes "write") (c ∷ v ∷ [])) (same_some (Write who there.0 number.0) s number.2) (writes a c v who there.0 number.0 plain named there.1 number.1)
-back_write p a who (c ∷ v ∷ m ∷ ws) s plain named e = absurd cc
+    subst (Steps p a (codes "write") (c ∷ v ∷ [])) (same_Some (Write who there.0 number.0) s number.2) (writes a c v who there.0 number.0 plain named there.1 number.1)
+back_write p a who ws s plain named e = absurd cc
 
 back_copy : (p : Play) (a : Word) (who : ℕ) (ws : List Word) (s : Step) → begins_step a ≡ true → place_of p.actor_names a ≡ Some who → copy_of p.cell_names who ws ≡ Some s → Steps p a (codes "copy") ws s
-back_copy p a who [] s plain named e = absurd cc
-back_copy p a who (c ∷ []) s plain named e = absurd cc
 back_copy p a who (c ∷ d ∷ []) s plain named e =
     let there = then_some_some (place_of p.cell_names c) (λ x. then_some (place_of p.cell_names d) (λ y. Some (Copy who x y))) s e in
     let here = then_some_some (place_of p.cell_names d) (λ y. Some (Copy who there.0 y)) s there.2 in
-    subst (Steps p a (codes "copy") (c ∷ d ∷ [])) (same_some (Copy who there.0 here.0) s here.2) (copies a c d who there.0 here.0 plain named there.1 here.1)
-back_copy p a who (c ∷ d ∷ m ∷ ws) s plain named e = absurd cc
+    subst (Steps p a (codes "copy") (c ∷ d ∷ [])) (same_Some (Copy who there.0 here.0) s here.2) (copies a c d who there.0 here.0 plain named there.1 here.1)
+back_copy p a who ws s plain named e = absurd cc
 
 back_verb : (p : Play) (a v : Word) (who : ℕ) (ws : List Word) (s : Step) → begins_step a ≡ true → place_of p.actor_names a ≡ Some who →
     (r w k : Bool) → bytes_eq v (codes "read") ≡ r → bytes_eq v (codes "write") ≡ w → bytes_eq v (codes "copy") ≡ k →
@@ -182,7 +169,7 @@ back_act p a (v ∷ ws) s plain e =
 back_step : (p q : Play) (a : Word) (ws : List Word) → begins_step a ≡ true → after_step p (a ∷ ws) ≡ Some q → Says p (a ∷ ws) q
 back_step p q a ws plain e =
     let taken = then_some_some (step_of p (a ∷ ws)) (λ s. Some (with_step p s)) q e in
-    subst (Says p (a ∷ ws)) (same_some (with_step p taken.0) q taken.2) (back_act p a ws taken.0 plain taken.1)
+    subst (Says p (a ∷ ws)) (same_Some (with_step p taken.0) q taken.2) (back_act p a ws taken.0 plain taken.1)
 
 back_kind : (p q : Play) (a : Word) (ws : List Word) (t u v : Bool) → bytes_eq a (codes "tag") ≡ t → bytes_eq a (codes "actor") ≡ u → bytes_eq a (codes "cell") ≡ v →
     cond t (after_tag p ws) (cond u (after_actor p ws) (cond v (after_cell p ws) (after_step p (a ∷ ws)))) ≡ Some q → Says p (a ∷ ws) q
@@ -204,10 +191,6 @@ line_said p q line e =
 
 pub lines_are_exact : LinesAreExact
 lines_are_exact p q line = (line_read p q line, line_said p q line)
-
-and_both : (a b : Bool) → (a && b) ≡ true → (a ≡ true) × (b ≡ true)
-and_both true b e = (refl, e)
-and_both false b e = absurd cc
 
 small : (number : ℕ) → leb number 65536 ≡ true → number ≤ 65536
 small number e = grind (arith, nat_tests)
@@ -251,7 +234,7 @@ one_line p r l (m ∷ ms) number within lack further e =
 back_lines : (p r : Play) (ps : List Word) (number : ℕ) → number ≤ 65537 → each_lacks 10 ps ≡ true → read_lines p ps number ≡ Ok r → Lines p r ps number
 back_lines p r [] number within lack e = record { lines = []; text_is = refl; no_feeds = refl; few = omega arith; go = same_ok p r e }
 back_lines p r (l ∷ rest) number within lack e =
-    let both = and_both (lacks 10 l) (each_lacks 10 rest) lack in
+    let both = and_parts (lacks 10 l) (each_lacks 10 rest) lack in
     one_line p r l rest number within both.0 (λ q w h. back_lines q r rest (number + 1) w both.1 h) e
 
 script_spelt : (text : Word) (p : Play) → read_script text ≡ Ok p → Spells text p
@@ -336,10 +319,7 @@ no_line : (p : Play) (l : Word) (number : ℕ) (more : Word) → number ≤ 6553
 no_line p l number more within lack e = by_number (leb number 65536) refl e
   where
     silent : after_line p l ≡ None → (q : Play) → LineSays p l q → ⊥
-    silent none q says = clash q (sym none ∙ line_read p q l says)
-      where
-        clash : (q : Play) → None ≡ Some q → ⊥
-        clash q e = cc
+    silent none q says = none-some q (sym none ∙ line_read p q l says)
 
     by_number : (t : Bool) → leb number 65536 ≡ t → when t (after_line p l) ≡ None → Breaks p number (l ++ 10 ∷ more)
     by_number true low none = says_nothing l more lack (silent none)
@@ -348,7 +328,7 @@ no_line p l number more within lack e = by_number (leb number 65536) refl e
 one_broken : (p : Play) (l : Word) (rest : List Word) (number n : ℕ) → number ≤ 65537 → lacks 10 l ≡ true → ((q : Play) → number + 1 ≤ 65537 → read_lines q rest (number + 1) ≡ Err n → Broken q rest (number + 1) n) → read_lines p (l ∷ rest) number ≡ Err n → Broken p (l ∷ rest) number n
 one_broken p [] [] number n within lack further e = absurd cc
 one_broken p (b ∷ bs) [] number n within lack further e =
-    here p ((b ∷ bs) ∷ []) number n within (same_err number n e) (subst (Breaks p number) (sym (append_nil (b ∷ bs))) (open_line b bs lack))
+    here p ((b ∷ bs) ∷ []) number n within (same_err number n e) (subst (Breaks p number) (sym (append-nil (b ∷ bs))) (open_line b bs lack))
 one_broken p l (m ∷ ms) number n within lack further e = by_line (at_line p l number) refl e
   where
     next : (number k : ℕ) → number + 1 + k ≤ 65537 → number + suc k ≤ 65537
@@ -378,7 +358,7 @@ one_broken p l (m ∷ ms) number n within lack further e = by_line (at_line p l 
 back_broken : (p : Play) (ps : List Word) (number n : ℕ) → number ≤ 65537 → each_lacks 10 ps ≡ true → read_lines p ps number ≡ Err n → Broken p ps number n
 back_broken p [] number n within lack e = absurd cc
 back_broken p (l ∷ rest) number n within lack e =
-    let both = and_both (lacks 10 l) (each_lacks 10 rest) lack in
+    let both = and_parts (lacks 10 l) (each_lacks 10 rest) lack in
     one_broken p l rest number n within both.0 (λ q w h. back_broken q rest (number + 1) n w both.1 h) e
 
 break_spelt : (text : Word) (n : ℕ) → read_script text ≡ Err n → FirstBroken text n

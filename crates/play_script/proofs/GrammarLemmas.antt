@@ -1,6 +1,7 @@
 -- What is spelt is what is read.
-use Rattle.std.proofs.Common.{◌≡◌, ℕ, zero, suc, ◌+◌, ◌≤◌, ◌&&◌, ◌||◌, not, codes, Bool, true, false, cond, eqb, leb, List, [], ◌∷◌, ◌++◌, length, refl, sym, ap, ◌∙◌, arith, Option, Some, Ok, append_assoc}
+use Rattle.std.proofs.Common.{◌≡◌, ℕ, zero, suc, ◌+◌, ◌≤◌, ◌||◌, not, codes, Bool, true, false, cond, eqb, leb, List, [], ◌∷◌, ◌++◌, length, refl, sym, ap, ◌∙◌, arith, Option, Some, Ok, append_assoc, append-nil}
 use Rattle.std.specs.Str.{bytes_eq}
+use Rattle.std.proofs.lemmas.Bool.{and_parts, eq-eqb, not-true}
 use Rattle.std.proofs.lemmas.Bool.Decides.{nat_tests}
 use Rattle.flow_labels.specs.Names.{place_of}
 use Rattle.flow_labels.specs.LabelText.{label_of}
@@ -17,43 +18,28 @@ use Rattle.play_script.specs.Grammar.{begins_step, Says, LineSays, Goes, Spells}
 use Rattle.play_script.specs.Grammar.Says.{tag, kind, actor, holder, cell, reads, writes, copies}
 use Rattle.play_script.proofs.LineLemmas.{more_pieces}
 
-and_both : (a b : Bool) → (a && b) ≡ true → (a ≡ true) × (b ≡ true)
-and_both true b e = (refl, e)
-and_both false b e = absurd cc
-
-same_mark : (m : ℕ) → eqb m m ≡ true
-same_mark m = grind (arith, nat_tests)
-
-other_mark : (b m : ℕ) → not (eqb b m) ≡ true → eqb b m ≡ false
-other_mark b m e = grind (arith, nat_tests)
-
 -- a piece before a mark or before the end
 pub piece_first : (mark : ℕ) (w rest : Word) (ps : List Word) → lacks mark w ≡ true → pieces mark rest ≡ [] ∷ ps → pieces mark (w ++ rest) ≡ w ∷ ps
 piece_first mark [] rest ps e h = h
 piece_first mark (b ∷ bs) rest ps e h =
-    let both : (not (eqb b mark) ≡ true) × (lacks mark bs ≡ true) = and_both (not (eqb b mark)) (lacks mark bs) e in
-    let other : eqb b mark ≡ false = other_mark b mark both.0 in
-    rw other (ap (onto_first b) (piece_first mark bs rest ps both.1 h))
+    let both : (not (eqb b mark) ≡ true) × (lacks mark bs ≡ true) = and_parts (not (eqb b mark)) (lacks mark bs) e in
+    rw (not-true (eqb b mark) both.0) (ap (onto_first b) (piece_first mark bs rest ps both.1 h))
 
 at_mark : (mark : ℕ) (rest : Word) → pieces mark (mark ∷ rest) ≡ [] ∷ pieces mark rest
-at_mark mark rest = let same : eqb mark mark ≡ true = same_mark mark in rw same refl
+at_mark mark rest = rw (eq-eqb mark mark refl) refl
 
 -- the pieces of a line and what follows it
 pub line_first : (line more : Word) → lacks 10 line ≡ true → pieces 10 (line ++ 10 ∷ more) ≡ line ∷ pieces 10 more
 line_first line more e = piece_first 10 line (10 ∷ more) (pieces 10 more) e (at_mark 10 more)
 
-pub append_nil : (w : Word) → w ++ [] ≡ w
-append_nil [] = refl
-append_nil (b ∷ bs) = ap (λ r. b ∷ r) (append_nil bs)
-
 -- a text without the mark is one piece
 pub one_piece : (mark : ℕ) (w : Word) → lacks mark w ≡ true → pieces mark w ≡ w ∷ []
-one_piece mark w e = sym (ap (pieces mark) (append_nil w)) ∙ piece_first mark w [] [] e refl
+one_piece mark w e = sym (ap (pieces mark) (append-nil w)) ∙ piece_first mark w [] [] e refl
 
 pub pieces-parted : (mark : ℕ) (w : Word) (ws : List Word) → each_lacks mark (w ∷ ws) ≡ true → pieces mark (parted mark (w ∷ ws)) ≡ w ∷ ws
-pieces-parted mark w [] e = piece_first mark w [] [] (and_both (lacks mark w) true e).0 refl
+pieces-parted mark w [] e = piece_first mark w [] [] (and_parts (lacks mark w) true e).0 refl
 pieces-parted mark w (v ∷ ws) e =
-    let both : (lacks mark w ≡ true) × (each_lacks mark (v ∷ ws) ≡ true) = and_both (lacks mark w) (each_lacks mark (v ∷ ws)) e in
+    let both : (lacks mark w ≡ true) × (each_lacks mark (v ∷ ws) ≡ true) = and_parts (lacks mark w) (each_lacks mark (v ∷ ws)) e in
     piece_first mark w (after_mark mark (v ∷ ws)) (v ∷ ws) both.0 (at_mark mark (parted mark (v ∷ ws)) ∙ ap (λ ps. [] ∷ ps) (pieces-parted mark v ws both.1))
 
 -- ---- words
@@ -66,10 +52,8 @@ found : {A B : Type 0} (o : Option A) (x : A) (f : A → Option B) → o ≡ Som
 found o x f e = ap (λ r. then_some r f) e
 
 begins : (p q : Play) (a : Word) (more : List Word) (t u v : Bool) → not (t || (u || v)) ≡ true → after_step p (a ∷ more) ≡ Some q → cond t (after_tag p more) (cond u (after_actor p more) (cond v (after_cell p more) (after_step p (a ∷ more)))) ≡ Some q
-begins p q a more true u v e h = absurd cc
-begins p q a more false true v e h = absurd cc
-begins p q a more false false true e h = absurd cc
 begins p q a more false false false e h = h
+begins p q a more t u v e h = absurd cc
 
 step_said : (p : Play) (a : Word) (more : List Word) (s : Step) → begins_step a ≡ true → step_of p (a ∷ more) ≡ Some s → after_words p (a ∷ more) ≡ Some (with_step p s)
 step_said p a more s plain h = begins p (with_step p s) a more (bytes_eq a (codes "tag")) (bytes_eq a (codes "actor")) (bytes_eq a (codes "cell")) plain (found (step_of p (a ∷ more)) s (λ x. Some (with_step p x)) h)
@@ -126,7 +110,7 @@ lines_go p r [] rest number e within h =
     let same : number + zero ≡ number = omega arith in
     ap (λ q. read_lines q (pieces 10 rest) number) h ∙ ap (λ (n : ℕ). read_lines r (pieces 10 rest) n) (sym same)
 lines_go p r (l ∷ ls) rest number e within h =
-    let both : (lacks 10 l ≡ true) × (each_lacks 10 ls ≡ true) = and_both (lacks 10 l) (each_lacks 10 ls) e in
+    let both : (lacks 10 l ≡ true) × (each_lacks 10 ls ≡ true) = and_parts (lacks 10 l) (each_lacks 10 ls) e in
     let test : leb number 65536 ≡ true = grind (arith, nat_tests) in
     let next : number + 1 + length ls ≡ number + suc (length ls) = omega arith in
     ap (λ t. read_lines p (pieces 10 t) number) (append_assoc l (10 ∷ ended ls) rest)
@@ -136,10 +120,7 @@ lines_go p r (l ∷ ls) rest number e within h =
     ∙ lines_go h.0 r ls rest (number + 1) both.1 (omega arith) h.2
     ∙ ap (λ (n : ℕ). read_lines r (pieces 10 rest) n) next
 
-ended_nil : (ls : List Word) → ended ls ++ [] ≡ ended ls
-ended_nil ls = append_nil (ended ls)
-
 pub script_read : (text : Word) (p : Play) → Spells text p → read_script text ≡ Ok p
 script_read text p s =
-    ap read_script (s.text_is ∙ sym (ended_nil s.lines))
+    ap read_script (s.text_is ∙ sym (append-nil (ended s.lines)))
     ∙ lines_go nothing p s.lines [] 1 s.no_feeds (let few : length s.lines ≤ 65536 = s.few in omega arith) s.go

@@ -1,15 +1,12 @@
 -- laws of reading a script line by line
-use Rattle.std.proofs.Common.{◌≡◌, ℕ, zero, suc, ◌+◌, ◌<◌, ◌≤◌, ◌&&◌, Bool, true, false, cond, eqb, ltb, leb, List, [], ◌∷◌, length, refl, ap, ◌∙◌, arith, Some, None, Result, Ok, Err}
+use Rattle.std.proofs.Common.{◌≡◌, ℕ, zero, suc, ◌+◌, ◌<◌, ◌≤◌, Bool, true, false, cond, eqb, ltb, leb, List, [], ◌∷◌, length, refl, ap, ◌∙◌, arith, Some, None, Result, Ok, Err}
 use Rattle.std.specs.List.{slice_index}
 use Rattle.std.specs.Str.{IsUtf8, IsAscii}
 use Rattle.std.proofs.lemmas.Str.{IsUtf8-from_ascii}
+use Rattle.std.proofs.lemmas.Bool.{and_parts}
 use Rattle.std.proofs.lemmas.Bool.Decides.{nat_tests}
 use Rattle.play_script.specs.Pieces.{Word, pieces, onto_first}
 use Rattle.play_script.specs.Script.{Play, is_ascii, after_line, at_line, or_line, at_end, last_or, read_lines}
-
-and_both : (a b : Bool) → (a && b) ≡ true → (a ≡ true) × (b ≡ true)
-and_both true b e = (refl, e)
-and_both false b e = absurd cc
 
 small : (b : ℕ) → ltb b 128 ≡ true → b < 128
 small b e = grind (arith, nat_tests)
@@ -21,7 +18,7 @@ at_place b bs (suc i) less rest = rest i
 ascii : (bs : Word) → is_ascii bs ≡ true → IsAscii bs
 ascii [] e = λ i. omega arith
 ascii (b ∷ bs) e =
-    let both : (ltb b 128 ≡ true) × (is_ascii bs ≡ true) = and_both (ltb b 128) (is_ascii bs) e in
+    let both : (ltb b 128 ≡ true) × (is_ascii bs ≡ true) = and_parts (ltb b 128) (is_ascii bs) e in
     let rest : IsAscii bs = ascii bs both.1 in
     λ i. at_place b bs i (small b both.0) rest
 

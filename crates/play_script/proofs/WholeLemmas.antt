@@ -1,8 +1,9 @@
 -- What was read is whole.
-use Rattle.std.proofs.Common.{◌≡◌, ℕ, zero, suc, ◌+◌, ◌<◌, ◌≤◌, ◌&&◌, ◌||◌, not, Bool, true, false, cond, List, [], ◌∷◌, ◌++◌, length, refl, sym, ap, ◌∙◌, subst, arith, Some, Ok, append_assoc, is_none, length-append}
+use Rattle.std.proofs.Common.{◌≡◌, ℕ, zero, suc, ◌+◌, ◌<◌, ◌≤◌, ◌||◌, not, Bool, true, false, cond, List, [], ◌∷◌, ◌++◌, length, refl, sym, ap, ◌∙◌, subst, arith, Some, Ok, append_assoc, append-nil, is_none, length-append}
 use Rattle.std.specs.List.{All, list_all, list_any, position_from}
 use Rattle.std.specs.Str.{bytes_eq}
 use Rattle.std.specs.Bool.{Decides}
+use Rattle.std.proofs.lemmas.Bool.{and_parts, or_parts}
 use Rattle.std.proofs.lemmas.Bool.Decides.{same_from_decides}
 use Rattle.std.proofs.lemmas.Iterator.Adapters.{position_from-zero}
 use Rattle.std.proofs.lemmas.List.Elements.{All-append, All-nil, All-cons}
@@ -23,14 +24,6 @@ use Rattle.play_script.specs.Grammar.{Says, Goes}
 use Rattle.play_script.specs.Grammar.Says.{tag, kind, actor, holder, cell, reads, writes, copies}
 use Rattle.play_script.specs.Whole.{all_names, IsDeclared, size, IsWhole}
 use Rattle.play_script.proofs.BackLemmas.{scripts_are_exact}
-
-and_both : (a b : Bool) → (a && b) ≡ true → (a ≡ true) × (b ≡ true)
-and_both true b e = (refl, e)
-and_both false b e = absurd cc
-
-or_false : (a b : Bool) → (a || b) ≡ false → (a ≡ false) × (b ≡ false)
-or_false true b e = absurd cc
-or_false false b e = (refl, e)
 
 -- ---- names
 
@@ -55,19 +48,19 @@ any_both t xs ys left right = list_any-append t xs ys ∙ rw (left, right) refl
 any_insert : (t : Word → Bool) (xs ys : List Word) (n : Word) → list_any t (xs ++ ys) ≡ false → t n ≡ false → list_any t (xs ++ n ∷ ys) ≡ false
 any_insert t [] ys n e other = rw other e
 any_insert t (x ∷ xs) ys n e other =
-    let parts : (t x ≡ false) × (list_any t (xs ++ ys) ≡ false) = or_false (t x) (list_any t (xs ++ ys)) e in
+    let parts : (t x ≡ false) × (list_any t (xs ++ ys) ≡ false) = or_parts (t x) (list_any t (xs ++ ys)) e in
     rw parts.0 (any_insert t xs ys n parts.1 other)
 
 names_insert : (xs ys : List Word) (n : Word) → AreNames (xs ++ ys) → is_name n ≡ true → list_any (bytes_eq n) (xs ++ ys) ≡ false → AreNames (xs ++ n ∷ ys)
 names_insert [] ys n names good fresh = (good, fresh, names)
 names_insert (x ∷ xs) ys n names good fresh =
-    let parts : (bytes_eq n x ≡ false) × (list_any (bytes_eq n) (xs ++ ys) ≡ false) = or_false (bytes_eq n x) (list_any (bytes_eq n) (xs ++ ys)) fresh in
+    let parts : (bytes_eq n x ≡ false) × (list_any (bytes_eq n) (xs ++ ys) ≡ false) = or_parts (bytes_eq n x) (list_any (bytes_eq n) (xs ++ ys)) fresh in
     (names.0, any_insert (bytes_eq x) xs ys n names.1 (bytes_eq_sym x n ∙ parts.0), names_insert xs ys n names.2 good parts.1)
 
 all_insert : (t : Word → Bool) (xs ys : List Word) (n : Word) → list_all t (xs ++ ys) ≡ true → t n ≡ true → list_all t (xs ++ n ∷ ys) ≡ true
 all_insert t [] ys n e good = rw good e
 all_insert t (x ∷ xs) ys n e good =
-    let parts : (t x ≡ true) × (list_all t (xs ++ ys) ≡ true) = and_both (t x) (list_all t (xs ++ ys)) e in
+    let parts : (t x ≡ true) × (list_all t (xs ++ ys) ≡ true) = and_parts (t x) (list_all t (xs ++ ys)) e in
     rw parts.0 (all_insert t xs ys n parts.1 good)
 
 -- a list of names that may be the name space of a script
@@ -83,11 +76,11 @@ record MayStand (p : Play) (n : Word) : Type 0 where
 
 may_stand : (p : Play) (n : Word) → may_declare p n ≡ true → MayStand p n
 may_stand p n e =
-    let one = and_both (is_empty p.steps) _ e in
-    let two = and_both (is_name n) _ one.1 in
-    let three = and_both (not (is_reserved n)) (is_free p n) two.1 in
-    let tags = and_both (is_none (place_of p.tags n)) _ three.1 in
-    let rest = and_both (is_none (place_of p.actor_names n)) (is_none (place_of p.cell_names n)) tags.1 in
+    let one = and_parts (is_empty p.steps) _ e in
+    let two = and_parts (is_name n) _ one.1 in
+    let three = and_parts (not (is_reserved n)) (is_free p n) two.1 in
+    let tags = and_parts (is_none (place_of p.tags n)) _ three.1 in
+    let rest = and_parts (is_none (place_of p.actor_names n)) (is_none (place_of p.cell_names n)) tags.1 in
     record {
       no_steps = one.0;
       named = two.0;
@@ -113,13 +106,9 @@ actor_space p n a good may =
     (ap (λ r. p.tags ++ r) (append_assoc p.actor_names (n ∷ []) p.cell_names) ∙ sym (append_assoc p.tags p.actor_names (n ∷ p.cell_names)))
     good may.named may.unreserved may.fresh
 
-append_nil : (ws : List Word) → ws ≡ ws ++ []
-append_nil [] = refl
-append_nil (w ∷ ws) = ap (λ r. w ∷ r) (append_nil ws)
-
 cell_space : (p : Play) (n : Word) (c : Cell) → AreScriptNames (all_names p) → MayStand p n → AreScriptNames (all_names (with_cell p n c))
 cell_space p n c good may =
-    insert (all_names p) [] (all_names p) (all_names (with_cell p n c)) n (append_nil (all_names p))
+    insert (all_names p) [] (all_names p) (all_names (with_cell p n c)) n (sym (append-nil (all_names p)))
     (ap (λ r. p.tags ++ r) (sym (append_assoc p.actor_names p.cell_names (n ∷ []))) ∙ sym (append_assoc p.tags (p.actor_names ++ p.cell_names) (n ∷ [])))
     good may.named may.unreserved may.fresh
 

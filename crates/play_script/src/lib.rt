@@ -20,6 +20,9 @@
 //! [`read_script`] returns the script that a text spells, or the least line that breaks it. The definitions that its
 //! contract cites follow the order of the code. The laws below it relate them to the format in the format's own words.
 //! `play_run` defines what a script does.
+//!
+//! Public promises of `play` rest on `read_script` (its one clause) and the three laws below it: a script is read
+//! exactly where lines spell it. Free to change for speed: how lines and words are cut, as long as each is read once.
 #![tactic(auto)]
 
 mod declarations;
