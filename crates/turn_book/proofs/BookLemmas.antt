@@ -1,18 +1,18 @@
 -- Exactly the books are read, each as its turns, and what is no book is refused at its least broken line.
 use Rattle.std.proofs.Common.{◌≡◌, ℕ, ◌+◌, ◌^◌, ◌<◌, ◌≤◌, true, false, cond, ltb, lit<, List, [], ◌∷◌, ◌++◌, length, take, drop, Some, None, Result, Ok, Err, replicate, refl, sym, ap, subst, ◌∙◌, arith, append_assoc, append-nil, length-append, All, IfOk, IfErr, zero, suc}
-use Rattle.std.specs.List.{AllByRecursion}
 use Rattle.std.specs.Str.{bytes_eq}
 use Rattle.std.proofs.lemmas.Slice.Eq.{bytes_eq-Decides}
 use Rattle.std.proofs.lemmas.List.{take-append-drop, length-replicate}
-use Rattle.std.proofs.lemmas.List.Elements.{All-from_recursion, recursion_from_All}
-use Rattle.std.proofs.lemmas.Bool.Decides.{nat_tests}
+use Rattle.std.proofs.lemmas.List.Elements.{recursion_from_All}
+use Rattle.std.proofs.lemmas.Bool.{false≢true, ltb-true, ltb-false, le-ltb}
+use Rattle.std.proofs.lemmas.Option.{none-some, same_Some}
 use Rattle.turn_book.specs.Book.{Text, Stretch, stretches, head, line_text, lines_text, book, expanded, Differs, AreLongest, AreTurns, BeginsWithLine, LastIs, IsNoLine, BooksBefore, IsBroken}
 use Rattle.turn_book.specs.Reading.{◌>>=◌, cut, stretch_of, last_is, with_stretch, turns_from, turns_of, Gives}
 use Rattle.turn_book.specs.declared.BookFault.{BookFault}
 use Rattle.turn_book.specs.declared.BookFault.TheVariants.{BadHead, BadLine, SameThread, TooMany, NoMemory}
 use Rattle.turn_book.proofs.CutLemmas.{IsCut, cut_is, line_read, no_line_read}
 use Rattle.turn_book.proofs.WrittenLemmas.{begins_read, read_begins, read_line_text, written_read, IsLine, line_back}
-use Rattle.turn_book.proofs.StretchLemmas.{line_before, AreLow, AllLow, stretches-expanded, stretches_longest, expanded-stretches, stretches_low, expanded_low, last_of_stretch, last_means, means_last}
+use Rattle.turn_book.proofs.StretchLemmas.{line_before, AreLow, stretches-expanded, stretches_longest, expanded-stretches, stretches_low, expanded_low, last_of_stretch, last_means, means_last}
 
 -- ---- stretches that go on after turns
 -- the turns with those of stretches
@@ -72,14 +72,11 @@ big n h = let most : 1000000 < 2 ^ 64 = lit< tt in below n 1000000 (2 ^ 64) h mo
 one_line : (ts : List ℕ) (text line rest : Text) (k : ℕ) (s : Stretch) → cut 10 text ≡ Some (line, rest) → stretch_of line ≡ Some s → turns_from ts [] text k ≡ (with_stretch ts k (Some s) >>= λ more. turns_from more [] rest (k + 1))
 one_line ts text line rest k s parts is = line_read ts [] text (line, rest) k parts ∙ ap (λ o. with_stretch ts k o >>= λ more. turns_from more [] rest (k + 1)) is
 
-fits_test : (n : ℕ) → n ≤ 1000000 → ltb 1000000 n ≡ false
-fits_test n h = grind (arith, nat_tests)
-
 lines_go : (ts : List ℕ) (ss : List Stretch) (k : ℕ) → Goes ts ss → turns_from ts [] (lines_text ss) k ≡ Ok (after ts ss)
 lines_go ts [] k h = refl
 lines_go ts (s ∷ ss) k h =
     let read = written_read s (lines_text ss) h.1 h.2 (big s.count (omega (arith, h.3))) (big s.thread (omega (arith, h.1))) in
-    let room : ltb 1000000 (length ts + s.count) ≡ false = fits_test (length ts + s.count) h.3 in
+    let room : ltb 1000000 (length ts + s.count) ≡ false = le-ltb 1000000 (length ts + s.count) h.3 in
     let other : last_is ts s.thread ≡ false = h.0 in
     one_line ts (line_text s (lines_text ss)) read.0 (lines_text ss) k s read.1 read.2 ∙ rw (other, room) (lines_go (ts ++ replicate s.count s.thread) ss (k + 1) h.4)
 
@@ -107,22 +104,13 @@ at_once : (ts : List ℕ) (text : Text) (k : ℕ) (r : Result (List ℕ) BookFau
 at_once ts text k r is h = record { lines = []; rest = text; text_is = refl; goes = tt; ends = subst (Ends ts text (k + 0)) (sym is) (subst (λ (n : ℕ). Ends ts text n r) (let same : k ≡ k + 0 = omega arith in same) h) }
 
 no_line_there : (text : Text) (s : Stretch) → cut 10 text ≡ None → BeginsWithLine text s → ⊥
-no_line_there text s none h = let read = begins_read text s h in clash (sym read.0 ∙ none)
-  where
-    clash : {X : Type 0} {x : X} → Some x ≡ None → ⊥
-    clash e = cc
+no_line_there text s none h = let read = begins_read text s h in none-some _ (sym none ∙ read.0)
 
 bad_line_there : (text line rest : Text) (s : Stretch) → cut 10 text ≡ Some (line, rest) → stretch_of line ≡ None → BeginsWithLine text s → ⊥
 bad_line_there text line rest s parts none h =
     let read = begins_read text s h in
-    let same : h.thread ++ 32 ∷ h.count ≡ line = ap (λ (p : Text × Text). p.0) (inside (sym read.0 ∙ parts)) in
-    clash (sym read.1 ∙ ap stretch_of same ∙ none)
-  where
-    clash : {X : Type 0} {x : X} → Some x ≡ None → ⊥
-    clash e = cc
-
-    inside : {x y : Text × Text} → Some x ≡ Some y → x ≡ y
-    inside e = cc
+    let same : h.thread ++ 32 ∷ h.count ≡ line = ap (λ (p : Text × Text). p.0) (same_Some _ _ (sym read.0 ∙ parts)) in
+    none-some _ (sym none ∙ ap stretch_of (sym same) ∙ read.1)
 
 some_text : (mark : ℕ) (text line rest : Text) → cut mark text ≡ Some (line, rest) → 0 < length text
 some_text mark text line rest parts = let c : IsCut mark text line rest = cut_is mark text (line, rest) parts in omega (arith, c.shorter)
@@ -139,7 +127,7 @@ at_bad_line ts text line rest k parts none =
 one_more : (ts : List ℕ) (text line rest : Text) (k : ℕ) (s : Stretch) → cut 10 text ≡ Some (line, rest) → stretch_of line ≡ Some s → last_is ts s.thread ≡ false → length ts + s.count ≤ 1000000 → Reading (ts ++ replicate s.count s.thread) rest (k + 1) → Reading ts text k
 one_more ts text line rest k s parts is other fits later =
     let l : IsLine line s = line_back line s is in
-    let room : ltb 1000000 (length ts + s.count) ≡ false = fits_test (length ts + s.count) fits in
+    let room : ltb 1000000 (length ts + s.count) ≡ false = le-ltb 1000000 (length ts + s.count) fits in
     let here : turns_from ts [] text k ≡ turns_from (ts ++ replicate s.count s.thread) [] rest (k + 1) = one_line ts text line rest k s parts is ∙ rw (other, room) refl in
     let count_fits : s.count < 2 ^ 64 = big s.count (omega arith) in
     let thread_fits : s.thread < 2 ^ 64 = big s.thread (omega (arith, l.low)) in
@@ -152,19 +140,13 @@ one_more ts text line rest k s parts is other fits later =
       ends = subst (Ends (after (ts ++ replicate s.count s.thread) later.lines) later.rest (k + suc (length later.lines))) (sym here) (subst (λ (n : ℕ). Ends (after (ts ++ replicate s.count s.thread) later.lines) later.rest n (turns_from (ts ++ replicate s.count s.thread) [] rest (k + 1))) number later.ends);
     }
 
-past_test : (n : ℕ) → ltb 1000000 n ≡ true → 1000000 < n
-past_test n e = grind (arith, nat_tests)
-
-room_test : (n : ℕ) → ltb 1000000 n ≡ false → n ≤ 1000000
-room_test n e = grind (arith, nat_tests)
-
 at_line : (ts : List ℕ) (text line rest : Text) (k : ℕ) (s : Stretch) → cut 10 text ≡ Some (line, rest) → stretch_of line ≡ Some s → (last_is ts s.thread ≡ false → length ts + s.count ≤ 1000000 → Reading (ts ++ replicate s.count s.thread) rest (k + 1)) → Reading ts text k
 at_line ts text line rest k s parts is later =
     elim (last_is ts s.thread) as (λ v. last_is ts s.thread ≡ v → Reading ts text k) [
       | true ↦ λ last. at_once ts text k (Err (SameThread k)) (one_line ts text line rest k s parts is ∙ rw last refl) (refl, (s, read_begins text line rest s parts is, last))
       | false ↦ λ other. elim (ltb 1000000 (length ts + s.count)) as (λ v. ltb 1000000 (length ts + s.count) ≡ v → Reading ts text k) [
-        | true ↦ λ past. at_once ts text k (Err (TooMany k)) (one_line ts text line rest k s parts is ∙ rw (other, past) refl) (refl, (s, read_begins text line rest s parts is, other, past_test (length ts + s.count) past))
-        | false ↦ λ room. one_more ts text line rest k s parts is other (room_test (length ts + s.count) room) (later other (room_test (length ts + s.count) room))
+        | true ↦ λ past. at_once ts text k (Err (TooMany k)) (one_line ts text line rest k s parts is ∙ rw (other, past) refl) (refl, (s, read_begins text line rest s parts is, other, ltb-true 1000000 (length ts + s.count) past))
+        | false ↦ λ room. one_more ts text line rest k s parts is other (ltb-false 1000000 (length ts + s.count) room) (later other (ltb-false 1000000 (length ts + s.count) room))
       ] refl
     ] refl
 
@@ -185,24 +167,10 @@ reading (suc fuel) ts text k short = elim (cut 10 text) as (λ o. cut 10 text �
 ] refl
 
 -- ---- turns of a book
-low_all : (ts : List ℕ) → AllLow ts → All (λ t. t ≤ 4095) ts
-low_all ts h = All-from_recursion (λ t. t ≤ 4095) ts (by_cases ts h)
-  where
-    by_cases : (ts : List ℕ) → AllLow ts → AllByRecursion (λ t. t ≤ 4095) ts
-    by_cases [] h = tt
-    by_cases (t ∷ ts) h = (h.0, by_cases ts h.1)
-
-all_low : (ts : List ℕ) → All (λ t. t ≤ 4095) ts → AllLow ts
-all_low ts h = by_cases ts (recursion_from_All (λ t. t ≤ 4095) ts h)
-  where
-    by_cases : (ts : List ℕ) → AllByRecursion (λ t. t ≤ 4095) ts → AllLow ts
-    by_cases [] h = tt
-    by_cases (t ∷ ts) h = (h.0, by_cases ts h.1)
-
 turns_so_far : (ss : List Stretch) → Goes [] ss → AreTurns (after [] ss)
 turns_so_far ss h = record {
   few = goes_few [] ss (omega arith) h;
-  threads = subst (All (λ t. t ≤ 4095)) (sym (after-expanded [] ss)) (low_all (expanded ss) (expanded_low ss (goes_low [] ss h)));
+  threads = subst (All (λ t. t ≤ 4095)) (sym (after-expanded [] ss)) (expanded_low ss (goes_low [] ss h));
 }
 
 stretches_so_far : (ss : List Stretch) → Goes [] ss → stretches (after [] ss) ≡ ss
@@ -224,7 +192,7 @@ pub book_read : (ts : List ℕ) → AreTurns ts → turns_of (book ts) ≡ Ok ts
 book_read ts h =
     let few : length ts ≤ 1000000 = h.few in
     let same : expanded (stretches ts) ≡ ts = expanded-stretches ts in
-    let goes : Goes [] (stretches ts) = longest_goes [] (stretches ts) (no_next (stretches ts)) (stretches_longest ts) (stretches_low ts (all_low ts h.threads)) (omega (arith, ap length same)) in
+    let goes : Goes [] (stretches ts) = longest_goes [] (stretches ts) (no_next (stretches ts)) (stretches_longest ts) (stretches_low ts (recursion_from_All (λ t. t ≤ 4095) ts h.threads)) (omega (arith, ap length same)) in
     read_after_head (lines_text (stretches ts)) ∙ lines_go [] (stretches ts) 2 goes ∙ ap Ok (after-expanded [] (stretches ts) ∙ same)
 
 -- what is read is a book
@@ -254,10 +222,7 @@ books text rest ss n is goes at =
     }
 
 not_last : (ts : List ℕ) (t : ℕ) → last_is ts t ≡ false → ¬ LastIs ts t
-not_last ts t e h = flip (sym e ∙ last_means ts t h)
-  where
-    flip : false ≡ true → ⊥
-    flip x = cc
+not_last ts t e h = false≢true (sym e ∙ last_means ts t h)
 
 broken_at : (text rest : Text) (ss : List Stretch) (f : BookFault) → text ≡ head ++ (lines_text ss ++ rest) → Goes [] ss → Cause (after [] ss) rest (2 + length ss) f → IsBroken text f
 broken_at text rest ss (BadLine n) is goes h = (after [] ss, rest, books text rest ss n is goes h.0, h.1)
@@ -278,14 +243,11 @@ refused_broken text f = elim (bytes_eq (take 11 text) head) as (λ v. bytes_eq (
         let r : Reading [] (drop 11 text) 2 = reading (length (drop 11 text)) [] (drop 11 text) 2 (omega arith) in
         broken_at text r.rest r.lines f (headed text was ∙ ap (λ (t : Text). head ++ t) r.text_is) r.goes (subst (Ends (after [] r.lines) r.rest (2 + length r.lines)) e r.ends)
 
-    flip : false ≡ true → ⊥
-    flip x = cc
-
     inside : {x y : BookFault} → ◌≡◌ {A = Result (List ℕ) BookFault} (Err x) (Err y) → x ≡ y
     inside e = cc
 
     no_head : (text rest : Text) → bytes_eq (take 11 text) head ≡ false → text ≡ head ++ rest → ⊥
-    no_head text rest was is = flip (sym was ∙ ap (λ (t : Text). bytes_eq (take 11 t) head) is)
+    no_head text rest was is = false≢true (sym was ∙ ap (λ (t : Text). bytes_eq (take 11 t) head) is)
 
     at_head : (text : Text) (f : BookFault) → bytes_eq (take 11 text) head ≡ false → ◌≡◌ {A = Result (List ℕ) BookFault} (Err BadHead) (Err f) → IsBroken text f
     at_head text f was e = subst (IsBroken text) (inside e) (λ rest is. no_head text rest was is)
@@ -301,7 +263,4 @@ gives_only r text h t turns is = subst (Gives (λ (u : List ℕ). u) r) (ap turn
 pub gives_broken : (r : Result (List ℕ) BookFault) (text : Text) → Gives (λ (t : List ℕ). t) r (turns_of text) → IfErr r (IsBroken text)
 gives_broken (Ok t) text h = tt
 gives_broken (Err NoMemory) text h = tt
-gives_broken (Err BadHead) text h = refused_broken text BadHead h
-gives_broken (Err (BadLine n)) text h = refused_broken text (BadLine n) h
-gives_broken (Err (SameThread n)) text h = refused_broken text (SameThread n) h
-gives_broken (Err (TooMany n)) text h = refused_broken text (TooMany n) h
+gives_broken (Err f) text h = refused_broken text f h

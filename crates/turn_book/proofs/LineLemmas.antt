@@ -1,6 +1,8 @@
 -- A line is read, and the lines after it.
 use Rattle.std.proofs.Common.{◌≡◌, ℕ, ◌+◌, ◌-◌, ◌^◌, ◌<◌, ◌≤◌, true, false, ◌&&◌, cond, eqb, ltb, leb, min, lit<, List, [], ◌∷◌, ◌++◌, length, take, Option, Some, None, option_map, Result, Ok, Err, replicate, refl, sym, ap, subst, ◌∙◌, arith, length-append}
+use Rattle.std.proofs.lemmas.Bool.{ltb-false, lt-ltb, le-ltb, le-leb, lt-leb}
 use Rattle.std.proofs.lemmas.Bool.Decides.{nat_tests}
+use Rattle.std.proofs.lemmas.Option.{same_Some}
 use Rattle.std.proofs.lemmas.List.{take_all, length-replicate}
 use Rattle.turn_book.specs.Book.{Text, Stretch}
 use Rattle.turn_book.specs.Cuts.{stretch_seen}
@@ -14,27 +16,15 @@ use Rattle.turn_book.proofs.CutLemmas.{line_read, no_line_read, IsCut, cut_is}
 -- ---- numbers that fit
 low_same : (t most : ℕ) → 4095 < most → leb (min t most) 4095 ≡ leb t 4095
 low_same t most big = elim (leb t 4095) as (λ v. leb t 4095 ≡ v → leb (min t most) 4095 ≡ v) [
-  | true ↦ λ e. let small : t ≤ 4095 = grind (arith, nat_tests) in passes (min t most) (omega arith)
-  | false ↦ λ e. let great : 4095 < t = grind (arith, nat_tests) in fails (min t most) (omega arith)
+  | true ↦ λ e. let small : t ≤ 4095 = grind (arith, nat_tests) in le-leb (min t most) 4095 (omega arith)
+  | false ↦ λ e. let great : 4095 < t = grind (arith, nat_tests) in lt-leb (min t most) 4095 (omega arith)
 ] refl
-  where
-    passes : (n : ℕ) → n ≤ 4095 → leb n 4095 ≡ true
-    passes n h = grind (arith, nat_tests)
-
-    fails : (n : ℕ) → 4095 < n → leb n 4095 ≡ false
-    fails n h = grind (arith, nat_tests)
 
 some_same : (n most : ℕ) → 4095 < most → ltb 0 (min n most) ≡ ltb 0 n
 some_same n most big = elim (ltb 0 n) as (λ v. ltb 0 n ≡ v → ltb 0 (min n most) ≡ v) [
-  | true ↦ λ e. let some : 0 < n = grind (arith, nat_tests) in passes (min n most) (omega arith)
-  | false ↦ λ e. let none : n ≤ 0 = grind (arith, nat_tests) in fails (min n most) (omega arith)
+  | true ↦ λ e. let some : 0 < n = grind (arith, nat_tests) in lt-ltb 0 (min n most) (omega arith)
+  | false ↦ λ e. let none : n ≤ 0 = grind (arith, nat_tests) in le-ltb 0 (min n most) (omega arith)
 ] refl
-  where
-    passes : (n : ℕ) → 0 < n → ltb 0 n ≡ true
-    passes n h = grind (arith, nat_tests)
-
-    fails : (n : ℕ) → n ≤ 0 → ltb 0 n ≡ false
-    fails n h = grind (arith, nat_tests)
 
 abbrev fitted : ℕ → Option ℕ → Option ℕ
 fitted most o = option_map (λ n. min n most) o
@@ -70,10 +60,7 @@ pub record Seen (line : Text) (thread count : ℕ) : Type 0 where
 
 seen_at : (o : Option Stretch) (st : Line) → option_map stretch_seen (Some st) ≡ option_map saturated o → (s : Stretch) × (o ≡ Some s) × (s.thread ≡ st.thread) × (st.count ≡ min s.count (2 ^ 64 - 1))
 seen_at None st e = absurd cc
-seen_at (Some s) st e = let same : stretch_seen st ≡ saturated s = inside e in (s, refl, ap (λ (x : Stretch). x.thread) (sym same), ap (λ (x : Stretch). x.count) same)
-  where
-    inside : {X : Type 0} {x y : X} → Some x ≡ Some y → x ≡ y
-    inside e = cc
+seen_at (Some s) st e = let same : stretch_seen st ≡ saturated s = same_Some _ _ e in (s, refl, ap (λ (x : Stretch). x.thread) (sym same), ap (λ (x : Stretch). x.count) same)
 
 pub seen : (line : Text) (st : Line) → option_map stretch_seen (Some st) ≡ option_map saturated (stretch_of line) → Seen line st.thread st.count
 seen line st e = let h = seen_at (stretch_of line) st e in record { stretch = h.0; is = h.1; thread_is = h.2; count_is = h.3 }
@@ -87,7 +74,7 @@ line_taken ts new line k thread count h other few fits made =
     let less : 1000000 - length ts < 2 ^ 64 - 1 = small (1000000 - length ts) (omega arith) in
     let same : h.stretch.count ≡ count = whole_count h.stretch.count count (1000000 - length ts) (2 ^ 64 - 1) h.count_is fits less in
     let another : last_is ts h.stretch.thread ≡ false = ap (last_is ts) h.thread_is ∙ other in
-    let room : ltb 1000000 (length ts + h.stretch.count) ≡ false = within (length ts + h.stretch.count) (omega arith) in
+    let room : ltb 1000000 (length ts + h.stretch.count) ≡ false = le-ltb 1000000 (length ts + h.stretch.count) (omega arith) in
     let front : take (length ts + count) ts ≡ ts = take_all (length ts + count) ts (omega arith) in
     let more : length ts + count - length ts ≡ count = omega arith in
     ap (with_stretch ts k) h.is ∙ rw (another, room) (λ i. Ok (ts ++ replicate (same i) (h.thread_is i)))
@@ -99,21 +86,15 @@ line_taken ts new line k thread count h other few fits made =
     small : (n : ℕ) → n ≤ 1000000 → n < 2 ^ 64 - 1
     small n h = let big : 1000000 < 2 ^ 64 - 1 = lit< tt in below n 1000000 (2 ^ 64 - 1) h big
 
-    within : (n : ℕ) → n ≤ 1000000 → ltb 1000000 n ≡ false
-    within n h = grind (arith, nat_tests)
-
 pub too_many : (ts : List ℕ) (line : Text) (k thread count : ℕ) → Seen line thread count → last_is ts thread ≡ false → length ts ≤ 1000000 → 1000000 - length ts < count → with_stretch ts k (stretch_of line) ≡ Err (TooMany k)
 too_many ts line k thread count h other few past =
     let another : last_is ts h.stretch.thread ≡ false = ap (last_is ts) h.thread_is ∙ other in
     let greater : count ≤ h.stretch.count = under count h.stretch.count (2 ^ 64 - 1) h.count_is in
-    let room : ltb 1000000 (length ts + h.stretch.count) ≡ true = beyond (length ts + h.stretch.count) (omega arith) in
+    let room : ltb 1000000 (length ts + h.stretch.count) ≡ true = lt-ltb 1000000 (length ts + h.stretch.count) (omega arith) in
     ap (with_stretch ts k) h.is ∙ rw (another, room) refl
   where
     under : (c n most : ℕ) → c ≡ min n most → c ≤ n
     under c n most e = omega arith
-
-    beyond : (n : ℕ) → 1000000 < n → ltb 1000000 n ≡ true
-    beyond n h = grind (arith, nat_tests)
 
 pub same_thread : (ts : List ℕ) (line : Text) (k thread count : ℕ) → Seen line thread count → last_is ts thread ≡ true → with_stretch ts k (stretch_of line) ≡ Err (SameThread k)
 same_thread ts line k thread count h last = ap (with_stretch ts k) h.is ∙ rw h.thread_is (rw last refl)
@@ -128,7 +109,7 @@ few_more ts new k (Some s) e =
         | true ↦ λ was made. absurd cc
         | false ↦ λ was made.
             let same : ts ++ replicate s.count s.thread ≡ new = inside made in
-            let few : length ts + s.count ≤ 1000000 = within (length ts + s.count) was in
+            let few : length ts + s.count ≤ 1000000 = ltb-false 1000000 (length ts + s.count) was in
             let sum : length (ts ++ replicate s.count s.thread) ≡ length ts + s.count = length-append ts (replicate s.count s.thread) ∙ ap (λ n. length ts + n) (length-replicate s.count s.thread) in
             subst (λ (ns : List ℕ). length ns ≤ 1000000) same (omega arith)
       ] refl is
@@ -136,9 +117,6 @@ few_more ts new k (Some s) e =
   where
     inside : {x y : List ℕ} → ◌≡◌ {A = Result (List ℕ) BookFault} (Ok x) (Ok y) → x ≡ y
     inside e = cc
-
-    within : (n : ℕ) → ltb 1000000 n ≡ false → n ≤ 1000000
-    within n e = grind (arith, nat_tests)
 
 pub lines_on : (ts new : List ℕ) (text line after : Text) (k : ℕ) (whole : Result (List ℕ) BookFault) → Some (line, after) ≡ cut 10 text → with_stretch ts k (stretch_of line) ≡ Ok new → turns_from ts [] text k ≡ whole → turns_from new [] after (k + 1) ≡ whole
 lines_on ts new text line after k whole parts made so_far =
@@ -151,9 +129,7 @@ line_fails ts text line after k e whole parts failed so_far =
     passed : (e : BookFault) (r : Result (List ℕ) BookFault) → Fails e r → Fails e (r >>= λ more. turns_from more [] after (k + 1))
     passed NoMemory r h = tt
     passed BadHead r h = rw h refl
-    passed (BadLine n) r h = rw h refl
-    passed (SameThread n) r h = rw h refl
-    passed (TooMany n) r h = rw h refl
+    passed f r h = rw h refl
 
 pub lines_end : (ts : List ℕ) (text : Text) (k : ℕ) (whole : Result (List ℕ) BookFault) → None ≡ cut 10 text → turns_from ts [] text k ≡ whole → whole ≡ at_end ts text k
 lines_end ts text k whole none so_far = sym so_far ∙ no_line_read ts [] text k (sym none)

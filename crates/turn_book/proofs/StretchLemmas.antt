@@ -1,16 +1,14 @@
 -- The longest stretches of turns.
 use Rattle.std.proofs.Common.{◌≡◌, ℕ, ◌+◌, ◌-◌, ◌<◌, ◌≤◌, true, false, cond, eqb, List, [], ◌∷◌, ◌++◌, length, drop, get_or, Some, refl, sym, ap, subst, ◌∙◌, arith, append_assoc, length-append, zero, suc, decimal, replicate, ◌⊎◌, inl, inr}
-use Rattle.std.specs.List.{prefix_len, slice_get}
-use Rattle.std.proofs.lemmas.Bool.{eqb-true}
+use Rattle.std.specs.List.{All, AllByRecursion, prefix_len, slice_get}
+use Rattle.std.proofs.lemmas.List.Elements.{All-append, All-nil, All-replicate}
+use Rattle.std.proofs.lemmas.Bool.{eqb-true, eq-eqb}
 use Rattle.std.proofs.lemmas.Bool.Decides.{nat_tests}
 use Rattle.turn_book.specs.Book.{Text, Stretch, with_turn, stretches, line_text, lines_text, expanded, Differs, AreLongest, StretchesAreLongest, LastIs}
 use Rattle.turn_book.specs.Reading.{last_is, is_thread}
 
 swapped : (a b : ℕ) → eqb a b ≡ false → eqb b a ≡ false
 swapped a b e = grind (arith, nat_tests)
-
-pub same_eq : (n : ℕ) → eqb n n ≡ true
-same_eq n = grind (arith, nat_tests)
 
 -- the first stretch, and those of what stands after it
 pub first_stretch : (t : ℕ) (ts : List ℕ) → stretches (t ∷ ts) ≡ record { thread = t; count = prefix_len (λ u. eqb u t) ts + 1 } ∷ stretches (drop (prefix_len (λ u. eqb u t) ts) ts)
@@ -29,7 +27,7 @@ first_stretch t (u ∷ us) =
         let longer : prefix_len (λ w. eqb w t) us + 1 + 1 ≡ 1 + prefix_len (λ w. eqb w t) us + 1 = omega arith in
         let past : suc (prefix_len (λ w. eqb w t) us) ≡ 1 + prefix_len (λ w. eqb w t) us = omega arith in
         ap (with_turn t) (later ∙ (λ i. record { thread = same i; count = there i + 1 } ∷ stretches (drop (there i) us)))
-        ∙ rw (same_eq t) (ap (λ k. record { thread = t; count = k } ∷ stretches (drop (prefix_len (λ w. eqb w t) us) us)) longer)
+        ∙ rw (eq-eqb t t refl) (ap (λ k. record { thread = t; count = k } ∷ stretches (drop (prefix_len (λ w. eqb w t) us) us)) longer)
         ∙ ap (λ k. record { thread = t; count = 1 + prefix_len (λ w. eqb w t) us + 1 } ∷ stretches (drop k (u ∷ us))) past
 
 -- a line's text, and what stands after it
@@ -42,7 +40,7 @@ line_before s rest =
 pub stretch_written : (rest : List ℕ) (t count : ℕ) (text new whole : Text) → 0 < length rest → t ≡ get_or rest 0 0 → count ≡ prefix_len (λ u. eqb u t) rest → text ++ lines_text (stretches rest) ≡ whole → new ≡ text ++ line_text (record { thread = t; count = count }) [] → new ++ lines_text (stretches (drop count rest)) ≡ whole
 stretch_written [] t count text new whole some first is so_far made = absurd (omega arith)
 stretch_written (u ∷ us) t count text new whole some first is so_far made =
-    let same : eqb u t ≡ true = rw first (same_eq u) in
+    let same : eqb u t ≡ true = rw first (eq-eqb u u refl) in
     let counted : count ≡ 1 + prefix_len (λ w. eqb w t) us = is ∙ rw same refl in
     let less : count ≡ suc (prefix_len (λ w. eqb w t) us) = omega arith in
     let more : prefix_len (λ w. eqb w t) us + 1 ≡ count = omega arith in
@@ -72,7 +70,7 @@ one_thread : (t n : ℕ) (ss : List Stretch) (more : List ℕ) → Differs t ss 
 one_thread t zero ss more d e = ap (with_turn t) e ∙ again t ss d
 one_thread t (suc n) ss more d e =
     let longer : suc n + 1 ≡ suc (suc n) = omega arith in
-    ap (with_turn t) (one_thread t n ss more d e) ∙ rw (same_eq t) (ap (λ k. record { thread = t; count = k } ∷ ss) longer)
+    ap (with_turn t) (one_thread t n ss more d e) ∙ rw (eq-eqb t t refl) (ap (λ k. record { thread = t; count = k } ∷ ss) longer)
 
 counted : (n t : ℕ) (ss : List Stretch) (more : List ℕ) → 0 < n → Differs t ss → stretches more ≡ ss → stretches (replicate n t ++ more) ≡ record { thread = t; count = n } ∷ ss
 counted zero t ss more some d e = absurd (omega arith)
@@ -113,29 +111,17 @@ stretches_are_longest ts ss = (
 )
 
 -- ---- low threads
-abbrev pub AllLow : List ℕ → Type 0
-AllLow [] = Unit {0}
-AllLow (t ∷ ts) = (t ≤ 4095) × AllLow ts
-
 longer_low : (t : ℕ) (ss : List Stretch) → t ≤ 4095 → AreLow ss → AreLow (with_turn t ss)
 longer_low t [] low h = (low, tt)
 longer_low t (s ∷ ss) low h = elim (eqb t s.thread) as (λ v. AreLow (cond v (record { thread = t; count = s.count + 1 } ∷ ss) (record { thread = t; count = 1 } ∷ s ∷ ss))) [ true ↦ (low, h.1) | false ↦ (low, h) ]
 
-pub stretches_low : (ts : List ℕ) → AllLow ts → AreLow (stretches ts)
+pub stretches_low : (ts : List ℕ) → AllByRecursion (λ t. t ≤ 4095) ts → AreLow (stretches ts)
 stretches_low [] h = tt
 stretches_low (t ∷ ts) h = longer_low t (stretches ts) h.0 (stretches_low ts h.1)
 
-low_append : (xs ys : List ℕ) → AllLow xs → AllLow ys → AllLow (xs ++ ys)
-low_append [] ys a b = b
-low_append (x ∷ xs) ys a b = (a.0, low_append xs ys a.1 b)
-
-low_replicate : (n t : ℕ) → t ≤ 4095 → AllLow (replicate n t)
-low_replicate zero t h = tt
-low_replicate (suc n) t h = (h, low_replicate n t h)
-
-pub expanded_low : (ss : List Stretch) → AreLow ss → AllLow (expanded ss)
-expanded_low [] h = tt
-expanded_low (s ∷ ss) h = low_append (replicate s.count s.thread) (expanded ss) (low_replicate s.count s.thread h.0) (expanded_low ss h.1)
+pub expanded_low : (ss : List Stretch) → AreLow ss → All (λ t. t ≤ 4095) (expanded ss)
+expanded_low [] h = All-nil (λ t. t ≤ 4095)
+expanded_low (s ∷ ss) h = All-append (λ t. t ≤ 4095) (replicate s.count s.thread) (expanded ss) (All-replicate (λ t. t ≤ 4095) s.count s.thread h.0) (expanded_low ss h.1)
 
 -- ---- the last turn
 pub last_of_push : (ts : List ℕ) (u t : ℕ) → last_is (ts ++ u ∷ []) t ≡ eqb u t
@@ -157,7 +143,7 @@ last_of_stretch ts zero u t some = absurd (omega arith)
 last_of_stretch ts (suc n) u t some = ap (λ us. last_is us t) (ap (λ us. ts ++ us) (replicate_push n u) ∙ sym (append_assoc ts (replicate n u) (u ∷ []))) ∙ last_of_push (ts ++ replicate n u) u t
 
 pub last_means : (ts : List ℕ) (t : ℕ) → LastIs ts t → last_is ts t ≡ true
-last_means ts t h = ap (λ us. last_is us t) h.1 ∙ last_of_push h.0 t t ∙ same_eq t
+last_means ts t h = ap (λ us. last_is us t) h.1 ∙ last_of_push h.0 t t ∙ eq-eqb t t refl
 
 pub means_last : (ts : List ℕ) (t : ℕ) → last_is ts t ≡ true → LastIs ts t
 means_last ts t e = at (unpushed ts) e

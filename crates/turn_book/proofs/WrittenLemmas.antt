@@ -1,13 +1,14 @@
 -- The lines of stretches, as they are written and read.
-use Rattle.std.proofs.Common.{◌≡◌, ℕ, ◌^◌, ◌<◌, ◌≤◌, Bool, true, false, not, ◌&&◌, cond, eqb, ltb, leb, [], ◌∷◌, ◌++◌, Option, Some, None, decimal, refl, sym, ap, subst, ◌∙◌, arith, append_assoc}
+use Rattle.std.proofs.Common.{◌≡◌, ℕ, ◌^◌, ◌<◌, ◌≤◌, true, false, not, ◌&&◌, cond, eqb, ltb, leb, [], ◌∷◌, ◌++◌, Option, Some, None, decimal, refl, sym, ap, subst, ◌∙◌, arith, append_assoc}
 use Rattle.std.specs.List.{list_all}
+use Rattle.std.proofs.lemmas.Bool.{and_from, and_parts, not-true, eq-eqb, leb-true, le-leb, ltb-true, lt-ltb}
 use Rattle.std.proofs.lemmas.Bool.Decides.{nat_tests}
+use Rattle.std.proofs.lemmas.List.Folds.{list_all-append}
+use Rattle.std.proofs.lemmas.Option.{same_Some}
 use Rattle.decimal_text.specs.Decimal.{is_digit, IsDecimal, number_of}
-use Rattle.decimal_text.proofs.DigitLemmas.{and_both}
 use Rattle.decimal_text.proofs.DecimalLemmas.{plain_digits, decimal_text, decimal_is, number_is, number_back}
 use Rattle.turn_book.specs.Book.{Text, Stretch, line_text, BeginsWithLine}
 use Rattle.turn_book.specs.Reading.{cut, onto, numbers_in, stretch_or, stretch_of}
-use Rattle.turn_book.proofs.StretchLemmas.{same_eq}
 use Rattle.turn_book.proofs.CutLemmas.{IsCut, cut_is}
 
 -- ---- marks that no number has
@@ -17,38 +18,26 @@ lacks mark w = list_all (λ b. not (eqb b mark)) w ≡ true
 digits_lack : (mark : ℕ) (bs : Text) → mark < 48 → list_all is_digit bs ≡ true → lacks mark bs
 digits_lack mark [] low all = refl
 digits_lack mark (b ∷ bs) low all =
-    let both = and_both (is_digit b) (list_all is_digit bs) all in
+    let both = and_parts (is_digit b) (list_all is_digit bs) all in
     rw (other mark b low both.0) (digits_lack mark bs low both.1)
   where
     other : (mark b : ℕ) → mark < 48 → is_digit b ≡ true → not (eqb b mark) ≡ true
     other mark b low e = let no_mark : eqb b mark ≡ false = grind (arith, nat_tests) in rw no_mark refl
 
 lacks_append : (mark : ℕ) (xs ys : Text) → lacks mark xs → lacks mark ys → lacks mark (xs ++ ys)
-lacks_append mark [] ys one two = two
-lacks_append mark (x ∷ xs) ys one two = let both = and_both (not (eqb x mark)) (list_all (λ b. not (eqb b mark)) xs) one in rw both.0 (lacks_append mark xs ys both.1 two)
+lacks_append mark xs ys one two = list_all-append (λ b. not (eqb b mark)) xs ys ∙ and_from _ _ one two
 
 cut_found : (mark : ℕ) (front rest : Text) → lacks mark front → cut mark (front ++ mark ∷ rest) ≡ Some (front, rest)
-cut_found mark [] rest free = rw (same_eq mark) refl
+cut_found mark [] rest free = rw (eq-eqb mark mark refl) refl
 cut_found mark (b ∷ bs) rest free =
-    let both = and_both (not (eqb b mark)) (list_all (λ c. not (eqb c mark)) bs) free in
-    let other : eqb b mark ≡ false = not_true (eqb b mark) both.0 in
-    rw other (ap (onto b) (cut_found mark bs rest both.1))
-  where
-    not_true : (t : Bool) → not t ≡ true → t ≡ false
-    not_true true e = absurd cc
-    not_true false e = refl
+    let both = and_parts (not (eqb b mark)) (list_all (λ c. not (eqb c mark)) bs) free in
+    rw (not-true (eqb b mark) both.0) (ap (onto b) (cut_found mark bs rest both.1))
 
 -- ---- a line
 pub line_is : (text thread count : Text) (s : Stretch) → IsDecimal thread s.thread → IsDecimal count s.count → s.thread ≤ 4095 → 0 < s.count → stretch_of (thread ++ 32 ∷ count) ≡ Some s
 line_is text thread count s one two low some =
     let parts : cut 32 (thread ++ 32 ∷ count) ≡ Some (thread, count) = cut_found 32 thread count (digits_lack 32 thread (omega arith) (plain_digits thread one.plain)) in
-    ap numbers_in parts ∙ (λ i. stretch_or (number_is thread s.thread one i) (number_is count s.count two i)) ∙ rw (low_test s.thread low, some_test s.count some) refl
-  where
-    low_test : (t : ℕ) → t ≤ 4095 → leb t 4095 ≡ true
-    low_test t h = grind (arith, nat_tests)
-
-    some_test : (n : ℕ) → 0 < n → ltb 0 n ≡ true
-    some_test n h = grind (arith, nat_tests)
+    ap numbers_in parts ∙ (λ i. stretch_or (number_is thread s.thread one i) (number_is count s.count two i)) ∙ rw (le-leb s.thread 4095 low, lt-ltb 0 s.count some) refl
 
 pub record IsLine (line : Text) (s : Stretch) : Type 0 where
   pub thread : Text
@@ -65,22 +54,13 @@ stretch_back (Some t) None s e = absurd cc
 stretch_back (Some t) (Some n) s e =
     elim (leb t 4095 && ltb 0 n) as (λ v. (leb t 4095 && ltb 0 n) ≡ v → cond v (Some (record { thread = t; count = n })) None ≡ Some s → (Some t ≡ Some s.thread) × (Some n ≡ Some s.count) × (s.thread ≤ 4095) × (0 < s.count)) [
       | true ↦ λ was is.
-          let both = and_both (leb t 4095) (ltb 0 n) was in
-          let low : t ≤ 4095 = low_of t both.0 in
-          let some : 0 < n = some_of n both.1 in
-          let same : ◌≡◌ {A = Stretch} (record { thread = t; count = n }) s = inside is in
+          let both = and_parts (leb t 4095) (ltb 0 n) was in
+          let low : t ≤ 4095 = leb-true t 4095 both.0 in
+          let some : 0 < n = ltb-true 0 n both.1 in
+          let same : ◌≡◌ {A = Stretch} (record { thread = t; count = n }) s = same_Some _ _ is in
           subst (λ (u : Stretch). (Some t ≡ Some u.thread) × (Some n ≡ Some u.count) × (u.thread ≤ 4095) × (0 < u.count)) same (refl, refl, low, some)
       | false ↦ λ was is. absurd cc
     ] refl e
-  where
-    inside : {x y : Stretch} → Some x ≡ Some y → x ≡ y
-    inside e = cc
-
-    low_of : (t : ℕ) → leb t 4095 ≡ true → t ≤ 4095
-    low_of t e = grind (arith, nat_tests)
-
-    some_of : (n : ℕ) → ltb 0 n ≡ true → 0 < n
-    some_of n e = grind (arith, nat_tests)
 
 parts_back : (line : Text) (o : Option (Text × Text)) (s : Stretch) → cut 32 line ≡ o → numbers_in o ≡ Some s → IsLine line s
 parts_back line None s was e = absurd cc

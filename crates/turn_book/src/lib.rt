@@ -6,8 +6,12 @@
 //!
 //! A text that is no book is refused at its least broken line, with what is broken there; the head is line 1. Both ways
 //! take time linear in the text and the turns.
+//!
+//! The promises of runs and replays rest on `read_book` (clauses `ok`, `only`, `broken` and `value`) and on
+//! `write_book`. Free to change for speed: how lines are cut, and how the turns are put after one another.
 #![tactic(auto)]
 
+mod limits;
 mod lines;
 
 ghost use Rattle.std.specs.Prelude.{◌≡◌, ℕ, List, Ok, IfOk, IfErr};
@@ -15,7 +19,7 @@ ghost use Rattle.turn_book.specs.Book.{AreTurns, IsBroken, StretchesAreLongest, 
 ghost use Rattle.turn_book.specs.Reading.{Gives, turns_of};
 ghost use Rattle.turn_book.specs.declared.BookFault.TheVariants.{NoMemory as no_memory};
 
-pub use crate::lines::TURN_LIMIT;
+pub use crate::limits::{LAST_THREAD, TURN_LIMIT, WORKER_LIMIT};
 use crate::lines::{push_line, read_lines, stretch_len};
 use std::alloc::{AllocError, AllocFailed, Global};
 use std::marker::Model;

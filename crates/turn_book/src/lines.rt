@@ -9,18 +9,13 @@ ghost use Rattle.turn_book.specs.Cuts.{parts_of, stretch_seen};
 ghost use Rattle.turn_book.specs.Limits.{most_turns};
 
 use crate::BookFault;
+use crate::limits::{LAST_THREAD, TURN_LIMIT};
 use decimal_text::{NumberFault, push_number_bytes, read_number};
 use std::alloc::Global;
 use want_of_memory::NoMemory;
 
-/// The most turns of a run, and of its book.
-pub const TURN_LIMIT: u64 = 1_000_000;
-
-/// The same as a length.
+/// The most turns of a book, as a length.
 const MOST: usize = TURN_LIMIT as usize;
-
-/// The greatest number of a thread.
-const LAST_THREAD: u64 = 4095;
 
 /// What one line says: a thread takes so many turns in a row.
 #[derive(Clone, Copy)]
