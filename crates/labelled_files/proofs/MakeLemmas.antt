@@ -18,11 +18,8 @@ abbrev fault_of : Bool → Bool → Bool → Bool → Option FileFault
 fault_of a b c d = if not a then Some BadName else (if b then Some Exists else (if c then Some DirFull else (if d then Some HomeFull else None)))
 
 all_clear : (a b c d : Bool) → fault_of a b c d ≡ None → (a ≡ true) × ((b ≡ false) × ((c ≡ false) × (d ≡ false)))
-all_clear false b c d e = cc
-all_clear true true c d e = cc
-all_clear true false true d e = cc
-all_clear true false false true e = cc
 all_clear true false false false e = (refl, (refl, (refl, refl)))
+all_clear a b c d e = cc
 
 is_none : {X : Type 0} (o : Option X) → is_some o ≡ false → o ≡ None
 is_none None e = refl

@@ -1,10 +1,10 @@
 -- What files are seen as, and what their calls make of them.
-use Rattle.std.specs.Prelude.{◌≡◌, ◌≤◌, IsTrue, false, ℕ, ◌-◌, ◌++◌, ◌∷◌, Bool, not, nat_eq, if◌then◌else◌, List, [], length, take, Option, Some, None, is_some, unwrap_or, refl}
+use Rattle.std.specs.Prelude.{◌≡◌, ◌<◌, ◌≤◌, IsTrue, false, ℕ, ◌-◌, ◌++◌, ◌∷◌, Bool, not, nat_eq, if◌then◌else◌, List, [], length, take, Option, Some, None, is_some, unwrap_or, refl}
 use Rattle.std.specs.Coded.{Coded, code_by, coded×, coded_list, coded_ℕ}
 use Rattle.std.specs.FinMap as map
 use Rattle.std.specs.FinMap.{FinMap, get, insert}
 use Rattle.std.specs.Map.{lookup, keys_of}
-use Rattle.std.specs.List.{IsDistinct}
+use Rattle.std.specs.List.{IsDistinct, slice_index}
 use Rattle.lam_value.specs.Label.{Label}
 use Rattle.lam_value.specs.Flow.{flows, public_label}
 use Rattle.lam_value.specs.declared.names.Name.{Name}
@@ -81,6 +81,10 @@ most_files = 65536
 -- a file has at most this many bytes
 abbrev pub most_bytes : ℕ
 most_bytes = 1048576
+
+-- every number is a byte
+abbrev pub AreBytes : List ℕ → Type 0
+AreBytes xs = (i : ℕ) → slice_index xs i < 256
 
 -- why nothing can be made at a number: the first of these that holds, in this order
 abbrev pub fault_at : Tree → Name → List ℕ → ℕ → Option FileFault

@@ -1,7 +1,7 @@
 //! The bytes of one file.
 
 ghost use Rattle.std.specs.Prelude.{◌≡◌, ◌≤◌, [], take, drop, length, IfOk, OnOk, OnErr};
-ghost use Rattle.labelled_files.specs.Trees.{appended, most_bytes};
+ghost use Rattle.labelled_files.specs.Trees.{AreBytes, appended, most_bytes};
 
 use lam_value::NoMemory;
 use std::alloc::Global;
@@ -14,6 +14,7 @@ pub const FILE_LIMIT: usize = 1_048_576;
 pub(crate) struct Contents {
     bytes: Vec<u8>,
     ghost few: { length bytes.items ≤ most_bytes },
+    ghost are_bytes: { AreBytes bytes.items },
 }
 
 impl Contents {

@@ -14,7 +14,7 @@ ghost use Rattle.lam_value.specs.Alike.{is_shown};
 ghost use Rattle.lam_value.specs.declared.names.Name.{Name};
 ghost use Rattle.lam_value.specs.Names.{name_eq};
 ghost use Rattle.labelled_files.specs.Trees as tree;
-ghost use Rattle.labelled_files.specs.Trees.{public_home, root_alone, lives_as, target_at, bytes_at, next_name, with_file, with_dir, placed, with_count, without_entry, with_more, with_first, changed_at, joined, most_entries, most_files, most_bytes, IsSound, AreSeenAlike};
+ghost use Rattle.labelled_files.specs.Trees.{public_home, root_alone, lives_as, target_at, bytes_at, next_name, with_file, with_dir, placed, with_count, without_entry, with_more, with_first, changed_at, joined, most_entries, most_files, most_bytes, AreBytes, IsSound, AreSeenAlike};
 ghost use Rattle.labelled_files.specs.declared.files.FileFault.TheVariants.{NoMemory as no_memory};
 
 use crate::both::both;
@@ -476,6 +476,13 @@ impl Files {
         ensures { IsSound self.now }
     {
         let _ = &self.dirs;
+    }
+
+    /// What each file holds are bytes. The call does nothing: its clause is for its caller's proof.
+    pub fn hold_bytes(&self)
+        ensures { (n : Name) → AreBytes (bytes_at self.now n) }
+    {
+        let _ = &self.files;
     }
 
     /// Equal files and directories.

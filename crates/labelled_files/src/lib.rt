@@ -15,6 +15,9 @@
 //! - `directory`: the entries of one directory, and the names that an entry may have.
 //! - `contents`: the bytes of one file.
 //! - `files`: all of them by name.
+//!
+//! The promises about runs and saved worlds rest on the calls of `Files` (clauses `fault`, `ok`, `err` and their
+//! like) and on `facts`. Free to change for speed: the maps, and how they are copied and compared.
 
 #![tactic(auto)]
 
