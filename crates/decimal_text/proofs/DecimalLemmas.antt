@@ -5,22 +5,24 @@ use Rattle.std.specs.Char.{digit_value}
 use Rattle.std.specs.Str.Parse.{IsNumeral, AllDigits, digits_value}
 use Rattle.std.proofs.lemmas.Str.Parse.{IsNumeralModel, numerals_by_value, tells_digits}
 use Rattle.std.proofs.lemmas.Fmt.{decimal-digits_value, decimal_is_IsNumeral, decimal_digit, first_decimal}
+use Rattle.std.proofs.lemmas.Bool.{and_parts}
 use Rattle.std.proofs.lemmas.Bool.Decides.{nat_tests}
+use Rattle.std.proofs.lemmas.Option.{same_Some}
 use Rattle.decimal_text.specs.Decimal.{Text, is_digit, is_nil, is_plain, IsDecimal, number_of}
-use Rattle.decimal_text.proofs.DigitLemmas.{and_both, digit_small, all_small}
+use Rattle.decimal_text.proofs.DigitLemmas.{digit_small, all_small}
 
 pub plain_digits : (bs : Text) → is_plain bs ≡ true → list_all is_digit bs ≡ true
 plain_digits [] e = absurd cc
 plain_digits (b ∷ bs) e =
-    let one = and_both (is_digit b) (list_all is_digit bs && (not (eqb b 48) || is_nil bs)) e in
-    let two = and_both (list_all is_digit bs) (not (eqb b 48) || is_nil bs) one.1 in
+    let one = and_parts (is_digit b) (list_all is_digit bs && (not (eqb b 48) || is_nil bs)) e in
+    let two = and_parts (list_all is_digit bs) (not (eqb b 48) || is_nil bs) one.1 in
     rw (one.0, two.0) refl
 
 plain_numeral : (bs : Text) → is_plain bs ≡ true → IsNumeral 10 bs
 plain_numeral [] e = absurd cc
 plain_numeral (b ∷ bs) e =
-    let one = and_both (is_digit b) _ e in
-    let two = and_both (list_all is_digit bs) _ one.1 in
+    let one = and_parts (is_digit b) _ e in
+    let two = and_parts (list_all is_digit bs) _ one.1 in
     (omega arith, (digit_small b one.0, all_small bs two.0))
 
 own : IsNumeralModel (AllDigits 10) (digits_value 10)
@@ -29,7 +31,7 @@ own = numerals_by_value (AllDigits 10) tells_digits
 one_zero : (bs : Text) → is_plain bs ≡ true → get_or bs 0 0 ≡ 48 → length bs ≡ 1
 one_zero [] e h = absurd cc
 one_zero (b ∷ bs) e h =
-    let last : (not (eqb b 48) || is_nil bs) ≡ true = (and_both (list_all is_digit bs) _ (and_both (is_digit b) _ e).1).1 in
+    let last : (not (eqb b 48) || is_nil bs) ≡ true = (and_parts (list_all is_digit bs) _ (and_parts (is_digit b) _ e).1).1 in
     nil_one bs (let same : eqb b 48 ≡ true = grind (arith, nat_tests) in only (eqb b 48) (is_nil bs) same last)
   where
     only : (t n : Bool) → t ≡ true → (not t || n) ≡ true → n ≡ true
@@ -78,9 +80,6 @@ number_is text n h = rw h.plain (ap Some h.value)
 
 pub number_back : (text : Text) (n : ℕ) → number_of text ≡ Some n → IsDecimal text n
 number_back text n = elim (is_plain text) as (λ v. is_plain text ≡ v → cond v (Some (digits_value 10 text)) None ≡ Some n → IsDecimal text n) [
-  | true ↦ λ was e. record { plain = was; value = inside e }
+  | true ↦ λ was e. record { plain = was; value = same_Some _ _ e }
   | false ↦ λ was e. absurd cc
 ] refl
-  where
-    inside : {x y : ℕ} → Some x ≡ Some y → x ≡ y
-    inside e = cc

@@ -1,21 +1,17 @@
 -- Digits, and the number that some first digits write.
-use Rattle.std.proofs.Common.{◌≡◌, ℕ, ◌+◌, ◌-◌, ◌*◌, ◌^◌, ◌<◌, ◌≤◌, Bool, true, false, ◌&&◌, [], ◌∷◌, length, take, drop, get_or, refl, sym, ◌∙◌, arith, zero, suc}
+use Rattle.std.proofs.Common.{◌≡◌, ℕ, ◌+◌, ◌-◌, ◌*◌, ◌^◌, ◌<◌, ◌≤◌, true, [], ◌∷◌, length, take, drop, get_or, refl, sym, ◌∙◌, arith, zero, suc}
 use Rattle.std.specs.List.{list_all}
 use Rattle.std.specs.Char.{digit_value}
 use Rattle.std.specs.Str.Parse.{digits_value, digits_value_after, AllDigits}
 use Rattle.std.proofs.lemmas.Int.Digits.{digits_value_more}
+use Rattle.std.proofs.lemmas.Bool.{and_parts}
 use Rattle.std.proofs.lemmas.Bool.Decides.{nat_tests}
 use Rattle.decimal_text.specs.Decimal.{Text, is_digit}
 
-pub and_both : (a b : Bool) → (a && b) ≡ true → (a ≡ true) × (b ≡ true)
-and_both true true e = (refl, refl)
-and_both true false e = absurd cc
-and_both false b e = absurd cc
-
 pub digit_at : (bs : Text) (i : ℕ) → i < length bs → list_all is_digit bs ≡ true → is_digit (get_or bs i 0) ≡ true
 digit_at [] i less all = absurd (omega arith)
-digit_at (b ∷ bs) zero less all = (and_both (is_digit b) (list_all is_digit bs) all).0
-digit_at (b ∷ bs) (suc i) less all = digit_at bs i (omega arith) (and_both (is_digit b) (list_all is_digit bs) all).1
+digit_at (b ∷ bs) zero less all = (and_parts (is_digit b) (list_all is_digit bs) all).0
+digit_at (b ∷ bs) (suc i) less all = digit_at bs i (omega arith) (and_parts (is_digit b) (list_all is_digit bs) all).1
 
 pub digit_worth : (b : ℕ) → is_digit b ≡ true → digit_value b ≡ b - 48
 digit_worth b e =
@@ -28,7 +24,7 @@ digit_small b e = let high : b ≤ 57 = grind (arith, nat_tests) in let worth : 
 
 pub all_small : (bs : Text) → list_all is_digit bs ≡ true → AllDigits 10 bs
 all_small [] e = tt
-all_small (b ∷ bs) e = let both = and_both (is_digit b) (list_all is_digit bs) e in (digit_small b both.0, all_small bs both.1)
+all_small (b ∷ bs) e = let both = and_parts (is_digit b) (list_all is_digit bs) e in (digit_small b both.0, all_small bs both.1)
 
 -- the number with one digit more
 pub one_more_digit : (bs : Text) (i v : ℕ) → i < length bs → list_all is_digit bs ≡ true → v ≡ digits_value 10 (take i bs) → v * 10 + (get_or bs i 0 - 48) ≡ digits_value 10 (take (i + 1) bs)

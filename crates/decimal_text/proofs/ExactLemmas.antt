@@ -2,6 +2,7 @@
 use Rattle.std.proofs.Common.{◌≡◌, ℕ, ℤ, pos, negsuc, zero, suc, ◌^◌, ◌<◌, true, false, cond, eqb, ltb, [], ◌∷◌, Option, Some, None, refl, sym, ap, ◌∙◌, arith, decimal, get_or}
 use Rattle.std.specs.Fmt.{signed_decimal}
 use Rattle.std.proofs.lemmas.Fmt.{decimal_digit, first_decimal}
+use Rattle.std.proofs.lemmas.Bool.{eqb-true}
 use Rattle.std.proofs.lemmas.Bool.Decides.{nat_tests}
 use Rattle.decimal_text.specs.Decimal.{Text, number_of, positive, negative, int_of, fits}
 use Rattle.decimal_text.specs.Exact.{NumbersAreExact, IntsAreExact}
@@ -33,7 +34,7 @@ int_back [] z e = absurd cc
 int_back (b ∷ bs) z e = elim (eqb b 45) as (λ t. eqb b 45 ≡ t → cond t (negative (number_of bs)) (positive (number_of (b ∷ bs))) ≡ Some z → (fits z ≡ true) × (b ∷ bs ≡ signed_decimal z)) [
   | true ↦ λ was e.
       let found = negative_back (number_of bs) z e in
-      let minus : b ≡ 45 = byte b was in
+      let minus : b ≡ 45 = eqb-true b 45 was in
       let text : bs ≡ decimal (suc found.0) = decimal_text bs (suc found.0) (number_back bs (suc found.0) found.1) (small found.0 found.3) in
       (ap fits found.2 ∙ found.3, (λ i. minus i ∷ text i) ∙ ap signed_decimal (sym found.2))
   | false ↦ λ was e.
@@ -41,9 +42,6 @@ int_back (b ∷ bs) z e = elim (eqb b 45) as (λ t. eqb b 45 ≡ t → cond t (n
       let text : b ∷ bs ≡ decimal found.0 = decimal_text (b ∷ bs) found.0 (number_back (b ∷ bs) found.0 found.1) (let more = small found.0 found.3 in omega arith) in
       (ap fits found.2 ∙ found.3, text ∙ ap signed_decimal (sym found.2))
 ] refl e
-  where
-    byte : (b : ℕ) → eqb b 45 ≡ true → b ≡ 45
-    byte b e = grind (arith, nat_tests)
 
 -- the first digit of a number is no minus
 no_minus : (n : ℕ) (b : ℕ) (bs : Text) → n < 2 ^ 64 → decimal n ≡ b ∷ bs → eqb b 45 ≡ false

@@ -3,6 +3,9 @@
 //! Each number has one text: no leading zeros, no `+`, no `-0`. So a written number reads back as itself, and no other
 //! text reads as that number ([`numbers_are_exact`], [`ints_are_exact`]). Scripts, schedules, the words of a command
 //! and texts that a program reads all use this crate.
+//!
+//! The promises about scripts, schedules and command words rest on `read_number`, `read_int` and the writers (their
+//! one clause each). Free to change for speed: how digits are read and written.
 #![tactic(auto)]
 
 mod read;
