@@ -17,6 +17,10 @@
 //!
 //! Each text has a function that returns a `String`, and one named `push_..` that appends to a given text. Functions
 //! without a `Result` allocate nothing.
+//!
+//! A public promise rests on `flows`, on the rule functions (clauses `value` and `none`) and on the texts of labels
+//! (both ways): who may read, write and see what. Free to change for speed: the walks behind them, as long as the
+//! first failing rule and its least tag stay.
 #![tactic(auto)]
 
 mod name_lists;

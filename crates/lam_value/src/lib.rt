@@ -12,6 +12,10 @@
 //!
 //! `lam_value_homes`, which this crate passes on, has the counters of homes and equality of maps. Contracts see all of
 //! these as plain data: equal values are equal in every respect.
+//!
+//! The promises about runs rest on names and values: `Name`'s calls, `at_home`, `same_value` and the texts
+//! (`value_text`, `push_value`). Free to change for speed: what a home remembers of its place, and how names share
+//! their home.
 
 #![tactic(auto)]
 
