@@ -4,29 +4,13 @@ use Rattle.lam_grammar_laws.proofs.Tests.{tells}
 use Rattle.lam_lexer.specs.declared.token.Token.{Token}
 use Rattle.lam_lexer.specs.declared.token.TokenKind.{TokenKind}
 use Rattle.lam_lexer.specs.declared.token.TokenKind.TheVariants.{Number}
-use Rattle.lam_grammar.specs.declared.Level.TheVariants.{Or as or_level, And as and_level, Sum as sum_level, Term as term_level}
-use Rattle.lam_grammar.specs.Table.{Rule, items, chain, chain_tail}
+use Rattle.lam_grammar.specs.declared.Level.TheVariants.{Or as or_level}
+use Rattle.lam_grammar.specs.Table.{Rule, chain, chain_tail}
 use Rattle.lam_grammar.specs.Program.{lam}
 
 told : (r : Rule) (at : ℕ) (k : TokenKind) → tells lam r (record { at = at; kind = k }) ≡ true
 told (chain or_level) at (Number n) = refl
-told (chain or_level) at _ = refl
 told (chain_tail or_level) at (Number n) = refl
-told (chain_tail or_level) at _ = refl
-told (chain and_level) at (Number n) = refl
-told (chain and_level) at _ = refl
-told (chain_tail and_level) at (Number n) = refl
-told (chain_tail and_level) at _ = refl
-told (chain sum_level) at (Number n) = refl
-told (chain sum_level) at _ = refl
-told (chain_tail sum_level) at (Number n) = refl
-told (chain_tail sum_level) at _ = refl
-told (chain term_level) at (Number n) = refl
-told (chain term_level) at _ = refl
-told (chain_tail term_level) at (Number n) = refl
-told (chain_tail term_level) at _ = refl
-told items at (Number n) = refl
-told items at _ = refl
 told _ at (Number n) = refl
 told _ at _ = refl
 

@@ -10,7 +10,7 @@ use Rattle.lam_lexer.specs.declared.token.Token.{Token}
 use Rattle.lam_lexer.specs.declared.token.TokenKind.{TokenKind}
 use Rattle.lam_lexer.specs.declared.token.TokenKind.TheVariants.{Number, Assign}
 use Rattle.lam_grammar.specs.declared.Level.TheVariants.{Or as or_level, And as and_level, Sum as sum_level, Term as term_level}
-use Rattle.lam_grammar.specs.Table.{Class, Rule, Sym, items, item, fields, variable, params, params_tail, result_part, typ, block, stmts, stmt, else_part, value_part, assign_part, parens, region_head, captures, names, names_tail, handler, expr, comparison, comparison_tail, unary, post, post_tail, prim, chain, chain_tail, call_part, arguments, args, args_tail, new_part, cap_items, cap_item, cap_tail, bodies, begins, counts}
+use Rattle.lam_grammar.specs.Table.{Class, Rule, Sym, items, item, variable, block, stmts, stmt, assign_part, parens, region_head, captures, handler, expr, comparison, unary, post, prim, chain, chain_tail, arguments, bodies, begins, counts}
 use Rattle.lam_grammar.specs.Meaning.{Value, word, permits, act, is_place_value}
 use Rattle.lam_grammar.specs.Program.{lam}
 use Rattle.lam_grammar.specs.Examples.{Ending, any_token, after_expression, after_list, no_else_word, a_brace, ending, admits, null, of_kind, kinds, placed, short, rank, fills, full, first_kind, examples}
@@ -78,12 +78,10 @@ expression_no_else _ = refl
 
 widens : (e f : Ending) (k : TokenKind) → wide_ending e f ≡ true → admits f k ≡ true → admits e k ≡ true
 widens any_token f k h a = refl
-widens after_expression after_expression k h a = a
 widens after_expression after_list k h a = implied _ _ (list_after_expression k) a
-widens after_list after_list k h a = a
-widens no_else_word no_else_word k h a = a
 widens no_else_word after_expression k h a = implied _ _ (expression_no_else k) a
 widens no_else_word after_list k h a = implied _ _ (list_no_else k) a
+widens after_list after_list k h a = a
 widens a_brace a_brace k h a = a
 widens _ _ k h a = cc
 
@@ -91,14 +89,9 @@ widens _ _ k h a = cc
 
 each_body : (p : Rule → Value → Bool) (r : Rule) → passes_all (grammar_with p) (examples_with p) wide r (bodies r) ≡ true
 each_body p (chain or_level) = refl
+each_body p (chain _) = refl
 each_body p (chain_tail or_level) = refl
-each_body p (chain and_level) = refl
-each_body p (chain_tail and_level) = refl
-each_body p (chain sum_level) = refl
-each_body p (chain_tail sum_level) = refl
-each_body p (chain term_level) = refl
-each_body p (chain_tail term_level) = refl
-each_body p items = refl
+each_body p (chain_tail _) = refl
 each_body p _ = refl
 
 none_before_end : (p : Rule → Value → Bool) (r : Rule) → implies (null r) (is_empty (pick (grammar_with p) (bodies r) None)) ≡ true
@@ -106,51 +99,10 @@ none_before_end p items = refl
 none_before_end p _ = refl
 
 none_before : (p : Rule → Value → Bool) (r : Rule) (at : ℕ) (k : TokenKind) → implies (null r) (implies (admits (ending r) k) (is_empty (pick (grammar_with p) (bodies r) (Some (record { at = at; kind = k }))))) ≡ true
-none_before p items at (Number n) = refl
-none_before p items at _ = refl
-none_before p fields at (Number n) = refl
-none_before p fields at _ = refl
-none_before p params at (Number n) = refl
-none_before p params at _ = refl
-none_before p params_tail at (Number n) = refl
-none_before p params_tail at _ = refl
-none_before p result_part at (Number n) = refl
-none_before p result_part at _ = refl
-none_before p stmts at (Number n) = refl
-none_before p stmts at _ = refl
-none_before p else_part at (Number n) = refl
-none_before p else_part at _ = refl
-none_before p value_part at (Number n) = refl
-none_before p value_part at _ = refl
-none_before p assign_part at (Number n) = refl
-none_before p assign_part at _ = refl
-none_before p names at (Number n) = refl
-none_before p names at _ = refl
-none_before p names_tail at (Number n) = refl
-none_before p names_tail at _ = refl
-none_before p comparison_tail at (Number n) = refl
-none_before p comparison_tail at _ = refl
-none_before p post_tail at (Number n) = refl
-none_before p post_tail at _ = refl
-none_before p call_part at (Number n) = refl
-none_before p call_part at _ = refl
-none_before p args at (Number n) = refl
-none_before p args at _ = refl
-none_before p args_tail at (Number n) = refl
-none_before p args_tail at _ = refl
-none_before p cap_items at (Number n) = refl
-none_before p cap_items at _ = refl
-none_before p cap_tail at (Number n) = refl
-none_before p cap_tail at _ = refl
 none_before p (chain_tail or_level) at (Number n) = refl
-none_before p (chain_tail or_level) at _ = refl
-none_before p (chain_tail and_level) at (Number n) = refl
-none_before p (chain_tail and_level) at _ = refl
-none_before p (chain_tail sum_level) at (Number n) = refl
-none_before p (chain_tail sum_level) at _ = refl
-none_before p (chain_tail term_level) at (Number n) = refl
-none_before p (chain_tail term_level) at _ = refl
-none_before p _ at k = refl
+none_before p (chain_tail _) at (Number n) = refl
+none_before p _ at (Number n) = refl
+none_before p _ at _ = refl
 
 empty_production : (p : Rule → Value → Bool) (r : Rule) (b : Value) (o : Option Token) → is_empty (pick (grammar_with p) (bodies r) o) ≡ true → production (grammar_with p) r b o ≡ Some []
 empty_production p r b o h = go (p r b) (pick (grammar_with p) (bodies r) o) h
@@ -174,90 +126,19 @@ chosen_of p r b o body t e = ap (λ (x : Bool). cond x (Some (pick (grammar_with
 
 null_word : (r : Rule) → null r ≡ true → placed (kinds r) ≡ []
 null_word items n = refl
-null_word item n = cc
-null_word variable n = cc
-null_word typ n = cc
-null_word block n = cc
-null_word stmt n = cc
-null_word parens n = cc
-null_word region_head n = cc
-null_word captures n = cc
-null_word handler n = cc
-null_word expr n = cc
-null_word comparison n = cc
-null_word unary n = cc
-null_word post n = cc
-null_word prim n = cc
-null_word arguments n = cc
-null_word new_part n = cc
-null_word cap_item n = cc
-null_word (chain l) n = cc
-null_word _ n = refl
+null_word _ n = cc
 
 spelt_first : (r : Rule) → null r ≡ false → placed (kinds r) ≡ of_kind (first_kind r) ∷ behind (kinds r)
 spelt_first item n = refl
-spelt_first variable n = refl
-spelt_first typ n = refl
-spelt_first block n = refl
-spelt_first stmt n = refl
-spelt_first parens n = refl
-spelt_first region_head n = refl
-spelt_first captures n = refl
-spelt_first handler n = refl
-spelt_first expr n = refl
-spelt_first comparison n = refl
-spelt_first unary n = refl
-spelt_first post n = refl
-spelt_first prim n = refl
-spelt_first arguments n = refl
-spelt_first new_part n = refl
-spelt_first cap_item n = refl
-spelt_first (chain l) n = refl
 spelt_first _ n = cc
 
 picks_short : (p : Rule → Value → Bool) (r : Rule) → null r ≡ false → pick (grammar_with p) (bodies r) (Some (of_kind (first_kind r))) ≡ short r
 picks_short p item n = refl
-picks_short p variable n = refl
-picks_short p typ n = refl
-picks_short p block n = refl
-picks_short p stmt n = refl
-picks_short p parens n = refl
-picks_short p region_head n = refl
-picks_short p captures n = refl
-picks_short p handler n = refl
-picks_short p expr n = refl
-picks_short p comparison n = refl
-picks_short p unary n = refl
-picks_short p post n = refl
-picks_short p prim n = refl
-picks_short p arguments n = refl
-picks_short p new_part n = refl
-picks_short p cap_item n = refl
-picks_short p (chain l) n = refl
 picks_short p _ n = cc
 
 spells : (p : Rule → Value → Bool) (r : Rule) → null r ≡ false → words (grammar_with p) (examples_with p) (short r) ≡ placed (kinds r)
-spells p item n = refl
-spells p variable n = refl
-spells p typ n = refl
-spells p block n = refl
-spells p stmt n = refl
-spells p parens n = refl
-spells p region_head n = refl
-spells p captures n = refl
-spells p handler n = refl
-spells p expr n = refl
-spells p comparison n = refl
-spells p unary n = refl
-spells p post n = refl
-spells p prim n = refl
-spells p arguments n = refl
-spells p new_part n = refl
-spells p cap_item n = refl
 spells p (chain or_level) n = refl
-spells p (chain and_level) n = refl
-spells p (chain sum_level) n = refl
-spells p (chain term_level) n = refl
+spells p (chain _) n = refl
 spells p _ n = cc
 
 -- what comes behind the first token of a rule's full body
@@ -267,73 +148,16 @@ full_behind stmts = behind (kinds stmt)
 full_behind r = behind (kinds r)
 
 full_first : (p : Rule → Value → Bool) (r : Rule) → fills r ≡ true → words (grammar_with p) (examples_with p) (full r) ≡ of_kind (first_kind r) ∷ full_behind r
-full_first p items n = refl
-full_first p stmts n = refl
-full_first p item n = refl
-full_first p variable n = refl
-full_first p typ n = refl
-full_first p block n = refl
-full_first p stmt n = refl
-full_first p parens n = refl
-full_first p region_head n = refl
-full_first p captures n = refl
-full_first p handler n = refl
-full_first p expr n = refl
-full_first p comparison n = refl
-full_first p unary n = refl
-full_first p post n = refl
-full_first p prim n = refl
-full_first p arguments n = refl
-full_first p new_part n = refl
-full_first p cap_item n = refl
 full_first p (chain or_level) n = refl
-full_first p (chain and_level) n = refl
-full_first p (chain sum_level) n = refl
-full_first p (chain term_level) n = refl
+full_first p (chain _) n = refl
 full_first p _ n = cc
 
 picks_full : (p : Rule → Value → Bool) (r : Rule) → fills r ≡ true → pick (grammar_with p) (bodies r) (Some (of_kind (first_kind r))) ≡ full r
 picks_full p items n = refl
-picks_full p stmts n = refl
-picks_full p item n = refl
-picks_full p variable n = refl
-picks_full p typ n = refl
-picks_full p block n = refl
-picks_full p stmt n = refl
-picks_full p parens n = refl
-picks_full p region_head n = refl
-picks_full p captures n = refl
-picks_full p handler n = refl
-picks_full p expr n = refl
-picks_full p comparison n = refl
-picks_full p unary n = refl
-picks_full p post n = refl
-picks_full p prim n = refl
-picks_full p arguments n = refl
-picks_full p new_part n = refl
-picks_full p cap_item n = refl
-picks_full p (chain l) n = refl
 picks_full p _ n = cc
 
 filled : (r : Rule) → null r ≡ false → fills r ≡ true
 filled item n = refl
-filled variable n = refl
-filled typ n = refl
-filled block n = refl
-filled stmt n = refl
-filled parens n = refl
-filled region_head n = refl
-filled captures n = refl
-filled handler n = refl
-filled expr n = refl
-filled comparison n = refl
-filled unary n = refl
-filled post n = refl
-filled prim n = refl
-filled arguments n = refl
-filled new_part n = refl
-filled cap_item n = refl
-filled (chain l) n = refl
 filled _ n = cc
 
 lower : (p : Rule → Value → Bool) (r : Rule) → IsBelow (grammar_with p) rank (rank r) (short r)
@@ -359,10 +183,7 @@ lower p _ = tt
 
 topmost : (r : Rule) → rank r < 11
 topmost (chain or_level) = lit< tt
-topmost (chain and_level) = lit< tt
-topmost (chain sum_level) = lit< tt
-topmost (chain term_level) = lit< tt
-topmost items = lit< tt
+topmost (chain _) = lit< tt
 topmost _ = lit< tt
 
 -- A text of the grammar goes on from wherever reading stands.
@@ -393,19 +214,15 @@ free_sound = sound_with (λ r b. true) (λ r b f. refl)
 
 -- ---- what may stand before `=`
 
+not_none : (b : Bool) → ◌≡◌ {A = Option (List Sym)} (cond b (Some []) (Some [])) None → ⊥
+not_none true e = cc
+not_none false e = cc
+
 assign_bars : (before : Value) (at : ℕ) (k : TokenKind) → production lam assign_part before (Some (record { at = at; kind = k })) ≡ None → Bars lam assign_part (Some (record { at = at; kind = k }))
 assign_bars before at Assign h = record { w = record { at = at; kind = Assign }; c = _; more = _; next = refl; body = refl; fit = refl }
 assign_bars before at _ h = absurd (not_none (is_place_value before) h)
-  where
-    not_none : (b : Bool) → ◌≡◌ {A = Option (List Sym)} (cond b (Some []) (Some [])) None → ⊥
-    not_none true e = cc
-    not_none false e = cc
 
 pub bars : HasBars lam
 bars assign_part before None h = absurd (not_none (is_place_value before) h)
-  where
-    not_none : (b : Bool) → ◌≡◌ {A = Option (List Sym)} (cond b (Some []) (Some [])) None → ⊥
-    not_none true e = cc
-    not_none false e = cc
 bars assign_part before (Some w) h = assign_bars before w.at w.kind h
 bars _ before o h = cc
