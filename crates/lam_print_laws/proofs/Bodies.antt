@@ -6,7 +6,7 @@ use Rattle.lam_lexer.specs.declared.token.Token.{Token}
 use Rattle.lam_lexer.specs.declared.token.TokenKind.{TokenKind}
 use Rattle.lam_lexer.specs.declared.token.TokenKind.TheVariants as Kind
 use Rattle.lam_grammar.specs.declared.Level.{Level}
-use Rattle.lam_grammar.specs.declared.Level.TheVariants.{Or as or_level, And as and_level, Sum as sum_level, Term as term_level}
+use Rattle.lam_grammar.specs.declared.Level.TheVariants.{Or as or_level, Sum as sum_level}
 use Rattle.lam_grammar.specs.Table.{Rule, Sym, items, item, fields, variable, params, params_tail, result_part, typ, block, stmts, stmt, else_part, value_part, assign_part, parens, region_head, captures, names, names_tail, handler, expr, comparison, comparison_tail, unary, post, post_tail, prim, chain, chain_tail, call_part, arguments, args, args_tail, new_part, cap_items, cap_item, cap_tail, ID, literal, type_word, operator, comparing, prefix, member_name, index_close, sign, brace_open, brace_close, paren_open, paren_close, bracket_open, bracket_close, comma, semicolon, colon, dot, equals, class_word, fn_word, let_word, if_word, else_word, while_word, return_word, throw_word, sync_word, region_word, catch_word, new_word, spawn_word, label_word, caps_word, operand_rule, bodies}
 use Rattle.lam_grammar.specs.Meaning.{Value, word, act}
 use Rattle.lam_print.specs.Fitting.{TypeFormFits, TypeFits, ExprFits, BlockFits, StmtFormFits}
@@ -168,9 +168,7 @@ whole_body us (of_rule (an_expr e) none) = an_expr e
 -- an operand of each level is an expression
 operand_good : (l : Level) {v : Value} → Good (operand_rule l) v → Expression v
 operand_good or_level h = h
-operand_good and_level h = h
-operand_good sum_level h = h
-operand_good term_level h = h
+operand_good _ h = h
 
 chain_values : (l : Level) (v : Value) (vs : List Value) → Expression v → Holds (rule (chain_tail l) ∷ []) vs → Expression (act (chain l) (v ∷ vs))
 chain_values l v vs (an_expr {b = b} {e = e} f) (of_rule (some_operations {os = os} h) none) = an_expr (combine_fits b e os f h)

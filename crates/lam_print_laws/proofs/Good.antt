@@ -1,5 +1,5 @@
 -- What a rule gives where the tokens' words fit.
-use Rattle.std.proofs.Common.{◌≡◌, ℕ, true, false, List, [], ◌∷◌, refl}
+use Rattle.std.proofs.Common.{rules, ◌≡◌, ℕ, true, false, List, [], ◌∷◌, refl}
 use Rattle.std.proofs.lemmas.Bool.{both_ways}
 use Rattle.lam_grammar_laws.specs.Grammar.{mark, rule}
 use Rattle.lam_syntax.specs.Tree.{IdTree, TypeTree, VarTree, CapTree, ExprTree, ExprForm, ExprList, expr_node, binary_expr, field_expr, element_expr, StmtTree, StmtList, ElseTree, ItemTree, ProgramTree}
@@ -154,16 +154,7 @@ literal_fits _ f = tt
 
 pub type_word_fits : (k : TokenKind) → is_type_word k ≡ true → TypeFormFits (type_form_of k)
 type_word_fits Kind.Int q = tt
-type_word_fits Kind.Bool q = tt
-type_word_fits Kind.Bytes q = tt
-type_word_fits Kind.Tag q = tt
-type_word_fits Kind.Label q = tt
-type_word_fits Kind.Caps q = tt
-type_word_fits Kind.File q = tt
-type_word_fits Kind.Dir q = tt
-type_word_fits Kind.Pipe q = tt
-type_word_fits Kind.Thread q = tt
-type_word_fits _ q = absurd (both_ways false refl q)
+type_word_fits _ q = first_of (search rules, cc)
 
 pub type_name_fits : (k : TokenKind) → is_id k ≡ true → WordFits k → TypeFormFits (type_form_of k)
 type_name_fits (Kind.Id x) q f = f

@@ -4,7 +4,7 @@ use Rattle.lam_lexer.specs.declared.token.TokenKind.{TokenKind}
 use Rattle.lam_lexer.specs.declared.token.TokenKind.TheVariants as Kind
 use Rattle.lam_operators.specs.declared.UnaryOp.{UnaryOp}
 use Rattle.lam_operators.specs.declared.UnaryOp.TheVariants as Sign
-use Rattle.lam_syntax.specs.Tree.{ExprTree, ExprForm, expr_node, binary_expr, unary_expr, field_expr, element_expr, number_expr, text_expr, bool_expr, null_expr, name_expr, call_expr, new_class_expr, new_array_expr, label_expr, caps_expr, spawn_expr, StmtTree, stmt_node, StmtForm, let_stmt, if_stmt, while_stmt, return_stmt, throw_stmt, sync_stmt, region_stmt, do_stmt, assign_stmt}
+use Rattle.lam_syntax.specs.Tree.{ExprTree, ExprForm, expr_node, binary_expr, unary_expr, field_expr, element_expr, bool_expr, StmtTree, stmt_node, StmtForm, do_stmt, assign_stmt}
 use Rattle.lam_grammar.specs.Table.{begins_expr, begins_stmt}
 use Rattle.lam_grammar.specs.Examples.{no_else_word, admits}
 use Rattle.lam_print.specs.Pieces.{Piece, token as piece, blank}
@@ -39,47 +39,26 @@ mutual
       opened_head b (piece (sign o) ∷ lay e prefixed (closed b ps)) (sign_head o (lay e prefixed (closed b ps)))
   form_head (field_expr e x) place ps = expr_head e 0 _
   form_head (element_expr e n) place ps = expr_head e 0 _
-  form_head (number_expr n) place ps = refl
-  form_head (text_expr bytes) place ps = refl
   form_head (bool_expr b) place ps = truth_head b ps
-  form_head null_expr place ps = refl
-  form_head (name_expr x) place ps = refl
-  form_head (call_expr f es) place ps = refl
-  form_head (new_class_expr c) place ps = refl
-  form_head (new_array_expr t e) place ps = refl
-  form_head (label_expr s n) place ps = refl
-  form_head (caps_expr cs) place ps = refl
-  form_head (spawn_expr e f es) place ps = refl
+  form_head _ place ps = refl
 
   expr_head : (e : ExprTree) (place : ℕ) (ps : List Piece) → StartsWith begins_expr (ended (lay e place ps))
   expr_head (expr_node at form) place ps = form_head form place ps
 
 pub expr_stmt : (k : TokenKind) → begins_expr k ≡ true → begins_stmt k ≡ true
 expr_stmt Kind.Let h = refl
-expr_stmt Kind.If h = refl
-expr_stmt Kind.While h = refl
-expr_stmt Kind.Return h = refl
-expr_stmt Kind.Throw h = refl
-expr_stmt Kind.Sync h = refl
-expr_stmt Kind.Region h = refl
-expr_stmt _ h = h
+expr_stmt _ h = cc
 
 loosened : (ks : List TokenKind) → StartsWith begins_expr ks → StartsWith begins_stmt ks
 loosened [] h = h
 loosened (k ∷ ks) h = expr_stmt k h
 
 stmt_form_head : (form : StmtForm) (n : ℕ) (ps : List Piece) → StartsWith begins_stmt (ended (lay_stmt_form form n ps))
-stmt_form_head (let_stmt v e) n ps = refl
-stmt_form_head (if_stmt e body other) n ps = refl
-stmt_form_head (while_stmt e body) n ps = refl
-stmt_form_head (return_stmt e) n ps = refl
-stmt_form_head (throw_stmt e) n ps = refl
-stmt_form_head (sync_stmt e body) n ps = refl
-stmt_form_head (region_stmt l c xs body x handler) n ps = refl
 stmt_form_head (do_stmt e) n ps = loosened (ended (lay e 6 (piece Kind.Semicolon ∷ ps))) (expr_head e 6 (piece Kind.Semicolon ∷ ps))
 stmt_form_head (assign_stmt p e) n ps =
     let rest : List Piece = blank ∷ piece Kind.Assign ∷ blank ∷ lay e 6 (piece Kind.Semicolon ∷ ps) in
     loosened (ended (lay p 6 rest)) (expr_head p 6 rest)
+stmt_form_head _ n ps = refl
 
 pub stmt_head : (s : StmtTree) (n : ℕ) (ps : List Piece) → StartsWith begins_stmt (ended (lay_stmt s n ps))
 stmt_head (stmt_node at form) n ps = stmt_form_head form n ps

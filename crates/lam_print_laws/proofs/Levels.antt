@@ -313,62 +313,6 @@ module _ (look : ℕ → Option Token) where
   between inside ps = piece Kind.ParenOpen ∷ inside (piece Kind.ParenClose ∷ ps)
 
   module _ (e : ExprTree) (inside : List Piece → List Piece) where
-    -- an operand
-    pub all0 : Own (Core e) 0 inside → All e (λ place ps. inside ps)
-    all0 o0 =
-        let o1 : Own (Read unary e) 2 inside = step1 e inside o0 in
-        let o2 : Own (Left term_level e) 2 inside = step2 e inside o1 in
-        let o3 : Own (Left sum_level e) 3 inside = step3 e inside o2 in
-        let o4 : Own (Read comparison e) 5 inside = step4 e inside o3 in
-        let o5 : Own (Left and_level e) 5 inside = step5 e inside o4 in
-        record { at0 = o0; at1 = o1; at2 = o2; at3 = o3; at4 = o4; at5 = o5; at6 = step6 e inside o5 }
-
-    -- with a prefix
-    pub all1 : Own (Read unary e) 2 inside → All e (λ place ps. grouped 1 place inside ps)
-    all1 o1 =
-        let o2 : Own (Left term_level e) 2 inside = step2 e inside o1 in
-        let o3 : Own (Left sum_level e) 3 inside = step3 e inside o2 in
-        let o4 : Own (Read comparison e) 5 inside = step4 e inside o3 in
-        let o5 : Own (Left and_level e) 5 inside = step5 e inside o4 in
-        let o6 : Own (Left or_level e) 6 inside = step6 e inside o5 in
-        record { at0 = down e inside (step7 e inside o6); at1 = o1; at2 = o2; at3 = o3; at4 = o4; at5 = o5; at6 = o6 }
-
-    pub all2 : Own (Left term_level e) 2 inside → All e (λ place ps. grouped 2 place inside ps)
-    all2 o2 =
-        let o3 : Own (Left sum_level e) 3 inside = step3 e inside o2 in
-        let o4 : Own (Read comparison e) 5 inside = step4 e inside o3 in
-        let o5 : Own (Left and_level e) 5 inside = step5 e inside o4 in
-        let o6 : Own (Left or_level e) 6 inside = step6 e inside o5 in
-        let d0 : Own (Core e) 0 (between inside) = down e inside (step7 e inside o6) in
-        record { at0 = d0; at1 = step1 e (between inside) d0; at2 = o2; at3 = o3; at4 = o4; at5 = o5; at6 = o6 }
-
-    pub all3 : Own (Left sum_level e) 3 inside → All e (λ place ps. grouped 3 place inside ps)
-    all3 o3 =
-        let o4 : Own (Read comparison e) 5 inside = step4 e inside o3 in
-        let o5 : Own (Left and_level e) 5 inside = step5 e inside o4 in
-        let o6 : Own (Left or_level e) 6 inside = step6 e inside o5 in
-        let d0 : Own (Core e) 0 (between inside) = down e inside (step7 e inside o6) in
-        let d1 : Own (Read unary e) 2 (between inside) = step1 e (between inside) d0 in
-        record { at0 = d0; at1 = d1; at2 = step2 e (between inside) d1; at3 = o3; at4 = o4; at5 = o5; at6 = o6 }
-
-    pub all4 : Own (Read comparison e) 5 inside → All e (λ place ps. grouped 4 place inside ps)
-    all4 o4 =
-        let o5 : Own (Left and_level e) 5 inside = step5 e inside o4 in
-        let o6 : Own (Left or_level e) 6 inside = step6 e inside o5 in
-        let d0 : Own (Core e) 0 (between inside) = down e inside (step7 e inside o6) in
-        let d1 : Own (Read unary e) 2 (between inside) = step1 e (between inside) d0 in
-        let d2 : Own (Left term_level e) 2 (between inside) = step2 e (between inside) d1 in
-        record { at0 = d0; at1 = d1; at2 = d2; at3 = step3 e (between inside) d2; at4 = o4; at5 = o5; at6 = o6 }
-
-    pub all5 : Own (Left and_level e) 5 inside → All e (λ place ps. grouped 5 place inside ps)
-    all5 o5 =
-        let o6 : Own (Left or_level e) 6 inside = step6 e inside o5 in
-        let d0 : Own (Core e) 0 (between inside) = down e inside (step7 e inside o6) in
-        let d1 : Own (Read unary e) 2 (between inside) = step1 e (between inside) d0 in
-        let d2 : Own (Left term_level e) 2 (between inside) = step2 e (between inside) d1 in
-        let d3 : Own (Left sum_level e) 3 (between inside) = step3 e (between inside) d2 in
-        record { at0 = d0; at1 = d1; at2 = d2; at3 = d3; at4 = step4 e (between inside) d3; at5 = o5; at6 = o6 }
-
     pub all6 : Own (Left or_level e) 6 inside → All e (λ place ps. grouped 6 place inside ps)
     all6 o6 =
         let d0 : Own (Core e) 0 (between inside) = down e inside (step7 e inside o6) in
@@ -377,3 +321,35 @@ module _ (look : ℕ → Option Token) where
         let d3 : Own (Left sum_level e) 3 (between inside) = step3 e (between inside) d2 in
         let d4 : Own (Read comparison e) 5 (between inside) = step4 e (between inside) d3 in
         record { at0 = d0; at1 = d1; at2 = d2; at3 = d3; at4 = d4; at5 = step5 e (between inside) d4; at6 = o6 }
+
+    pub all5 : Own (Left and_level e) 5 inside → All e (λ place ps. grouped 5 place inside ps)
+    all5 o5 =
+        let d = all6 (step6 e inside o5) in
+        record { at0 = d.at0; at1 = d.at1; at2 = d.at2; at3 = d.at3; at4 = d.at4; at5 = o5; at6 = d.at6 }
+
+    pub all4 : Own (Read comparison e) 5 inside → All e (λ place ps. grouped 4 place inside ps)
+    all4 o4 =
+        let d = all5 (step5 e inside o4) in
+        record { at0 = d.at0; at1 = d.at1; at2 = d.at2; at3 = d.at3; at4 = o4; at5 = d.at5; at6 = d.at6 }
+
+    pub all3 : Own (Left sum_level e) 3 inside → All e (λ place ps. grouped 3 place inside ps)
+    all3 o3 =
+        let d = all4 (step4 e inside o3) in
+        record { at0 = d.at0; at1 = d.at1; at2 = d.at2; at3 = o3; at4 = d.at4; at5 = d.at5; at6 = d.at6 }
+
+    pub all2 : Own (Left term_level e) 2 inside → All e (λ place ps. grouped 2 place inside ps)
+    all2 o2 =
+        let d = all3 (step3 e inside o2) in
+        record { at0 = d.at0; at1 = d.at1; at2 = o2; at3 = d.at3; at4 = d.at4; at5 = d.at5; at6 = d.at6 }
+
+    -- with a prefix
+    pub all1 : Own (Read unary e) 2 inside → All e (λ place ps. grouped 1 place inside ps)
+    all1 o1 =
+        let d = all2 (step2 e inside o1) in
+        record { at0 = d.at0; at1 = o1; at2 = d.at2; at3 = d.at3; at4 = d.at4; at5 = d.at5; at6 = d.at6 }
+
+    -- an operand
+    pub all0 : Own (Core e) 0 inside → All e (λ place ps. inside ps)
+    all0 o0 =
+        let d = all1 (step1 e inside o0) in
+        record { at0 = o0; at1 = d.at1; at2 = d.at2; at3 = d.at3; at4 = d.at4; at5 = d.at5; at6 = d.at6 }

@@ -121,9 +121,7 @@ looser p q (k ∷ ks) l f = omega arith
 
 loose : {k : TokenKind} → Closing k → 7 < strength k
 loose paren = lit< tt
-loose bracket = lit< tt
-loose brace = lit< tt
-loose semicolon = lit< tt
+loose _ = lit< tt
 
 pub follow_closed : (ks : List TokenKind) → Closed ks → Follow 7 ks
 follow_closed [] c = c
@@ -140,14 +138,11 @@ stage or_level = 7
 
 no_term : (k : TokenKind) → 3 < strength k → operates term_level k ≡ false
 no_term Kind.Star h = absurd (omega arith)
-no_term Kind.Slash h = absurd (omega arith)
-no_term Kind.Percent h = absurd (omega arith)
-no_term _ h = refl
+no_term _ h = first_of (cc, grind arith)
 
 no_sum : (k : TokenKind) → 4 < strength k → operates sum_level k ≡ false
 no_sum Kind.Plus h = absurd (omega arith)
-no_sum Kind.Minus h = absurd (omega arith)
-no_sum _ h = refl
+no_sum _ h = first_of (cc, grind arith)
 
 no_and : (k : TokenKind) → 6 < strength k → operates and_level k ≡ false
 no_and Kind.And h = absurd (omega arith)
@@ -165,17 +160,11 @@ no_operator or_level k h = no_or k h
 
 pub comparison_ends : (before : Value) (at : ℕ) (k : TokenKind) → 5 < strength k → production lam comparison_tail before (Some (tok at k)) ≡ Some []
 comparison_ends before at Kind.Equal h = absurd (omega arith)
-comparison_ends before at Kind.NotEqual h = absurd (omega arith)
-comparison_ends before at Kind.Less h = absurd (omega arith)
-comparison_ends before at Kind.LessEqual h = absurd (omega arith)
-comparison_ends before at Kind.Greater h = absurd (omega arith)
-comparison_ends before at Kind.GreaterEqual h = absurd (omega arith)
-comparison_ends before at _ h = refl
+comparison_ends before at _ h = first_of (cc, grind arith)
 
 pub post_ends : (before : Value) (at : ℕ) (k : TokenKind) → 1 < strength k → production lam post_tail before (Some (tok at k)) ≡ Some []
 post_ends before at Kind.Dot h = absurd (omega arith)
-post_ends before at Kind.BracketOpen h = absurd (omega arith)
-post_ends before at _ h = refl
+post_ends before at _ h = first_of (cc, grind arith)
 
 pub call_ends : (before : Value) (at : ℕ) (k : TokenKind) → 0 < strength k → production lam call_part before (Some (tok at k)) ≡ Some []
 call_ends before at Kind.ParenOpen h = absurd (omega arith)
@@ -183,9 +172,7 @@ call_ends before at _ h = refl
 
 admitted : {k : TokenKind} → Closing k → admits after_list k ≡ true
 admitted paren = refl
-admitted bracket = refl
-admitted brace = refl
-admitted semicolon = refl
+admitted _ = refl
 
 -- before what ends a list
 pub nil : (look : ℕ → Option Token) (A : Type 0) (wrap : A → Value) (bare : A → A) (r : Rule) (x : A) (i : ℕ) (ks : List TokenKind) → null r ≡ true → ending r ≡ after_list → act r [] ≡ wrap x → Here look i ks → Closed ks → Back look A wrap bare r x i ks
@@ -202,10 +189,8 @@ nil look A wrap bare r x i (k ∷ ks) n e a h c = record {
 
 pub prim_expr : (k : TokenKind) → begins_prim k ≡ true → begins_expr k ≡ true
 prim_expr Kind.Not h = refl
-prim_expr Kind.Minus h = refl
-prim_expr _ h = h
+prim_expr _ h = cc
 
 pub no_sign : (k : TokenKind) → begins_prim k ≡ true → negates k ≡ false
 no_sign Kind.Not h = cc
-no_sign Kind.Minus h = cc
-no_sign _ h = refl
+no_sign _ h = cc

@@ -4,7 +4,7 @@ use Rattle.lam_grammar_laws.specs.Grammar.{rule, production}
 use Rattle.lam_lexer.specs.declared.token.Token.{Token}
 use Rattle.lam_lexer.specs.declared.token.TokenKind.{TokenKind}
 use Rattle.lam_lexer.specs.declared.token.TokenKind.TheVariants as Kind
-use Rattle.lam_syntax.specs.Tree.{IdTree, VarTree, ExprTree, ExprForm, expr_node, binary_expr, unary_expr, field_expr, element_expr, number_expr, text_expr, bool_expr, null_expr, name_expr, call_expr, new_class_expr, new_array_expr, label_expr, caps_expr, spawn_expr, StmtTree, stmt_node, StmtForm, let_stmt, if_stmt, while_stmt, return_stmt, throw_stmt, sync_stmt, region_stmt, do_stmt, assign_stmt, StmtList, no_stmts, ElseTree, no_else, else_block}
+use Rattle.lam_syntax.specs.Tree.{IdTree, VarTree, ExprTree, ExprForm, expr_node, binary_expr, StmtTree, stmt_node, StmtForm, let_stmt, if_stmt, while_stmt, return_stmt, throw_stmt, sync_stmt, region_stmt, do_stmt, assign_stmt, StmtList, no_stmts, ElseTree, no_else, else_block}
 use Rattle.lam_syntax.specs.Tree.{stmts as stmts_node}
 use Rattle.lam_syntax.specs.Unplaced.{unplaced_id, unplaced_ids, unplaced_expr, unplaced_expr_form, unplaced_stmt, unplaced_stmts, unplaced_else}
 use Rattle.lam_grammar.specs.Table.{Rule, begins_expr, begins_stmt, expr, variable, parens, block, stmts, stmt, else_part, value_part, assign_part, region_head, captures, names, handler, paren_open, paren_close, brace_open, brace_close, bracket_open, bracket_close, comma as comma_mark, semicolon, equals, ID, let_word, if_word, while_word, return_word, throw_word, sync_word, region_word, catch_word, else_word}
@@ -52,20 +52,7 @@ abbrev mutual
 -- a place is one wherever it stands
 place_form : (f : ExprForm) → is_place_form (unplaced_expr_form f) ≡ is_place_form f
 place_form (binary_expr o l r) = refl
-place_form (unary_expr o e) = refl
-place_form (field_expr e x) = refl
-place_form (element_expr e n) = refl
-place_form (number_expr n) = refl
-place_form (text_expr bytes) = refl
-place_form (bool_expr b) = refl
-place_form null_expr = refl
-place_form (name_expr x) = refl
-place_form (call_expr f es) = refl
-place_form (new_class_expr c) = refl
-place_form (new_array_expr t e) = refl
-place_form (label_expr s n) = refl
-place_form (caps_expr cs) = refl
-place_form (spawn_expr e f es) = refl
+place_form _ = refl
 
 place_of : (e : ExprTree) → is_place (unplaced_expr e) ≡ is_place e
 place_of (expr_node at f) = place_form f
@@ -76,13 +63,7 @@ place_kept a b e h = sym (place_of a) ∙ ap is_place e ∙ place_of b ∙ h
 -- the last body of a statement
 picks_expr : (before : Value) (at : ℕ) (k : TokenKind) → begins_expr k ≡ true → production lam stmt before (Some (tok at k)) ≡ Some (rule expr ∷ rule assign_part ∷ semicolon ∷ [])
 picks_expr before at Kind.Let h = cc
-picks_expr before at Kind.If h = cc
-picks_expr before at Kind.While h = cc
-picks_expr before at Kind.Return h = cc
-picks_expr before at Kind.Throw h = cc
-picks_expr before at Kind.Sync h = cc
-picks_expr before at Kind.Region h = cc
-picks_expr before at _ h = refl
+picks_expr before at _ h = cc
 
 no_else_closed : (ks : List TokenKind) → Closed ks → StartsWith (admits no_else_word) ks
 no_else_closed [] c = c
@@ -90,9 +71,7 @@ no_else_closed (k ∷ ks) c = go c
   where
     go : {k : TokenKind} → Closing k → admits no_else_word k ≡ true
     go m.paren = refl
-    go bracket = refl
-    go brace = refl
-    go m.semicolon = refl
+    go _ = refl
 
 module _ (look : ℕ → Option Token) where
   -- The statement is read back from i on, and then come the kinds ks.

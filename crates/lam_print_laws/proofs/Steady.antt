@@ -1,7 +1,7 @@
 -- Positions are no part of the canonical text.
 use Rattle.std.proofs.Common.{◌≡◌, ℕ, ◌+◌, nat_lt, Bool, true, false, Option, Some, None, List, [], ◌∷◌, refl, sym, ap, ◌∙◌}
 use Rattle.lam_lexer.specs.declared.token.TokenKind.TheVariants as Kind
-use Rattle.lam_syntax.specs.Tree.{IdTree, TypeTree, type_node, TypeForm, int_type, bool_type, bytes_type, tag_type, label_type, caps_type, file_type, dir_type, pipe_type, thread_type, class_type, array_type, VarTree, CapTree, ExprTree, expr_node, ExprForm, binary_expr, unary_expr, field_expr, element_expr, number_expr, text_expr, bool_expr, null_expr, name_expr, call_expr, new_class_expr, new_array_expr, label_expr, caps_expr, spawn_expr, ExprList, no_exprs, exprs, StmtTree, stmt_node, StmtForm, let_stmt, if_stmt, while_stmt, return_stmt, throw_stmt, sync_stmt, region_stmt, do_stmt, assign_stmt, StmtList, no_stmts, stmts, ElseTree, no_else, else_block, ItemTree, class_item, function_item, ProgramTree}
+use Rattle.lam_syntax.specs.Tree.{IdTree, TypeTree, type_node, TypeForm, array_type, VarTree, CapTree, ExprTree, expr_node, ExprForm, binary_expr, unary_expr, field_expr, element_expr, call_expr, new_array_expr, label_expr, caps_expr, spawn_expr, ExprList, no_exprs, exprs, StmtTree, stmt_node, StmtForm, let_stmt, if_stmt, while_stmt, return_stmt, throw_stmt, sync_stmt, region_stmt, do_stmt, assign_stmt, StmtList, no_stmts, stmts, ElseTree, no_else, else_block, ItemTree, class_item, function_item, ProgramTree}
 use Rattle.lam_syntax.specs.Unplaced.{unplaced_ids, unplaced_type, unplaced_type_form, unplaced_option_type, unplaced_var, unplaced_vars, unplaced_caps, unplaced_expr, unplaced_expr_form, unplaced_exprs, unplaced_option_expr, unplaced_stmt, unplaced_stmt_form, unplaced_stmts, unplaced_else, unplaced_item, unplaced}
 use Rattle.lam_print.specs.Pieces.{Piece, token, blank, line, written}
 use Rattle.lam_print.specs.Canon.{name, operator, sign, weight, left_place, right_place, prefixed, opened, closed, comma, spaced, lay_type_form, lay_type, lay_var, lay_names, lay_vars, lay_cap, lay_caps, gap, lay_form, lay, lay_args, lay_tags, lay_value, lay_stmt_form, lay_stmt, lay_block, lay_stmts, lay_else, lay_fields, lay_class_body, lay_result, lay_item, lay_items}
@@ -12,18 +12,8 @@ abbrev Same : (List Piece → List Piece) → (List Piece → List Piece) → Ty
 Same f g = (ps : List Piece) → f ps ≡ g ps
 
 same_type : (form : TypeForm) → Same (lay_type_form (unplaced_type_form form)) (lay_type_form form)
-same_type int_type ps = refl
-same_type bool_type ps = refl
-same_type bytes_type ps = refl
-same_type tag_type ps = refl
-same_type label_type ps = refl
-same_type caps_type ps = refl
-same_type file_type ps = refl
-same_type dir_type ps = refl
-same_type pipe_type ps = refl
-same_type thread_type ps = refl
-same_type (class_type x) ps = refl
 same_type (array_type (type_node at form)) ps = ap (λ (qs : List Piece). token Kind.BracketOpen ∷ qs) (same_type form (token Kind.BracketClose ∷ ps))
+same_type _ ps = refl
 
 same_of_type : (t : TypeTree) → Same (lay_type (unplaced_type t)) (lay_type t)
 same_of_type (type_node at form) ps = same_type form ps
@@ -56,17 +46,12 @@ mutual
       ap (λ (qs : List Piece). opened b (token (sign o) ∷ qs)) (same_expr e prefixed (closed b ps))
   same_form (field_expr e x) place ps = same_expr e 0 (token Kind.Dot ∷ name x ps)
   same_form (element_expr e n) place ps = same_expr e 0 (token Kind.BracketOpen ∷ lay (unplaced_expr n) 6 (token Kind.BracketClose ∷ ps)) ∙ ap (λ (qs : List Piece). lay e 0 (token Kind.BracketOpen ∷ qs)) (same_expr n 6 (token Kind.BracketClose ∷ ps))
-  same_form (number_expr n) place ps = refl
-  same_form (text_expr bytes) place ps = refl
-  same_form (bool_expr b) place ps = refl
-  same_form null_expr place ps = refl
-  same_form (name_expr x) place ps = refl
   same_form (call_expr f es) place ps = ap (λ (qs : List Piece). name f (token Kind.ParenOpen ∷ qs)) (same_args es false (token Kind.ParenClose ∷ ps))
-  same_form (new_class_expr c) place ps = refl
   same_form (new_array_expr t e) place ps = ap (λ (qs : List Piece). token Kind.New ∷ blank ∷ token Kind.BracketOpen ∷ qs) (same_of_type t (token Kind.BracketClose ∷ token Kind.ParenOpen ∷ lay (unplaced_expr e) 6 (token Kind.ParenClose ∷ ps)) ∙ ap (λ (qs : List Piece). lay_type t (token Kind.BracketClose ∷ token Kind.ParenOpen ∷ qs)) (same_expr e 6 (token Kind.ParenClose ∷ ps)))
   same_form (label_expr s n) place ps = ap (λ (qs : List Piece). token Kind.Label ∷ token Kind.BraceOpen ∷ qs) (same_args s false (token Kind.Semicolon ∷ lay_tags false (unplaced_exprs n) (token Kind.BraceClose ∷ ps)) ∙ ap (λ (qs : List Piece). lay_args false s (token Kind.Semicolon ∷ qs)) (same_tags n false (token Kind.BraceClose ∷ ps)))
   same_form (caps_expr cs) place ps = ap (λ (qs : List Piece). token Kind.Caps ∷ token Kind.BraceOpen ∷ qs) (same_caps cs false (token Kind.BraceClose ∷ ps))
   same_form (spawn_expr e f es) place ps = ap (λ (qs : List Piece). token Kind.Spawn ∷ token Kind.ParenOpen ∷ qs) (same_expr e 6 (token Kind.ParenClose ∷ blank ∷ name f (token Kind.ParenOpen ∷ lay_args false (unplaced_exprs es) (token Kind.ParenClose ∷ ps))) ∙ ap (λ (qs : List Piece). lay e 6 (token Kind.ParenClose ∷ blank ∷ name f (token Kind.ParenOpen ∷ qs))) (same_args es false (token Kind.ParenClose ∷ ps)))
+  same_form _ place ps = refl
 
   same_expr : (e : ExprTree) (place : ℕ) → Same (lay (unplaced_expr e) place) (lay e place)
   same_expr (expr_node at form) place ps = same_form form place ps
