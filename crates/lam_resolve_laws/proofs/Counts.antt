@@ -1,20 +1,15 @@
 -- As many names as slots, and as many lists of names as regions.
-use Rattle.std.proofs.Common.{◌≡◌, ◌+◌, [], ◌∷◌, length, refl, arith, length-append}
-use Rattle.lam_syntax.specs.Tree.{class_item, function_item, ProgramTree, stmt_node, StmtForm, let_stmt, if_stmt, while_stmt, return_stmt, throw_stmt, sync_stmt, region_stmt, do_stmt, assign_stmt, StmtList, no_stmts, stmts, ElseTree, no_else, else_block}
+use Rattle.std.proofs.Common.{◌≡◌, [], ◌∷◌, length, refl, arith, length-append}
+use Rattle.lam_syntax.specs.Tree.{class_item, function_item, ProgramTree, stmt_node, StmtForm, if_stmt, while_stmt, sync_stmt, region_stmt, StmtList, no_stmts, stmts, ElseTree, no_else, else_block}
 use Rattle.region_check.specs.Judgement.{slots_in, slots_of, slots_or, regions_in, regions_of, regions_or, regions_of_program}
 use Rattle.lam_resolve_laws.specs.Names.{slot_words, block_words, else_words, region_words, block_region_words, else_region_words, all_region_words}
 
 mutual
   slots_counted : (form : StmtForm) → length (slot_words form) ≡ slots_in form
-  slots_counted (let_stmt x e) = refl
   slots_counted (if_stmt e first other) = omega (arith, length-append (block_words first) (else_words other), block_slots first, else_slots other)
   slots_counted (while_stmt e body) = block_slots body
-  slots_counted (return_stmt e) = refl
-  slots_counted (throw_stmt e) = refl
   slots_counted (sync_stmt e body) = omega (arith, block_slots body)
-  slots_counted (region_stmt l k xs body x handler) = refl
-  slots_counted (do_stmt e) = refl
-  slots_counted (assign_stmt p e) = refl
+  slots_counted _ = refl
 
   pub block_slots : (body : StmtList) → length (block_words body) ≡ slots_of body
   block_slots no_stmts = refl
@@ -26,15 +21,11 @@ mutual
 
 mutual
   regions_counted : (form : StmtForm) → length (region_words form) ≡ regions_in form
-  regions_counted (let_stmt x e) = refl
   regions_counted (if_stmt e first other) = omega (arith, length-append (block_region_words first) (else_region_words other), block_regions first, else_regions other)
   regions_counted (while_stmt e body) = block_regions body
-  regions_counted (return_stmt e) = refl
-  regions_counted (throw_stmt e) = refl
   regions_counted (sync_stmt e body) = block_regions body
   regions_counted (region_stmt l k xs body x handler) = omega (arith, length-append (block_region_words body) (block_region_words handler), block_regions body, block_regions handler)
-  regions_counted (do_stmt e) = refl
-  regions_counted (assign_stmt p e) = refl
+  regions_counted _ = refl
 
   block_regions : (body : StmtList) → length (block_region_words body) ≡ regions_of body
   block_regions no_stmts = refl

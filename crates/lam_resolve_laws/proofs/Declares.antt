@@ -2,7 +2,7 @@
 use Rattle.std.proofs.Common.{◌≡◌, ℕ, zero, suc, ◌+◌, Bool, true, false, cond, List, [], ◌∷◌, map, Option, Some, None, refl, sym, ap, ◌∙◌, subst, arith}
 use Rattle.std.specs.Prelude.{slice_get}
 use Rattle.std.specs.Str.{bytes_eq}
-use Rattle.lam_syntax.specs.Tree.{TypeTree, type_node, int_type, bool_type, bytes_type, tag_type, label_type, caps_type, file_type, dir_type, pipe_type, thread_type, class_type, array_type, VarTree, FunctionTree, class_item, function_item, ProgramTree}
+use Rattle.lam_syntax.specs.Tree.{TypeTree, type_node, class_type, array_type, VarTree, FunctionTree, class_item, function_item, ProgramTree}
 use Rattle.lam_operators.specs.Words.{Word}
 use Rattle.lam_builtins.specs.Types.{ValueType}
 use Rattle.lam_types_kinds.specs.Written.{written}
@@ -72,16 +72,7 @@ module _ (whole : ProgramTree) where
   declared_number : (ty : TypeTree) → IsDeclared (declared whole) ty → Has (numbered (class_names whole) (written ty)) (λ u. Unit {0})
   declared_number (type_node at (class_type c)) (fields, h) = next (class_found whole 0 c fields h) (λ n k. done _ tt)
   declared_number (type_node at (array_type ty)) h = next (declared_number ty h) (λ u k. done _ tt)
-  declared_number (type_node at int_type) h = done _ tt
-  declared_number (type_node at bool_type) h = done _ tt
-  declared_number (type_node at bytes_type) h = done _ tt
-  declared_number (type_node at tag_type) h = done _ tt
-  declared_number (type_node at label_type) h = done _ tt
-  declared_number (type_node at caps_type) h = done _ tt
-  declared_number (type_node at file_type) h = done _ tt
-  declared_number (type_node at dir_type) h = done _ tt
-  declared_number (type_node at pipe_type) h = done _ tt
-  declared_number (type_node at thread_type) h = done _ tt
+  declared_number (type_node at _) h = done _ tt
 
   pub vars_exist : (vs : List VarTree) → AllDeclared (declared whole) vs → Has (resolve_vars (class_names whole) vs) (λ us. Unit {0})
   vars_exist [] h = done _ tt

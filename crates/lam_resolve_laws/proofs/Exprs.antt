@@ -1,10 +1,10 @@
 -- Each typed expression whose names are reached resolves, to one that is typed without names, and that reads as it was.
 use Rattle.std.proofs.Common.{◌≡◌, ℕ, Bool, true, List, [], ◌∷◌, map, Option, Some, None, refl, sym, ap, ◌∙◌, subst}
 use Rattle.lam_operators.specs.declared.BinaryOp.{BinaryOp}
-use Rattle.lam_operators.specs.declared.BinaryOp.TheVariants.{Or, And, Eq, Ne, Lt, Le, Gt, Ge, Add, Sub, Mul, Div, Rem}
+use Rattle.lam_operators.specs.declared.BinaryOp.TheVariants.{Or, Eq, Ne}
 use Rattle.lam_operators.specs.declared.UnaryOp.{UnaryOp}
 use Rattle.lam_operators.specs.declared.UnaryOp.TheVariants.{Not, Neg}
-use Rattle.lam_syntax.specs.Tree.{IdTree, CapTree, TypeTree, type_node, int_type, bool_type, bytes_type, tag_type, label_type, caps_type, file_type, dir_type, pipe_type, thread_type, class_type, array_type, ExprTree, expr_node, ExprForm, binary_expr, unary_expr, field_expr, element_expr, number_expr, text_expr, bool_expr, null_expr, name_expr, call_expr, new_class_expr, new_array_expr, label_expr, caps_expr, spawn_expr, ExprList, no_exprs, exprs}
+use Rattle.lam_syntax.specs.Tree.{IdTree, CapTree, TypeTree, type_node, class_type, array_type, ExprTree, expr_node, ExprForm, binary_expr, unary_expr, field_expr, element_expr, number_expr, text_expr, bool_expr, null_expr, name_expr, call_expr, new_class_expr, new_array_expr, label_expr, caps_expr, spawn_expr, ExprList, no_exprs, exprs}
 use Rattle.lam_operators.specs.Words.{Word}
 use Rattle.lam_syntax.specs.Unplaced.{unplaced_id, unplaced_type, unplaced_caps, unplaced_expr, unplaced_exprs}
 use Rattle.lam_builtins.specs.declared.Builtin.{Builtin}
@@ -29,17 +29,7 @@ use Rattle.lam_resolve_laws.proofs.Scopes.{IsClassAt, SameResult, AreTied, InSco
 -- a type with its classes' names put back is the written one
 pub plain_written : (t : TypeTree) → unplaced_type t ≡ plain (written t)
 plain_written (type_node at (array_type t)) = ap (λ u. type_node 0 (array_type u)) (plain_written t)
-plain_written (type_node at (class_type c)) = refl
-plain_written (type_node at int_type) = refl
-plain_written (type_node at bool_type) = refl
-plain_written (type_node at bytes_type) = refl
-plain_written (type_node at tag_type) = refl
-plain_written (type_node at label_type) = refl
-plain_written (type_node at caps_type) = refl
-plain_written (type_node at file_type) = refl
-plain_written (type_node at dir_type) = refl
-plain_written (type_node at pipe_type) = refl
-plain_written (type_node at thread_type) = refl
+plain_written (type_node at _) = refl
 
 module _ (d : Decls) (t : Tables) (p : ResolvedSignatures) (w : Words) (tied : AreTied d t p w.classes w.fields w.functions) where
   -- a type whose classes are declared: its numbers are those of classes, and its names can be put back
@@ -51,16 +41,7 @@ module _ (d : Decls) (t : Tables) (p : ResolvedSignatures) (w : Words) (tied : A
   declared_type (type_node at (class_type c)) (fields, h) =
       next (tied.class_at c fields h) (λ n k. done (object n.number) (record { fine = get_below p.classes n.number _ k.in_heads; back = ap object (word_is w.classes n.number c k.named) }))
   declared_type (type_node at (array_type ty)) h = next (declared_type ty h) (λ u k. done (array u) (record { fine = k.fine; back = ap array k.back }))
-  declared_type (type_node at int_type) h = done _ (record { fine = tt; back = refl })
-  declared_type (type_node at bool_type) h = done _ (record { fine = tt; back = refl })
-  declared_type (type_node at bytes_type) h = done _ (record { fine = tt; back = refl })
-  declared_type (type_node at tag_type) h = done _ (record { fine = tt; back = refl })
-  declared_type (type_node at label_type) h = done _ (record { fine = tt; back = refl })
-  declared_type (type_node at caps_type) h = done _ (record { fine = tt; back = refl })
-  declared_type (type_node at file_type) h = done _ (record { fine = tt; back = refl })
-  declared_type (type_node at dir_type) h = done _ (record { fine = tt; back = refl })
-  declared_type (type_node at pipe_type) h = done _ (record { fine = tt; back = refl })
-  declared_type (type_node at thread_type) h = done _ (record { fine = tt; back = refl })
+  declared_type (type_node at _) h = done _ (record { fine = tt; back = refl })
 
   -- the type as it is written
   pub type_reads : (ty : TypeTree) (u : ResolvedType) → IsTypeFrom (written ty) u → type_named w.classes u ≡ unplaced_type ty
@@ -74,18 +55,7 @@ unary_same cs Neg = refl
 
 operator_same : (cs : List (Word × Unit {0})) (op : BinaryOp) → numbered cs (operator_type op) ≡ Some (operator_type op)
 operator_same cs Or = refl
-operator_same cs And = refl
-operator_same cs Eq = refl
-operator_same cs Ne = refl
-operator_same cs Lt = refl
-operator_same cs Le = refl
-operator_same cs Gt = refl
-operator_same cs Ge = refl
-operator_same cs Add = refl
-operator_same cs Sub = refl
-operator_same cs Mul = refl
-operator_same cs Div = refl
-operator_same cs Rem = refl
+operator_same cs _ = refl
 
 abbrev SameOperand : List (Word × Unit {0}) → Option ValueType → Option ResolvedType → Type 0
 SameOperand cs None None = Unit {0}
@@ -93,19 +63,9 @@ SameOperand cs (Some t) (Some u) = numbered cs t ≡ Some u
 SameOperand cs _ _ = ⊥
 
 operand_same : (cs : List (Word × Unit {0})) (op : BinaryOp) → SameOperand cs (operand op) (operand op)
-operand_same cs Or = refl
-operand_same cs And = refl
 operand_same cs Eq = tt
 operand_same cs Ne = tt
-operand_same cs Lt = refl
-operand_same cs Le = refl
-operand_same cs Gt = refl
-operand_same cs Ge = refl
-operand_same cs Add = refl
-operand_same cs Sub = refl
-operand_same cs Mul = refl
-operand_same cs Div = refl
-operand_same cs Rem = refl
+operand_same cs _ = refl
 
 -- the two operands
 abbrev operands : (o : Option ValueType) (L R : Given → Type 0) → OperatesWords o L R → ((g : Given) × L g) × ((g : Given) × R g)

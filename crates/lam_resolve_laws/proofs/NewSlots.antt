@@ -2,7 +2,7 @@
 use Rattle.std.proofs.Common.{◌≡◌, ℕ, zero, suc, ◌+◌, ◌<◌, ◌≤◌, Bool, true, false, cond, ◌||◌, List, [], ◌∷◌, length, Option, Some, None, refl, sym, ap, ◌∙◌, subst, arith, length-append}
 use Rattle.std.proofs.lemmas.Bool.Decides.{nat_tests}
 use Rattle.std.specs.Prelude.{nat_eq, slice_get}
-use Rattle.lam_resolve_tree.specs.Tree.{ResolvedType, Statement, let_slot, if_block, while_block, return_value, throw_value, sync_block, region_block, do_value, set_local, set_field, set_element, Block, block_end, block_more, OtherBlock, no_other, other_block, ResolvedFunction, ResolvedTree}
+use Rattle.lam_resolve_tree.specs.Tree.{ResolvedType, Statement, let_slot, if_block, while_block, sync_block, region_block, Block, block_end, block_more, OtherBlock, no_other, other_block, ResolvedFunction, ResolvedTree}
 use Rattle.lam_resolve_tree.specs.Typing.{ResolvedSignatures, Use, a_local, a_monitor, Scope, with_use, local_if, locals_of, IsFree, Returning, AreCaptured, use_of, after, IsStatement, IsBlock, IsOther, AreFunctions, IsTypedTree}
 use Rattle.lam_resolve_tree.specs.Regions.{count_up}
 use Rattle.lam_resolve_tree.specs.Slots.{has_slot, IsNewSlot, AllInScope, scope_after, DeclaresNew, BlockDeclaresNew, OtherDeclaresNew, AllDeclareNew, SlotsDiffer}
@@ -78,16 +78,7 @@ first_slots ts = record { listed = λ n u e. listed n u (slice_get ts n) refl e;
 
 after_slots : (slots : List ResolvedType) (env : Scope) (scope : List ℕ) (s : Statement) (p : ResolvedSignatures) (ret : Returning) → AreSlots env scope → IsStatement p slots ret env s → AreSlots (after slots env s) (scope_after scope s)
 after_slots slots env scope (let_slot n e) p ret h (t, k, f) = subst (λ (o : Option ResolvedType). AreSlots (use_of o env n) (n ∷ scope)) (sym k.0) (more_slots env scope n (a_local t) h)
-after_slots slots env scope (if_block e body other) p ret h k = h
-after_slots slots env scope (while_block e body) p ret h k = h
-after_slots slots env scope (return_value e) p ret h k = h
-after_slots slots env scope (throw_value e) p ret h k = h
-after_slots slots env scope (sync_block n e body) p ret h k = h
-after_slots slots env scope (region_block m l c from own body n handler) p ret h k = h
-after_slots slots env scope (do_value e) p ret h k = h
-after_slots slots env scope (set_local n e) p ret h k = h
-after_slots slots env scope (set_field e c f t v) p ret h k = h
-after_slots slots env scope (set_element e i t v) p ret h k = h
+after_slots slots env scope _ p ret h k = h
 
 module _ (p : ResolvedSignatures) where
   mutual
@@ -95,8 +86,6 @@ module _ (p : ResolvedSignatures) where
     stmt_new (let_slot n e) slots ret env scope h (t, k, f) = new_slot env scope slots n t h k
     stmt_new (if_block e body other) slots ret env scope h (f, a, b) = (block_new body slots ret env scope h a, other_new other slots ret env scope h b)
     stmt_new (while_block e body) slots ret env scope h (f, a) = block_new body slots ret env scope h a
-    stmt_new (return_value e) slots ret env scope h k = tt
-    stmt_new (throw_value e) slots ret env scope h k = tt
     stmt_new (sync_block n e body) slots ret env scope h (t, k, f, o, a) = (new_slot env scope slots n t h k, block_new body slots ret (with_use env n (a_monitor t)) (n ∷ scope) (more_slots env scope n (a_monitor t) h) a)
     stmt_new (region_block m l c from own body n handler) slots ret env scope h (ts, more, hl, hc, captured, is, a, free, b) =
         let k = captured_slots env scope from ts h captured in
@@ -109,10 +98,7 @@ module _ (p : ResolvedSignatures) where
           new_slot (locals_of ts) (count_up 0 (length from)) own n _ first free,
           block_new handler own _ (with_use (locals_of ts) n _) (n ∷ count_up 0 (length from)) (more_slots (locals_of ts) (count_up 0 (length from)) n _ first) b,
         )
-    stmt_new (do_value e) slots ret env scope h k = tt
-    stmt_new (set_local n e) slots ret env scope h k = tt
-    stmt_new (set_field e c f t v) slots ret env scope h k = tt
-    stmt_new (set_element e i t v) slots ret env scope h k = tt
+    stmt_new _ slots ret env scope h k = tt
 
     block_new : (b : Block) (slots : List ResolvedType) (ret : Returning) (env : Scope) (scope : List ℕ) → AreSlots env scope → IsBlock p slots ret env b → BlockDeclaresNew (length slots) scope b
     block_new block_end slots ret env scope h k = tt

@@ -1,8 +1,8 @@
 -- What is said of types by words is said of them by numbers.
-use Rattle.std.proofs.Common.{◌≡◌, ℕ, true, List, [], ◌∷◌, Some, refl, sym, ap, ◌∙◌, subst}
+use Rattle.std.proofs.Common.{rules, ◌≡◌, ℕ, true, List, [], ◌∷◌, Some, refl, sym, ap, ◌∙◌, subst}
 use Rattle.lam_operators.specs.Words.{Word}
 use Rattle.lam_builtins.specs.declared.Builtin.{Builtin}
-use Rattle.lam_builtins.specs.declared.Builtin.TheVariants.{Len, Size, Byte, Slice, Cat, Text, Number, MyLabel, MyCaps, Root, LabelOf, Copy, Mint, Say, MakeFile, MakeDir, OpenFile, OpenDir, Remove, Read, Length, Append, Cut, MakePipe, Send, SendCaps, Receive, ReceiveCaps, Join}
+use Rattle.lam_builtins.specs.declared.Builtin.TheVariants.{Len}
 use Rattle.lam_builtins.specs.Types.{ValueType, int, bool, bytes, tag, label, caps, file, dir, pipe, thread, object, array, nullable, Given, a_value, a_null, nothing, Place, exactly, any_class, any_array, any_object, any_labelled, accepts, suits, comparable}
 use Rattle.lam_builtins.specs.Builtins.{Answer, AnswerBy, answers, no_answer, as_first, answered, row, row_by}
 use Rattle.lam_types_exprs.proofs.Law.{type_back}
@@ -30,16 +30,7 @@ module _ (cs : List (Word × Unit {0})) where
   pub shape : (t : ValueType) (u : ResolvedType) → numbered cs t ≡ Some u → Shape t u
   shape (object c) u e = let b = back (found c cs) (λ n. Some (object n.number)) u e in (b.it, b.first, sym (some_is _ u b.next))
   shape (array t) u e = let b = back (numbered cs t) (λ t. Some (array t)) u e in (b.it, b.first, sym (some_is _ u b.next))
-  shape int u e = sym (some_is int u e)
-  shape bool u e = sym (some_is bool u e)
-  shape bytes u e = sym (some_is bytes u e)
-  shape tag u e = sym (some_is tag u e)
-  shape label u e = sym (some_is label u e)
-  shape caps u e = sym (some_is caps u e)
-  shape file u e = sym (some_is file u e)
-  shape dir u e = sym (some_is dir u e)
-  shape pipe u e = sym (some_is pipe u e)
-  shape thread u e = sym (some_is thread u e)
+  shape _ u e = sym (some_is _ u e)
 
   -- what an expression gives
   abbrev pub SameGiven : Given → ResolvedGiven → Type 0
@@ -77,33 +68,20 @@ module _ (cs : List (Word × Unit {0})) where
       by : (t : ValueType) (u : ResolvedType) → Shape t u → nullable u ≡ nullable t
       by (object c) u s = ap nullable s.2
       by (array t) u s = ap nullable s.2
-      by int u s = ap nullable s
-      by bool u s = ap nullable s
-      by bytes u s = ap nullable s
-      by tag u s = ap nullable s
-      by label u s = ap nullable s
-      by caps u s = ap nullable s
-      by file u s = ap nullable s
-      by dir u s = ap nullable s
-      by pipe u s = ap nullable s
-      by thread u s = ap nullable s
+      by _ u s = ap nullable s
 
   takes_same : (p : Place) (q : ResolvedPlace) (t : ValueType) (u : ResolvedType) → accepts p t ≡ true → SamePlace p q → numbered cs t ≡ Some u → Takes q u
   takes_same (exactly t) (exactly v) w u a s e = one_type w u v e (ap (numbered cs) (sym (type_back t w a)) ∙ s)
   takes_same any_class any_class (object c) u a s e = let h = shape (object c) u e in (h.0.number, h.2)
-  takes_same any_class any_class _ u a s e = absurd cc
   takes_same any_array any_array (array t) u a s e = let h = shape (array t) u e in (h.0, h.2)
-  takes_same any_array any_array _ u a s e = absurd cc
   takes_same any_object any_object (object c) u a s e = ap is_object (shape (object c) u e).2
   takes_same any_object any_object (array t) u a s e = ap is_object (shape (array t) u e).2
-  takes_same any_object any_object _ u a s e = absurd cc
   takes_same any_labelled any_labelled (object c) u a s e = ap is_labelled (shape (object c) u e).2
   takes_same any_labelled any_labelled (array t) u a s e = ap is_labelled (shape (array t) u e).2
   takes_same any_labelled any_labelled file u a s e = ap is_labelled (shape file u e)
   takes_same any_labelled any_labelled dir u a s e = ap is_labelled (shape dir u e)
   takes_same any_labelled any_labelled pipe u a s e = ap is_labelled (shape pipe u e)
-  takes_same any_labelled any_labelled _ u a s e = absurd cc
-  takes_same _ _ t u a s e = absurd s
+  takes_same _ _ t u a s e = absurd (first_of (assumption, cc))
 
   -- what fits a place by words fits it by numbers
   pub fits_same : (p : Place) (q : ResolvedPlace) (g : Given) (h : ResolvedGiven) → suits p g ≡ true → SamePlace p q → SameGiven g h → Fits q h
@@ -136,31 +114,4 @@ module _ (cs : List (Word × Unit {0})) where
 
   pub same_row : (b : Builtin) → SameRow b
   same_row Len = record { takes = (tt, tt); answer = refl }
-  same_row Size = record { takes = (refl, tt); answer = refl }
-  same_row Byte = record { takes = (refl, (refl, tt)); answer = refl }
-  same_row Slice = record { takes = (refl, (refl, (refl, tt))); answer = refl }
-  same_row Cat = record { takes = (refl, (refl, tt)); answer = refl }
-  same_row Text = record { takes = (refl, tt); answer = refl }
-  same_row Number = record { takes = (refl, tt); answer = refl }
-  same_row MyLabel = record { takes = tt; answer = refl }
-  same_row MyCaps = record { takes = tt; answer = refl }
-  same_row Root = record { takes = tt; answer = refl }
-  same_row LabelOf = record { takes = (tt, tt); answer = refl }
-  same_row Copy = record { takes = (tt, (refl, tt)); answer = tt }
-  same_row Mint = record { takes = tt; answer = refl }
-  same_row Say = record { takes = (refl, tt); answer = tt }
-  same_row MakeFile = record { takes = (refl, (refl, (refl, tt))); answer = refl }
-  same_row MakeDir = record { takes = (refl, (refl, (refl, tt))); answer = refl }
-  same_row OpenFile = record { takes = (refl, (refl, tt)); answer = refl }
-  same_row OpenDir = record { takes = (refl, (refl, tt)); answer = refl }
-  same_row Remove = record { takes = (refl, (refl, tt)); answer = tt }
-  same_row Read = record { takes = (refl, (refl, (refl, tt))); answer = refl }
-  same_row Length = record { takes = (refl, tt); answer = refl }
-  same_row Append = record { takes = (refl, (refl, tt)); answer = tt }
-  same_row Cut = record { takes = (refl, (refl, tt)); answer = tt }
-  same_row MakePipe = record { takes = (refl, tt); answer = refl }
-  same_row Send = record { takes = (refl, (refl, tt)); answer = tt }
-  same_row SendCaps = record { takes = (refl, (refl, tt)); answer = tt }
-  same_row Receive = record { takes = (refl, tt); answer = refl }
-  same_row ReceiveCaps = record { takes = (refl, tt); answer = refl }
-  same_row Join = record { takes = (refl, tt); answer = refl }
+  same_row _ = record { takes = search rules; answer = search rules }

@@ -3,7 +3,7 @@
 use Rattle.std.proofs.Common.{◌≡◌, ℕ, suc, ◌+◌, ◌≤◌, Bool, true, false, ◌&&◌, List, [], ◌∷◌, ◌++◌, length, Option, Some, None, refl, sym, ap, ◌∙◌, subst, arith}
 use Rattle.std.specs.Prelude.{slice_get, unwrap_or}
 use Rattle.std.proofs.lemmas.List.{length-map, append-nil}
-use Rattle.lam_syntax.specs.Tree.{IdTree, VarTree, ExprTree, expr_node, binary_expr, unary_expr, field_expr, element_expr, number_expr, text_expr, bool_expr, null_expr, name_expr, call_expr, new_class_expr, new_array_expr, label_expr, caps_expr, spawn_expr, StmtTree, stmt_node, StmtForm, let_stmt, if_stmt, while_stmt, return_stmt, throw_stmt, sync_stmt, region_stmt, do_stmt, assign_stmt, StmtList, no_stmts, stmts, ElseTree, no_else, else_block}
+use Rattle.lam_syntax.specs.Tree.{IdTree, VarTree, ExprTree, expr_node, binary_expr, StmtTree, stmt_node, StmtForm, let_stmt, if_stmt, while_stmt, return_stmt, throw_stmt, sync_stmt, region_stmt, do_stmt, assign_stmt, StmtList, no_stmts, stmts, ElseTree, no_else, else_block}
 use Rattle.lam_operators.specs.Words.{Word}
 use Rattle.lam_syntax.specs.Unplaced.{unplaced_id, unplaced_ids, unplaced_var, unplaced_expr, unplaced_option_expr, unplaced_stmt_form, unplaced_stmts, unplaced_else}
 use Rattle.lam_builtins.specs.Limits.{most_slots, most_regions}
@@ -93,20 +93,7 @@ module _ (p : ResolvedSignatures) (w : Words) (rs : List (List Word)) where
 
 place_kept : (q : ExprTree) → is_place (unplaced_expr q) ≡ is_place q
 place_kept (expr_node at (binary_expr op l r)) = refl
-place_kept (expr_node at (unary_expr op e)) = refl
-place_kept (expr_node at (field_expr e f)) = refl
-place_kept (expr_node at (element_expr e i)) = refl
-place_kept (expr_node at (number_expr n)) = refl
-place_kept (expr_node at (text_expr bs)) = refl
-place_kept (expr_node at (bool_expr b)) = refl
-place_kept (expr_node at null_expr) = refl
-place_kept (expr_node at (name_expr x)) = refl
-place_kept (expr_node at (call_expr f args)) = refl
-place_kept (expr_node at (new_class_expr x)) = refl
-place_kept (expr_node at (new_array_expr ty n)) = refl
-place_kept (expr_node at (label_expr s i)) = refl
-place_kept (expr_node at (caps_expr items)) = refl
-place_kept (expr_node at (spawn_expr e f args)) = refl
+place_kept (expr_node at _) = refl
 
 object_given : (cs : List (Word × Unit {0})) (g : Given) (h : ResolvedGiven) → suits any_object g ≡ true → SameGiven cs g h → (u : ResolvedType) × (h ≡ a_value u) × (is_object u ≡ true)
 object_given cs (a_value (object x)) h s (u, e, k) = (u, k, ap is_object (shape cs (object x) u e).2)
