@@ -5,7 +5,7 @@ use Rattle.std.proofs.lemmas.Str.{encodes-chars, encode_ascii, chars-append}
 use Rattle.std.proofs.lemmas.Fmt.{decimal_by_steps}
 use Rattle.std.proofs.lemmas.Nat.{div-add-mod'}
 use Rattle.std.specs.Fmt.{decimal}
-use Rattle.std.specs.Char.{len_utf8}
+use Rattle.std.specs.Char.{len_utf8, is_ascii_alphabetic, is_ascii_alphanumeric}
 use Rattle.std.specs.Str.{chars, chars_after, lead_bits}
 use Rattle.unicode_ident.specs.Ident.{is_xid_start}
 use Rattle.unicode_ident.proofs.IdentLemmas.{is_xid_start-ascii}
@@ -16,12 +16,12 @@ use Rattle.lam_lexer.specs.declared.start.Start.{Start}
 use Rattle.lam_lexer.specs.Characters.{is_space, is_digit, starts_name, continues_name, run, past, goes_on, first, number, number_after}
 use Rattle.lam_lexer.specs.Text.{part, means, hex_value, hex_part, room, Means, ends}
 use Rattle.lam_lexer.specs.Text as text
-use Rattle.lam_lexer.specs.Lexed.{start, marks, reserved, kind_or_name, word_kind, Lexes, a_space, a_name, a_number, a_text, a_mark, a_long_mark, LexedAt, at_end, then_on, Lexed}
+use Rattle.lam_lexer.specs.Lexed.{start, marks, kind_or_name, word_kind, Lexes, a_space, a_name, a_number, a_text, a_mark, a_long_mark, LexedAt, at_end, then_on, Lexed}
 use Rattle.lam_lexer.specs.Lexed as lexed
 use Rattle.lam_lexer.proofs.Runs.{at_true, at_false}
 use Rattle.lam_print.specs.Pieces.{Piece, token, blank, line, hex_digit, spell_byte, spell_text, spelling, indent, written, kinds}
 use Rattle.lam_print.specs.Law.{all_continue, is_identifier, AllBytes, Fits, AllFit, kind_of}
-use Rattle.lam_print.proofs.Sides.{or_true_left, or_true_right, start_continues, another, no_start, no_continue, begins_name, begins_number, begins_mark, begins_text, Side, wordy, half, whole, right, left, joins, parted, Calm}
+use Rattle.lam_print.proofs.Sides.{or_true_left, or_true_right, start_continues, another, no_start, no_continue, begins_name, begins_number, begins_mark, begins_text, Side, wordy, half, whole, right, left, joins, parted, Calm, lower}
 
 -- the number of digits with one more behind them
 number_on : (n : ℕ) (ds : List ℕ) (d : ℕ) → number_after n (ds ++ d ∷ []) ≡ number_after n ds * 10 + (d - 48)
@@ -52,30 +52,31 @@ lexed_mark c k cs ks q h = record { tokens = λ at. let r = h.tokens (at + 1) in
 lexed_long_mark : (c d : ℕ) (k : TokenKind) (cs : List ℕ) (ks : List TokenKind) → start c (Some d) ≡ Start.LongMark k → LexedTo cs ks → LexedTo (c ∷ d ∷ cs) (k ∷ ks)
 lexed_long_mark c d k cs ks q h = record { tokens = λ at. let r = h.tokens (at + 2) in (lexed.token at k ∷ r.0, then_on (begun q a_long_mark) r.1, ap (λ (ks : List TokenKind). k ∷ ks) r.2) }
 
--- a mark of one character that no other lengthens
-plain_mark : (c : ℕ) (k : TokenKind) (o : Option ℕ) → marks c None ≡ Start.Mark k → ((d : ℕ) → marks c (Some d) ≡ Start.Mark k) → marks c o ≡ Start.Mark k
-plain_mark c k None h f = h
-plain_mark c k (Some d) h f = f d
+-- a character of ASCII that neither a name nor a number has
+abbrev of_mark : ℕ → Bool
+of_mark c = nat_lt c 128 && (not (is_ascii_alphabetic c) && (not (is_ascii_alphanumeric c) && (not (c == 95) && not (is_digit c))))
 
-Assign-alone : (cs : List ℕ) → Calm half cs → marks 61 (first cs) ≡ Start.Mark Kind.Assign
-Assign-alone [] h = refl
-Assign-alone (d ∷ cs) h = at_false (d == 61) _ _ h.0
+record IsMark (c : ℕ) : Type 0 where
+  no_name : starts_name c ≡ false
+  no_more : continues_name c ≡ false
+  no_digit : is_digit c ≡ false
 
-Less-alone : (cs : List ℕ) → Calm half cs → marks 60 (first cs) ≡ Start.Mark Kind.Less
-Less-alone [] h = refl
-Less-alone (d ∷ cs) h = at_false (d == 61) _ _ h.0
+is_mark : (c : ℕ) → of_mark c ≡ true → IsMark c
+is_mark c h =
+    let p = and_parts (nat_lt c 128) _ h in
+    let a = and_parts (not (is_ascii_alphabetic c)) _ p.1 in
+    let b = and_parts (not (is_ascii_alphanumeric c)) _ a.1 in
+    let d = and_parts (not (c == 95)) (not (is_digit c)) b.1 in
+    let u = not-true (c == 95) d.0 in
+    let small = ltb-true c 128 p.0 in
+    record { no_name = no_start c small (not-true _ a.0) u; no_more = no_continue c small (not-true _ b.0) u; no_digit = not-true _ d.1 }
 
-Greater-alone : (cs : List ℕ) → Calm half cs → marks 62 (first cs) ≡ Start.Mark Kind.Greater
-Greater-alone [] h = refl
-Greater-alone (d ∷ cs) h = at_false (d == 61) _ _ h.0
-
-Slash-alone : (cs : List ℕ) → Calm half cs → marks 47 (first cs) ≡ Start.Mark Kind.Slash
-Slash-alone [] h = refl
-Slash-alone (d ∷ cs) h = at_false (d == 47) _ _ h.1
-
-Not-alone : (cs : List ℕ) → Calm half cs → marks 33 (first cs) ≡ Start.Mark Kind.Not
-Not-alone [] h = refl
-Not-alone (d ∷ cs) h = at_false (d == 61) _ _ h.0
+begun_mark : (c : ℕ) (o : Option ℕ) (s : Start) → (of_mark c && (not (is_space c) && not (c == 34))) ≡ true → marks c o ≡ s → start c o ≡ s
+begun_mark c o s h q =
+    let p = and_parts (of_mark c) _ h in
+    let r = and_parts (not (is_space c)) (not (c == 34)) p.1 in
+    let m = is_mark c p.0 in
+    begins_mark c o s (not-true _ r.0) m.no_digit (not-true _ r.1) m.no_name q
 
 -- ---- runs
 
@@ -232,9 +233,6 @@ lexed_text bs cs ks a n h =
 
 -- ---- reserved words
 
-abbrev lower : ℕ → Bool
-lower c = nat_le 97 c && nat_le c 122
-
 low_letter : (c : ℕ) → lower c ≡ true → c < 128
 low_letter c h = let p = and_parts (nat_le 97 c) (nat_le c 122) h in omega (arith, leb-true c 122 p.1)
 
@@ -259,10 +257,6 @@ lower_encodes (c ∷ cs) h =
     let p = and_parts (lower c) (every lower cs) h in
     ap (λ (xs : List ℕ). xs ++ encode_utf8_all cs) (encode_ascii c (low_letter c p.0)) ∙ ap (λ (xs : List ℕ). c ∷ xs) (lower_encodes cs p.1)
 
-lexed_word : (c : ℕ) (w : List ℕ) (k : TokenKind) (cs : List ℕ) (ks : List TokenKind) → every lower (c ∷ w) ≡ true → word_kind (c ∷ w) ≡ k → goes_on continues_name cs ≡ false → LexedTo cs ks → LexedTo ((c ∷ w) ++ cs) (k ∷ ks)
-lexed_word c w k cs ks q e o h =
-    subst (λ (k : TokenKind). LexedTo ((c ∷ w) ++ cs) (k ∷ ks)) (ap word_kind (lower_encodes (c ∷ w) q) ∙ e) (lexed_name (c ∷ w) cs ks (lower_named c w q) o h)
-
 -- ---- tokens
 
 -- a token's characters
@@ -270,64 +264,44 @@ abbrev spell : TokenKind → List ℕ
 spell (Kind.Id name) = chars name
 spell k = spelling k
 
+-- what is checked of a reserved word and of a mark that no other lengthens
+abbrev Spelled : Side → List ℕ → TokenKind → Type 0
+Spelled wordy (c ∷ w) k = (every lower (c ∷ w) ≡ true) × (word_kind (c ∷ w) ≡ k) × ((d : ℕ) → d ≡ d)
+Spelled whole (c ∷ []) k = ((of_mark c && (not (is_space c) && not (c == 34))) ≡ true) × (marks c None ≡ Start.Mark k) × ((d : ℕ) → marks c (Some d) ≡ Start.Mark k)
+Spelled whole (c ∷ e ∷ []) k = ((of_mark c && (not (is_space c) && not (c == 34))) ≡ true) × (marks c (Some e) ≡ Start.LongMark k) × ((d : ℕ) → d ≡ d)
+Spelled _ w k = ⊥
+
+lexed_spelled : (s : Side) (w : List ℕ) (k : TokenKind) (cs : List ℕ) (ks : List TokenKind) → Spelled s w k → Calm s cs → LexedTo cs ks → LexedTo (w ++ cs) (k ∷ ks)
+lexed_spelled wordy (c ∷ w) k cs ks p o h = subst (λ (k : TokenKind). LexedTo ((c ∷ w) ++ cs) (k ∷ ks)) (ap word_kind (lower_encodes (c ∷ w) p.0) ∙ p.1) (lexed_name (c ∷ w) cs ks (lower_named c w p.0) o.0 h)
+lexed_spelled whole (c ∷ []) k cs ks p o h = lexed_mark c k cs ks (begun_mark c (first cs) (Start.Mark k) p.0 (alone (first cs))) h
+  where
+    alone : (o : Option ℕ) → marks c o ≡ Start.Mark k
+    alone None = p.1
+    alone (Some d) = p.2 d
+lexed_spelled whole (c ∷ e ∷ []) k cs ks p o h = lexed_long_mark c e k cs ks (begun_mark c (Some e) (Start.LongMark k) p.0 p.1) h
+lexed_spelled _ _ k cs ks p o h = absurd p
+
+-- a mark that another character may lengthen
+lexed_half : (c : ℕ) (k : TokenKind) (cs : List ℕ) (ks : List TokenKind) → (of_mark c && (not (is_space c) && not (c == 34))) ≡ true → marks c None ≡ Start.Mark k → ((d : ℕ) → (d == 61) ≡ false → (d == 47) ≡ false → marks c (Some d) ≡ Start.Mark k) → Calm half cs → LexedTo cs ks → LexedTo (c ∷ cs) (k ∷ ks)
+lexed_half c k cs ks m q r o h = lexed_mark c k cs ks (begun_mark c (first cs) (Start.Mark k) m (alone cs o)) h
+  where
+    alone : (cs : List ℕ) → Calm half cs → marks c (first cs) ≡ Start.Mark k
+    alone [] o = q
+    alone (d ∷ cs) o = r d o.0 o.1
+
 -- a token, where what follows does not go on with it
 lexed_token : (k : TokenKind) (cs : List ℕ) (ks : List TokenKind) → Fits k → Calm (right k) cs → LexedTo cs ks → LexedTo (spell k ++ cs) (k ∷ ks)
 lexed_token (Kind.Id name) cs ks f o h = subst (λ (k : TokenKind). LexedTo (chars name ++ cs) (k ∷ ks)) (ap word_kind (encodes-chars name f.1) ∙ ap (λ (o : Option TokenKind). kind_or_name o name) f.2) (lexed_name (chars name) cs ks f.0 o.0 h)
 lexed_token (Kind.Number (pos n)) cs ks f o h = lexed_number n cs ks f o h
 lexed_token (Kind.Number (negsuc n)) cs ks f o h = absurd f
 lexed_token (Kind.Text bs) cs ks f o h = lexed_text bs cs ks f.0 f.1 h
-lexed_token Kind.BraceOpen cs ks f o h = lexed_mark 123 Kind.BraceOpen cs ks (begins_mark 123 (first cs) (Start.Mark Kind.BraceOpen) refl refl refl (no_start 123 (omega arith) refl refl) (plain_mark 123 Kind.BraceOpen (first cs) refl (λ d. refl))) h
-lexed_token Kind.BraceClose cs ks f o h = lexed_mark 125 Kind.BraceClose cs ks (begins_mark 125 (first cs) (Start.Mark Kind.BraceClose) refl refl refl (no_start 125 (omega arith) refl refl) (plain_mark 125 Kind.BraceClose (first cs) refl (λ d. refl))) h
-lexed_token Kind.ParenOpen cs ks f o h = lexed_mark 40 Kind.ParenOpen cs ks (begins_mark 40 (first cs) (Start.Mark Kind.ParenOpen) refl refl refl (no_start 40 (omega arith) refl refl) (plain_mark 40 Kind.ParenOpen (first cs) refl (λ d. refl))) h
-lexed_token Kind.ParenClose cs ks f o h = lexed_mark 41 Kind.ParenClose cs ks (begins_mark 41 (first cs) (Start.Mark Kind.ParenClose) refl refl refl (no_start 41 (omega arith) refl refl) (plain_mark 41 Kind.ParenClose (first cs) refl (λ d. refl))) h
-lexed_token Kind.BracketOpen cs ks f o h = lexed_mark 91 Kind.BracketOpen cs ks (begins_mark 91 (first cs) (Start.Mark Kind.BracketOpen) refl refl refl (no_start 91 (omega arith) refl refl) (plain_mark 91 Kind.BracketOpen (first cs) refl (λ d. refl))) h
-lexed_token Kind.BracketClose cs ks f o h = lexed_mark 93 Kind.BracketClose cs ks (begins_mark 93 (first cs) (Start.Mark Kind.BracketClose) refl refl refl (no_start 93 (omega arith) refl refl) (plain_mark 93 Kind.BracketClose (first cs) refl (λ d. refl))) h
-lexed_token Kind.Comma cs ks f o h = lexed_mark 44 Kind.Comma cs ks (begins_mark 44 (first cs) (Start.Mark Kind.Comma) refl refl refl (no_start 44 (omega arith) refl refl) (plain_mark 44 Kind.Comma (first cs) refl (λ d. refl))) h
-lexed_token Kind.Semicolon cs ks f o h = lexed_mark 59 Kind.Semicolon cs ks (begins_mark 59 (first cs) (Start.Mark Kind.Semicolon) refl refl refl (no_start 59 (omega arith) refl refl) (plain_mark 59 Kind.Semicolon (first cs) refl (λ d. refl))) h
-lexed_token Kind.Colon cs ks f o h = lexed_mark 58 Kind.Colon cs ks (begins_mark 58 (first cs) (Start.Mark Kind.Colon) refl refl refl (no_start 58 (omega arith) refl refl) (plain_mark 58 Kind.Colon (first cs) refl (λ d. refl))) h
-lexed_token Kind.Dot cs ks f o h = lexed_mark 46 Kind.Dot cs ks (begins_mark 46 (first cs) (Start.Mark Kind.Dot) refl refl refl (no_start 46 (omega arith) refl refl) (plain_mark 46 Kind.Dot (first cs) refl (λ d. refl))) h
-lexed_token Kind.Plus cs ks f o h = lexed_mark 43 Kind.Plus cs ks (begins_mark 43 (first cs) (Start.Mark Kind.Plus) refl refl refl (no_start 43 (omega arith) refl refl) (plain_mark 43 Kind.Plus (first cs) refl (λ d. refl))) h
-lexed_token Kind.Minus cs ks f o h = lexed_mark 45 Kind.Minus cs ks (begins_mark 45 (first cs) (Start.Mark Kind.Minus) refl refl refl (no_start 45 (omega arith) refl refl) (plain_mark 45 Kind.Minus (first cs) refl (λ d. refl))) h
-lexed_token Kind.Star cs ks f o h = lexed_mark 42 Kind.Star cs ks (begins_mark 42 (first cs) (Start.Mark Kind.Star) refl refl refl (no_start 42 (omega arith) refl refl) (plain_mark 42 Kind.Star (first cs) refl (λ d. refl))) h
-lexed_token Kind.Percent cs ks f o h = lexed_mark 37 Kind.Percent cs ks (begins_mark 37 (first cs) (Start.Mark Kind.Percent) refl refl refl (no_start 37 (omega arith) refl refl) (plain_mark 37 Kind.Percent (first cs) refl (λ d. refl))) h
-lexed_token Kind.Assign cs ks f o h = lexed_mark 61 Kind.Assign cs ks (begins_mark 61 (first cs) (Start.Mark Kind.Assign) refl refl refl (no_start 61 (omega arith) refl refl) (Assign-alone cs o)) h
-lexed_token Kind.Less cs ks f o h = lexed_mark 60 Kind.Less cs ks (begins_mark 60 (first cs) (Start.Mark Kind.Less) refl refl refl (no_start 60 (omega arith) refl refl) (Less-alone cs o)) h
-lexed_token Kind.Greater cs ks f o h = lexed_mark 62 Kind.Greater cs ks (begins_mark 62 (first cs) (Start.Mark Kind.Greater) refl refl refl (no_start 62 (omega arith) refl refl) (Greater-alone cs o)) h
-lexed_token Kind.Slash cs ks f o h = lexed_mark 47 Kind.Slash cs ks (begins_mark 47 (first cs) (Start.Mark Kind.Slash) refl refl refl (no_start 47 (omega arith) refl refl) (Slash-alone cs o)) h
-lexed_token Kind.Not cs ks f o h = lexed_mark 33 Kind.Not cs ks (begins_mark 33 (first cs) (Start.Mark Kind.Not) refl refl refl (no_start 33 (omega arith) refl refl) (Not-alone cs o)) h
-lexed_token Kind.Equal cs ks f o h = lexed_long_mark 61 61 Kind.Equal cs ks (begins_mark 61 (Some 61) (Start.LongMark Kind.Equal) refl refl refl (no_start 61 (omega arith) refl refl) refl) h
-lexed_token Kind.NotEqual cs ks f o h = lexed_long_mark 33 61 Kind.NotEqual cs ks (begins_mark 33 (Some 61) (Start.LongMark Kind.NotEqual) refl refl refl (no_start 33 (omega arith) refl refl) refl) h
-lexed_token Kind.LessEqual cs ks f o h = lexed_long_mark 60 61 Kind.LessEqual cs ks (begins_mark 60 (Some 61) (Start.LongMark Kind.LessEqual) refl refl refl (no_start 60 (omega arith) refl refl) refl) h
-lexed_token Kind.GreaterEqual cs ks f o h = lexed_long_mark 62 61 Kind.GreaterEqual cs ks (begins_mark 62 (Some 61) (Start.LongMark Kind.GreaterEqual) refl refl refl (no_start 62 (omega arith) refl refl) refl) h
-lexed_token Kind.And cs ks f o h = lexed_long_mark 38 38 Kind.And cs ks (begins_mark 38 (Some 38) (Start.LongMark Kind.And) refl refl refl (no_start 38 (omega arith) refl refl) refl) h
-lexed_token Kind.Or cs ks f o h = lexed_long_mark 124 124 Kind.Or cs ks (begins_mark 124 (Some 124) (Start.LongMark Kind.Or) refl refl refl (no_start 124 (omega arith) refl refl) refl) h
-lexed_token Kind.Class cs ks f o h = lexed_word 99 (108 ∷ 97 ∷ 115 ∷ 115 ∷ []) Kind.Class cs ks refl refl o.0 h
-lexed_token Kind.Fn cs ks f o h = lexed_word 102 (110 ∷ []) Kind.Fn cs ks refl refl o.0 h
-lexed_token Kind.Let cs ks f o h = lexed_word 108 (101 ∷ 116 ∷ []) Kind.Let cs ks refl refl o.0 h
-lexed_token Kind.If cs ks f o h = lexed_word 105 (102 ∷ []) Kind.If cs ks refl refl o.0 h
-lexed_token Kind.Else cs ks f o h = lexed_word 101 (108 ∷ 115 ∷ 101 ∷ []) Kind.Else cs ks refl refl o.0 h
-lexed_token Kind.While cs ks f o h = lexed_word 119 (104 ∷ 105 ∷ 108 ∷ 101 ∷ []) Kind.While cs ks refl refl o.0 h
-lexed_token Kind.Return cs ks f o h = lexed_word 114 (101 ∷ 116 ∷ 117 ∷ 114 ∷ 110 ∷ []) Kind.Return cs ks refl refl o.0 h
-lexed_token Kind.Throw cs ks f o h = lexed_word 116 (104 ∷ 114 ∷ 111 ∷ 119 ∷ []) Kind.Throw cs ks refl refl o.0 h
-lexed_token Kind.Sync cs ks f o h = lexed_word 115 (121 ∷ 110 ∷ 99 ∷ []) Kind.Sync cs ks refl refl o.0 h
-lexed_token Kind.Region cs ks f o h = lexed_word 114 (101 ∷ 103 ∷ 105 ∷ 111 ∷ 110 ∷ []) Kind.Region cs ks refl refl o.0 h
-lexed_token Kind.Catch cs ks f o h = lexed_word 99 (97 ∷ 116 ∷ 99 ∷ 104 ∷ []) Kind.Catch cs ks refl refl o.0 h
-lexed_token Kind.New cs ks f o h = lexed_word 110 (101 ∷ 119 ∷ []) Kind.New cs ks refl refl o.0 h
-lexed_token Kind.Spawn cs ks f o h = lexed_word 115 (112 ∷ 97 ∷ 119 ∷ 110 ∷ []) Kind.Spawn cs ks refl refl o.0 h
-lexed_token Kind.True cs ks f o h = lexed_word 116 (114 ∷ 117 ∷ 101 ∷ []) Kind.True cs ks refl refl o.0 h
-lexed_token Kind.False cs ks f o h = lexed_word 102 (97 ∷ 108 ∷ 115 ∷ 101 ∷ []) Kind.False cs ks refl refl o.0 h
-lexed_token Kind.Null cs ks f o h = lexed_word 110 (117 ∷ 108 ∷ 108 ∷ []) Kind.Null cs ks refl refl o.0 h
-lexed_token Kind.Int cs ks f o h = lexed_word 105 (110 ∷ 116 ∷ []) Kind.Int cs ks refl refl o.0 h
-lexed_token Kind.Bool cs ks f o h = lexed_word 98 (111 ∷ 111 ∷ 108 ∷ []) Kind.Bool cs ks refl refl o.0 h
-lexed_token Kind.Bytes cs ks f o h = lexed_word 98 (121 ∷ 116 ∷ 101 ∷ 115 ∷ []) Kind.Bytes cs ks refl refl o.0 h
-lexed_token Kind.Tag cs ks f o h = lexed_word 116 (97 ∷ 103 ∷ []) Kind.Tag cs ks refl refl o.0 h
-lexed_token Kind.Label cs ks f o h = lexed_word 108 (97 ∷ 98 ∷ 101 ∷ 108 ∷ []) Kind.Label cs ks refl refl o.0 h
-lexed_token Kind.Caps cs ks f o h = lexed_word 99 (97 ∷ 112 ∷ 115 ∷ []) Kind.Caps cs ks refl refl o.0 h
-lexed_token Kind.File cs ks f o h = lexed_word 102 (105 ∷ 108 ∷ 101 ∷ []) Kind.File cs ks refl refl o.0 h
-lexed_token Kind.Dir cs ks f o h = lexed_word 100 (105 ∷ 114 ∷ []) Kind.Dir cs ks refl refl o.0 h
-lexed_token Kind.Pipe cs ks f o h = lexed_word 112 (105 ∷ 112 ∷ 101 ∷ []) Kind.Pipe cs ks refl refl o.0 h
-lexed_token Kind.Thread cs ks f o h = lexed_word 116 (104 ∷ 114 ∷ 101 ∷ 97 ∷ 100 ∷ []) Kind.Thread cs ks refl refl o.0 h
+lexed_token Kind.Assign cs ks f o h = lexed_half 61 Kind.Assign cs ks refl refl (λ d e g. at_false (d == 61) _ _ e) o h
+lexed_token Kind.Less cs ks f o h = lexed_half 60 Kind.Less cs ks refl refl (λ d e g. at_false (d == 61) _ _ e) o h
+lexed_token Kind.Greater cs ks f o h = lexed_half 62 Kind.Greater cs ks refl refl (λ d e g. at_false (d == 61) _ _ e) o h
+lexed_token Kind.Slash cs ks f o h = lexed_half 47 Kind.Slash cs ks refl refl (λ d e g. at_false (d == 47) _ _ g) o h
+lexed_token Kind.Not cs ks f o h = lexed_half 33 Kind.Not cs ks refl refl (λ d e g. at_false (d == 61) _ _ e) o h
 lexed_token Kind.End cs ks f o h = absurd f
+lexed_token k cs ks f o h = lexed_spelled (right k) (spelling k) k cs ks (refl, refl, λ d. refl) o h
 
 -- ---- a token's first character
 
@@ -358,63 +332,30 @@ calm_number half n cs small f =
     subst (λ (ds : List ℕ). Calm half (ds ++ cs)) (sym x.whole) (another is_digit x.d 61 d.0 refl, another is_digit x.d 47 d.0 refl)
 calm_number whole n cs small f = tt
 
+-- what is checked of the first character
+abbrev Begins : Side → List ℕ → Type 0
+Begins s [] = ⊥
+Begins wordy (c ∷ w) = every lower (c ∷ w) ≡ true
+Begins half (c ∷ w) = of_mark c ≡ true
+Begins whole (c ∷ w) = (of_mark c && (not (c == 61) && not (c == 47))) ≡ true
+
+calm_spelled : (s l : Side) (w cs : List ℕ) → Begins l w → joins s l ≡ false → Calm s (w ++ cs)
+calm_spelled s l [] cs p q = absurd p
+calm_spelled s wordy (c ∷ w) cs p q = calm_name s (c ∷ w) cs (lower_named c w p) q
+calm_spelled s half (c ∷ w) cs p q = let m = is_mark c p in calm_half s c (w ++ cs) m.no_more m.no_digit q
+calm_spelled s whole (c ∷ w) cs p q =
+    let a = and_parts (of_mark c) _ p in
+    let b = and_parts (not (c == 61)) (not (c == 47)) a.1 in
+    let m = is_mark c a.0 in
+    calm_one s c (w ++ cs) m.no_more m.no_digit (not-true _ b.0) (not-true _ b.1)
+
 calm_token : (s : Side) (k : TokenKind) (cs : List ℕ) → Fits k → joins s (left k) ≡ false → Calm s (spell k ++ cs)
 calm_token s (Kind.Id name) cs f q = calm_name s (chars name) cs f.0 q
 calm_token s (Kind.Number (pos n)) cs f q = calm_number s n cs f q
 calm_token s (Kind.Number (negsuc n)) cs f q = absurd f
 calm_token s (Kind.Text bs) cs f q = calm_one s 34 (spell_text bs ++ cs) (no_continue 34 (omega arith) refl refl) refl refl refl
-calm_token s Kind.BraceOpen cs f q = calm_one s 123 cs (no_continue 123 (omega arith) refl refl) refl refl refl
-calm_token s Kind.BraceClose cs f q = calm_one s 125 cs (no_continue 125 (omega arith) refl refl) refl refl refl
-calm_token s Kind.ParenOpen cs f q = calm_one s 40 cs (no_continue 40 (omega arith) refl refl) refl refl refl
-calm_token s Kind.ParenClose cs f q = calm_one s 41 cs (no_continue 41 (omega arith) refl refl) refl refl refl
-calm_token s Kind.BracketOpen cs f q = calm_one s 91 cs (no_continue 91 (omega arith) refl refl) refl refl refl
-calm_token s Kind.BracketClose cs f q = calm_one s 93 cs (no_continue 93 (omega arith) refl refl) refl refl refl
-calm_token s Kind.Comma cs f q = calm_one s 44 cs (no_continue 44 (omega arith) refl refl) refl refl refl
-calm_token s Kind.Semicolon cs f q = calm_one s 59 cs (no_continue 59 (omega arith) refl refl) refl refl refl
-calm_token s Kind.Colon cs f q = calm_one s 58 cs (no_continue 58 (omega arith) refl refl) refl refl refl
-calm_token s Kind.Dot cs f q = calm_one s 46 cs (no_continue 46 (omega arith) refl refl) refl refl refl
-calm_token s Kind.Plus cs f q = calm_one s 43 cs (no_continue 43 (omega arith) refl refl) refl refl refl
-calm_token s Kind.Minus cs f q = calm_one s 45 cs (no_continue 45 (omega arith) refl refl) refl refl refl
-calm_token s Kind.Star cs f q = calm_one s 42 cs (no_continue 42 (omega arith) refl refl) refl refl refl
-calm_token s Kind.Percent cs f q = calm_one s 37 cs (no_continue 37 (omega arith) refl refl) refl refl refl
-calm_token s Kind.Assign cs f q = calm_half s 61 cs (no_continue 61 (omega arith) refl refl) refl q
-calm_token s Kind.Less cs f q = calm_one s 60 cs (no_continue 60 (omega arith) refl refl) refl refl refl
-calm_token s Kind.Greater cs f q = calm_one s 62 cs (no_continue 62 (omega arith) refl refl) refl refl refl
-calm_token s Kind.Slash cs f q = calm_half s 47 cs (no_continue 47 (omega arith) refl refl) refl q
-calm_token s Kind.Not cs f q = calm_one s 33 cs (no_continue 33 (omega arith) refl refl) refl refl refl
-calm_token s Kind.Equal cs f q = calm_half s 61 (61 ∷ cs) (no_continue 61 (omega arith) refl refl) refl q
-calm_token s Kind.NotEqual cs f q = calm_one s 33 (61 ∷ cs) (no_continue 33 (omega arith) refl refl) refl refl refl
-calm_token s Kind.LessEqual cs f q = calm_one s 60 (61 ∷ cs) (no_continue 60 (omega arith) refl refl) refl refl refl
-calm_token s Kind.GreaterEqual cs f q = calm_one s 62 (61 ∷ cs) (no_continue 62 (omega arith) refl refl) refl refl refl
-calm_token s Kind.And cs f q = calm_one s 38 (38 ∷ cs) (no_continue 38 (omega arith) refl refl) refl refl refl
-calm_token s Kind.Or cs f q = calm_one s 124 (124 ∷ cs) (no_continue 124 (omega arith) refl refl) refl refl refl
-calm_token s Kind.Class cs f q = calm_name s (99 ∷ 108 ∷ 97 ∷ 115 ∷ 115 ∷ []) cs (lower_named 99 (108 ∷ 97 ∷ 115 ∷ 115 ∷ []) refl) q
-calm_token s Kind.Fn cs f q = calm_name s (102 ∷ 110 ∷ []) cs (lower_named 102 (110 ∷ []) refl) q
-calm_token s Kind.Let cs f q = calm_name s (108 ∷ 101 ∷ 116 ∷ []) cs (lower_named 108 (101 ∷ 116 ∷ []) refl) q
-calm_token s Kind.If cs f q = calm_name s (105 ∷ 102 ∷ []) cs (lower_named 105 (102 ∷ []) refl) q
-calm_token s Kind.Else cs f q = calm_name s (101 ∷ 108 ∷ 115 ∷ 101 ∷ []) cs (lower_named 101 (108 ∷ 115 ∷ 101 ∷ []) refl) q
-calm_token s Kind.While cs f q = calm_name s (119 ∷ 104 ∷ 105 ∷ 108 ∷ 101 ∷ []) cs (lower_named 119 (104 ∷ 105 ∷ 108 ∷ 101 ∷ []) refl) q
-calm_token s Kind.Return cs f q = calm_name s (114 ∷ 101 ∷ 116 ∷ 117 ∷ 114 ∷ 110 ∷ []) cs (lower_named 114 (101 ∷ 116 ∷ 117 ∷ 114 ∷ 110 ∷ []) refl) q
-calm_token s Kind.Throw cs f q = calm_name s (116 ∷ 104 ∷ 114 ∷ 111 ∷ 119 ∷ []) cs (lower_named 116 (104 ∷ 114 ∷ 111 ∷ 119 ∷ []) refl) q
-calm_token s Kind.Sync cs f q = calm_name s (115 ∷ 121 ∷ 110 ∷ 99 ∷ []) cs (lower_named 115 (121 ∷ 110 ∷ 99 ∷ []) refl) q
-calm_token s Kind.Region cs f q = calm_name s (114 ∷ 101 ∷ 103 ∷ 105 ∷ 111 ∷ 110 ∷ []) cs (lower_named 114 (101 ∷ 103 ∷ 105 ∷ 111 ∷ 110 ∷ []) refl) q
-calm_token s Kind.Catch cs f q = calm_name s (99 ∷ 97 ∷ 116 ∷ 99 ∷ 104 ∷ []) cs (lower_named 99 (97 ∷ 116 ∷ 99 ∷ 104 ∷ []) refl) q
-calm_token s Kind.New cs f q = calm_name s (110 ∷ 101 ∷ 119 ∷ []) cs (lower_named 110 (101 ∷ 119 ∷ []) refl) q
-calm_token s Kind.Spawn cs f q = calm_name s (115 ∷ 112 ∷ 97 ∷ 119 ∷ 110 ∷ []) cs (lower_named 115 (112 ∷ 97 ∷ 119 ∷ 110 ∷ []) refl) q
-calm_token s Kind.True cs f q = calm_name s (116 ∷ 114 ∷ 117 ∷ 101 ∷ []) cs (lower_named 116 (114 ∷ 117 ∷ 101 ∷ []) refl) q
-calm_token s Kind.False cs f q = calm_name s (102 ∷ 97 ∷ 108 ∷ 115 ∷ 101 ∷ []) cs (lower_named 102 (97 ∷ 108 ∷ 115 ∷ 101 ∷ []) refl) q
-calm_token s Kind.Null cs f q = calm_name s (110 ∷ 117 ∷ 108 ∷ 108 ∷ []) cs (lower_named 110 (117 ∷ 108 ∷ 108 ∷ []) refl) q
-calm_token s Kind.Int cs f q = calm_name s (105 ∷ 110 ∷ 116 ∷ []) cs (lower_named 105 (110 ∷ 116 ∷ []) refl) q
-calm_token s Kind.Bool cs f q = calm_name s (98 ∷ 111 ∷ 111 ∷ 108 ∷ []) cs (lower_named 98 (111 ∷ 111 ∷ 108 ∷ []) refl) q
-calm_token s Kind.Bytes cs f q = calm_name s (98 ∷ 121 ∷ 116 ∷ 101 ∷ 115 ∷ []) cs (lower_named 98 (121 ∷ 116 ∷ 101 ∷ 115 ∷ []) refl) q
-calm_token s Kind.Tag cs f q = calm_name s (116 ∷ 97 ∷ 103 ∷ []) cs (lower_named 116 (97 ∷ 103 ∷ []) refl) q
-calm_token s Kind.Label cs f q = calm_name s (108 ∷ 97 ∷ 98 ∷ 101 ∷ 108 ∷ []) cs (lower_named 108 (97 ∷ 98 ∷ 101 ∷ 108 ∷ []) refl) q
-calm_token s Kind.Caps cs f q = calm_name s (99 ∷ 97 ∷ 112 ∷ 115 ∷ []) cs (lower_named 99 (97 ∷ 112 ∷ 115 ∷ []) refl) q
-calm_token s Kind.File cs f q = calm_name s (102 ∷ 105 ∷ 108 ∷ 101 ∷ []) cs (lower_named 102 (105 ∷ 108 ∷ 101 ∷ []) refl) q
-calm_token s Kind.Dir cs f q = calm_name s (100 ∷ 105 ∷ 114 ∷ []) cs (lower_named 100 (105 ∷ 114 ∷ []) refl) q
-calm_token s Kind.Pipe cs f q = calm_name s (112 ∷ 105 ∷ 112 ∷ 101 ∷ []) cs (lower_named 112 (105 ∷ 112 ∷ 101 ∷ []) refl) q
-calm_token s Kind.Thread cs f q = calm_name s (116 ∷ 104 ∷ 114 ∷ 101 ∷ 97 ∷ 100 ∷ []) cs (lower_named 116 (104 ∷ 114 ∷ 101 ∷ 97 ∷ 100 ∷ []) refl) q
 calm_token s Kind.End cs f q = absurd f
+calm_token s k cs f q = calm_spelled s (left k) (spelling k) cs refl q
 
 -- the characters of pieces
 abbrev laid : List Piece → List ℕ
@@ -481,58 +422,8 @@ spell_chars (Kind.Id name) ys f = chars-append name ys f.1
 spell_chars (Kind.Number (pos n)) ys f = ascii_before (decimal n) ys (decimal_ascii n (omega arith))
 spell_chars (Kind.Number (negsuc n)) ys f = absurd f
 spell_chars (Kind.Text bs) ys f = ascii_before (34 ∷ spell_text bs) ys (bytes_ascii bs f.0)
-spell_chars Kind.BraceOpen ys f = ascii_before (spelling Kind.BraceOpen) ys refl
-spell_chars Kind.BraceClose ys f = ascii_before (spelling Kind.BraceClose) ys refl
-spell_chars Kind.ParenOpen ys f = ascii_before (spelling Kind.ParenOpen) ys refl
-spell_chars Kind.ParenClose ys f = ascii_before (spelling Kind.ParenClose) ys refl
-spell_chars Kind.BracketOpen ys f = ascii_before (spelling Kind.BracketOpen) ys refl
-spell_chars Kind.BracketClose ys f = ascii_before (spelling Kind.BracketClose) ys refl
-spell_chars Kind.Comma ys f = ascii_before (spelling Kind.Comma) ys refl
-spell_chars Kind.Semicolon ys f = ascii_before (spelling Kind.Semicolon) ys refl
-spell_chars Kind.Colon ys f = ascii_before (spelling Kind.Colon) ys refl
-spell_chars Kind.Dot ys f = ascii_before (spelling Kind.Dot) ys refl
-spell_chars Kind.Plus ys f = ascii_before (spelling Kind.Plus) ys refl
-spell_chars Kind.Minus ys f = ascii_before (spelling Kind.Minus) ys refl
-spell_chars Kind.Star ys f = ascii_before (spelling Kind.Star) ys refl
-spell_chars Kind.Percent ys f = ascii_before (spelling Kind.Percent) ys refl
-spell_chars Kind.Assign ys f = ascii_before (spelling Kind.Assign) ys refl
-spell_chars Kind.Less ys f = ascii_before (spelling Kind.Less) ys refl
-spell_chars Kind.Greater ys f = ascii_before (spelling Kind.Greater) ys refl
-spell_chars Kind.Slash ys f = ascii_before (spelling Kind.Slash) ys refl
-spell_chars Kind.Not ys f = ascii_before (spelling Kind.Not) ys refl
-spell_chars Kind.Equal ys f = ascii_before (spelling Kind.Equal) ys refl
-spell_chars Kind.NotEqual ys f = ascii_before (spelling Kind.NotEqual) ys refl
-spell_chars Kind.LessEqual ys f = ascii_before (spelling Kind.LessEqual) ys refl
-spell_chars Kind.GreaterEqual ys f = ascii_before (spelling Kind.GreaterEqual) ys refl
-spell_chars Kind.And ys f = ascii_before (spelling Kind.And) ys refl
-spell_chars Kind.Or ys f = ascii_before (spelling Kind.Or) ys refl
-spell_chars Kind.Class ys f = ascii_before (spelling Kind.Class) ys refl
-spell_chars Kind.Fn ys f = ascii_before (spelling Kind.Fn) ys refl
-spell_chars Kind.Let ys f = ascii_before (spelling Kind.Let) ys refl
-spell_chars Kind.If ys f = ascii_before (spelling Kind.If) ys refl
-spell_chars Kind.Else ys f = ascii_before (spelling Kind.Else) ys refl
-spell_chars Kind.While ys f = ascii_before (spelling Kind.While) ys refl
-spell_chars Kind.Return ys f = ascii_before (spelling Kind.Return) ys refl
-spell_chars Kind.Throw ys f = ascii_before (spelling Kind.Throw) ys refl
-spell_chars Kind.Sync ys f = ascii_before (spelling Kind.Sync) ys refl
-spell_chars Kind.Region ys f = ascii_before (spelling Kind.Region) ys refl
-spell_chars Kind.Catch ys f = ascii_before (spelling Kind.Catch) ys refl
-spell_chars Kind.New ys f = ascii_before (spelling Kind.New) ys refl
-spell_chars Kind.Spawn ys f = ascii_before (spelling Kind.Spawn) ys refl
-spell_chars Kind.True ys f = ascii_before (spelling Kind.True) ys refl
-spell_chars Kind.False ys f = ascii_before (spelling Kind.False) ys refl
-spell_chars Kind.Null ys f = ascii_before (spelling Kind.Null) ys refl
-spell_chars Kind.Int ys f = ascii_before (spelling Kind.Int) ys refl
-spell_chars Kind.Bool ys f = ascii_before (spelling Kind.Bool) ys refl
-spell_chars Kind.Bytes ys f = ascii_before (spelling Kind.Bytes) ys refl
-spell_chars Kind.Tag ys f = ascii_before (spelling Kind.Tag) ys refl
-spell_chars Kind.Label ys f = ascii_before (spelling Kind.Label) ys refl
-spell_chars Kind.Caps ys f = ascii_before (spelling Kind.Caps) ys refl
-spell_chars Kind.File ys f = ascii_before (spelling Kind.File) ys refl
-spell_chars Kind.Dir ys f = ascii_before (spelling Kind.Dir) ys refl
-spell_chars Kind.Pipe ys f = ascii_before (spelling Kind.Pipe) ys refl
-spell_chars Kind.Thread ys f = ascii_before (spelling Kind.Thread) ys refl
 spell_chars Kind.End ys f = absurd f
+spell_chars k ys f = ascii_before (spelling k) ys refl
 
 indent_chars : (n : ℕ) (ys : List ℕ) → chars (indent n ys) ≡ indent n (chars ys)
 indent_chars zero ys = refl

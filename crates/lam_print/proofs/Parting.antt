@@ -7,7 +7,7 @@ use Rattle.lam_operators.specs.declared.BinaryOp.{BinaryOp}
 use Rattle.lam_operators.specs.declared.BinaryOp.TheVariants as Op
 use Rattle.lam_operators.specs.declared.UnaryOp.{UnaryOp}
 use Rattle.lam_operators.specs.declared.UnaryOp.TheVariants as Sign
-use Rattle.lam_syntax.specs.Tree.{IdTree, TypeTree, type_node, TypeForm, int_type, bool_type, bytes_type, tag_type, label_type, caps_type, file_type, dir_type, pipe_type, thread_type, class_type, array_type, VarTree, CapTree, ExprTree, expr_node, ExprForm, binary_expr, unary_expr, field_expr, element_expr, number_expr, text_expr, bool_expr, null_expr, name_expr, call_expr, new_class_expr, new_array_expr, label_expr, caps_expr, spawn_expr, ExprList, no_exprs, exprs, StmtTree, stmt_node, StmtForm, let_stmt, if_stmt, while_stmt, return_stmt, throw_stmt, sync_stmt, region_stmt, do_stmt, assign_stmt, StmtList, no_stmts, stmts, ElseTree, no_else, else_block, ClassTree, FunctionTree, ItemTree, class_item, function_item, ProgramTree}
+use Rattle.lam_syntax.specs.Tree.{IdTree, TypeTree, type_node, TypeForm, class_type, array_type, VarTree, CapTree, ExprTree, expr_node, ExprForm, binary_expr, unary_expr, field_expr, element_expr, number_expr, text_expr, bool_expr, null_expr, name_expr, call_expr, new_class_expr, new_array_expr, label_expr, caps_expr, spawn_expr, ExprList, no_exprs, exprs, StmtTree, stmt_node, StmtForm, let_stmt, if_stmt, while_stmt, return_stmt, throw_stmt, sync_stmt, region_stmt, do_stmt, assign_stmt, StmtList, no_stmts, stmts, ElseTree, no_else, else_block, ClassTree, FunctionTree, ItemTree, class_item, function_item, ProgramTree}
 use Rattle.lam_print.specs.Pieces.{Piece, token, blank, line}
 use Rattle.lam_print.specs.Canon.{name, operator, sign, truth, weight, left_place, right_place, prefixed, before_postfix, whole as anywhere, opened, closed, comma, spaced, gap, lay_type_form, lay_type, lay_var, lay_names, lay_vars, lay_cap, lay_caps, lay_form, lay, lay_args, lay_tags, lay_value, lay_stmt_form, lay_stmt, lay_block, lay_stmts, lay_else, lay_fields, lay_class_body, lay_result, lay_class, lay_function, lay_item, lay_items, pieces}
 use Rattle.lam_print.specs.Law.{TextLaw}
@@ -46,18 +46,9 @@ nm x s ps q h = before s (Kind.Id x.word) ps q h
 -- ---- types
 
 tf : (t : TypeForm) (s : Side) (ps : List Piece) → joins s wordy ≡ false → Good wordy ps → Good s (lay_type_form t ps)
-tf int_type s ps q h = wd s Kind.Int ps refl refl q h
-tf bool_type s ps q h = wd s Kind.Bool ps refl refl q h
-tf bytes_type s ps q h = wd s Kind.Bytes ps refl refl q h
-tf tag_type s ps q h = wd s Kind.Tag ps refl refl q h
-tf label_type s ps q h = wd s Kind.Label ps refl refl q h
-tf caps_type s ps q h = wd s Kind.Caps ps refl refl q h
-tf file_type s ps q h = wd s Kind.File ps refl refl q h
-tf dir_type s ps q h = wd s Kind.Dir ps refl refl q h
-tf pipe_type s ps q h = wd s Kind.Pipe ps refl refl q h
-tf thread_type s ps q h = wd s Kind.Thread ps refl refl q h
 tf (class_type x) s ps q h = before s (Kind.Id x) ps q h
 tf (array_type (type_node at form)) s ps q h = mk s Kind.BracketOpen (lay_type_form form (token Kind.BracketClose ∷ ps)) refl refl (tf form whole (token Kind.BracketClose ∷ ps) refl (mk wordy Kind.BracketClose ps refl refl (loosen ps h)))
+tf _ s ps q h = and_from (not (joins s wordy)) (parted wordy ps) (ap not q) h
 
 ty : (t : TypeTree) (s : Side) (ps : List Piece) → joins s wordy ≡ false → Good wordy ps → Good s (lay_type t ps)
 ty (type_node at form) s ps q h = tf form s ps q h
@@ -100,19 +91,8 @@ caps (c ∷ cs) later ps h =
 -- ---- expressions
 
 op : (o : BinaryOp) (ps : List Piece) → Good whole ps → Good whole (token (operator o) ∷ blank ∷ ps)
-op Op.Or ps h = before whole Kind.Or (blank ∷ ps) refl h
-op Op.And ps h = before whole Kind.And (blank ∷ ps) refl h
-op Op.Eq ps h = before whole Kind.Equal (blank ∷ ps) refl h
-op Op.Ne ps h = before whole Kind.NotEqual (blank ∷ ps) refl h
-op Op.Lt ps h = before whole Kind.Less (blank ∷ ps) refl h
-op Op.Le ps h = before whole Kind.LessEqual (blank ∷ ps) refl h
-op Op.Gt ps h = before whole Kind.Greater (blank ∷ ps) refl h
-op Op.Ge ps h = before whole Kind.GreaterEqual (blank ∷ ps) refl h
-op Op.Add ps h = before whole Kind.Plus (blank ∷ ps) refl h
-op Op.Sub ps h = before whole Kind.Minus (blank ∷ ps) refl h
-op Op.Mul ps h = before whole Kind.Star (blank ∷ ps) refl h
-op Op.Div ps h = before whole Kind.Slash (blank ∷ ps) refl h
-op Op.Rem ps h = before whole Kind.Percent (blank ∷ ps) refl h
+op Op.Or ps h = h
+op _ ps h = h
 
 -- a sign before an expression, which begins neither with = nor with /
 sg : (o : UnaryOp) (s : Side) (ps : List Piece) → Good whole ps → Good half ps → Good s (token (sign o) ∷ ps)

@@ -5,7 +5,7 @@ use Rattle.lam_operators.specs.declared.BinaryOp.{BinaryOp}
 use Rattle.lam_operators.specs.declared.BinaryOp.TheVariants as Op
 use Rattle.lam_operators.specs.declared.UnaryOp.{UnaryOp}
 use Rattle.lam_operators.specs.declared.UnaryOp.TheVariants as Sign
-use Rattle.lam_syntax.specs.Tree.{IdTree, TypeTree, TypeForm, type_node, int_type, bool_type, bytes_type, tag_type, label_type, caps_type, file_type, dir_type, pipe_type, thread_type, class_type, array_type, VarTree, CapTree, ExprTree, ExprForm, ExprList, expr_node, binary_expr, unary_expr, field_expr, element_expr, number_expr, text_expr, bool_expr, null_expr, name_expr, call_expr, new_class_expr, new_array_expr, label_expr, caps_expr, spawn_expr, no_exprs, exprs, StmtTree, StmtForm, StmtList, ElseTree, stmt_node, let_stmt, if_stmt, while_stmt, return_stmt, throw_stmt, sync_stmt, region_stmt, do_stmt, assign_stmt, no_stmts, stmts, no_else, else_block, ClassTree, FunctionTree, ItemTree, class_item, function_item, ProgramTree}
+use Rattle.lam_syntax.specs.Tree.{IdTree, TypeTree, TypeForm, type_node, class_type, array_type, VarTree, CapTree, ExprTree, ExprForm, ExprList, expr_node, binary_expr, unary_expr, field_expr, element_expr, number_expr, text_expr, bool_expr, null_expr, name_expr, call_expr, new_class_expr, new_array_expr, label_expr, caps_expr, spawn_expr, no_exprs, exprs, StmtTree, StmtForm, StmtList, ElseTree, stmt_node, let_stmt, if_stmt, while_stmt, return_stmt, throw_stmt, sync_stmt, region_stmt, do_stmt, assign_stmt, no_stmts, stmts, no_else, else_block, ClassTree, FunctionTree, ItemTree, class_item, function_item, ProgramTree}
 use Rattle.lam_print.specs.Law.{Fits, AllFit}
 use Rattle.lam_print.specs.Pieces.{Piece, token, blank, line, kinds}
 use Rattle.lam_print.specs.Canon.{operator, sign, opened, closed, grouped, weight, before_postfix, prefixed, whole, left_place, right_place, comma, spaced, lay_type_form, lay_type, lay_var, lay_names, lay_vars, lay_cap, lay_caps, truth, lay_form, lay, lay_args, lay_tags, lay_value, lay_stmt_form, lay_stmt, lay_block, lay_stmts, lay_else, lay_fields, lay_class_body, lay_result, lay_class, lay_function, lay_item, gap, lay_items}
@@ -16,18 +16,7 @@ Fit ps = AllFit (kinds ps)
 
 operator_fits : (op : BinaryOp) → Fits (operator op)
 operator_fits Op.Or = tt
-operator_fits Op.And = tt
-operator_fits Op.Eq = tt
-operator_fits Op.Ne = tt
-operator_fits Op.Lt = tt
-operator_fits Op.Le = tt
-operator_fits Op.Gt = tt
-operator_fits Op.Ge = tt
-operator_fits Op.Add = tt
-operator_fits Op.Sub = tt
-operator_fits Op.Mul = tt
-operator_fits Op.Div = tt
-operator_fits Op.Rem = tt
+operator_fits _ = tt
 
 sign_fits : (op : UnaryOp) → Fits (sign op)
 sign_fits Sign.Not = tt
@@ -63,18 +52,9 @@ gap_fits true ps h = h
 gap_fits false ps h = h
 
 type_form_fits : (t : TypeForm) (ps : List Piece) → TypeFormFits t → Fit ps → Fit (lay_type_form t ps)
-type_form_fits int_type ps f h = (tt, h)
-type_form_fits bool_type ps f h = (tt, h)
-type_form_fits bytes_type ps f h = (tt, h)
-type_form_fits tag_type ps f h = (tt, h)
-type_form_fits label_type ps f h = (tt, h)
-type_form_fits caps_type ps f h = (tt, h)
-type_form_fits file_type ps f h = (tt, h)
-type_form_fits dir_type ps f h = (tt, h)
-type_form_fits pipe_type ps f h = (tt, h)
-type_form_fits thread_type ps f h = (tt, h)
 type_form_fits (class_type x) ps f h = (f, h)
 type_form_fits (array_type (type_node at form)) ps f h = (tt, type_form_fits form (token Kind.BracketClose ∷ ps) f (tt, h))
+type_form_fits _ ps f h = (tt, h)
 
 type_fits : (t : TypeTree) (ps : List Piece) → TypeFits t → Fit ps → Fit (lay_type t ps)
 type_fits (type_node at form) ps f h = type_form_fits form ps f h

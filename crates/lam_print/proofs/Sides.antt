@@ -1,5 +1,5 @@
 -- What single characters are, and which tokens join.
-use Rattle.std.proofs.Common.{◌≡◌, ℕ, ◌<◌, ◌≤◌, ◌⊎◌, inl, inr, ◌==◌, ◌&&◌, ◌||◌, nat_le, Bool, true, false, not, List, [], ◌∷◌, Option, refl, sym, ap, ◌∙◌, arith}
+use Rattle.std.proofs.Common.{◌≡◌, ℕ, ◌<◌, ◌≤◌, ◌⊎◌, inl, inr, ◌==◌, ◌&&◌, ◌||◌, nat_le, Bool, true, false, not, cond, List, [], ◌∷◌, Option, refl, sym, ap, ◌∙◌, arith}
 use Rattle.std.proofs.lemmas.Bool.{both_ways, ne_eqb, leb-true, and_parts, and_left, or_cases, lt-leb}
 use Rattle.std.specs.Char.{is_ascii_alphabetic, is_ascii_alphanumeric}
 use Rattle.unicode_ident.specs.Ident.{is_xid_start, is_xid_continue}
@@ -10,7 +10,7 @@ use Rattle.lam_lexer.specs.declared.start.Start.{Start}
 use Rattle.lam_lexer.specs.Characters.{is_space, is_digit, starts_name, continues_name, goes_on}
 use Rattle.lam_lexer.specs.Lexed.{start, marks}
 use Rattle.lam_lexer.proofs.Runs.{at_true, at_false}
-use Rattle.lam_print.specs.Pieces.{Piece, token, blank, line}
+use Rattle.lam_print.specs.Pieces.{Piece, token, blank, line, spelling}
 
 pub or_false : (x y : Bool) → x ≡ false → y ≡ false → (x || y) ≡ false
 or_false x y h k = ap (λ (x : Bool). x || y) h ∙ k
@@ -72,119 +72,33 @@ begins_text o = at_false (starts_name 34) _ _ (no_start 34 (omega arith) refl re
 pub data Side : Type 0 where
   wordy half whole : Side
 
+abbrev pub lower : ℕ → Bool
+lower c = nat_le 97 c && nat_le c 122
+
+-- a reserved word begins with a letter, and a mark does not
+abbrev word_side : List ℕ → Side
+word_side [] = whole
+word_side (c ∷ cs) = cond (lower c) wordy whole
+
 abbrev pub right : TokenKind → Side
 right (Kind.Id x) = wordy
 right (Kind.Number n) = wordy
 right (Kind.Text bs) = whole
-right Kind.BraceOpen = whole
-right Kind.BraceClose = whole
-right Kind.ParenOpen = whole
-right Kind.ParenClose = whole
-right Kind.BracketOpen = whole
-right Kind.BracketClose = whole
-right Kind.Comma = whole
-right Kind.Semicolon = whole
-right Kind.Colon = whole
-right Kind.Dot = whole
-right Kind.Plus = whole
-right Kind.Minus = whole
-right Kind.Star = whole
-right Kind.Percent = whole
 right Kind.Assign = half
 right Kind.Less = half
 right Kind.Greater = half
 right Kind.Slash = half
 right Kind.Not = half
-right Kind.Equal = whole
-right Kind.NotEqual = whole
-right Kind.LessEqual = whole
-right Kind.GreaterEqual = whole
-right Kind.And = whole
-right Kind.Or = whole
-right Kind.Class = wordy
-right Kind.Fn = wordy
-right Kind.Let = wordy
-right Kind.If = wordy
-right Kind.Else = wordy
-right Kind.While = wordy
-right Kind.Return = wordy
-right Kind.Throw = wordy
-right Kind.Sync = wordy
-right Kind.Region = wordy
-right Kind.Catch = wordy
-right Kind.New = wordy
-right Kind.Spawn = wordy
-right Kind.True = wordy
-right Kind.False = wordy
-right Kind.Null = wordy
-right Kind.Int = wordy
-right Kind.Bool = wordy
-right Kind.Bytes = wordy
-right Kind.Tag = wordy
-right Kind.Label = wordy
-right Kind.Caps = wordy
-right Kind.File = wordy
-right Kind.Dir = wordy
-right Kind.Pipe = wordy
-right Kind.Thread = wordy
-right Kind.End = whole
+right k = word_side (spelling k)
 
 abbrev pub left : TokenKind → Side
 left (Kind.Id x) = wordy
 left (Kind.Number n) = wordy
 left (Kind.Text bs) = whole
-left Kind.BraceOpen = whole
-left Kind.BraceClose = whole
-left Kind.ParenOpen = whole
-left Kind.ParenClose = whole
-left Kind.BracketOpen = whole
-left Kind.BracketClose = whole
-left Kind.Comma = whole
-left Kind.Semicolon = whole
-left Kind.Colon = whole
-left Kind.Dot = whole
-left Kind.Plus = whole
-left Kind.Minus = whole
-left Kind.Star = whole
-left Kind.Percent = whole
 left Kind.Assign = half
-left Kind.Less = whole
-left Kind.Greater = whole
 left Kind.Slash = half
-left Kind.Not = whole
 left Kind.Equal = half
-left Kind.NotEqual = whole
-left Kind.LessEqual = whole
-left Kind.GreaterEqual = whole
-left Kind.And = whole
-left Kind.Or = whole
-left Kind.Class = wordy
-left Kind.Fn = wordy
-left Kind.Let = wordy
-left Kind.If = wordy
-left Kind.Else = wordy
-left Kind.While = wordy
-left Kind.Return = wordy
-left Kind.Throw = wordy
-left Kind.Sync = wordy
-left Kind.Region = wordy
-left Kind.Catch = wordy
-left Kind.New = wordy
-left Kind.Spawn = wordy
-left Kind.True = wordy
-left Kind.False = wordy
-left Kind.Null = wordy
-left Kind.Int = wordy
-left Kind.Bool = wordy
-left Kind.Bytes = wordy
-left Kind.Tag = wordy
-left Kind.Label = wordy
-left Kind.Caps = wordy
-left Kind.File = wordy
-left Kind.Dir = wordy
-left Kind.Pipe = wordy
-left Kind.Thread = wordy
-left Kind.End = whole
+left k = word_side (spelling k)
 
 abbrev pub joins : Side → Side → Bool
 joins wordy wordy = true
