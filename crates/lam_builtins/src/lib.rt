@@ -8,6 +8,9 @@
 //! - `rows`: the same table as values.
 //! - `operators`: the types of operators, as values. Every other table in code is made from these two.
 //! - `limits`: bounds on the size of a program.
+//!
+//! A public promise rests on `Builtin::named`: it finds exactly the built-in calls of the table, by name. Free to
+//! change for speed: how it looks a name up.
 #![tactic(auto)]
 
 mod limits;

@@ -6,6 +6,9 @@
 //!
 //! `specs/Faults.antt` names each layer's faults. `specs/Programs.antt` says which program bytes spell, and which fault
 //! they have where they spell none or break a rule. The crates below do the work.
+//!
+//! A public promise rests on `read_program` and on `check_program` (clause `exact` of each): the program that bytes
+//! spell, or their first fault. Nothing here is a matter of speed: the crates below do the work.
 #![tactic(auto)]
 
 mod fault;

@@ -8,6 +8,9 @@
 //! The grammar is a table that is read by the next token. `derivations` says that, but for the limit of the depth sum,
 //! it is a plain context-free grammar. It gives a text one program at most (`specs/DerivationLaw`). `specs/Follow`
 //! lists the tokens that may follow each rule.
+//!
+//! A public promise rests on `canonical_text_is_spelt_again` and on each law of `derivations`. Nothing here is a matter
+//! of speed.
 #![tactic(auto)]
 
 pub mod derivations;

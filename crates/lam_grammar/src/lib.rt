@@ -11,6 +11,8 @@
 //!
 //! The parser, `lam_parser`, is stated and proved over this table. So is the law that canonical text is read as the
 //! tree that it was printed from.
+//!
+//! The promise of `parse` of `lam_parser` rests on this table. Nothing here is a matter of speed.
 #![tactic(auto)]
 
 /// The operators of one line of the grammar that group to the left, from those that bind weakest.

@@ -22,4 +22,6 @@
 //!
 //! The crate has no code. The parser states its contracts in these relations and cites these laws; `lam_front_laws`
 //! states the laws of derivations for the table of the language.
+//!
+//! The promise of `parse` of `lam_parser` rests on these laws. Nothing here is a matter of speed.
 #![tactic(auto)]

@@ -2,6 +2,8 @@
 //!
 //! The syntax tree, the resolved program, the bytecode and the meaning of a program share these operators. They stand
 //! below all of these, so that the machine does not depend on the syntax tree.
+//!
+//! No public promise rests on code here: all definitions share these operators. Nothing here is a matter of speed.
 #![tactic(auto)]
 
 /// The operators between two operands, from those that bind weakest to those that bind strongest:

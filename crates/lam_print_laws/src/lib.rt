@@ -18,6 +18,8 @@
 //! - `Expressions`, `Statements` and `Items` read each construct back.
 //! - `Ready` shows that what was read assigns to places alone.
 //! - `TheLaw` and `Steady` have the laws.
+//!
+//! A public promise rests on each law of `trees` and `words`. Nothing here is a matter of speed.
 #![tactic(auto)]
 
 mod trees;

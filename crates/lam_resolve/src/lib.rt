@@ -7,6 +7,9 @@
 //!
 //! The functions below `resolve` require that their part of the program resolves. A law of `lam_resolve_laws` says that
 //! a checked program does, and `resolve` alone uses it.
+//!
+//! A public promise rests on `resolve` (each clause): a checked program's tree without names, with its laws. Free to
+//! change for speed: how the one pass makes it.
 #![tactic(auto)]
 
 mod checked;

@@ -6,6 +6,8 @@
 //!
 //! `lam_resolve_laws` defines the tree that an expression resolves to. Each function here requires that there is such a
 //! tree, as in a checked program, and returns it or `NoMemory`.
+//!
+//! The promise of `resolve` of `lam_resolve` rests on it.
 #![tactic(auto)]
 
 pub mod exprs;

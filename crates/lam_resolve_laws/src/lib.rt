@@ -3,6 +3,9 @@
 //! `specs/Resolved.antt` says what a program resolves to: a tree of `lam_resolve_tree`, with locals by slot, and
 //! fields, classes, functions and regions by number. `specs/Names.antt` puts the names of a resolved program back.
 //! `resolves` has the laws that join the two to the checker; `lam_resolve` computes the tree.
+//!
+//! A public promise rests on `resolves` (clauses `some`, `typed`, `slots`, `regions`, `reads`): each checked program
+//! has a tree without names. Nothing here is a matter of speed.
 #![tactic(auto)]
 
 ghost use Rattle.std.specs.Prelude.{◌≡◌, IsSome, IsSomeAnd};

@@ -5,6 +5,8 @@
 //! blocks, and the node that is made of its parts.
 //!
 //! Each function requires that its part of the program resolves, and answers what `lam_resolve_laws` says of it.
+//!
+//! The promise of `resolve` of `lam_resolve` rests on it.
 #![tactic(auto)]
 
 mod regions;

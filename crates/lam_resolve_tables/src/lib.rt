@@ -9,6 +9,8 @@
 //!
 //! `lam_resolve_laws` defines what a type, a class or a function's head resolves to. A function that may have no answer
 //! requires that there is one, as in a checked program, and returns it or `NoMemory`.
+//!
+//! The promise of `resolve` of `lam_resolve` rests on it. Free to change for speed: how a name's entry is found.
 #![tactic(auto)]
 
 pub mod kinds;

@@ -11,6 +11,8 @@
 //!
 //! As in `lam_syntax`, the definitions are on a mirror of these types as plain data (`specs/Tree.antt`), with a view
 //! from each type here.
+//!
+//! The promises of `resolve` of `lam_resolve` are stated in these definitions. Nothing here is a matter of speed.
 #![tactic(auto)]
 
 use lam_builtins::Builtin;

@@ -3,6 +3,8 @@
 //! A unit is a function or a region. `units` has its names in scope and its slots. It adds slots and names, drops names
 //! that go out of scope, opens a unit, and enters a region with its captures. `parts` makes statements from resolved
 //! parts. `lam_resolve_stmts` goes through the statements themselves.
+//!
+//! The promise of `resolve` of `lam_resolve` rests on it.
 #![tactic(auto)]
 
 pub mod parts;

@@ -2,6 +2,9 @@
 //!
 //! Two trees are the same where their views without positions (`unplaced`, of `lam_syntax`) are. The tool itself does
 //! not depend on this crate: it serves callers that compare programs, and the worked examples.
+//!
+//! A public promise rests on `same_tree`: it says exactly whether two programs are the same but for positions. Free to
+//! change for speed: the order in which their parts are compared.
 #![tactic(auto)]
 
 ghost use Rattle.std.specs.Prelude.{◌≡◌, ◌↔◌, IsTrue};

@@ -7,6 +7,8 @@
 //!
 //! Boxes and vectors have places in memory, and no definition speaks of those. So `specs/Tree.antt` mirrors these types
 //! as plain data, with a view from each type here. Every definition of the language is on that mirror.
+//!
+//! Each promise about programs speaks of the trees of `specs/Tree`. Nothing here is a matter of speed.
 #![tactic(auto)]
 
 use lam_operators::{BinaryOp, UnaryOp};

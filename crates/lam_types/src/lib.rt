@@ -7,6 +7,9 @@
 //!
 //! `lam_types_exprs` types expressions, and `lam_types_kinds` has the types and the tables. Names in scope are a table
 //! that a block cuts back at its end, so a look-up takes constant time.
+//!
+//! A public promise rests on `check` (clauses `typed`, `only`, `first`): it accepts exactly the typed programs, and
+//! names the first break of others. Free to change for speed: how the names in scope are kept.
 #![tactic(auto)]
 
 mod endings;

@@ -6,6 +6,8 @@
 //!
 //! Every function here takes the tables of the program's classes and functions, and the names in scope. It answers what
 //! the expression gives. Only a refusal that names types allocates.
+//!
+//! The promise of `check` of `lam_types` rests on `check_one`.
 #![tactic(auto)]
 
 ghost use Rattle.std.specs.Prelude.{◌≡◌, IfOk, OnOk, length, is_some, Some};

@@ -10,6 +10,8 @@
 //! Types borrow from the program's tree and are `Copy`; only a refusal that names types allocates. In `specs/`,
 //! `Breaks` says what a break is and how checks follow one another, and `Tables` which names a program declares. The
 //! language's types and its table of built-in calls are those of `lam_builtins`.
+//!
+//! The promise of `check` of `lam_types` rests on it. Free to change for speed: the look-up in `tables`.
 #![tactic(auto)]
 
 pub mod builtins;

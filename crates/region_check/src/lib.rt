@@ -6,6 +6,9 @@
 //!
 //! `specs/Breaks.antt` defines the first break of these rules in a program. `specs/Legal.antt` says which programs keep
 //! them, without positions or order. `regions` joins the two.
+//!
+//! A public promise rests on `regions` (clauses `legal`, `only`, `first`): it accepts exactly the programs that keep
+//! the rules, and names the first break of others. Free to change for speed: how a region's own names are looked up.
 #![tactic(auto)]
 
 ghost use Rattle.std.specs.Prelude.{◌≡◌, [], OnOk, IfErr, false};
