@@ -1,5 +1,4 @@
 pub mod Faults
-pub mod Groups
 pub mod Suits
 pub mod Families
 pub use Rattle.capabilities.specs.Changes

@@ -1,10 +1,11 @@
 //! The forms of asks.
 
-ghost use Rattle.std.specs.Prelude.{◌≡◌, IfOk, IsTrue};
+ghost use Rattle.std.specs.Prelude.{◌≡◌, IfOk};
 ghost use Rattle.lam_asks.specs.declared.ask.Ask.TheVariants as Ask;
-ghost use Rattle.lam_asks.specs.Groups.{is_of_numbers, is_of_things, is_of_dirs, is_of_files, is_of_pipes};
+ghost use Rattle.lam_asks.specs.Families.{family_of};
 
 use crate::answer::Outcome;
+use crate::family::{Family, family_of};
 use crate::fault::Fault;
 use crate::together::both;
 use capabilities::Caps;
@@ -155,47 +156,19 @@ impl Ask {
     pub fn copy(&self) -> Result<Ask, NoMemory>
         ensures { IfOk result (λ a. a ≡ self.now) }
     {
-        match self {
-            Ask::Mint
-            | Ask::Leave
-            | Ask::Barred(_)
-            | Ask::Caught(_)
-            | Ask::Suppressed(_)
-            | Ask::Join { .. } => Ok(copy_numbers(self)),
-            Ask::Read { .. }
-            | Ask::Write { .. }
-            | Ask::New { .. }
-            | Ask::CopyTo { .. }
-            | Ask::MonEnter { .. }
-            | Ask::MonLeave { .. } => copy_of_things(self),
-            Ask::MakeFile { .. }
-            | Ask::MakeDir { .. }
-            | Ask::OpenFile { .. }
-            | Ask::OpenDir { .. }
-            | Ask::Remove { .. } => copy_of_dirs(self),
-            Ask::FileRead { .. } | Ask::FileLength { .. } | Ask::Append { .. } | Ask::Cut { .. } =>
-                copy_of_files(self),
-            Ask::MakePipe { .. }
-            | Ask::Send { .. }
-            | Ask::SendCaps { .. }
-            | Ask::Receive { .. }
-            | Ask::ReceiveCaps { .. } => copy_of_pipes(self),
-            Ask::Enter {
-                label,
-                caps,
-                region,
-                args,
-            } => copy_enter(label, caps, *region, args),
-            Ask::Spawn { unit, args, caps } => copy_spawn(*unit, args, caps),
-            Ask::Say { bytes } => copy_say(bytes),
-            Ask::End(outcome) => copy_end(outcome),
+        match family_of(self) {
+            Family::Thing => copy_of_thing(self),
+            Family::Entry => copy_of_entry(self),
+            Family::File => copy_of_file(self),
+            Family::Pipe => copy_of_pipe(self),
+            Family::Thread => copy_of_thread(self),
+            Family::Plain => Ok(copy_of_plain(self)),
         }
     }
 }
 
-/// An ask that holds nothing but numbers.
-fn copy_numbers(ask: &Ask) -> Ask
-    requires { IsTrue (is_of_numbers ask.now) }
+fn copy_of_plain(ask: &Ask) -> Ask
+    requires { family_of ask.now ≡ Family.Plain }
     ensures { result ≡ ask.now }
 {
     match ask {
@@ -209,9 +182,8 @@ fn copy_numbers(ask: &Ask) -> Ask
     }
 }
 
-/// An ask for an object, an array or a monitor.
-fn copy_of_things(ask: &Ask) -> Result<Ask, NoMemory>
-    requires { IsTrue (is_of_things ask.now) }
+fn copy_of_thing(ask: &Ask) -> Result<Ask, NoMemory>
+    requires { family_of ask.now ≡ Family.Thing }
     ensures { IfOk result (λ a. a ≡ ask.now) }
 {
     match ask {
@@ -230,9 +202,8 @@ fn copy_of_things(ask: &Ask) -> Result<Ask, NoMemory>
     }
 }
 
-/// An ask for an entry of a directory.
-fn copy_of_dirs(ask: &Ask) -> Result<Ask, NoMemory>
-    requires { IsTrue (is_of_dirs ask.now) }
+fn copy_of_entry(ask: &Ask) -> Result<Ask, NoMemory>
+    requires { family_of ask.now ≡ Family.Entry }
     ensures { IfOk result (λ a. a ≡ ask.now) }
 {
     match ask {
@@ -260,9 +231,8 @@ fn copy_of_dirs(ask: &Ask) -> Result<Ask, NoMemory>
     }
 }
 
-/// An ask for the bytes of a file.
-fn copy_of_files(ask: &Ask) -> Result<Ask, NoMemory>
-    requires { IsTrue (is_of_files ask.now) }
+fn copy_of_file(ask: &Ask) -> Result<Ask, NoMemory>
+    requires { family_of ask.now ≡ Family.File }
     ensures { IfOk result (λ a. a ≡ ask.now) }
 {
     match ask {
@@ -284,9 +254,8 @@ fn copy_of_files(ask: &Ask) -> Result<Ask, NoMemory>
     }
 }
 
-/// An ask for a pipe.
-fn copy_of_pipes(ask: &Ask) -> Result<Ask, NoMemory>
-    requires { IsTrue (is_of_pipes ask.now) }
+fn copy_of_pipe(ask: &Ask) -> Result<Ask, NoMemory>
+    requires { family_of ask.now ≡ Family.Pipe }
     ensures { IfOk result (λ a. a ≡ ask.now) }
 {
     match ask {
@@ -302,18 +271,24 @@ fn copy_of_pipes(ask: &Ask) -> Result<Ask, NoMemory>
     }
 }
 
-fn copy_say(bytes: &ByteText) -> Result<Ask, NoMemory>
-    ensures { IfOk result (λ a. a ≡ Ask.Say bytes.now) }
+fn copy_of_thread(ask: &Ask) -> Result<Ask, NoMemory>
+    requires { family_of ask.now ≡ Family.Thread }
+    ensures { IfOk result (λ a. a ≡ ask.now) }
 {
-    let bytes = bytes.copy()?;
-    Ok(Ask::Say { bytes })
-}
-
-fn copy_end(outcome: &Outcome) -> Result<Ask, NoMemory>
-    ensures { IfOk result (λ a. a ≡ Ask.End outcome.now) }
-{
-    let outcome = outcome.copy()?;
-    Ok(Ask::End(outcome))
+    match ask {
+        Ask::Enter {
+            label,
+            caps,
+            region,
+            args,
+        } => copy_enter(label, caps, *region, args),
+        Ask::Spawn { unit, args, caps } => copy_spawn(*unit, args, caps),
+        Ask::Say { bytes } => Ok(Ask::Say {
+            bytes: bytes.copy()?,
+        }),
+        Ask::End(outcome) => Ok(Ask::End(outcome.copy()?)),
+        _ => unreachable!(),
+    }
 }
 
 fn copy_write(r: &Value, at: u64, v: &Value) -> Result<Ask, NoMemory>
