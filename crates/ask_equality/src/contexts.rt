@@ -38,28 +38,19 @@ pub(crate) fn is_leaving(b: &Ask) -> bool
 pub(crate) fn is_barred(b: &Ask, denied: Denied) -> bool
     ensures { IsTrue result ↔ (ask.Barred denied ≡ b.now) }
 {
-    match b {
-        Ask::Barred(x) => denied == *x,
-        _ => false,
-    }
+    matches!(b, Ask::Barred(x) if denied == *x)
 }
 
 pub(crate) fn is_caught(b: &Ask, fault: Fault) -> bool
     ensures { IsTrue result ↔ (ask.Caught fault ≡ b.now) }
 {
-    match b {
-        Ask::Caught(x) => fault == *x,
-        _ => false,
-    }
+    matches!(b, Ask::Caught(x) if fault == *x)
 }
 
 pub(crate) fn is_suppressed(b: &Ask, fault: Fault) -> bool
     ensures { IsTrue result ↔ (ask.Suppressed fault ≡ b.now) }
 {
-    match b {
-        Ask::Suppressed(x) => fault == *x,
-        _ => false,
-    }
+    matches!(b, Ask::Suppressed(x) if fault == *x)
 }
 
 pub(crate) fn is_spawn(b: &Ask, unit: u32, args: &Values, caps: &Caps) -> bool
@@ -78,26 +69,17 @@ pub(crate) fn is_spawn(b: &Ask, unit: u32, args: &Values, caps: &Caps) -> bool
 pub(crate) fn is_join(b: &Ask, thread: u32) -> bool
     ensures { IsTrue result ↔ (ask.Join thread ≡ b.now) }
 {
-    match b {
-        Ask::Join { thread: x } => thread == *x,
-        _ => false,
-    }
+    matches!(b, Ask::Join { thread: x } if thread == *x)
 }
 
 pub(crate) fn is_say(b: &Ask, bytes: &ByteText) -> bool
     ensures { IsTrue result ↔ (ask.Say bytes.now ≡ b.now) }
 {
-    match b {
-        Ask::Say { bytes: x } => bytes.same(x),
-        _ => false,
-    }
+    matches!(b, Ask::Say { bytes: x } if bytes.same(x))
 }
 
 pub(crate) fn is_end(b: &Ask, outcome: &Outcome) -> bool
     ensures { IsTrue result ↔ (ask.End outcome.now ≡ b.now) }
 {
-    match b {
-        Ask::End(x) => same_outcome(outcome, x),
-        _ => false,
-    }
+    matches!(b, Ask::End(x) if same_outcome(outcome, x))
 }

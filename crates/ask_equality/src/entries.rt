@@ -36,26 +36,17 @@ pub(crate) fn is_new_dir(b: &Ask, dir: &Name, entry: &ByteText, own: &Label) -> 
 pub(crate) fn is_file_opening(b: &Ask, dir: &Name, entry: &ByteText) -> bool
     ensures { IsTrue result ↔ (ask.OpenFile dir.now entry.now ≡ b.now) }
 {
-    match b {
-        Ask::OpenFile { dir: x, entry: y } => dir.same(x) && entry.same(y),
-        _ => false,
-    }
+    matches!(b, Ask::OpenFile { dir: x, entry: y } if dir.same(x) && entry.same(y))
 }
 
 pub(crate) fn is_dir_opening(b: &Ask, dir: &Name, entry: &ByteText) -> bool
     ensures { IsTrue result ↔ (ask.OpenDir dir.now entry.now ≡ b.now) }
 {
-    match b {
-        Ask::OpenDir { dir: x, entry: y } => dir.same(x) && entry.same(y),
-        _ => false,
-    }
+    matches!(b, Ask::OpenDir { dir: x, entry: y } if dir.same(x) && entry.same(y))
 }
 
 pub(crate) fn is_removal(b: &Ask, dir: &Name, entry: &ByteText) -> bool
     ensures { IsTrue result ↔ (ask.Remove dir.now entry.now ≡ b.now) }
 {
-    match b {
-        Ask::Remove { dir: x, entry: y } => dir.same(x) && entry.same(y),
-        _ => false,
-    }
+    matches!(b, Ask::Remove { dir: x, entry: y } if dir.same(x) && entry.same(y))
 }

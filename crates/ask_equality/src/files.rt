@@ -9,39 +9,23 @@ use lam_value::{ByteText, Name};
 pub(crate) fn is_file_read(b: &Ask, file: &Name, at: u64, n: u64) -> bool
     ensures { IsTrue result ↔ (ask.FileRead file.now at n ≡ b.now) }
 {
-    match b {
-        Ask::FileRead {
-            file: x,
-            at: y,
-            n: z,
-        } => file.same(x) && at == *y && n == *z,
-        _ => false,
-    }
+    matches!(b, Ask::FileRead { file: x, at: y, n: z } if file.same(x) && at == *y && n == *z)
 }
 
 pub(crate) fn is_file_length(b: &Ask, file: &Name) -> bool
     ensures { IsTrue result ↔ (ask.FileLength file.now ≡ b.now) }
 {
-    match b {
-        Ask::FileLength { file: x } => file.same(x),
-        _ => false,
-    }
+    matches!(b, Ask::FileLength { file: x } if file.same(x))
 }
 
 pub(crate) fn is_append(b: &Ask, file: &Name, bytes: &ByteText) -> bool
     ensures { IsTrue result ↔ (ask.Append file.now bytes.now ≡ b.now) }
 {
-    match b {
-        Ask::Append { file: x, bytes: y } => file.same(x) && bytes.same(y),
-        _ => false,
-    }
+    matches!(b, Ask::Append { file: x, bytes: y } if file.same(x) && bytes.same(y))
 }
 
 pub(crate) fn is_cut(b: &Ask, file: &Name, len: u64) -> bool
     ensures { IsTrue result ↔ (ask.Cut file.now len ≡ b.now) }
 {
-    match b {
-        Ask::Cut { file: x, len: y } => file.same(x) && len == *y,
-        _ => false,
-    }
+    matches!(b, Ask::Cut { file: x, len: y } if file.same(x) && len == *y)
 }

@@ -11,44 +11,29 @@ use lam_value::{ByteText, Name};
 pub(crate) fn is_new_pipe(b: &Ask, own: &Label) -> bool
     ensures { IsTrue result ↔ (ask.MakePipe own.now ≡ b.now) }
 {
-    match b {
-        Ask::MakePipe { own: x } => same(own, x),
-        _ => false,
-    }
+    matches!(b, Ask::MakePipe { own: x } if same(own, x))
 }
 
 pub(crate) fn is_send(b: &Ask, pipe: &Name, bytes: &ByteText) -> bool
     ensures { IsTrue result ↔ (ask.Send pipe.now bytes.now ≡ b.now) }
 {
-    match b {
-        Ask::Send { pipe: x, bytes: y } => pipe.same(x) && bytes.same(y),
-        _ => false,
-    }
+    matches!(b, Ask::Send { pipe: x, bytes: y } if pipe.same(x) && bytes.same(y))
 }
 
 pub(crate) fn is_caps_send(b: &Ask, pipe: &Name, caps: &Caps) -> bool
     ensures { IsTrue result ↔ (ask.SendCaps pipe.now caps.now ≡ b.now) }
 {
-    match b {
-        Ask::SendCaps { pipe: x, caps: y } => pipe.same(x) && caps.same(y),
-        _ => false,
-    }
+    matches!(b, Ask::SendCaps { pipe: x, caps: y } if pipe.same(x) && caps.same(y))
 }
 
 pub(crate) fn is_receive(b: &Ask, pipe: &Name) -> bool
     ensures { IsTrue result ↔ (ask.Receive pipe.now ≡ b.now) }
 {
-    match b {
-        Ask::Receive { pipe: x } => pipe.same(x),
-        _ => false,
-    }
+    matches!(b, Ask::Receive { pipe: x } if pipe.same(x))
 }
 
 pub(crate) fn is_caps_receive(b: &Ask, pipe: &Name) -> bool
     ensures { IsTrue result ↔ (ask.ReceiveCaps pipe.now ≡ b.now) }
 {
-    match b {
-        Ask::ReceiveCaps { pipe: x } => pipe.same(x),
-        _ => false,
-    }
+    matches!(b, Ask::ReceiveCaps { pipe: x } if pipe.same(x))
 }

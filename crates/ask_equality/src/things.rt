@@ -10,10 +10,7 @@ use lam_value::{Shape, Value, same_value};
 pub(crate) fn is_read(b: &Ask, r: &Value, at: u64) -> bool
     ensures { IsTrue result ↔ (ask.Read r.now at ≡ b.now) }
 {
-    match b {
-        Ask::Read { r: x, at: y } => same_value(r, x) && at == *y,
-        _ => false,
-    }
+    matches!(b, Ask::Read { r: x, at: y } if same_value(r, x) && at == *y)
 }
 
 pub(crate) fn is_write(b: &Ask, r: &Value, at: u64, v: &Value) -> bool
@@ -28,35 +25,23 @@ pub(crate) fn is_write(b: &Ask, r: &Value, at: u64, v: &Value) -> bool
 pub(crate) fn is_new(b: &Ask, shape: &Shape) -> bool
     ensures { IsTrue result ↔ (ask.New shape.now ≡ b.now) }
 {
-    match b {
-        Ask::New { shape: x } => shape.same(x),
-        _ => false,
-    }
+    matches!(b, Ask::New { shape: x } if shape.same(x))
 }
 
 pub(crate) fn is_copy(b: &Ask, r: &Value, own: &Label) -> bool
     ensures { IsTrue result ↔ (ask.CopyTo r.now own.now ≡ b.now) }
 {
-    match b {
-        Ask::CopyTo { r: x, own: y } => same_value(r, x) && same(own, y),
-        _ => false,
-    }
+    matches!(b, Ask::CopyTo { r: x, own: y } if same_value(r, x) && same(own, y))
 }
 
 pub(crate) fn is_taking(b: &Ask, r: &Value) -> bool
     ensures { IsTrue result ↔ (ask.MonEnter r.now ≡ b.now) }
 {
-    match b {
-        Ask::MonEnter { r: x } => same_value(r, x),
-        _ => false,
-    }
+    matches!(b, Ask::MonEnter { r: x } if same_value(r, x))
 }
 
 pub(crate) fn is_giving(b: &Ask, r: &Value) -> bool
     ensures { IsTrue result ↔ (ask.MonLeave r.now ≡ b.now) }
 {
-    match b {
-        Ask::MonLeave { r: x } => same_value(r, x),
-        _ => false,
-    }
+    matches!(b, Ask::MonLeave { r: x } if same_value(r, x))
 }
