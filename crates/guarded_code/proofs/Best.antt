@@ -1,5 +1,5 @@
 -- The rounds leave at least as much as any table that settled the rules.
-use Rattle.std.proofs.Common.{◌≡◌, ℕ, zero, suc, ◌+◌, List, [], ◌∷◌, Option, Some, None, length, slice_get, slice_set, refl, sym, ap, ◌∙◌, subst, arith, ⊎_elim, length-set}
+use Rattle.std.proofs.Common.{◌≡◌, ℕ, zero, suc, ◌+◌, [], ◌∷◌, Option, Some, None, length, slice_get, slice_set, refl, sym, ap, ◌∙◌, subst, arith, ⊎_elim, length-set}
 use Rattle.std.proofs.lemmas.Bool.{cases_eq}
 use Rattle.std.proofs.lemmas.Option.{slice_get_within}
 use Rattle.guarded_code.specs.Rounds.{Table, OnFound, Sent, blank, placed, into, give, handed, visit, sweep, round, rounds, first, after, AllStand, AllSettled, AllSay, Above, Laws}
@@ -31,21 +31,19 @@ module _ (D : Type 0) (meet : D → D → Option D) (passes : ℕ → D → Opti
 
   give_above : (t : Table D) (ps qs : Sent D) → Above D Says t s → AllSay D Says ps qs → AllStand D Says s qs → OnFound ⊥ (give D meet passes t ps) (λ t'. Above D Says t' s)
   give_above t [] [] above say stand = above
-  give_above t [] (q ∷ qs) above say stand = absurd say
-  give_above t (p ∷ ps) [] above say stand = absurd say
   give_above t (p ∷ ps) (q ∷ qs) above say stand =
       then_on ⊥ (λ t'. Above D Says t' s) (λ t'. Above D Says t' s) (into D meet passes (slice_get t p.0) t p.0 p.1) (λ t. give D meet passes t ps)
       (into_above t p.0 p.1 stand.0.0 above (ap (slice_get s) say.0 ∙ stand.0.1) (laws.says_trans p.1 q.1 stand.0.0 say.1 stand.0.2) (slice_get t p.0) refl)
       (λ t1 above1. give_above t1 ps qs above1 say.2 stand.1)
+  give_above t ps qs above say stand = absurd say
 
   visit_above : (t : Table D) (a : ℕ) → AllSettled D passes Says s → Above D Says t s → (o : Option (Option D)) → slice_get t a ≡ o → OnFound ⊥ (visit D meet passes a t o) (λ t'. Above D Says t' s)
-  visit_above t a settled above None at_a = above
-  visit_above t a settled above (Some None) at_a = above
   visit_above t a settled above (Some (Some d)) at_a =
       let old = above.says a d at_a in
       let rule = settled a old.0 old.1 in
       let more = laws.passes_more a d old.0 rule.0 old.2 rule.1 in
       subst (λ o. OnFound ⊥ (handed D meet passes a t o) (λ t'. Above D Says t' s)) (sym more.1) (give_above t more.0 rule.0 above more.2 rule.2)
+  visit_above t a settled above o at_a = above
 
   sweep_above : (k a : ℕ) (t : Table D) → AllSettled D passes Says s → Above D Says t s → OnFound ⊥ (sweep D meet passes k a t) (λ t'. Above D Says t' s)
   sweep_above zero a t settled above = above

@@ -6,12 +6,12 @@ use Rattle.thread_steps.specs.Op.{Op}
 use Rattle.guarded_code.specs.Rounds.{Table, Found, Holds, Broke}
 use Rattle.guarded_code.specs.Descriptions.{Description}
 use Rattle.guarded_code.specs.Changes.{descriptions}
-use Rattle.guarded_code.specs.Breaks.{Rule, BadTarget, Depth, Kind, Unguarded, BrokenAt, CodeBreak, first_bad_target, takes_kinds, is_guarded, passes_where, first_failing, broken, break_found, unit_break, break_in, first_break_from, first_code_break}
+use Rattle.guarded_code.specs.Breaks.{Rule, BadTarget, Kind, Unguarded, BrokenAt, CodeBreak, first_bad_target, takes_kinds, is_guarded, passes_where, first_failing, broken, break_found, unit_break, break_in, first_break_from, first_code_break}
 use Rattle.guarded_code.specs.Says.{AllPass, AllTaken, AllGuarded}
 use Rattle.guarded_code.specs.Facts.{IsUnitGuarded, GuardedMeans}
 use Rattle.guarded_code.proofs.Tables.{none_some, some_inj}
 
-if_none : (b : Bool) (o : Option ℕ) (a : ℕ) → (if b then o else Some a) ≡ None → (b ≡ true) × (o ≡ None)
+pub if_none : (b : Bool) (o : Option ℕ) (a : ℕ) → (if b then o else Some a) ≡ None → (b ≡ true) × (o ≡ None)
 if_none true o a e = (refl, e)
 if_none false o a e = none_some (sym e)
 
@@ -25,14 +25,13 @@ none_fails test a (o ∷ ops) (x ∷ t) e (suc i) op d f g =
     none_fails test (a + 1) ops t (if_none (passes_where test o x) (first_failing test (a + 1) ops t) a e).1 i op d f g
 
 pub all_pass : (test : Op → Description → Bool) (a : ℕ) (ops : List Op) (t : Table Description) → AllPass (λ op d. IsTrue (test op d)) ops t → first_failing test a ops t ≡ None
-all_pass test a [] t h = refl
-all_pass test a (o ∷ ops) [] h = refl
 all_pass test a (o ∷ ops) (x ∷ t) h =
     ap (λ b. if b then first_failing test (a + 1) ops t else Some a) (here x refl) ∙ all_pass test (a + 1) ops t (λ i op d f g. h (suc i) op d f g)
   where
     here : (y : Option Description) → x ≡ y → passes_where test o x ≡ true
     here None e = ap (passes_where test o) e
     here (Some d) e = ap (passes_where test o) e ∙ h zero o d refl (ap (λ z. Some z) e)
+all_pass test a ops t h = refl
 
 -- ---- a unit
 broken_none : (rule : Rule) (o : Option ℕ) (later : Option BrokenAt) → broken rule o later ≡ None → (o ≡ None) × (later ≡ None)

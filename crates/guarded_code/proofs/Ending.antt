@@ -1,5 +1,5 @@
 -- The last round is the first that changes nothing.
-use Rattle.std.proofs.Common.{◌≡◌, ℕ, zero, suc, ◌+◌, List, Option, refl, sym, ap, ◌∙◌, arith}
+use Rattle.std.proofs.Common.{◌≡◌, ℕ, zero, suc, ◌+◌, Option, refl, sym, ap, ◌∙◌, arith}
 use Rattle.guarded_code.specs.Rounds.{Table, Found, Holds, Broke, Sent, and_then, round, rounds, first, after}
 
 module _ (D : Type 0) (meet : D → D → Option D) (passes : ℕ → D → Option (Sent D)) where

@@ -1,96 +1,54 @@
 -- How much descriptions say, and what is left of two that meet.
-use Rattle.std.proofs.Common.{IsTrue, ◌≡◌, ℕ, zero, suc, ◌+◌, ◌*◌, ◌<◌, ◌≤◌, ◌⊎◌, List, [], ◌∷◌, Bool, true, false, if◌then◌else◌, nat_eq, Option, Some, None, length, refl, sym, ap, ap₂, ◌∙◌, subst, arith, inl, inr, ⊎_elim}
+use Rattle.std.proofs.Common.{IsTrue, ◌≡◌, ℕ, ◌+◌, ◌*◌, ◌<◌, ◌≤◌, ◌⊎◌, List, [], ◌∷◌, Bool, true, false, if◌then◌else◌, nat_eq, Option, Some, None, length, refl, sym, ap, ap₂, ◌∙◌, subst, arith, inl, inr, ⊎_elim}
 use Rattle.std.specs.Prelude.{◌&&◌}
 use Rattle.std.proofs.lemmas.Bool.{and_parts, and_from, eqb-true, eq-eqb}
 use Rattle.guarded_code.specs.Descriptions.{ValueKind, Number, Truth, Other, Unknown, Access, Reading, Writing, Known, Operand, Description, is_tested, met_kind, met_known, met_copies, met_operand, met_lists, described, meet}
-use Rattle.guarded_code.specs.Says.{Pairwise, KindSays, KnownSays, CopySays, OperandSays, Says}
+use Rattle.guarded_code.specs.Says.{KindSays, KnownSays, CopySays, OperandSays, Says}
 use Rattle.guarded_code.proofs.Tables.{none_some, some_inj}
 use Rattle.guarded_code.proofs.Lists.{each_same, each_trans, each_first, each_second, each_best, each_less, each_long, pair_less, total}
 
 -- ---- kinds
 pub kind_same : (k : ValueKind) → KindSays k k
-kind_same Number = refl
-kind_same Truth = refl
-kind_same Other = refl
 kind_same Unknown = tt
+kind_same k = refl
 
 kind_trans : (k m z : ValueKind) → KindSays k m → KindSays m z → KindSays k z
 kind_trans k m Unknown a b = tt
-kind_trans k m Number a b = subst (KindSays k) b a
-kind_trans k m Truth a b = subst (KindSays k) b a
-kind_trans k m Other a b = subst (KindSays k) b a
+kind_trans k m z a b = subst (KindSays k) b a
 
 kind_first : (k m : ValueKind) → KindSays k (met_kind k m)
 kind_first Number Number = refl
-kind_first Number Truth = tt
-kind_first Number Other = tt
-kind_first Number Unknown = tt
-kind_first Truth Number = tt
 kind_first Truth Truth = refl
-kind_first Truth Other = tt
-kind_first Truth Unknown = tt
-kind_first Other Number = tt
-kind_first Other Truth = tt
 kind_first Other Other = refl
-kind_first Other Unknown = tt
-kind_first Unknown Number = tt
-kind_first Unknown Truth = tt
-kind_first Unknown Other = tt
-kind_first Unknown Unknown = tt
+kind_first k m = tt
 
 kind_second : (k m : ValueKind) → KindSays m (met_kind k m)
 kind_second Number Number = refl
-kind_second Number Truth = tt
-kind_second Number Other = tt
-kind_second Number Unknown = tt
-kind_second Truth Number = tt
 kind_second Truth Truth = refl
-kind_second Truth Other = tt
-kind_second Truth Unknown = tt
-kind_second Other Number = tt
-kind_second Other Truth = tt
 kind_second Other Other = refl
-kind_second Other Unknown = tt
-kind_second Unknown Number = tt
-kind_second Unknown Truth = tt
-kind_second Unknown Other = tt
-kind_second Unknown Unknown = tt
+kind_second k m = tt
 
 kind_best : (k m z : ValueKind) → KindSays k z → KindSays m z → KindSays (met_kind k m) z
 kind_best k m Unknown a b = tt
-kind_best k m Number a b = ap₂ met_kind a b
-kind_best k m Truth a b = ap₂ met_kind a b
-kind_best k m Other a b = ap₂ met_kind a b
+kind_best k m z a b = ap₂ met_kind a b
 
 abbrev pub kind_weight : ValueKind → ℕ
-kind_weight Number = 1
-kind_weight Truth = 1
-kind_weight Other = 1
 kind_weight Unknown = 0
+kind_weight _ = 1
 
 kind_low : (k : ValueKind) → kind_weight k ≤ 1
 kind_low Number = omega arith
-kind_low Truth = omega arith
-kind_low Other = omega arith
-kind_low Unknown = omega arith
+kind_low k = omega arith
 
 kind_less : (k m : ValueKind) → (met_kind k m ≡ k) ⊎ (kind_weight (met_kind k m) < kind_weight k)
 kind_less Number Number = inl refl
-kind_less Number Truth = inr (omega arith)
-kind_less Number Other = inr (omega arith)
-kind_less Number Unknown = inr (omega arith)
-kind_less Truth Number = inr (omega arith)
 kind_less Truth Truth = inl refl
-kind_less Truth Other = inr (omega arith)
-kind_less Truth Unknown = inr (omega arith)
-kind_less Other Number = inr (omega arith)
-kind_less Other Truth = inr (omega arith)
 kind_less Other Other = inl refl
-kind_less Other Unknown = inr (omega arith)
 kind_less Unknown Number = inl refl
 kind_less Unknown Truth = inl refl
 kind_less Unknown Other = inl refl
 kind_less Unknown Unknown = inl refl
+kind_less k m = inr (omega arith)
 
 -- ---- facts
 abbrev TestsSay : Known → Known → Type 0
@@ -129,9 +87,8 @@ bit true = 1
 bit false = 0
 
 bit_less : (a b : Bool) → ((a && b) ≡ a) ⊎ (bit (a && b) < bit a)
-bit_less false b = inl refl
-bit_less true true = inl refl
 bit_less true false = inr (omega arith)
+bit_less a b = inl refl
 
 bit_low : (b : Bool) → bit b ≤ 1
 bit_low true = omega arith
@@ -175,14 +132,12 @@ if_second n m true e = ap (λ x. Some x) (sym (eqb-true n m e))
 if_second n m false e = tt
 
 copy_first : (c k : Option ℕ) → CopySays c (met_copies c k)
-copy_first None k = tt
-copy_first (Some n) None = tt
 copy_first (Some n) (Some m) = if_first n (nat_eq n m)
+copy_first c k = tt
 
 copy_second : (c k : Option ℕ) → CopySays k (met_copies c k)
-copy_second None k = tt
-copy_second (Some n) None = tt
 copy_second (Some n) (Some m) = if_second n m (nat_eq n m) refl
+copy_second c k = tt
 
 copy_best : (c k z : Option ℕ) → CopySays c z → CopySays k z → CopySays (met_copies c k) z
 copy_best c k None h i = tt
@@ -235,10 +190,9 @@ weight d = total operand_weight d.stack + total known_weight d.locals
 abbrev pub height : Description → ℕ
 height d = length d.stack + length d.locals
 
-met_parts : (o : Option (List Operand)) (p : Option (List Known)) (m : Description) → described o p ≡ Some m → (o ≡ Some m.stack) × (p ≡ Some m.locals)
-met_parts None p m e = none_some e
-met_parts (Some os) None m e = none_some e
+pub met_parts : (o : Option (List Operand)) (p : Option (List Known)) (m : Description) → described o p ≡ Some m → (o ≡ Some m.stack) × (p ≡ Some m.locals)
 met_parts (Some os) (Some ks) m e = (ap (λ (d : Description). Some d.stack) (some_inj e), ap (λ (d : Description). Some d.locals) (some_inj e))
+met_parts o p m e = none_some e
 
 pub says_same : (d : Description) → Says d d
 says_same d = record { stack = each_same OperandSays operand_same d.stack; locals = each_same KnownSays known_same d.locals }

@@ -1,13 +1,15 @@
 -- What an operation leaves says the more, the more was said before it, and is one higher at most.
-use Rattle.std.proofs.Common.{IsTrue, ◌≡◌, ℕ, zero, suc, ◌+◌, ◌≤◌, List, [], ◌∷◌, map, Bool, true, false, if◌then◌else◌, Option, Some, None, length, slice_get, slice_set, refl, sym, ap, ◌∙◌, subst, arith}
-use Rattle.std.specs.Prelude.{drop, nat_le, unwrap_or, option_map}
+use Rattle.std.proofs.Common.{IsTrue, ◌≡◌, ℕ, zero, suc, ◌+◌, ◌≤◌, List, [], ◌∷◌, map, Bool, true, false, if◌then◌else◌, Option, Some, None, length, slice_get, refl, sym, ap, ◌∙◌, subst, arith}
+use Rattle.std.specs.Prelude.{drop, nat_le, option_map}
 use Rattle.std.proofs.lemmas.Bool.{false≢true}
 use Rattle.std.proofs.lemmas.List.{length-set, length-map}
 use Rattle.thread_steps.specs.Codes.{CodeTree}
 use Rattle.thread_steps.specs.Op.{Op}
+use Rattle.thread_steps.specs.Op.TheVariants.{GetField, PutField, GetElement, PutElement, ReadBarrier, WriteBarrier}
 use Rattle.guarded_code.specs.Rounds.{Sent, AllSay, AllLow, Laws}
-use Rattle.guarded_code.specs.Descriptions.{ValueKind, Number, Truth, Other, Unknown, Access, Reading, Writing, Known, Operand, Description, is_tested, tested, untested, fresh, meet}
-use Rattle.guarded_code.specs.Changes.{Change, Loads, Stores, Tests, Trades, Place, change, wanted, known_at, is_copy, loaded, forgotten, stored_from, stored, at_place, tested_operand, tested_copy, tested_local, copied_at, barred, put, traded, left, changed, goes, sent, passed, passes}
+use Rattle.guarded_code.specs.Descriptions.{ValueKind, Unknown, Access, Reading, Writing, Known, Operand, Description, is_tested, tested, untested, fresh, meet}
+use Rattle.guarded_code.specs.Changes.{Change, Loads, Stores, Tests, Trades, change, wanted, is_copy, loaded, forgotten, stored_from, tested_operand, tested_copy, tested_local, copied_at, barred, put, left, changed, goes, sent, passed, passes}
+use Rattle.guarded_code.specs.Breaks.{is_tested_at, is_guarded, tests_again}
 use Rattle.guarded_code.specs.Says.{Pairwise, KindSays, KnownSays, CopySays, OperandSays, Says}
 use Rattle.guarded_code.proofs.Tables.{none_some, some_inj}
 use Rattle.guarded_code.proofs.Lists.{each_set, each_map, each_place, each_grow, each_drop, each_or, each_long_same, long_place}
@@ -37,12 +39,11 @@ forgotten_says n o p h = (h.0, forgot_says n o.copies p.copies h.1)
 
 stored_says : (n : ℕ) (os ps : List Operand) (ks ls : List Known) → Pairwise OperandSays os ps → Pairwise KnownSays ks ls → Says (stored_from n os ks) (stored_from n ps ls)
 stored_says n [] [] ks ls h i = record { stack = tt; locals = i }
-stored_says n [] (p ∷ ps) ks ls h i = absurd h
-stored_says n (o ∷ os) [] ks ls h i = absurd h
 stored_says n (o ∷ os) (p ∷ ps) ks ls h i = record {
   stack = each_map OperandSays OperandSays (forgotten n) (forgotten n) (forgotten_says n) os ps h.1;
   locals = each_set KnownSays ks ls n o.known p.known h.0.0 i;
 }
+stored_says n os ps ks ls h i = absurd h
 
 -- ---- barriers
 tested_kind : (access : Access) (k : Known) → (tested access k).kind ≡ k.kind
@@ -50,18 +51,16 @@ tested_kind Reading k = refl
 tested_kind Writing k = refl
 
 tests_more : (access : Access) (k l : Known) → ((a : Access) → IsTrue (is_tested a l) → IsTrue (is_tested a k)) → (a : Access) → IsTrue (is_tested a l) → IsTrue (is_tested a (tested access k))
-tests_more Reading k l h Reading e = refl
 tests_more Reading k l h Writing e = h Writing e
 tests_more Writing k l h Reading e = h Reading e
-tests_more Writing k l h Writing e = refl
+tests_more access k l h a e = refl
 
 tests_both : (access : Access) (k l : Known) → ((a : Access) → IsTrue (is_tested a l) → IsTrue (is_tested a k)) → (a : Access) → IsTrue (is_tested a (tested access l)) → IsTrue (is_tested a (tested access k))
-tests_both Reading k l h Reading e = refl
 tests_both Reading k l h Writing e = h Writing e
 tests_both Writing k l h Reading e = h Reading e
-tests_both Writing k l h Writing e = refl
+tests_both access k l h a e = refl
 
-tested_more : (access : Access) (k l : Known) → KnownSays k l → KnownSays (tested access k) l
+pub tested_more : (access : Access) (k l : Known) → KnownSays k l → KnownSays (tested access k) l
 tested_more access k l h = record { kind = subst (λ x. KindSays x l.kind) (sym (tested_kind access k)) h.kind; tests = tests_more access k l h.tests }
 
 tested_both : (access : Access) (k l : Known) → KnownSays k l → KnownSays (tested access k) (tested access l)
@@ -70,7 +69,7 @@ tested_both access k l h = record {
   tests = tests_both access k l h.tests;
 }
 
-operand_more : (access : Access) (o p : Operand) → OperandSays o p → OperandSays (tested_operand access o) p
+pub operand_more : (access : Access) (o p : Operand) → OperandSays o p → OperandSays (tested_operand access o) p
 operand_more access o p h = (tested_more access o.known p.known h.0, h.1)
 
 operand_both : (access : Access) (o p : Operand) → OperandSays o p → OperandSays (tested_operand access o) (tested_operand access p)
@@ -80,7 +79,7 @@ if_more : (access : Access) (b : Bool) (o p : Operand) → OperandSays o p → O
 if_more access true o p h = operand_more access o p h
 if_more access false o p h = h
 
-copy_more : (access : Access) (c : Option ℕ) (o p : Operand) → OperandSays o p → OperandSays (tested_copy access c o) p
+pub copy_more : (access : Access) (c : Option ℕ) (o p : Operand) → OperandSays o p → OperandSays (tested_copy access c o) p
 copy_more access None o p h = h
 copy_more access (Some n) o p h = if_more access (is_copy n o.copies) o p h
 
@@ -100,7 +99,7 @@ copy_both access c (Some n) o p e h =
     subst (λ x. OperandSays (tested_copy access x o) (tested_copy access (Some n) p)) (sym e)
     (if_both access (is_copy n o.copies) (is_copy n p.copies) o p (copy_of n o.copies p.copies h.1) h)
 
-local_more : (access : Access) (c : Option ℕ) (ks ls : List Known) → Pairwise KnownSays ks ls → Pairwise KnownSays (tested_local access c ks) ls
+pub local_more : (access : Access) (c : Option ℕ) (ks ls : List Known) → Pairwise KnownSays ks ls → Pairwise KnownSays (tested_local access c ks) ls
 local_more access None ks ls h = h
 local_more access (Some n) ks ls h = each_grow KnownSays (tested access) (tested_more access) ks ls n h
 
@@ -111,10 +110,9 @@ local_both access c (Some n) ks ls e h =
 
 copied_says : (os ps : List Operand) (i : ℕ) → Pairwise OperandSays os ps → CopySays (copied_at (slice_get os i)) (copied_at (slice_get ps i))
 copied_says [] [] i h = tt
-copied_says [] (p ∷ ps) i h = absurd h
-copied_says (o ∷ os) [] i h = absurd h
 copied_says (o ∷ os) (p ∷ ps) zero h = h.0.1
 copied_says (o ∷ os) (p ∷ ps) (suc i) h = copied_says os ps i h.1
+copied_says os ps i h = absurd h
 
 barred_says : (access : Access) (depth : ℕ) (c k : Option ℕ) (d x : Description) → CopySays c k → Says d x → Says (barred access depth c d) (barred access depth k x)
 barred_says access depth c k d x e h = record {
@@ -139,11 +137,11 @@ sent_says : (bs : List ℕ) (d x : Description) → Says d x → AllSay Descript
 sent_says [] d x h = tt
 sent_says (b ∷ bs) d x h = (refl, h, sent_says bs d x h)
 
-if_some : {A : Type 0} (b : Bool) (x y : A) → (if b then Some x else None) ≡ Some y → (b ≡ true) × (x ≡ y)
+pub if_some : {A : Type 0} (b : Bool) (x y : A) → (if b then Some x else None) ≡ Some y → (b ≡ true) × (x ≡ y)
 if_some true x y e = (refl, some_inj e)
 if_some false x y e = none_some e
 
-map_some : {A B : Type 0} (f : A → B) (o : Option A) (y : B) → option_map f o ≡ Some y → (x : A) × (o ≡ Some x) × (f x ≡ y)
+pub map_some : {A B : Type 0} (f : A → B) (o : Option A) (y : B) → option_map f o ≡ Some y → (x : A) × (o ≡ Some x) × (f x ≡ y)
 map_some f None y e = none_some e
 map_some f (Some x) y e = (x, refl, some_inj e)
 
@@ -164,11 +162,29 @@ passed_says code (Some op) a d x qs h e =
       subst (λ r. AllSay Description Says (sent (goes a op) (left (change code op) d)) r) is.2 (sent_says (goes a op) (left (change code op) d) is.0 more.1),
     )
 
+-- ---- what says more guards more
+tested_at_more : (access : Access) (os ps : List Operand) (i : ℕ) → Pairwise OperandSays os ps → IsTrue (is_tested_at access (slice_get ps i)) → IsTrue (is_tested_at access (slice_get os i))
+tested_at_more access [] [] i h g = g
+tested_at_more access (o ∷ os) (p ∷ ps) zero h g = h.0.0.tests access g
+tested_at_more access (o ∷ os) (p ∷ ps) (suc i) h g = tested_at_more access os ps i h.1 g
+tested_at_more access os ps i h g = absurd h
+
+pub guards_more : (op : Op) (d x : Description) → Says d x → IsTrue (is_guarded op x) → IsTrue (is_guarded op d)
+guards_more (GetField f) d x h g = tested_at_more Reading d.stack x.stack 0 h.stack g
+guards_more (PutField f) d x h g = tested_at_more Writing d.stack x.stack 1 h.stack g
+guards_more GetElement d x h g = tested_at_more Reading d.stack x.stack 1 h.stack g
+guards_more PutElement d x h g = tested_at_more Writing d.stack x.stack 2 h.stack g
+guards_more op d x h g = refl
+
+pub again_more : (op : Op) (d x : Description) → Says d x → IsTrue (tests_again op x) → IsTrue (tests_again op d)
+again_more (ReadBarrier depth) d x h e = tested_at_more Reading d.stack x.stack depth h.stack e
+again_more (WriteBarrier depth) d x h e = tested_at_more Writing d.stack x.stack depth h.stack e
+again_more op d x h e = absurd (false≢true e)
+
 -- ---- heights
 drop_low : {A : Type 0} (n : ℕ) (xs : List A) → length (drop n xs) ≤ length xs
-drop_low zero xs = omega arith
-drop_low (suc n) [] = omega arith
 drop_low (suc n) (x ∷ xs) = omega (arith, drop_low n xs)
+drop_low n xs = omega arith
 
 put_low : (gives : Option ValueKind) (os : List Operand) → length (put gives os) ≤ length os + 1
 put_low None os = omega arith
@@ -178,7 +194,7 @@ stored_low : (n : ℕ) (os : List Operand) (ks : List Known) → height (stored_
 stored_low n [] ks = omega arith
 stored_low n (o ∷ os) ks = omega (arith, length-map os (forgotten n), length-set ks n o.known)
 
-local_long : (access : Access) (c : Option ℕ) (ks : List Known) → length (tested_local access c ks) ≡ length ks
+pub local_long : (access : Access) (c : Option ℕ) (ks : List Known) → length (tested_local access c ks) ≡ length ks
 local_long access None ks = refl
 local_long access (Some n) ks = long_place (tested access) n ks
 

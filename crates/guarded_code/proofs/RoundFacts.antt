@@ -1,35 +1,31 @@
 -- What is proved of the rounds of a unit.
-use Rattle.std.proofs.Common.{IsTrue, ◌≡◌, ℕ, zero, suc, ◌+◌, ◌*◌, ◌<◌, ◌≤◌, List, [], ◌∷◌, Option, Some, None, length, slice_get, refl, sym, ap, ◌∙◌, subst, arith}
-use Rattle.std.specs.Prelude.{replicate}
+use Rattle.std.proofs.Common.{◌≡◌, ℕ, zero, suc, ◌+◌, ◌*◌, ◌<◌, ◌≤◌, [], ◌∷◌, length, refl, ap, ◌∙◌, subst, arith}
+use Rattle.std.proofs.lemmas.List.{length-replicate}
 use Rattle.thread_steps.specs.Codes.{CodeTree, given}
 use Rattle.thread_steps.specs.CodeUnit.{CodeUnit}
 use Rattle.thread_steps.specs.UnitKind.{UnitKind}
 use Rattle.thread_steps.specs.UnitKind.TheVariants.{Function, Region}
 use Rattle.guarded_code.specs.Rounds.{Table, Found, Holds, Broke, OnFound, blank, round, after}
-use Rattle.guarded_code.specs.Descriptions.{Known, Description, untested, Unknown, meet, entry_locals, catch_starts, starts}
+use Rattle.guarded_code.specs.Descriptions.{Description, untested, Unknown, meet, entry_locals, catch_starts, starts}
 use Rattle.guarded_code.specs.Changes.{passes, enough, descriptions}
 use Rattle.guarded_code.specs.Says.{Says, Describes}
 use Rattle.guarded_code.specs.Facts.{MeetsRules, SaysMost, IsLast, EndsThere, BreaksThere}
-use Rattle.guarded_code.proofs.Tables.{nones, on_map, blank_nones}
+use Rattle.guarded_code.proofs.Tables.{on_map, blank_nones}
 use Rattle.guarded_code.proofs.Settling.{Low, Final, after_ends}
 use Rattle.guarded_code.proofs.Best.{after_above}
 use Rattle.guarded_code.proofs.Ending.{Still, after_one_end}
 use Rattle.guarded_code.proofs.Order.{weight, height}
 use Rattle.guarded_code.proofs.Passing.{laws}
 
-entry_long : (given n : ℕ) → length (entry_locals given n) ≡ n
+pub entry_long : (given n : ℕ) → length (entry_locals given n) ≡ n
 entry_long given zero = refl
 entry_long zero (suc n) = ap suc (entry_long zero n)
 entry_long (suc given) (suc n) = ap suc (entry_long given n)
 
-same_long : {A : Type 0} (x : A) (n : ℕ) → length (replicate n x) ≡ n
-same_long x zero = refl
-same_long x (suc n) = ap suc (same_long x n)
-
 catch_low : (code : CodeTree) (u : CodeUnit) (kind : UnitKind) → Low Description meet (passes code u.ops) Says weight height (laws code u.ops) (u.locals + length u.ops) (blank Description (length u.ops)) (catch_starts u.locals kind)
 catch_low code u (Function name takes gives_int) = tt
 catch_low code u (Region region captures catch_at) =
-    (omega (arith, same_long (untested Unknown) u.locals, blank_nones Description (length u.ops)), tt)
+    (omega (arith, length-replicate u.locals (untested Unknown), blank_nones Description (length u.ops)), tt)
 
 starts_low : (code : CodeTree) (u : CodeUnit) → Low Description meet (passes code u.ops) Says weight height (laws code u.ops) (u.locals + length u.ops) (blank Description (length u.ops)) (starts u)
 starts_low code u = (omega (arith, entry_long (given u.kind) u.locals, blank_nones Description (length u.ops)), catch_low code u u.kind)

@@ -19,11 +19,9 @@ get_set_same (z ∷ xs) zero x y e = refl
 get_set_same (z ∷ xs) (suc i) x y e = get_set_same xs i x y e
 
 pub get_set_other : {A : Type 0} (xs : List A) (i j : ℕ) (x : A) → (j ≡ i → ⊥) → slice_get (slice_set xs i x) j ≡ slice_get xs j
-get_set_other [] i j x ne = refl
 get_set_other (z ∷ xs) zero zero x ne = absurd (ne refl)
-get_set_other (z ∷ xs) zero (suc j) x ne = refl
-get_set_other (z ∷ xs) (suc i) zero x ne = refl
 get_set_other (z ∷ xs) (suc i) (suc j) x ne = get_set_other xs i j x (λ e. ne (ap suc e))
+get_set_other xs i j x ne = refl
 
 pub set_same : {A : Type 0} (xs : List A) (i : ℕ) (x : A) → slice_get xs i ≡ Some x → slice_set xs i x ≡ xs
 set_same [] i x e = refl
@@ -67,11 +65,10 @@ nones_new (None ∷ t) (suc b) e h = ap suc (nones_new t b e h)
 nones_new (Some d ∷ t) (suc b) e h = nones_new t b e h
 
 pub nones_old : {D : Type 0} (t : Table D) (b : ℕ) (d e : D) → slice_get t b ≡ Some (Some d) → nones (slice_set t b (Some e)) ≡ nones t
-nones_old [] b d e h = refl
 nones_old (None ∷ t) zero d e h = none_some (some_inj h)
-nones_old (Some x ∷ t) zero d e h = refl
 nones_old (None ∷ t) (suc b) d e h = ap suc (nones_old t b d e h)
 nones_old (Some x ∷ t) (suc b) d e h = nones_old t b d e h
+nones_old t b d e h = refl
 
 pub worth_new : {D : Type 0} (weight : D → ℕ) (cap : ℕ) (t : Table D) (b : ℕ) (e : D) → slice_get t b ≡ Some None → weight e < cap → worth weight cap (slice_set t b (Some e)) < worth weight cap t
 worth_new weight cap [] b e h lt = none_some h

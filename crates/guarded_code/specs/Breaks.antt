@@ -4,10 +4,10 @@ use Rattle.std.specs.List.{list_all}
 use Rattle.thread_steps.specs.Codes.{CodeTree}
 use Rattle.thread_steps.specs.CodeUnit.{CodeUnit}
 use Rattle.thread_steps.specs.Op.{Op}
-use Rattle.thread_steps.specs.Op.TheVariants.{Const, Load, Store, Eq, Ne, Call, GetField, PutField, GetElement, PutElement, NewObject, EnterRegion, Spawn}
+use Rattle.thread_steps.specs.Op.TheVariants.{Const, Load, Store, Eq, Ne, Call, GetField, PutField, GetElement, PutElement, NewObject, EnterRegion, Spawn, ReadBarrier, WriteBarrier}
 use Rattle.thread_steps.specs.Ops.{function_takes, region_in}
-use Rattle.guarded_code.specs.Rounds.{Sent, Table, Found, Holds, Broke}
-use Rattle.guarded_code.specs.Descriptions.{ValueKind, Number, Truth, Other, Unknown, Access, Reading, Writing, Known, Operand, Description, is_tested, starts}
+use Rattle.guarded_code.specs.Rounds.{Table, Found, Holds, Broke}
+use Rattle.guarded_code.specs.Descriptions.{ValueKind, Number, Truth, Other, Unknown, Access, Reading, Writing, Operand, Description, is_tested, starts}
 use Rattle.guarded_code.specs.Changes.{Place, Any, Only, change, wanted, goes, descriptions}
 
 -- the rules, in the order in which a unit's breaks are looked for
@@ -110,6 +110,12 @@ is_guarded (PutField f) d = is_tested_at Writing (slice_get d.stack 1)
 is_guarded GetElement d = is_tested_at Reading (slice_get d.stack 1)
 is_guarded PutElement d = is_tested_at Writing (slice_get d.stack 2)
 is_guarded op d = true
+
+-- a redundant barrier: its operand was tested by its rule already
+abbrev pub tests_again : Op → Description → Bool
+tests_again (ReadBarrier depth) d = is_tested_at Reading (slice_get d.stack depth)
+tests_again (WriteBarrier depth) d = is_tested_at Writing (slice_get d.stack depth)
+tests_again op d = false
 
 -- ---- the first break
 
