@@ -52,20 +52,13 @@ accesses_find code guarded c op h s =
 passes : (x : Option Denied) (d : Did) → x ≡ None → unless_denied x d ≡ d
 passes x d e = ap (λ y. unless_denied y d) e
 
-untested : (a : Around) (s : List Value) (op : Op) → IsAccess op → Finds a.label op s → effect a s op ≡ accessed op s
+untested : (a : Around) (op : Op) → IsAccess op → (s : List Value) → Finds a.label op s → effect a s op ≡ accessed op s
 unfolding effect
-untested a (Obj n ∷ s) _ (gets_field f) h = passes _ (wants (ask.Read (Obj n) f) s) h
-untested a s _ (gets_field f) h = refl
-untested a (v ∷ Obj n ∷ s) _ (puts_field f) h = passes _ (wants (ask.Write (Obj n) f v) s) h
-untested a (v ∷ s) _ (puts_field f) h = refl
-untested a [] _ (puts_field f) h = refl
-untested a (Int i ∷ Arr n len ∷ s) GetElement gets_element h = passes _ (within i len (λ at. wants (ask.Read (Arr n len) at) s)) h
-untested a (Int i ∷ s) GetElement gets_element h = refl
-untested a s GetElement gets_element h = refl
-untested a (v ∷ Int i ∷ Arr n len ∷ s) PutElement puts_element h = passes _ (within i len (λ at. wants (ask.Write (Arr n len) at v) s)) h
-untested a (v ∷ Int i ∷ s) PutElement puts_element h = refl
-untested a (v ∷ s) PutElement puts_element h = refl
-untested a [] PutElement puts_element h = refl
+untested a _ (gets_field f) (Obj n ∷ s) h = passes _ (wants (ask.Read (Obj n) f) s) h
+untested a _ (puts_field f) (v ∷ Obj n ∷ s) h = passes _ (wants (ask.Write (Obj n) f v) s) h
+untested a _ gets_element (Int i ∷ Arr n len ∷ s) h = passes _ (within i len (λ at. wants (ask.Read (Arr n len) at) s)) h
+untested a _ puts_element (v ∷ Int i ∷ Arr n len ∷ s) h = passes _ (within i len (λ at. wants (ask.Write (Arr n len) at v) s)) h
+untested a _ _ s h = refl
 
 at_op : (code : CodeTree) (c : Context) (op : Op) → StandsAt code c op → next_of code c ≡ next_by code c.phase c.inside (effect (around code c) c.inside.frame.stack op)
 unfolding next_of
@@ -73,4 +66,4 @@ at_op code c op s = ap (next_in code c) s.fault ∙ ap (next_op code c) s.at
 
 pub no_second_test : (code : CodeTree) → NoSecondTest code
 no_second_test code guarded c op h s is =
-    at_op code c op s ∙ ap (next_by code c.phase c.inside) (untested (around code c) c.inside.frame.stack op is (accesses_find code guarded c op h s))
+    at_op code c op s ∙ ap (next_by code c.phase c.inside) (untested (around code c) op is c.inside.frame.stack (accesses_find code guarded c op h s))

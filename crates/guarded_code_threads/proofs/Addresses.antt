@@ -154,11 +154,9 @@ module _ (code : CodeTree) (guarded : IsGuarded code) where
 
 entry_values : (p : Label) (given n : ℕ) (vs : List Value) → length vs ≡ n → Pairwise (FactsHold p) (entry_locals given n) vs
 entry_values p given zero [] e = tt
-entry_values p given zero (v ∷ vs) e = absurd (omega (arith, e))
-entry_values p zero (suc n) [] e = absurd (omega (arith, e))
-entry_values p (suc given) (suc n) [] e = absurd (omega (arith, e))
 entry_values p zero (suc n) (v ∷ vs) e = (untested_holds p Other v, entry_values p zero n vs (omega (arith, e)))
 entry_values p (suc given) (suc n) (v ∷ vs) e = (untested_holds p Unknown v, entry_values p given n vs (omega (arith, e)))
+entry_values p _ n vs e = absurd (omega (arith, e))
 
 filled_long : (u : CodeUnit) (vs : List Value) → length vs ≤ u.locals → length (filled (Some u) vs) ≡ u.locals
 filled_long u vs le =
@@ -181,9 +179,8 @@ module _ (code : CodeTree) (guarded : IsGuarded code) where
 
   nothing_known : (p : Label) (n : ℕ) (vs : List Value) → length vs ≡ n → Pairwise (FactsHold p) (replicate n (untested Unknown)) vs
   nothing_known p zero [] e = tt
-  nothing_known p zero (v ∷ vs) e = absurd (omega (arith, e))
-  nothing_known p (suc n) [] e = absurd (omega (arith, e))
   nothing_known p (suc n) (v ∷ vs) e = (untested_holds p Unknown v, nothing_known p n vs (omega (arith, e)))
+  nothing_known p n vs e = absurd (omega (arith, e))
 
   -- a frame of a region's body, where its fault is caught
   pub catch_agrees : (p : Label) (at : ℕ) (f : Frame) (v : Value) → IsBody code at f → FrameAgrees code p (frame_at f at f.locals (v ∷ []))

@@ -20,32 +20,28 @@ use Rattle.guarded_code_threads.specs.Described.{Allows, FactsHold, CopyHolds, O
 
 each_weaken : {A B : Type 0} (R : A → A → Type 0) (S : A → B → Type 0) → ((x y : A) (v : B) → R x y → S x v → S y v) → (xs ys : List A) (vs : List B) → Pairwise R xs ys → Pairwise S xs vs → Pairwise S ys vs
 each_weaken R S h [] [] vs r s = s
-each_weaken R S h [] (y ∷ ys) vs r s = absurd r
-each_weaken R S h (x ∷ xs) [] vs r s = absurd r
 each_weaken R S h (x ∷ xs) (y ∷ ys) [] r s = absurd s
 each_weaken R S h (x ∷ xs) (y ∷ ys) (v ∷ vs) r s = (h x y v r.0 s.0, each_weaken R S h xs ys vs r.1 s.1)
+each_weaken R S h y xs vs r s = absurd r
 
 each_left : {A B : Type 0} (R S : A → B → Type 0) (f : A → A) → ((x : A) (y : B) → R x y → S (f x) y) → (xs : List A) (ys : List B) → Pairwise R xs ys → Pairwise S (map f xs) ys
 each_left R S f h [] [] r = tt
-each_left R S f h [] (y ∷ ys) r = absurd r
-each_left R S f h (x ∷ xs) [] r = absurd r
 each_left R S f h (x ∷ xs) (y ∷ ys) r = (h x y r.0, each_left R S f h xs ys r.1)
+each_left R S f h xs ys r = absurd r
 
 -- the one at the place of a value
 each_there : {A B : Type 0} (R : A → B → Type 0) (f : A → A) (xs : List A) (ys : List B) (i : ℕ) (y : B) → slice_get ys i ≡ Some y → ((x : A) → R x y → R (f x) y) → Pairwise R xs ys → Pairwise R (at_place f i xs) ys
 each_there R f [] [] i y e h r = tt
-each_there R f [] (z ∷ ys) i y e h r = absurd r
-each_there R f (x ∷ xs) [] i y e h r = absurd r
 each_there R f (x ∷ xs) (z ∷ ys) zero y e h r = (subst (R (f x)) (sym (some_inj e)) (h x (subst (R x) (some_inj e) r.0)), r.1)
 each_there R f (x ∷ xs) (z ∷ ys) (suc i) y e h r = (r.0, each_there R f xs ys i y e h r.1)
+each_there R f xs ys i y e h r = absurd r
 
 -- what stands beside a value
 pub each_beside : {A B : Type 0} (R : A → B → Type 0) (xs : List A) (ys : List B) (i : ℕ) (y : B) → slice_get ys i ≡ Some y → Pairwise R xs ys → (x : A) × (slice_get xs i ≡ Some x) × R x y
 each_beside R [] [] i y e r = none_some e
-each_beside R [] (z ∷ ys) i y e r = absurd r
-each_beside R (x ∷ xs) [] i y e r = absurd r
 each_beside R (x ∷ xs) (z ∷ ys) zero y e r = (x, refl, subst (R x) (some_inj e) r.0)
 each_beside R (x ∷ xs) (z ∷ ys) (suc i) y e r = each_beside R xs ys i y e r.1
+each_beside R xs ys i y e r = absurd r
 
 -- what stands on the rest, where a value of a kind is put there, and where none is
 abbrev pub PutOn : Option ValueKind → List Value → List Value → Type 0
@@ -90,10 +86,9 @@ module _ (p : Label) where
 
   known_holds : (ks : List Known) (ls : List Value) (n : ℕ) (v : Value) → Pairwise (FactsHold p) ks ls → slice_get ls n ≡ Some v → FactsHold p (known_at ks n) v
   known_holds [] [] n v h e = none_some e
-  known_holds [] (l ∷ ls) n v h e = absurd h
-  known_holds (k ∷ ks) [] n v h e = absurd h
   known_holds (k ∷ ks) (l ∷ ls) zero v h e = subst (FactsHold p k) (some_inj e) h.0
   known_holds (k ∷ ks) (l ∷ ls) (suc n) v h e = known_holds ks ls n v h.1 e
+  known_holds ks ls n v h e = absurd h
 
   pub load_agrees : (n : ℕ) (d : Description) (ls vs : List Value) (v : Value) → Agrees p d ls vs → slice_get ls n ≡ Some v → Agrees p (loaded n d) ls (v ∷ vs)
   load_agrees n d ls vs v h e = record { operands = ((known_holds d.locals ls n v h.values e, e), h.operands); values = h.values }
@@ -122,10 +117,9 @@ module _ (p : Label) where
   -- ---- barriers
 
   tested_holds : (access : Access) (k : Known) (v : Value) → Allows p access v → FactsHold p k v → FactsHold p (tested access k) v
-  tested_holds Reading k v a h Reading e = a
   tested_holds Reading k v a h Writing e = h Writing e
   tested_holds Writing k v a h Reading e = h Reading e
-  tested_holds Writing k v a h Writing e = a
+  tested_holds access k v a h _ e = a
 
   operand_holds : (access : Access) (ls : List Value) (o : Operand) (v : Value) → Allows p access v → OperandHolds p ls o v → OperandHolds p ls (tested_operand access o) v
   operand_holds access ls o v a h = (tested_holds access o.known v a h.0, h.1)

@@ -10,7 +10,7 @@ use Rattle.lam_asks.specs.declared.answer.Answer.{Answer}
 use Rattle.lam_asks.specs.declared.answer.Answer.TheVariants.{Done, Entered, Val, Refused, Failed}
 use Rattle.lam_asks.specs.declared.ask.Ask.{Ask}
 use Rattle.lam_asks.specs.declared.ask.Ask.TheVariants as ask
-use Rattle.lam_asks.specs.Suits.{Given, is_done, is_entered, is_value}
+use Rattle.lam_asks.specs.Suits.{Given, is_value}
 use Rattle.lam_bytecode.specs.Codes.{CodeTree}
 use Rattle.thread_steps.specs.Threads.{Inside, Context}
 use Rattle.thread_steps.specs.Next.{with_inside, faulted, given, gains, done, entered, answered}
@@ -64,9 +64,8 @@ module _ (code : CodeTree) (c : Context) (rest : List Context) (i : Inside) (h :
   gains_keeps a v d k = k
 
   given_keeps : (w : Given) → GivenKeeps code c.label c.phase i w → (v : Value) → IsOfForm w (Val v) → IsDescribedContext code (given c i v)
-  given_keeps is_done k v f = absurd f
-  given_keeps is_entered k v f = absurd f
   given_keeps (is_value sort) k v f = k v
+  given_keeps w k v f = absurd f
 
   value_keeps : (a : Ask) (v : Value) → AskKeeps code c i a → Answers a (Val v) → IsDescribedContext code (given c i v)
   value_keeps ask.Leave v k f = absurd f

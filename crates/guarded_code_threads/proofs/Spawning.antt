@@ -4,18 +4,18 @@ use Rattle.std.specs.Prelude.{nat_lt, slice_set, if◌then◌else◌}
 use Rattle.flow_labels.specs.declared.Label.{Label}
 use Rattle.flow_labels.specs.declared.Denied.{Denied}
 use Rattle.lam_value.specs.declared.values.Value.{Value}
-use Rattle.lam_value.specs.declared.values.Value.TheVariants.{Nothing, Obj, Arr}
+use Rattle.lam_value.specs.declared.values.Value.TheVariants.{Obj, Arr}
 use Rattle.lam_asks.specs.declared.fault.Fault.{Fault}
 use Rattle.lam_asks.specs.declared.ask.Ask.{Ask}
 use Rattle.lam_asks.specs.declared.ask.Ask.TheVariants as ask
 use Rattle.lam_bytecode.specs.Codes.{CodeTree}
 use Rattle.lam_bytecode.specs.declared.op.Op.{Op}
 use Rattle.lam_bytecode.specs.declared.op.Op.TheVariants.{Load, Store, ReadBarrier, WriteBarrier}
-use Rattle.thread_steps.specs.Threads.{Frame, Inside, Phase, Bottom, Body, Catch, Context}
-use Rattle.thread_steps.specs.Ops.{Did, gives, sets, jumps, calls, returns, fails, wants, leaves, breaks, on_any, on_thing, on_constant, stores, barrier, may_read, may_write, effect}
+use Rattle.thread_steps.specs.Threads.{Frame, Inside, Phase, Bottom, Context}
+use Rattle.thread_steps.specs.Ops.{Did, sets, returns, wants, leaves, breaks, on_any, on_thing, on_constant, stores, barrier, may_read, may_write, effect}
 use Rattle.thread_steps.specs.Next.{Next, asks, returned, leaving, next_by, raised, ops_of, around, next_op, next_in, next_of}
 use Rattle.guarded_code.specs.declared.known.ValueKind.{ValueKind}
-use Rattle.guarded_code.specs.Changes.{Change, Trades, Loads, Stores, Tests, change}
+use Rattle.guarded_code.specs.Changes.{Change, Trades, change}
 use Rattle.guarded_code.specs.Changes as changes
 use Rattle.guarded_code_threads.specs.Laws.{TakesAll, SpawnsAtEntries}
 use Rattle.guarded_code_threads.proofs.Trading.{AskTrades, DidTrades, ChangeTrades, IsTrade, op_trades}
@@ -46,9 +46,7 @@ module _ (code : CodeTree) where
 
     change_spawns : (s : List Value) (at : ℕ) (bs : List ℕ) (k : Change) → IsTrade k → (d : Did) → ChangeTrades (around code c) s at bs k d → DidSpawns d
     change_spawns s at bs (Trades takes g) t d o = trade_spawns at bs g (drop (length takes) s) d o
-    change_spawns s at bs (Loads n) t d o = absurd t
-    change_spawns s at bs (Stores n) t d o = absurd t
-    change_spawns s at bs (Tests access depth) t d o = absurd t
+    change_spawns s at bs k t d o = absurd t
 
     load_spawns : (s : List Value) (x : Option Value) → DidSpawns (on_constant s x)
     load_spawns s None = tt
@@ -69,7 +67,6 @@ module _ (code : CodeTree) where
     test_spawns : (s t : List Value) (rule : Label → Option Denied) → DidSpawns (on_thing t (λ n rest. barrier s (rule n.own)))
     test_spawns s (Obj n ∷ t) rule = barrier_spawns s (rule n.own)
     test_spawns s (Arr n len ∷ t) rule = barrier_spawns s (rule n.own)
-    test_spawns s (Nothing ∷ t) rule = tt
     test_spawns s t rule = tt
 
     op_spawns : (s : List Value) (op : Op) → DidSpawns (effect (around code c) s op)
@@ -83,31 +80,23 @@ module _ (code : CodeTree) where
     -- ---- turns
 
     returned_spawns : (ph : Phase) (i : Inside) (v : Value) (fs : List Frame) → NextSpawns (returned ph i v fs)
-    returned_spawns Bottom i v [] = tt
-    returned_spawns (Body at) i v [] = tt
-    returned_spawns Catch i v [] = tt
     returned_spawns ph i v (f ∷ fs) = tt
+    returned_spawns Bottom i v [] = tt
+    returned_spawns ph i v [] = tt
 
     leaving_spawns : (ph : Phase) (i : Inside) → NextSpawns (leaving ph i)
     leaving_spawns Bottom i = tt
-    leaving_spawns (Body at) i = tt
-    leaving_spawns Catch i = tt
+    leaving_spawns ph i = tt
 
     raised_spawns : (ph : Phase) (i : Inside) (f : Fault) → NextSpawns (raised ph i f)
     raised_spawns Bottom i f = tt
-    raised_spawns (Body at) i f = tt
-    raised_spawns Catch i f = tt
+    raised_spawns ph i f = tt
 
     did_spawns : (ph : Phase) (i : Inside) (d : Did) → DidSpawns d → NextSpawns (next_by code ph i d)
-    did_spawns ph i (gives s) h = tt
-    did_spawns ph i (sets ls s) h = tt
-    did_spawns ph i (jumps to s) h = tt
-    did_spawns ph i (calls u vs s) h = tt
     did_spawns ph i (returns v) h = returned_spawns ph i v i.callers
-    did_spawns ph i (fails f) h = tt
     did_spawns ph i (wants a s) h = h
     did_spawns ph i leaves h = leaving_spawns ph i
-    did_spawns ph i breaks h = tt
+    did_spawns ph i d h = tt
 
     at_op : (x : Option Op) → NextSpawns (next_op code c x)
     at_op None = tt

@@ -27,13 +27,13 @@ use Rattle.lam_asks.specs.declared.ask.Ask.TheVariants as ask
 use Rattle.lam_asks.specs.Suits.{Given, is_done, is_entered, is_value}
 use Rattle.lam_bytecode.specs.Codes.{CodeTree}
 use Rattle.lam_bytecode.specs.declared.op.Op.{Op}
-use Rattle.lam_bytecode.specs.declared.op.Op.TheVariants.{Const, Load, Store, Pop, Add, Sub, Mul, Div, Rem, Neg, Not, Eq, Ne, Lt, Le, Gt, Ge, Jump, JumpIfFalse, Call, Return, Throw, ReadBarrier, WriteBarrier, GetField, PutField, GetElement, PutElement, NewObject, NewArray, MakeLabel, NoCaps, WithPlus, WithMinus, System, EnterMonitor, LeaveMonitor, EnterRegion, LeaveRegion, Spawn}
+use Rattle.lam_bytecode.specs.declared.op.Op.TheVariants.{Const, Pop, Add, Sub, Mul, Div, Rem, Neg, Not, Eq, Ne, Lt, Le, Gt, Ge, Jump, JumpIfFalse, Call, Return, Throw, GetField, PutField, GetElement, PutElement, NewObject, NewArray, MakeLabel, NoCaps, WithPlus, WithMinus, System, EnterMonitor, LeaveMonitor, EnterRegion, Spawn}
 use Rattle.thread_steps.specs.Limits.{bytes_limit, message_limit, length_limit, frames_limit}
 use Rattle.thread_steps.specs.Operators as operators
 use Rattle.thread_steps.specs.Operators.{Pure, fine, is_small, operator, prefix, some_null, label_from, with_sign}
 use Rattle.thread_steps.specs.Builtins as builtins
-use Rattle.thread_steps.specs.Builtins.{Calls, now, faults, asks, acts, wrong, byte_now, byte_at, slice_at, number_in, own_label, copied, read_from, cut_to, send_into, builtin}
-use Rattle.thread_steps.specs.Ops.{Did, gives, sets, jumps, calls, returns, fails, wants, leaves, breaks, on_any, on_int, on_truth, on_many, on_caps, on_label, operated, between, before, unless_denied, within, gets_field, puts_field, gets_element, puts_element, may_read, may_write, new_object, new_array, function_takes, region_in, region_takes, on_known, called, is_held, monitor_of, on_constant, Around, effect}
+use Rattle.thread_steps.specs.Builtins.{Calls, now, faults, asks, acts, byte_now, byte_at, slice_at, number_in, own_label, copied, read_from, cut_to, send_into, builtin}
+use Rattle.thread_steps.specs.Ops.{Did, gives, sets, jumps, calls, returns, fails, wants, breaks, on_any, on_int, on_truth, on_many, on_caps, on_label, operated, between, before, unless_denied, within, gets_field, puts_field, gets_element, puts_element, may_read, may_write, new_object, new_array, function_takes, region_in, region_takes, on_known, called, is_held, monitor_of, on_constant, Around, effect}
 use Rattle.guarded_code.specs.declared.known.ValueKind.{ValueKind}
 use Rattle.guarded_code.specs.declared.known.ValueKind.TheVariants.{Number, Truth as TruthKind, Other, Unknown}
 use Rattle.guarded_code.specs.Changes.{Any, Only, Change, Trades, kind_of_answer, constant_kind, result_kind, places_of, anything, change, goes}
@@ -86,11 +86,8 @@ module _ (code : CodeTree) (at : ℕ) (bs : List ℕ) (g : Option ValueKind) (re
   DidTrades (sets ls s) = ⊥
   DidTrades (jumps to s) = In to bs × PutOn g rest s
   DidTrades (calls u vs s) = In (at + 1) bs × ValueOn g s × TakesAll code u vs
-  DidTrades (returns v) = Unit {0}
-  DidTrades (fails f) = Unit {0}
   DidTrades (wants a s) = In (at + 1) bs × AskTrades a s
-  DidTrades leaves = Unit {0}
-  DidTrades breaks = Unit {0}
+  DidTrades _ = Unit {0}
 
   either : (b : Bool) (x y : Did) → DidTrades x → DidTrades y → DidTrades (if b then x else y)
   either true x y h k = h
@@ -130,17 +127,15 @@ module _ (code : CodeTree) (at : ℕ) (kind : ValueKind) where
 
   operated_gives : (rest s : List Value) → s ≡ rest → (x : Pure) → Gives rest (operated s x)
   operated_gives rest s e (fine v) = (on at, (v, ap (λ r. v ∷ r) e))
-  operated_gives rest s e (operators.faults f) = tt
-  operated_gives rest s e operators.wrong = tt
+  operated_gives rest s e x = tt
 
   constant_gives : (s : List Value) (x : Option Value) → Gives s (on_constant s x)
   constant_gives s None = tt
   constant_gives s (Some v) = (on at, (v, refl))
 
   between_gives : (op : BinaryOp) (s : List Value) → Gives (drop 2 s) (between op s)
-  between_gives op [] = tt
-  between_gives op (w ∷ []) = tt
   between_gives op (w ∷ v ∷ s) = operated_gives s s refl (operator op v w)
+  between_gives op s = tt
 
   before_gives : (op : UnaryOp) (s : List Value) → Gives (drop 1 s) (before op s)
   before_gives op [] = tt
@@ -154,7 +149,6 @@ module _ (code : CodeTree) (at : ℕ) (kind : ValueKind) where
   element_gives p (Int i ∷ Arr n len ∷ s) =
       unless code at (straight at) (Some kind) s (may_read p n.own) (within i len (λ j. wants (ask.Read (Arr n len) j) s))
       (inside code at (straight at) (Some kind) s i len (λ j. wants (ask.Read (Arr n len) j) s) (λ j. (on at, refl)))
-  element_gives p (Int i ∷ s) = tt
   element_gives p s = tt
 
   object_gives : (c : ℕ) (s : List Value) (x : Option (List Kind)) → Gives s (new_object c s x)
@@ -179,9 +173,8 @@ module _ (code : CodeTree) (at : ℕ) (kind : ValueKind) where
       (λ more. operated_gives rest (drop p (drop q s)) (drop_both q p s ∙ ap (λ n. drop n s) same) (label_from (reverse (take p (drop q s))) (reverse (take q s)))))
 
   sign_gives : (plus : Bool) (s : List Value) → Gives (drop 2 s) (on_any s (λ t s. on_any s (λ c s. operated s (with_sign plus c t))))
-  sign_gives plus [] = tt
-  sign_gives plus (t ∷ []) = tt
   sign_gives plus (t ∷ c ∷ s) = operated_gives s s refl (with_sign plus c t)
+  sign_gives plus s = tt
 
   -- ---- calls of functions, and new threads
 
@@ -254,8 +247,7 @@ module _ (code : CodeTree) (at : ℕ) (kind : ValueKind) where
 
     read_gives : (f : Name) (i j : ℤ) → CallGives (read_from f i j)
     read_gives f (pos i) (pos n) = either_call (nat_le n bytes_limit) (asks (ask.FileRead f i n)) (faults fault.Long) (on at, same) tt
-    read_gives f (pos i) (negsuc n) = tt
-    read_gives f (negsuc i) n = tt
+    read_gives f i j = tt
 
     cut_gives : (f : Name) (z : ℤ) → CallGives (cut_to f z)
     cut_gives f (pos n) = (on at, (Nothing, ap (λ r. Nothing ∷ r) same))
@@ -320,28 +312,23 @@ module _ (code : CodeTree) (at : ℕ) where
   pop_takes (v ∷ s) = (on at, refl)
 
   field_takes : (p : Label) (f : ℕ) (s : List Value) → Takes (drop 2 s) (on_any s (λ v s. puts_field p f v s))
-  field_takes p f [] = tt
   field_takes p f (v ∷ Obj n ∷ s) = unless code at (straight at) None s (may_write p n.own) (wants (ask.Write (Obj n) f v) s) (on at, refl)
-  field_takes p f (v ∷ s) = tt
+  field_takes p f s = tt
 
   element_takes : (p : Label) (s : List Value) → Takes (drop 3 s) (on_any s (λ v s. on_int s (λ i s. puts_element p i v s)))
-  element_takes p [] = tt
   element_takes p (v ∷ Int i ∷ Arr n len ∷ s) =
       unless code at (straight at) None s (may_write p n.own) (within i len (λ j. wants (ask.Write (Arr n len) j v) s))
       (inside code at (straight at) None s i len (λ j. wants (ask.Write (Arr n len) j v) s) (λ j. (on at, refl)))
-  element_takes p (v ∷ Int i ∷ s) = tt
-  element_takes p (v ∷ s) = tt
+  element_takes p s = tt
 
   enter_takes : (s : List Value) → Takes (drop 1 s) (monitor_of (λ r. ask.MonEnter r) (λ n. true) s)
   enter_takes (Obj n ∷ s) = (on at, refl)
   enter_takes (Arr n len ∷ s) = (on at, refl)
-  enter_takes (Nothing ∷ s) = tt
   enter_takes s = tt
 
   leave_takes : (held : List Name) (s : List Value) → Takes (drop 1 s) (monitor_of (λ r. ask.MonLeave r) (λ n. is_held n held) s)
   leave_takes held (Obj n ∷ s) = either code at (straight at) None s (is_held n held) (wants (ask.MonLeave (Obj n)) s) breaks (on at, refl) tt
   leave_takes held (Arr n len ∷ s) = either code at (straight at) None s (is_held n held) (wants (ask.MonLeave (Arr n len)) s) breaks (on at, refl) tt
-  leave_takes held (Nothing ∷ s) = tt
   leave_takes held s = tt
 
   region_takes_all : (r : ℕ) (kind : ValueKind) (s : List Value) (x : Option ℕ) → region_takes (region_in r code.units) ≡ x →
@@ -391,8 +378,6 @@ module _ (a : Around) (s : List Value) (at : ℕ) where
   pub op_trades : (op : Op) → ChangeTrades (goes at op) (change a.code op) (effect a s op)
   unfolding effect
   op_trades (Const k) = constant_gives a.code at (constant_kind (slice_get a.code.constants k)) s (slice_get a.code.constants k)
-  op_trades (Load n) = tt
-  op_trades (Store n) = tt
   op_trades Pop = pop_takes a.code at s
   op_trades Add = between_gives a.code at Number binary.Add s
   op_trades Sub = between_gives a.code at Number binary.Sub s
@@ -413,8 +398,6 @@ module _ (a : Around) (s : List Value) (at : ℕ) where
   op_trades (Call u) = called_gives a.code at (result_kind (slice_get a.code.units u)) u a.frames s (function_takes (slice_get a.code.units u)) refl
   op_trades Return = return_takes a.code at [] s
   op_trades Throw = throw_takes a.code at [] s
-  op_trades (ReadBarrier d) = tt
-  op_trades (WriteBarrier d) = tt
   op_trades (GetField f) = field_gives a.code at Unknown a.label f s
   op_trades (PutField f) = field_takes a.code at a.label f s
   op_trades GetElement = element_gives a.code at Unknown a.label s
@@ -429,5 +412,5 @@ module _ (a : Around) (s : List Value) (at : ℕ) where
   op_trades EnterMonitor = enter_takes a.code at s
   op_trades LeaveMonitor = leave_takes a.code at a.held s
   op_trades (EnterRegion r) = region_takes_all a.code at r Other s (region_takes (region_in r a.code.units)) refl
-  op_trades LeaveRegion = tt
   op_trades (Spawn u) = spawned_gives a.code at Other u s (function_takes (slice_get a.code.units u)) refl
+  op_trades op = tt

@@ -20,13 +20,13 @@ use Rattle.lam_bytecode.specs.declared.op.Op.TheVariants.{Load, Store, ReadBarri
 use Rattle.thread_steps.specs.Threads.{Frame, Inside, Phase, Bottom, Body, Catch, Context}
 use Rattle.thread_steps.specs.Ops.{Did, gives, sets, jumps, calls, returns, fails, wants, leaves, breaks, on_any, on_thing, on_constant, stores, barrier, region_in, effect}
 use Rattle.thread_steps.specs.Next as next
-use Rattle.thread_steps.specs.Next.{Next, goes, asks, stuck, with_frame, frame_at, past, faulted, entry, returned, ending, leaving, next_by, raised, ops_of, around, next_op, next_in, next_of, region_context, outermost, catch_at, catching}
+use Rattle.thread_steps.specs.Next.{Next, goes, asks, stuck, with_frame, frame_at, past, faulted, entry, returned, leaving, next_by, raised, ops_of, around, next_op, next_in, next_of, region_context, outermost, catch_at, catching}
 use Rattle.guarded_code.specs.Breaks.{IsGuarded}
 use Rattle.guarded_code.specs.declared.known.ValueKind.{ValueKind}
 use Rattle.guarded_code.specs.declared.known.Access.{Access}
 use Rattle.guarded_code.specs.declared.known.Access.TheVariants.{Reading, Writing}
 use Rattle.guarded_code.specs.Descriptions.{Description}
-use Rattle.guarded_code.specs.Changes.{Change, Trades, Loads, Stores, Tests, change, left, loaded, stored, barred, copied_at}
+use Rattle.guarded_code.specs.Changes.{Change, Trades, Tests, change, left}
 use Rattle.guarded_code.specs.Changes as changes
 use Rattle.guarded_code_threads.specs.Described.{rule_of, Allows, Agrees, description_at, FrameAgrees, with_operand, Awaits, ActingAgrees, MayCatch, IsDescribedInside, IsDescribedContext}
 use Rattle.guarded_code_threads.specs.Answers.{given_by}
@@ -65,10 +65,9 @@ module _ (code : CodeTree) where
 
   -- with another frame in place of one in the same unit, with as many locals
   body_moved : (ph : Phase) (f g : Frame) (fs : List Frame) → g.unit ≡ f.unit → length g.locals ≡ length f.locals → MayCatch code ph (outermost f fs) → MayCatch code ph (outermost g fs)
-  body_moved Bottom f g fs e l h = tt
-  body_moved Catch f g fs e l h = tt
   body_moved (Body at) f g [] e l h = record { unit = h.unit; it = ap (slice_get code.units) e ∙ h.it; place = h.place; locals = l ∙ h.locals }
   body_moved (Body at) f g (k ∷ fs) e l h = h
+  body_moved ph f g fs e l h = tt
 
   module _ (is : IsCode code) (guarded : IsGuarded code) (c : Context) (h : IsDescribedContext code c) where
     abbrev i : Inside
@@ -102,8 +101,7 @@ module _ (code : CodeTree) where
 
     leave_keeps : (ph : Phase) → NextKeeps c (leaving ph i)
     leave_keeps Bottom = tt
-    leave_keeps (Body at) = tt
-    leave_keeps Catch = tt
+    leave_keeps ph = tt
 
     region_keeps : (l : Label) (r : ℕ) (vs : List Value) → RegionTaking code r vs → IsDescribedInside code l (Body (next.catch_place (region_in r code.units))) (record { frame = entry code (next.unit_number (region_in r code.units)) vs; callers = []; fault = None })
     region_keeps l r vs k =
@@ -159,9 +157,7 @@ module _ (code : CodeTree) where
           did_keeps (changes.goes f.at op) g (drop (length takes) f.stack) (left (Trades takes g) d)
           (λ b n. subst (λ k. Comes code f.unit b (left k d)) e (goes_comes code guarded f.unit f.at op d b known at n))
           (λ s p. trade_agrees c.label (length takes) g d f.locals f.stack s agrees p) did o
-      trade_keeps op at (Loads n) e t did o = absurd t
-      trade_keeps op at (Stores n) e t did o = absurd t
-      trade_keeps op at (Tests access depth) e t did o = absurd t
+      trade_keeps op at k e t did o = absurd t
 
       past_keeps : (op : Op) (ls s : List Value) → slice_get (ops_of code f.unit) f.at ≡ Some op → In (f.at + 1) (changes.goes f.at op) → Agrees c.label (left (change code op) d) ls s → length ls ≡ length f.locals →
           IsDescribedInside code c.label c.phase (with_frame i (frame_at f (f.at + 1) ls s))
@@ -216,7 +212,6 @@ module _ (code : CodeTree) where
     -- ---- a fault
 
     raise_keeps : (g : Fault) (ph : Phase) → c.phase ≡ ph → NextKeeps c (raised ph i g)
-    raise_keeps g Bottom e = tt
     raise_keeps g (Body at) e =
         let o = outermost f i.callers in
         record {
@@ -224,7 +219,7 @@ module _ (code : CodeTree) where
           waiting = tt;
           body = tt;
         }
-    raise_keeps g Catch e = tt
+    raise_keeps g ph e = tt
 
     step_keeps : FrameAgrees code c.label f → (x : Option Op) → slice_get (ops_of code f.unit) f.at ≡ x → NextKeeps c (next_op code c x)
     step_keeps a None e = tt
