@@ -9,10 +9,12 @@ use Rattle.guarded_code.specs.declared.known.Known.{Known}
 use Rattle.guarded_code.specs.declared.known.Operand.{Operand}
 use Rattle.guarded_code.specs.declared.known.ValueKind.TheVariants.{Unknown}
 use Rattle.guarded_code.specs.declared.known.Access.TheVariants.{Reading, Writing}
-use Rattle.guarded_code.specs.Descriptions.{Description, is_tested, tested, untested, met_known, met_copies, met_operand, met_lists, described, meet}
+use Rattle.guarded_code.specs.Descriptions.{Description, is_tested, tested, untested, met_known, met_copies, met_operand, met_lists, meet}
 use Rattle.guarded_code.specs.Changes.{Change, Loads, Stores, Tests, Trades, known_at, is_copy, forgotten, stored_from, at_place, tested_operand, tested_copy, tested_local, copied_at, barred, put, left}
 use Rattle.guarded_code.proofs.Tables.{none_some, some_inj, get_set_other, get_within}
-use Rattle.guarded_code.proofs.Lists.{cons_of, each_long, long_place}
+use Rattle.guarded_code.proofs.Lists.{cons_of, each_long}
+use Rattle.guarded_code.proofs.Order.{met_parts}
+use Rattle.guarded_code.proofs.Passing.{local_long}
 
 abbrev pub Each : {A : Type 0} → (A → Type 0) → List A → Type 0
 Each P [] = Unit {0}
@@ -55,11 +57,9 @@ place_get f (y ∷ xs) zero x e = ap (λ z. Some (f z)) (some_inj e)
 place_get f (y ∷ xs) (suc i) x e = place_get f xs i x e
 
 place_other : {A : Type 0} (f : A → A) (xs : List A) (i j : ℕ) → (j ≡ i → ⊥) → slice_get (at_place f i xs) j ≡ slice_get xs j
-place_other f [] i j ne = refl
 place_other f (y ∷ xs) zero zero ne = absurd (ne refl)
-place_other f (y ∷ xs) zero (suc j) ne = refl
-place_other f (y ∷ xs) (suc i) zero ne = refl
 place_other f (y ∷ xs) (suc i) (suc j) ne = place_other f xs i j (λ e. ne (ap suc e))
+place_other f xs i j ne = refl
 
 place_same : {A : Type 0} (f : A → A) (xs : List A) (i : ℕ) (x : A) → slice_get xs i ≡ Some x → f x ≡ x → at_place f i xs ≡ xs
 place_same f [] i x e h = refl
@@ -83,22 +83,15 @@ met_if ks ls zs k l n m true eb e ek el =
 met_if ks ls zs k l n m false eb e ek el = tt
 
 met_copy : (ks ls zs : List Known) (k l : Known) (c d : Option ℕ) → met_lists met_known ks ls ≡ Some zs → CopyIs ks k c → CopyIs ls l d → CopyIs zs (met_known k l) (met_copies c d)
-met_copy ks ls zs k l None d e ek el = tt
-met_copy ks ls zs k l (Some n) None e ek el = tt
 met_copy ks ls zs k l (Some n) (Some m) e ek el = met_if ks ls zs k l n m (nat_eq n m) refl e ek el
+met_copy ks ls zs k l c d e ek el = tt
 
 met_each : (ks ls zs : List Known) (os ps qs : List Operand) → met_lists met_known ks ls ≡ Some zs → met_lists met_operand os ps ≡ Some qs → Each (OperandIs ks) os → Each (OperandIs ls) ps → Each (OperandIs zs) qs
 met_each ks ls zs [] [] qs e eo h i = subst (Each (OperandIs zs)) (some_inj eo) tt
-met_each ks ls zs [] (p ∷ ps) qs e eo h i = none_some eo
-met_each ks ls zs (o ∷ os) [] qs e eo h i = none_some eo
 met_each ks ls zs (o ∷ os) (p ∷ ps) qs e eo h i =
     let c = cons_of (met_operand o p) (met_lists met_operand os ps) qs eo in
     subst (Each (OperandIs zs)) (sym c.2) (met_copy ks ls zs o.known p.known o.copies p.copies e h.0 i.0, met_each ks ls zs os ps c.0 e c.1 h.1 i.1)
-
-met_parts : (o : Option (List Operand)) (p : Option (List Known)) (m : Description) → described o p ≡ Some m → (o ≡ Some m.stack) × (p ≡ Some m.locals)
-met_parts None p m e = none_some e
-met_parts (Some os) None m e = none_some e
-met_parts (Some os) (Some ks) m e = (ap (λ (d : Description). Some d.stack) (some_inj e), ap (λ (d : Description). Some d.locals) (some_inj e))
+met_each ks ls zs os ps qs e eo h i = none_some eo
 
 pub meet_coherent : (count : ℕ) (d e m : Description) → Coherent count d → Coherent count e → meet d e ≡ Some m → Coherent count m
 meet_coherent count d e m h i eq =
@@ -172,10 +165,6 @@ placed_tested access ks c o x h ec ex =
     subst (λ y. OperandIs (tested_local access c ks) (tested_operand access y)) ex
     (subst (λ z. OperandIs (tested_local access z ks) (tested_operand access (tested_copy access z o))) (sym ec) (itself_tested access ks o.known o.copies h))
 
-local_long : (access : Access) (c : Option ℕ) (ks : List Known) → length (tested_local access c ks) ≡ length ks
-local_long access None ks = refl
-local_long access (Some n) ks = long_place (tested access) n ks
-
 barred_coherent : (count : ℕ) (access : Access) (depth : ℕ) (d : Description) → Coherent count d → Coherent count (barred access depth (copied_at (slice_get d.stack depth)) d)
 barred_coherent count access depth d h =
     let c = copied_at (slice_get d.stack depth) in
@@ -191,9 +180,7 @@ barred_coherent count access depth d h =
 -- the local that a change names is one of so many
 abbrev pub NamesLocal : ℕ → Change → Type 0
 NamesLocal count (Loads n) = n < count
-NamesLocal count (Stores n) = Unit {0}
-NamesLocal count (Tests access depth) = Unit {0}
-NamesLocal count (Trades takes gives) = Unit {0}
+NamesLocal count _ = Unit {0}
 
 put_coherent : (ks : List Known) (gives : Option ValueKind) (os : List Operand) → Each (OperandIs ks) os → Each (OperandIs ks) (put gives os)
 put_coherent ks None os h = h

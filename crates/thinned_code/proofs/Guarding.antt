@@ -1,26 +1,25 @@
 -- A thinned unit breaks no rule where the unit breaks none.
-use Rattle.std.proofs.Common.{IsTrue, ◌≡◌, ℕ, zero, suc, List, [], ◌∷◌, Bool, true, Option, Some, None, length, slice_get, refl, sym, ap, ◌∙◌, subst}
-use Rattle.std.specs.Prelude.{replicate}
+use Rattle.std.proofs.Common.{IsTrue, ◌≡◌, ℕ, List, [], ◌∷◌, Bool, true, Option, Some, None, length, slice_get, refl, sym, ap, ◌∙◌, subst}
 use Rattle.std.proofs.lemmas.Bool.{and_parts, and_from}
+use Rattle.std.proofs.lemmas.List.{length-replicate}
 use Rattle.lam_bytecode.specs.Codes.{CodeTree, given}
 use Rattle.lam_bytecode.specs.declared.unit.CodeUnit.{CodeUnit}
 use Rattle.lam_bytecode.specs.declared.unit.UnitKind.{UnitKind}
 use Rattle.lam_bytecode.specs.declared.unit.UnitKind.TheVariants.{Function, Region}
 use Rattle.lam_bytecode.specs.declared.op.Op.{Op}
-use Rattle.lam_bytecode.specs.declared.op.Op.TheVariants.{Eq, Ne, GetField, PutField, GetElement, PutElement}
+use Rattle.lam_bytecode.specs.declared.op.Op.TheVariants.{Eq, Ne}
 use Rattle.guarded_code.specs.Rounds.{Sent, Table, Found, Holds, Broke, OnFound, Above}
 use Rattle.guarded_code.specs.declared.known.ValueKind.{ValueKind}
-use Rattle.guarded_code.specs.declared.known.Access.{Access}
 use Rattle.guarded_code.specs.declared.known.Operand.{Operand}
-use Rattle.guarded_code.specs.declared.known.ValueKind.TheVariants.{Number, Truth, Other, Unknown}
-use Rattle.guarded_code.specs.declared.known.Access.TheVariants.{Reading, Writing}
-use Rattle.guarded_code.specs.Descriptions.{Description, untested, meet, entry_locals, catch_starts, starts}
+use Rattle.guarded_code.specs.declared.known.ValueKind.TheVariants.{Number, Unknown}
+use Rattle.guarded_code.specs.Descriptions.{Description, untested, meet, catch_starts, starts}
 use Rattle.guarded_code.specs.Changes.{Place, Any, Only, wanted, left, change, changed, goes, sent, passed, passes, enough, descriptions}
-use Rattle.guarded_code.specs.Breaks.{names_something, all_within, may_agree, fits, all_fit, two_agree, compares, takes_kinds, is_tested_at, is_guarded}
+use Rattle.guarded_code.specs.Breaks.{names_something, all_within, may_agree, fits, all_fit, two_agree, compares, takes_kinds, is_guarded}
 use Rattle.guarded_code.specs.Says.{Pairwise, KindSays, OperandSays, Says, Describes}
 use Rattle.guarded_code.specs.Facts.{IsUnitGuarded}
 use Rattle.guarded_code.proofs.Tables.{none_some, some_inj}
-use Rattle.guarded_code.proofs.RoundFacts.{meets_rules, says_most}
+use Rattle.guarded_code.proofs.Passing.{guards_more}
+use Rattle.guarded_code.proofs.RoundFacts.{entry_long, meets_rules, says_most}
 use Rattle.thinned_code.specs.Thinned.{staying, moved, moved_op, sifted, thin_unit, thin_code}
 use Rattle.thinned_code.proofs.Keeping.{AllHave, Kept, Keeps, after_kept}
 use Rattle.thinned_code.proofs.Sifting.{origin}
@@ -31,15 +30,6 @@ use Rattle.thinned_code.proofs.Targets.{Targets, targets_of, none_bad, thin_targ
 use Rattle.thinned_code.proofs.Spread.{no_more}
 
 -- ---- where nothing is a copy yet
-entry_long : (given n : ℕ) → length (entry_locals given n) ≡ n
-entry_long given zero = refl
-entry_long zero (suc n) = ap suc (entry_long zero n)
-entry_long (suc given) (suc n) = ap suc (entry_long given n)
-
-same_long : {A : Type 0} (x : A) (n : ℕ) → length (replicate n x) ≡ n
-same_long x zero = refl
-same_long x (suc n) = ap suc (same_long x n)
-
 module _ (code : CodeTree) (u : CodeUnit) (h : Targets code u) where
   abbrev pub AreCoherent : Table Description → Type 0
   AreCoherent t = Kept Description meet (passes code u.ops) (λ a d. Coherent u.locals d) t
@@ -70,7 +60,7 @@ module _ (code : CodeTree) (u : CodeUnit) (h : Targets code u) where
 
   catch_coherent : (kind : UnitKind) → HaveCoherent (catch_starts u.locals kind)
   catch_coherent (Function name takes gives_int) = tt
-  catch_coherent (Region region captures catch_at) = (record { wide = same_long (untested Unknown) u.locals; copies = (tt, tt) }, tt)
+  catch_coherent (Region region captures catch_at) = (record { wide = length-replicate u.locals (untested Unknown); copies = (tt, tt) }, tt)
 
   starts_coherent : HaveCoherent (starts u)
   starts_coherent = (record { wide = entry_long (given u.kind) u.locals; copies = tt }, catch_coherent u.kind)
@@ -79,59 +69,36 @@ module _ (code : CodeTree) (u : CodeUnit) (h : Targets code u) where
   all_coherent =
       after_kept Description meet (passes code u.ops) (λ a d. Coherent u.locals d) (enough u) (length u.ops) (starts u) coherent_keeps starts_coherent
 
--- ---- a description that says more guards more
-pub tested_more : (access : Access) (os ps : List Operand) (i : ℕ) → Pairwise OperandSays os ps → IsTrue (is_tested_at access (slice_get ps i)) → IsTrue (is_tested_at access (slice_get os i))
-tested_more access [] [] i h g = g
-tested_more access [] (p ∷ ps) i h g = absurd h
-tested_more access (o ∷ os) [] i h g = absurd h
-tested_more access (o ∷ os) (p ∷ ps) zero h g = h.0.0.tests access g
-tested_more access (o ∷ os) (p ∷ ps) (suc i) h g = tested_more access os ps i h.1 g
-
-pub guards_more : (op : Op) (d x : Description) → Says d x → IsTrue (is_guarded op x) → IsTrue (is_guarded op d)
-guards_more (GetField f) d x h g = tested_more Reading d.stack x.stack 0 h.stack g
-guards_more (PutField f) d x h g = tested_more Writing d.stack x.stack 1 h.stack g
-guards_more GetElement d x h g = tested_more Reading d.stack x.stack 1 h.stack g
-guards_more PutElement d x h g = tested_more Writing d.stack x.stack 2 h.stack g
-guards_more op d x h g = refl
-
 -- ---- one that says less takes more kinds
 agree_unknown : (k : ValueKind) → IsTrue (may_agree k Unknown)
 agree_unknown Number = refl
-agree_unknown Truth = refl
-agree_unknown Other = refl
-agree_unknown Unknown = refl
+agree_unknown k = refl
 
 agree_less : (want k l : ValueKind) → KindSays k l → IsTrue (may_agree want k) → IsTrue (may_agree want l)
 agree_less want k Unknown h e = agree_unknown want
-agree_less want k Number h e = subst (λ x. IsTrue (may_agree want x)) h e
-agree_less want k Truth h e = subst (λ x. IsTrue (may_agree want x)) h e
-agree_less want k Other h e = subst (λ x. IsTrue (may_agree want x)) h e
+agree_less want k l h e = subst (λ x. IsTrue (may_agree want x)) h e
 
 first_less : (k l m : ValueKind) → KindSays k l → IsTrue (may_agree k m) → IsTrue (may_agree l m)
 first_less k Unknown m h e = refl
-first_less k Number m h e = subst (λ x. IsTrue (may_agree x m)) h e
-first_less k Truth m h e = subst (λ x. IsTrue (may_agree x m)) h e
-first_less k Other m h e = subst (λ x. IsTrue (may_agree x m)) h e
+first_less k l m h e = subst (λ x. IsTrue (may_agree x m)) h e
 
 fits_less : (p : Place) (k l : ValueKind) → KindSays k l → IsTrue (fits p k) → IsTrue (fits p l)
 fits_less Any k l h e = refl
 fits_less (Only want) k l h e = agree_less want k l h e
 
 all_less : (ps : List Place) (os qs : List Operand) → Pairwise OperandSays os qs → IsTrue (all_fit ps os) → IsTrue (all_fit ps qs)
-all_less [] os qs h e = refl
-all_less (p ∷ ps) os [] h e = refl
 all_less (p ∷ ps) [] (q ∷ qs) h e = absurd h
 all_less (p ∷ ps) (o ∷ os) (q ∷ qs) h e =
     let parts = and_parts (fits p o.known.kind) (all_fit ps os) e in
     and_from (fits p q.known.kind) (all_fit ps qs) (fits_less p o.known.kind q.known.kind h.0.0.kind parts.0) (all_less ps os qs h.1 parts.1)
+all_less ps os qs h e = refl
 
 two_less : (os qs : List Operand) → Pairwise OperandSays os qs → IsTrue (two_agree os) → IsTrue (two_agree qs)
-two_less os [] h e = refl
-two_less os (q ∷ []) h e = refl
 two_less [] (q ∷ r ∷ qs) h e = absurd h
 two_less (o ∷ []) (q ∷ r ∷ qs) h e = absurd h.1
 two_less (o ∷ p ∷ os) (q ∷ r ∷ qs) h e =
     first_less o.known.kind q.known.kind r.known.kind h.0.0.kind (agree_less o.known.kind p.known.kind r.known.kind h.1.0.0.kind e)
+two_less os qs h e = refl
 
 compares_less : (op : Op) (os qs : List Operand) → Pairwise OperandSays os qs → IsTrue (compares op os) → IsTrue (compares op qs)
 compares_less Eq os qs h e = two_less os qs h e

@@ -45,9 +45,8 @@ module _ (D : Type 0) (meet : D → D → Option D) (passes : ℕ → D → Opti
   handed_kept t a d keeps kept p (Some ps) e = give_kept t ps keeps kept (keeps.by_pass a d ps p e)
 
   visit_kept : (t : Table D) (a : ℕ) → Keeps → Kept t → (o : Option (Option D)) → slice_get t a ≡ o → OnFound (Unit {0}) (visit D meet passes a t o) Kept
-  visit_kept t a keeps kept None at_a = kept
-  visit_kept t a keeps kept (Some None) at_a = kept
   visit_kept t a keeps kept (Some (Some d)) at_a = handed_kept t a d keeps kept (kept a d at_a) (passes a d) refl
+  visit_kept t a keeps kept o at_a = kept
 
   sweep_kept : (k a : ℕ) (t : Table D) → Keeps → Kept t → OnFound (Unit {0}) (sweep D meet passes k a t) Kept
   sweep_kept zero a t keeps kept = kept

@@ -1,21 +1,20 @@
 -- No barrier of thinned code tests again.
 use Rattle.std.proofs.Common.{IsTrue, ◌≡◌, ℕ, zero, suc, ◌+◌, ◌<◌, List, [], ◌∷◌, map, Bool, true, false, not, Option, Some, None, length, slice_get, refl, sym, ap, ap₂, ◌∙◌, subst, arith}
-use Rattle.std.proofs.lemmas.Bool.{and_parts, false≢true, true≢false}
+use Rattle.std.proofs.lemmas.Bool.{and_parts, true≢false}
 use Rattle.lam_bytecode.specs.Codes.{CodeTree}
 use Rattle.lam_bytecode.specs.declared.unit.CodeUnit.{CodeUnit}
 use Rattle.lam_bytecode.specs.declared.unit.UnitKind.{UnitKind}
 use Rattle.lam_bytecode.specs.declared.unit.UnitKind.TheVariants.{Function, Region}
 use Rattle.lam_bytecode.specs.declared.op.Op.{Op}
-use Rattle.lam_bytecode.specs.declared.op.Op.TheVariants.{Jump, JumpIfFalse, ReadBarrier, WriteBarrier}
+use Rattle.lam_bytecode.specs.declared.op.Op.TheVariants.{Jump, JumpIfFalse}
 use Rattle.guarded_code.specs.Rounds.{Table}
-use Rattle.guarded_code.specs.declared.known.Access.TheVariants.{Reading, Writing}
 use Rattle.guarded_code.specs.Descriptions.{Description}
 use Rattle.guarded_code.specs.Changes.{goes}
 use Rattle.guarded_code.specs.Breaks.{names_something, all_within, start_places, IsGuarded}
-use Rattle.guarded_code.specs.Says.{Says}
 use Rattle.guarded_code.specs.Facts.{IsUnitGuarded}
 use Rattle.guarded_code.proofs.Tables.{none_some, some_inj}
 use Rattle.guarded_code.proofs.Breaking.{guarded_means}
+use Rattle.guarded_code.proofs.Passing.{again_more}
 use Rattle.thinned_code.specs.Thinned.{tests_again, stays, staying, moved_kind, moved_op, sifted, thin_unit, thinned_unit, thin_code, thinned}
 use Rattle.thinned_code.specs.Facts.{ThinnedOnce}
 use Rattle.thinned_code.proofs.Sifting.{AllStay, sifted_all, moved_all}
@@ -23,15 +22,10 @@ use Rattle.thinned_code.proofs.Ops.{again_moved}
 use Rattle.thinned_code.proofs.Units.{unit_at}
 use Rattle.thinned_code.proofs.Thinning.{staying_long, map_some}
 use Rattle.thinned_code.proofs.Targets.{Targets, targets_of, first_within}
-use Rattle.thinned_code.proofs.Guarding.{tested_more, Sides, sides, from, thin_unit_guarded}
+use Rattle.thinned_code.proofs.Guarding.{Sides, sides, from, thin_unit_guarded}
 use Rattle.thinned_code.proofs.Thinned.{thin_is, unit_is, stays_guarded}
 
 -- ---- all operations of a thinned unit stay
-again_more : (op : Op) (d x : Description) → Says d x → IsTrue (tests_again op x) → IsTrue (tests_again op d)
-again_more (ReadBarrier depth) d x h e = tested_more Reading d.stack x.stack depth h.stack e
-again_more (WriteBarrier depth) d x h e = tested_more Writing d.stack x.stack depth h.stack e
-again_more op d x h e = absurd (false≢true e)
-
 stays_at : (ops : List Op) (t : Table Description) (a : ℕ) (op : Op) (o : Option Description) → slice_get ops a ≡ Some op → slice_get t a ≡ Some o → slice_get (staying ops t) a ≡ Some (stays op o)
 stays_at [] t a op o e f = none_some e
 stays_at (p ∷ ops) [] a op o e f = none_some f

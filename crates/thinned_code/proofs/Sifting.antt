@@ -49,13 +49,12 @@ pub record Origin {A : Type 0} (ks : List Bool) (xs : List A) (b : ℕ) (x : A) 
   pub at : slice_get xs place ≡ Some x
 
 pub origin : {A : Type 0} (ks : List Bool) (xs : List A) (b : ℕ) (x : A) → slice_get (sifted ks xs) b ≡ Some x → Origin ks xs b x
-origin [] xs b x e = none_some e
-origin (k ∷ ks) [] b x e = none_some e
 origin (true ∷ ks) (y ∷ xs) zero x e = record { place = 0; kept = refl; same = refl; at = e }
 origin (true ∷ ks) (y ∷ xs) (suc b) x e =
     let o = origin ks xs b x e in record { place = suc o.place; kept = o.kept; same = ap suc o.same; at = o.at }
 origin (false ∷ ks) (y ∷ xs) b x e =
     let o = origin ks xs b x e in record { place = suc o.place; kept = o.kept; same = o.same; at = o.at }
+origin ks xs b x e = none_some e
 
 -- how many stay
 abbrev pub stay_count : List Bool → ℕ
@@ -70,10 +69,9 @@ sifted_count (true ∷ ks) (x ∷ xs) e = ap suc (sifted_count ks xs (omega (ari
 sifted_count (false ∷ ks) (x ∷ xs) e = sifted_count ks xs (omega (arith, e))
 
 pub sifted_fewer : {A : Type 0} (ks : List Bool) (xs : List A) → length (sifted ks xs) ≤ length xs
-sifted_fewer [] xs = omega arith
-sifted_fewer (k ∷ ks) [] = omega arith
 sifted_fewer (true ∷ ks) (x ∷ xs) = omega (arith, sifted_fewer ks xs)
 sifted_fewer (false ∷ ks) (x ∷ xs) = omega (arith, sifted_fewer ks xs)
+sifted_fewer ks xs = omega arith
 
 -- an address that moves to one inside is one inside
 pub moved_inside : (ks : List Bool) (a : ℕ) → moved ks a < stay_count ks → a < length ks

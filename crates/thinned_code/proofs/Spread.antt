@@ -1,21 +1,20 @@
 -- What the rounds of a thinned unit find, spread over the barriers that were left out, meets the rules of the unit. So they
 -- find no more than the unit's own rounds.
-use Rattle.std.proofs.Common.{IsTrue, ◌≡◌, ℕ, zero, suc, ◌+◌, ◌<◌, List, [], ◌∷◌, map, Bool, true, false, if◌then◌else◌, Option, Some, None, length, get_or, slice_get, option_map, refl, sym, ap, ◌∙◌, subst, arith}
+use Rattle.std.proofs.Common.{◌≡◌, ℕ, zero, suc, ◌+◌, ◌<◌, List, [], ◌∷◌, map, Bool, true, false, if◌then◌else◌, Option, Some, None, length, get_or, slice_get, option_map, refl, sym, ap, ◌∙◌, subst, arith}
 use Rattle.std.specs.Prelude.{nat_le}
 use Rattle.std.proofs.lemmas.Option.{slice_get_within, get_or_from_slice_get}
 use Rattle.lam_bytecode.specs.Codes.{CodeTree}
 use Rattle.lam_bytecode.specs.declared.unit.CodeUnit.{CodeUnit}
 use Rattle.guarded_code.specs.Rounds.{Sent, Table, Holds, OnFound, Stands, AllStand, Above}
 use Rattle.guarded_code.specs.declared.known.Access.{Access}
-use Rattle.guarded_code.specs.declared.known.Known.{Known}
 use Rattle.guarded_code.specs.declared.known.Operand.{Operand}
-use Rattle.guarded_code.specs.declared.known.Access.TheVariants.{Reading, Writing}
-use Rattle.guarded_code.specs.Descriptions.{Description, is_tested, tested, meet, starts}
-use Rattle.guarded_code.specs.Changes.{Tests, is_copy, wanted, tested_operand, tested_copy, tested_local, copied_at, barred, left, changed, goes, sent, passed, passes, descriptions}
-use Rattle.guarded_code.specs.Says.{Pairwise, KindSays, KnownSays, OperandSays, Says, Describes}
+use Rattle.guarded_code.specs.Descriptions.{Description, meet, starts}
+use Rattle.guarded_code.specs.Changes.{Tests, wanted, tested_operand, tested_copy, copied_at, barred, left, changed, goes, sent, passed, passes, descriptions}
+use Rattle.guarded_code.specs.Says.{Pairwise, KnownSays, OperandSays, Says, Describes}
 use Rattle.guarded_code.proofs.Tables.{none_some, some_inj, get_within}
 use Rattle.guarded_code.proofs.Lists.{each_same, each_grow, each_long_same}
 use Rattle.guarded_code.proofs.Order.{known_same, operand_same, says_same}
+use Rattle.guarded_code.proofs.Passing.{operand_more, copy_more, local_more}
 use Rattle.guarded_code.proofs.RoundFacts.{says_most}
 use Rattle.thinned_code.specs.Thinned.{staying, moved, sifted, thin_unit, thin_code}
 use Rattle.thinned_code.proofs.Keeping.{Kept}
@@ -50,46 +49,15 @@ get_or_some (x ∷ t) zero d e = ap (λ y. Some y) e
 get_or_some (x ∷ t) (suc b) d e = get_or_some t b d e
 
 -- ---- after a test no less is said
-tested_kind : (access : Access) (k : Known) → (tested access k).kind ≡ k.kind
-tested_kind Reading k = refl
-tested_kind Writing k = refl
-
-tests_more : (access : Access) (k : Known) (a : Access) → IsTrue (is_tested a k) → IsTrue (is_tested a (tested access k))
-tests_more Reading k Reading e = refl
-tests_more Reading k Writing e = e
-tests_more Writing k Reading e = e
-tests_more Writing k Writing e = refl
-
--- what says more of a value says more once it is tested
-known_more : (access : Access) (k l : Known) → KnownSays k l → KnownSays (tested access k) l
-known_more access k l h = record {
-  kind = subst (λ x. KindSays x l.kind) (sym (tested_kind access k)) h.kind;
-  tests = λ a e. tests_more access k a (h.tests a e);
-}
-
-operand_more : (access : Access) (o p : Operand) → OperandSays o p → OperandSays (tested_operand access o) p
-operand_more access o p h = (known_more access o.known p.known h.0, h.1)
-
-if_more : (access : Access) (b : Bool) (o : Operand) → OperandSays (if b then tested_operand access o else o) o
-if_more access true o = operand_more access o o (operand_same o)
-if_more access false o = operand_same o
-
-copy_more : (access : Access) (c : Option ℕ) (o : Operand) → OperandSays (tested_copy access c o) o
-copy_more access None o = operand_same o
-copy_more access (Some n) o = if_more access (is_copy n o.copies) o
 
 copies_more : (access : Access) (c : Option ℕ) (os : List Operand) → Pairwise OperandSays (map (tested_copy access c) os) os
 copies_more access c [] = tt
-copies_more access c (o ∷ os) = (copy_more access c o, copies_more access c os)
-
-local_more : (access : Access) (c : Option ℕ) (ks : List Known) → Pairwise KnownSays (tested_local access c ks) ks
-local_more access None ks = each_same KnownSays known_same ks
-local_more access (Some n) ks = each_grow KnownSays (tested access) (known_more access) ks ks n (each_same KnownSays known_same ks)
+copies_more access c (o ∷ os) = (copy_more access c o o (operand_same o), copies_more access c os)
 
 barred_more : (access : Access) (depth : ℕ) (c : Option ℕ) (d : Description) → Says (barred access depth c d) d
 barred_more access depth c d = record {
   stack = each_grow OperandSays (tested_operand access) (operand_more access) (map (tested_copy access c) d.stack) d.stack depth (copies_more access c d.stack);
-  locals = local_more access c d.locals;
+  locals = local_more access c d.locals d.locals (each_same KnownSays known_same d.locals);
 }
 
 module _ (code : CodeTree) (u : CodeUnit) (t : Table Description) (h : Describes code u t) (coherent : Kept Description meet (passes code u.ops) (λ a d. Coherent u.locals d) t) (t' : Table Description) (h' : Describes (thin_code code) (thin_unit (staying u.ops t) u) t') (above : Above Description Says t' (sifted (staying u.ops t) t)) where

@@ -11,6 +11,7 @@ use Rattle.guarded_code.specs.Descriptions.{Description, starts}
 use Rattle.guarded_code.specs.Changes.{goes}
 use Rattle.guarded_code.specs.Breaks.{names_something, all_within, is_well_targeted, first_failing_op, start_places, first_bad_target}
 use Rattle.guarded_code.proofs.Tables.{none_some, some_inj, get_within}
+use Rattle.guarded_code.proofs.Breaking.{if_none}
 use Rattle.thinned_code.specs.Thinned.{staying, moved, moved_op, thin_unit, thin_code}
 use Rattle.thinned_code.proofs.Sifting.{next_kept, next_dropped, origin, kept_inside, sifted_count, stay_count}
 use Rattle.thinned_code.proofs.Ops.{barrier, barrier_goes, goes_moved, names_moved, pair_moved}
@@ -21,10 +22,6 @@ use Rattle.std.proofs.lemmas.Option.{slice_get-map}
 pub record Targets (code : CodeTree) (u : CodeUnit) : Type 0 where
   pub places : IsTrue (all_within (length u.ops) (start_places u))
   pub each : (a : ℕ) (op : Op) → slice_get u.ops a ≡ Some op → IsTrue (is_well_targeted code u a op)
-
-if_none : (b : Bool) (o : Option ℕ) (a : ℕ) → (if b then o else Some a) ≡ None → (b ≡ true) × (o ≡ None)
-if_none true o a e = (refl, e)
-if_none false o a e = none_some (sym e)
 
 ops_pass : (test : ℕ → Op → Bool) (a : ℕ) (ops : List Op) → first_failing_op test a ops ≡ None → (i : ℕ) (op : Op) → slice_get ops i ≡ Some op → IsTrue (test (a + i) op)
 ops_pass test a [] e i op at = none_some at

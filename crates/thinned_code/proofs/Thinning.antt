@@ -18,6 +18,7 @@ use Rattle.guarded_code.specs.Breaks.{is_tested_at}
 use Rattle.guarded_code.specs.Says.{Says, Describes}
 use Rattle.guarded_code.proofs.Tables.{none_some, some_inj, get_within}
 use Rattle.guarded_code.proofs.Order.{says_trans}
+pub use Rattle.guarded_code.proofs.Passing.{if_some, map_some}
 use Rattle.thinned_code.specs.Thinned.{tests_again, stays, staying, moved, moved_op, moved_kind, sifted, thin_unit, thin_code}
 use Rattle.thinned_code.proofs.Keeping.{Kept}
 use Rattle.thinned_code.proofs.Sifting.{moved_zero, next_kept, next_dropped, sift_get, origin, sifted_count, stay_count}
@@ -73,14 +74,6 @@ again (op ∷ ops) (o ∷ t) zero e = again_here op ops o t (some_inj e)
 again (op ∷ ops) (o ∷ t) (suc a) e = again_later op ops o t a (again ops t a e)
 
 -- ---- what a barrier sends on
-pub if_some : {A : Type 0} (b : Bool) (x y : A) → (if b then Some x else None) ≡ Some y → (b ≡ true) × (x ≡ y)
-if_some true x y e = (refl, some_inj e)
-if_some false x y e = none_some e
-
-pub map_some : {A B : Type 0} (f : A → B) (o : Option A) (y : B) → option_map f o ≡ Some y → (x : A) × (o ≡ Some x) × (f x ≡ y)
-map_some f None y e = none_some e
-map_some f (Some x) y e = (x, refl, some_inj e)
-
 -- it finds enough operands
 pub barrier_sends : (code : CodeTree) (a : ℕ) (access : Access) (depth : ℕ) (d : Description) (ps : Sent Description) → passed code (Some (barrier access depth)) a d ≡ Some ps → (nat_le (length (wanted (Tests access depth))) (length d.stack) ≡ true) × (ps ≡ (a + 1, left (Tests access depth) d) ∷ [])
 barrier_sends code a access depth d ps e =

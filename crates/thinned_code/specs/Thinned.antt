@@ -1,26 +1,20 @@
 -- Code without its redundant barriers.
-use Rattle.std.specs.Prelude.{ℕ, zero, suc, Bool, true, false, not, List, [], ◌∷◌, map, Option, Some, None, slice_get}
+use Rattle.std.specs.Prelude.{ℕ, zero, suc, Bool, true, false, not, List, [], ◌∷◌, map, Option, Some, None}
 use Rattle.lam_bytecode.specs.Codes.{CodeTree}
 use Rattle.lam_bytecode.specs.declared.unit.CodeUnit.{CodeUnit}
 use Rattle.lam_bytecode.specs.declared.unit.UnitKind.{UnitKind}
 use Rattle.lam_bytecode.specs.declared.unit.UnitKind.TheVariants.{Function, Region}
 use Rattle.lam_bytecode.specs.declared.op.Op.{Op}
-use Rattle.lam_bytecode.specs.declared.op.Op.TheVariants.{Jump, JumpIfFalse, ReadBarrier, WriteBarrier}
+use Rattle.lam_bytecode.specs.declared.op.Op.TheVariants.{Jump, JumpIfFalse}
 use Rattle.guarded_code.specs.Rounds.{Table, Found, Holds, Broke}
-use Rattle.guarded_code.specs.declared.known.Access.TheVariants.{Reading, Writing}
 use Rattle.guarded_code.specs.Descriptions.{Description}
 use Rattle.guarded_code.specs.Changes.{descriptions}
-use Rattle.guarded_code.specs.Breaks.{is_tested_at, CodeBreak, first_code_break}
+pub use Rattle.guarded_code.specs.Breaks.{tests_again}
+use Rattle.guarded_code.specs.Breaks.{CodeBreak, first_code_break}
 
 -- ---- which operations stay
 
--- a barrier whose operand was tested by its rule already
-abbrev pub tests_again : Op → Description → Bool
-tests_again (ReadBarrier depth) d = is_tested_at Reading (slice_get d.stack depth)
-tests_again (WriteBarrier depth) d = is_tested_at Writing (slice_get d.stack depth)
-tests_again op d = false
-
--- one at an address without a description stays
+-- all but the redundant barriers; one at an address without a description stays
 abbrev pub stays : Op → Option Description → Bool
 stays op None = true
 stays op (Some d) = not (tests_again op d)

@@ -14,6 +14,8 @@
 //! (`proofs/Spread`).
 //!
 //! `thinned_code_acts` says what thinned code does in a run.
+//!
+//! Nothing here is a matter of speed.
 #![tactic(auto)]
 
 ghost use Rattle.thinned_code.specs.Facts.{StaysGuarded, StaysCode, KeepsUnits, KeepsNames, ThinnedOnce};
