@@ -13,6 +13,9 @@
 //!
 //! All of them append to a given text and make no other text on the way. Where memory is refused, what was written by
 //! then may stand at the text's end.
+//!
+//! A public promise rests on `push_event` and `push_head`: the bytes of a view and of an audit. Free to change for
+//! speed: how a text grows.
 #![tactic(auto)]
 
 mod answers;

@@ -10,6 +10,8 @@
 //! - `specs/Worlds`: worlds whose threads are described, those from which runs start, and those from which they are
 //!   sound.
 //! - `specs/Laws`: the laws.
+//!
+//! Nothing here is a matter of speed.
 #![tactic(auto)]
 
 ghost use Rattle.lam_bytecode.specs.Codes.{CodeTree};

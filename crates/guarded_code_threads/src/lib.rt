@@ -8,6 +8,8 @@
 //! - `specs/Answers`: the form of an answer.
 //! - `specs/Accesses`: what accesses find, and what they do without a second test.
 //! - `specs/Laws`: the laws; `specs/Samples`: what is known at some addresses.
+//!
+//! Nothing here is a matter of speed.
 #![tactic(auto)]
 
 ghost use Rattle.lam_bytecode.specs.Codes.{CodeTree};

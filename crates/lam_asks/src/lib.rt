@@ -12,7 +12,10 @@
 //! An ask has thirty forms, and a function that drops one contains the drop of each form, too much beside anything
 //! else. So a layer that is done with an ask, or with an event that holds one, passes it to [`let_go`] or
 //! [`let_go_event`]. These find the ask's family first (`family`), and then drop it form by form in a function for that
-//! family (`families`).
+//! family (`families`). `Ask::copy` goes by families, too.
+//!
+//! A public promise rests on `Ask::copy`, `Fault::number` and the definition of `specs/Suits`: asks, faults and answers
+//! of a run. Free to change for speed: how an ask is copied and let go.
 #![tactic(auto)]
 
 mod answer;

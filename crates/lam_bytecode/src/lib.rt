@@ -10,6 +10,9 @@
 //! - `text`: its text.
 //!
 //! This crate is data: `thread_steps` defines what an operation does.
+//!
+//! A public promise rests on `listing` and `Code::function`: the bytes of a listing, and where a thread begins. Free to
+//! change for speed: how a function is found by its name.
 #![tactic(auto)]
 
 mod code;

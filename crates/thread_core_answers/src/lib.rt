@@ -4,6 +4,9 @@
 //! neither. So [`prepare`] takes all memory that the answer needs first. A [`Prepared`] is then done, or undone,
 //! without any: what grows was put on the thread already, and doing it only takes away. Nothing of the thread is
 //! copied. [`take_answer`] does both at once.
+//!
+//! A public promise rests on `prepare` (clauses `before`, `after`, `err`), `Prepared::done` and `Prepared::back`: an
+//! answer does what the definition says, or nothing. Free to change for speed: what a plan holds.
 #![tactic(auto)]
 
 mod answering;

@@ -3,6 +3,8 @@
 //! The effect of a built-in call is known before it is done, without memory. Its value, fault or ask is a [`Called`],
 //! which borrows the parts of its arguments. [`system`] is the effect of a call with the arguments on top of the
 //! operands. `access` has the effects of the operations that reach a thing or make one.
+//!
+//! No public promise rests on it directly: `lam_machine`'s does.
 #![tactic(auto)]
 
 mod access;

@@ -4,6 +4,8 @@
 //! borrows the parts of values and asks, and allocates nothing. [`value_from`] and [`ask_from`] copy such parts into a
 //! value or an ask. The crates above give the effect of each operation: `thread_core_calls` those of built-in calls,
 //! `thread_core_ops` all others.
+//!
+//! No public promise rests on it directly: `lam_machine`'s does. Free to change for speed: how parts are copied.
 #![tactic(auto)]
 
 mod acted;

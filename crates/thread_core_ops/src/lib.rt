@@ -9,6 +9,9 @@
 //! - `seeing`: the operations.
 //!
 //! Built-in calls, barriers, accesses and monitors stand in `thread_core_calls`.
+//!
+//! No public promise rests on it directly: `lam_machine`'s does. Free to change for speed: how a region's unit is found
+//! (`units`).
 #![tactic(auto)]
 
 mod operators;

@@ -7,6 +7,9 @@
 //! Contracts see the plain records of `thread_steps`, where the top of each stack stands first; in code it is the last
 //! of a vector. The fields are public, since the steps of a thread, in the crate above, change them in place. No
 //! invariant ties them.
+//!
+//! No public promise rests on it directly: `lam_machine`'s does. Free to change for speed: how `Operands` keeps its
+//! values, so far as its view stays.
 #![tactic(auto)]
 
 mod context;

@@ -12,6 +12,8 @@
 //! - `specs/Next`: what comes next, and what an answer does to the thread.
 //!
 //! The compiler's proof and the machine both stand on these definitions, and neither on the other.
+//!
+//! Nothing here is a matter of speed.
 #![tactic(auto)]
 
 pub use lam_asks::{
