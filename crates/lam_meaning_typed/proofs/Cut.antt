@@ -65,11 +65,9 @@ module _ (n m : ℕ) (o : Own) (le : n ≤ m) where
   pure_cut wrong = refl
 
   pub reply_cut : (gains : Value → Own → Own) (x : Answer) → Cut (value_reply gains n o x) (value_reply gains m o x)
-  reply_cut gains (Val v) = (m, le, refl)
-  reply_cut gains (Refused d) = (m, le, refl)
-  reply_cut gains (Failed f) = (m, le, refl)
   reply_cut gains Done = refl
   reply_cut gains Entered = refl
+  reply_cut gains x = (m, le, refl)
 
   pub gains_cut : (q : Asked) (gains : Value → Own → Own) → Cut (asks q (λ x. value_reply gains n o x)) (asks q (λ x. value_reply gains m o x))
   gains_cut q gains = ((λ x. value_reply gains m o x), refl, λ x. reply_cut gains x)

@@ -1,5 +1,6 @@
 -- What a typed expression gives is of its type, and it meets no operand of another kind.
 use Rattle.std.proofs.Common.{◌≡◌, ℕ, zero, suc, ℤ, pos, negsuc, ◌+ℤ◌, ◌-ℤ◌, ◌*ℤ◌, List, [], ◌∷◌, Option, Some, refl, sym, ap, subst, map}
+use Rattle.std.proofs.lemmas.Option.{same_Some}
 use Rattle.std.specs.Prelude.{nat_le, int_div, int_rem, slice_get}
 use Rattle.capabilities.specs.declared.Caps.{Caps}
 use Rattle.lam_value.specs.declared.values.Value.{Value}
@@ -24,7 +25,7 @@ use Rattle.lam_meaning.specs.Means.{sort_of, kind_of, At, may_read, Caller, clas
 use Rattle.lam_meaning_typed.proofs.Sorts.{AreBy, Sorts, AsksFor, gives_plain, gives_own, IsWell}
 use Rattle.lam_meaning_typed.proofs.Places.{an_int, a_truth, a_text, some_caps, GivesA, given_on, fits_a, RestAre, ArgsAre, exact_args}
 use Rattle.lam_meaning_typed.proofs.Rows.{PureIs, divided_is, number_is, prefix_is, numbers_is, sign_is, AreTagValues, label_is, CallsIs, builtin_is}
-use Rattle.lam_meaning_typed.proofs.Locals.{Fit, fit_on, some_is}
+use Rattle.lam_meaning_typed.proofs.Locals.{Fit, fit_on}
 use Rattle.lam_meaning_typed.proofs.Trees.{EndBy, weaker, then_tree, value_tree, done_tree, unless_tree, object_tree, array_tree, truth_tree, number_tree, caps_tree, within_tree, if_tree, pure_tree}
 
 abbrev pub Never : Value → Type 0
@@ -39,14 +40,14 @@ abbrev pub CallsWell : {r : ResolvedTree} (S : Sorts r) → Caller → Type 0
 CallsWell {r = r} S call =
     (f : ℕ) (fn : ResolvedFunction) (vs : List Value) (p : At) (n size : ℕ) (env : Scope) (o : Own) (G : S.Known) → slice_get r.functions f ≡ Some fn → AreBy (S.Is G) fn.params vs → Fit S G size env o.locals → IsWell S (Values S size env (λ G v. GivesA S G (given_by fn.result) v)) G (call f vs p n o)
 
-gained_same : (a : Ask) (v : Value) (o : Own) → (gained a v o).locals ≡ o.locals
+pub gained_same : (a : Ask) (v : Value) (o : Own) → (gained a v o).locals ≡ o.locals
 gained_same ask.Mint (Tag t) o = refl
 gained_same (ask.ReceiveCaps p) (CapV a b) o = refl
 gained_same a v o = refl
 
 pub head_at : (fs : List ResolvedFunction) (f : ℕ) (h : ResolvedSignature) → slice_get (map head_of fs) f ≡ Some h → (fn : ResolvedFunction) × (slice_get fs f ≡ Some fn) × (head_of fn ≡ h)
 head_at [] f h e = absurd cc
-head_at (fn ∷ fs) zero h e = (fn, refl, some_is (head_of fn) h e)
+head_at (fn ∷ fs) zero h e = (fn, refl, same_Some (head_of fn) h e)
 head_at (fn ∷ fs) (suc f) h e = head_at fs f h e
 
 module _ {r : ResolvedTree} (S : Sorts r) (size : ℕ) (env : Scope) where

@@ -1,12 +1,13 @@
 -- Values of the types of the slots in scope.
 use Rattle.std.proofs.Common.{◌≡◌, ℕ, zero, suc, ◌+◌, ◌<◌, Bool, true, false, List, [], ◌∷◌, ◌++◌, Option, Some, None, length, refl, sym, ap, ◌∙◌, subst, arith, length-append}
+use Rattle.std.proofs.lemmas.Bool.{eqb-true, eq-eqb}
 use Rattle.std.proofs.lemmas.Bool.Decides.{nat_tests}
 use Rattle.std.proofs.lemmas.List.{length-replicate}
-use Rattle.std.proofs.lemmas.Option.{slice_get_within}
+use Rattle.std.proofs.lemmas.Option.{none-some, same_Some, slice_get_within}
 use Rattle.std.specs.Prelude.{if◌then◌else◌, nat_eq, slice_get, slice_set, replicate, ◌-◌, map}
 use Rattle.lam_value.specs.declared.values.Value.{Value}
 use Rattle.lam_value.specs.declared.values.Value.TheVariants.{Nothing}
-use Rattle.lam_resolve_tree.specs.Tree.{ResolvedType, ResolvedTree, Statement, let_slot, if_block, while_block, return_value, throw_value, sync_block, region_block, do_value, set_local, set_field, set_element}
+use Rattle.lam_resolve_tree.specs.Tree.{ResolvedType, ResolvedTree, Statement, let_slot}
 use Rattle.lam_resolve_tree.specs.Typing.{ResolvedSignatures, Use, a_local, a_monitor, Scope, with_use, locals_of, local_if, use_of, after, AreCaptured, Returning, IsStatement}
 use Rattle.lam_meaning.specs.Trees.{Own, local, value_or_null}
 use Rattle.lam_meaning_typed.specs.Kinds.{AreOf}
@@ -26,7 +27,7 @@ Within env env' = (x : ℕ) (u : Use) → env x ≡ Some u → env' x ≡ Some u
 
 -- ---- a slot is set
 
-length-set_slot : (l : List Value) (x : ℕ) (v : Value) → length (slice_set l x v) ≡ length l
+pub length-set_slot : (l : List Value) (x : ℕ) (v : Value) → length (slice_set l x v) ≡ length l
 length-set_slot [] x v = refl
 length-set_slot (a ∷ l) zero v = refl
 length-set_slot (a ∷ l) (suc x) v = ap suc (length-set_slot l x v)
@@ -36,53 +37,33 @@ set_here [] x v h = absurd (omega (arith, h))
 set_here (a ∷ l) zero v h = refl
 set_here (a ∷ l) (suc x) v h = set_here l x v (omega (arith, h))
 
-set_apart : (l : List Value) (x y : ℕ) (v : Value) → nat_eq y x ≡ false → at_slot (slice_set l x v) y ≡ at_slot l y
-set_apart [] x y v h = refl
+pub set_apart : (l : List Value) (x y : ℕ) (v : Value) → nat_eq y x ≡ false → at_slot (slice_set l x v) y ≡ at_slot l y
 set_apart (a ∷ l) zero zero v h = absurd (grind (arith, nat_tests, h))
-set_apart (a ∷ l) zero (suc y) v h = refl
-set_apart (a ∷ l) (suc x) zero v h = refl
 set_apart (a ∷ l) (suc x) (suc y) v h = set_apart l x y v (grind (arith, nat_tests, h))
-
-pub some_is : {A : Type 0} (a b : A) → ◌≡◌ {A = Option A} (Some a) (Some b) → a ≡ b
-some_is a b e = cc
-
-same_nat : (x y : ℕ) → nat_eq y x ≡ true → y ≡ x
-same_nat x y e = grind (arith, nat_tests, e)
-
-apart_self : (x y : ℕ) (env : Scope) (u : Use) → env x ≡ None → env y ≡ Some u → nat_eq y x ≡ false
-apart_self x y env u none some = go (nat_eq y x) refl
-  where
-    go : (b : Bool) → nat_eq y x ≡ b → b ≡ false
-    go false e = refl
-    go true e = absurd (let same = ap env (same_nat x y e) in cc)
+set_apart l x y v h = refl
 
 pub slot_here : (env : Scope) (x : ℕ) (u : Use) → with_use env x u x ≡ Some u
-slot_here env x u = let e : nat_eq x x ≡ true = grind (arith, nat_tests) in ap (λ b. if b then Some u else env x) e
+slot_here env x u = ap (λ b. if b then Some u else env x) (eq-eqb x x refl)
 
 pub within_new : (env : Scope) (x : ℕ) (t : Use) → env x ≡ None → Within env (with_use env x t)
-within_new env x t none y u e = ap (λ b. if b then Some t else env y) (apart_self x y env u none e) ∙ e
+within_new env x t none y u e = go (nat_eq y x) refl
+  where
+    go : (b : Bool) → nat_eq y x ≡ b → (if b then Some t else env y) ≡ Some u
+    go true k = absurd (none-some u (sym none ∙ ap env (sym (eqb-true y x k)) ∙ e))
+    go false k = e
 
 within_old : (env : Scope) (x : ℕ) (t : Use) → env x ≡ Some t → Within env (with_use env x t)
 within_old env x t some y u e = go (nat_eq y x) refl
   where
     go : (b : Bool) → nat_eq y x ≡ b → (if b then Some t else env y) ≡ Some u
-    go true k = sym some ∙ ap env (sym (same_nat x y k)) ∙ e
+    go true k = sym some ∙ ap env (sym (eqb-true y x k)) ∙ e
     go false k = e
 
 -- ---- scopes
 
 pub within_after : (p : ResolvedSignatures) (slots : List ResolvedType) (ret : Returning) (env : Scope) (s : Statement) → IsStatement p slots ret env s → Within env (after slots env s)
 within_after p slots ret env (let_slot x e) h y u k = subst (λ m. use_of m env x y ≡ Some u) (sym h.1.0) (within_new env x (a_local h.0) h.1.1 y u k)
-within_after p slots ret env (if_block e b c) h y u k = k
-within_after p slots ret env (while_block e b) h y u k = k
-within_after p slots ret env (return_value e) h y u k = k
-within_after p slots ret env (throw_value e) h y u k = k
-within_after p slots ret env (sync_block x e b) h y u k = k
-within_after p slots ret env (region_block m l c from own body x handler) h y u k = k
-within_after p slots ret env (do_value e) h y u k = k
-within_after p slots ret env (set_local x e) h y u k = k
-within_after p slots ret env (set_field e c f t v) h y u k = k
-within_after p slots ret env (set_element e i t v) h y u k = k
+within_after p slots ret env s h y u k = k
 
 -- ---- the locals at the head of a unit
 
@@ -94,7 +75,7 @@ length_are (t ∷ ts) (v ∷ vs) h = ap suc (length_are ts vs h.1)
 
 is_local : (o : Option ResolvedType) (u : Use) → local_if o ≡ Some u → (t : ResolvedType) × (o ≡ Some t) × (u ≡ a_local t)
 is_local None u e = absurd cc
-is_local (Some t) u e = (t, refl, sym (some_is (a_local t) u e))
+is_local (Some t) u e = (t, refl, sym (same_Some (a_local t) u e))
 
 pub length-captured : (o : Own) (xs : List ℕ) → length (map (λ x. local o x) xs) ≡ length xs
 length-captured o [] = refl
@@ -125,13 +106,13 @@ module _ {r : ResolvedTree} (S : Sorts r) (G : S.Known) where
       here = subst (λ n. x < n) (sym h.whole) lt
 
       inside : (y : ℕ) (u : Use) (b : Bool) → nat_eq y x ≡ b → (if b then Some t else env y) ≡ Some u → y < length (slice_set l x v)
-      inside y u true e k = subst (λ n. y < n) (sym (length-set_slot l x v)) (subst (λ z. z < length l) (sym (same_nat x y e)) here)
+      inside y u true e k = subst (λ n. y < n) (sym (length-set_slot l x v)) (subst (λ z. z < length l) (sym (eqb-true y x e)) here)
       inside y u false e k = subst (λ n. y < n) (sym (length-set_slot l x v)) (h.inside y u k)
 
       typed : (y : ℕ) (u : Use) (b : Bool) → nat_eq y x ≡ b → (if b then Some t else env y) ≡ Some u → S.Is G (used_as u) (at_slot (slice_set l x v) y)
       typed y u true e k =
-          subst (λ s. S.Is G (used_as s) (at_slot (slice_set l x v) y)) (some_is t u k)
-          (subst (λ z. S.Is G (used_as t) (at_slot (slice_set l x v) z)) (sym (same_nat x y e)) (subst (λ w. S.Is G (used_as t) w) (sym (set_here l x v here)) is))
+          subst (λ s. S.Is G (used_as s) (at_slot (slice_set l x v) y)) (same_Some t u k)
+          (subst (λ z. S.Is G (used_as t) (at_slot (slice_set l x v) z)) (sym (eqb-true y x e)) (subst (λ w. S.Is G (used_as t) w) (sym (set_here l x v here)) is))
       typed y u false e k = subst (λ w. S.Is G (used_as u) w) (sym (set_apart l x y v e)) (h.typed y u k)
 
   pub set_old : (size : ℕ) (env : Scope) (l : List Value) (x : ℕ) (t : Use) (v : Value) → env x ≡ Some t → S.Is G (used_as t) v → Fit size env l → Fit size env (slice_set l x v)
@@ -144,7 +125,7 @@ module _ {r : ResolvedTree} (S : Sorts r) (G : S.Known) where
   head_typed : (ts : List ResolvedType) (vs more : List Value) → AreBy (S.Is G) ts vs → (x : ℕ) (t : ResolvedType) → slice_get ts x ≡ Some t → S.Is G t (at_slot (vs ++ more) x)
   head_typed [] vs more h x t e = absurd cc
   head_typed (u ∷ ts) [] more h x t e = absurd h
-  head_typed (u ∷ ts) (v ∷ vs) more h zero t e = subst (λ s. S.Is G s v) (some_is u t e) h.0
+  head_typed (u ∷ ts) (v ∷ vs) more h zero t e = subst (λ s. S.Is G s v) (same_Some u t e) h.0
   head_typed (u ∷ ts) (v ∷ vs) more h (suc x) t e = head_typed ts vs more h.1 x t e
 
   -- the first values, and null in the other slots

@@ -20,7 +20,7 @@ use Rattle.lam_asks.specs.Suits.{numbers}
 use Rattle.lam_meaning.specs.Operators.{operator, prefix, label_from, with_sign}
 use Rattle.lam_meaning.specs.Builtins as calls
 use Rattle.lam_meaning.specs.Builtins.{Calls, builtin}
-use Rattle.lam_resolve_tree.specs.Tree.{ResolvedType, CapSlot, Expression, number_value, text_value, bool_value, null_value, local_value, unary_of, binary_of, field_of, element_of, call_of, builtin_of, new_object, new_array, label_of, caps_of, spawn_of, Expressions, args_end, args_more, Statement, let_slot, if_block, while_block, return_value, throw_value, sync_block, region_block, do_value, set_local, set_field, set_element, Block, block_end, block_more, OtherBlock, no_other, other_block, ResolvedFunction, ResolvedTree}
+use Rattle.lam_resolve_tree.specs.Tree.{ResolvedType, CapSlot, Expression, unary_of, binary_of, field_of, element_of, call_of, builtin_of, new_object, new_array, label_of, caps_of, spawn_of, Expressions, args_end, args_more, Statement, let_slot, if_block, while_block, return_value, throw_value, sync_block, region_block, do_value, set_local, set_field, set_element, Block, block_end, block_more, OtherBlock, no_other, other_block, ResolvedFunction, ResolvedTree}
 use Rattle.lam_meaning.specs.Trees.{Own, with_locals, with_local, local, asked, End, goes, raises, leaves, Tree, fails, gives, gained}
 use Rattle.lam_meaning.specs.Means.{At, may_read, may_write, Caller, makes_array, called_in, result_sort, signed, two, eval, eval_all, Open, Does, take, give_back, returns, captured, caught_end, body_end, enter_reply, inside, region, throws, eval_option, exec, exec_block, exec_other, calls_limit, call_end, first_locals, body_of, deeper, calls_to, runs, block_runs, last_ask, means}
 use Rattle.lam_meaning_typed.proofs.Cut.{left_of, with_left, Cut, end_cut, then_cut, CutDoes, if_cut, pure_cut, gains_cut, value_cut, done_cut, unless_cut, object_cut, array_cut, thing_cut, caps_cut, region_cut, within_cut, truth_cut, number_cut, spend_cut}
@@ -54,11 +54,6 @@ module _ (r : ResolvedTree) where
   module _ (call call' : Caller) (well : CutCalls call call') where
     mutual
       pub eval_cut : (e : Expression) (p : At) → CutDoes (eval r call e p) (eval r call' e p)
-      eval_cut (number_value z) p n m o le = (m, le, refl)
-      eval_cut (text_value bs) p n m o le = (m, le, refl)
-      eval_cut (bool_value b) p n m o le = (m, le, refl)
-      eval_cut null_value p n m o le = (m, le, refl)
-      eval_cut (local_value x) p n m o le = (m, le, refl)
       eval_cut (unary_of op e) p n m o le = then_cut _ _ _ _ (eval_cut e p n m o le) (λ v n m o le. pure_cut n m o le (prefix op v))
       eval_cut (binary_of op a b) p n m o le = then_cut _ _ _ _ (eval_cut a p n m o le) (λ v n m o le. two_cut op v (λ n o. eval r call b p n o) (λ n o. eval r call' b p n o) (eval_cut b p) n m o le)
       eval_cut (field_of e c f t) p n m o le =
@@ -74,6 +69,7 @@ module _ (r : ResolvedTree) where
       eval_cut (caps_of items) p n m o le = signed_cut items (CapV _ _) n m o le
       eval_cut (spawn_of c f args) p n m o le =
           then_cut _ _ _ _ (eval_cut c p n m o le) (λ c n m o le. then_cut _ _ _ _ (args_cut args p n m o le) (λ vs n m o le. caps_cut n m o le c _ _ (λ k. value_cut n m o le _)))
+      eval_cut e p n m o le = (m, le, refl)
 
       args_cut : (args : Expressions) (p : At) → CutDoes (eval_all r call args p) (eval_all r call' args p)
       args_cut args_end p n m o le = (m, le, refl)
@@ -168,8 +164,7 @@ module _ (r : ResolvedTree) (call call' : Caller) (well : CutCalls r call call')
 
 result_cut : (ls : List Value) (e : End (Unit {0})) (m : ℕ) → left_of e ≤ m → Cut (call_end ls e) (call_end ls (with_left e m))
 result_cut ls (goes a n o) m le = (m, le, refl)
-result_cut ls (raises f n o) m le = (m, le, refl)
-result_cut ls (leaves v n o) m le = (m, le, refl)
+result_cut ls e m le = (m, le, refl)
 
 last_cut : (e : End (Unit {0})) (m : ℕ) → left_of e ≤ m → Cut (last_ask e) (last_ask (with_left e m))
 last_cut (goes a n o) m le = done_cut n m o le (ask.End (outcome.Value Nothing)) tt

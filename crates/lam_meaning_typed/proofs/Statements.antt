@@ -111,11 +111,9 @@ module _ {r : ResolvedTree} (S : Sorts r) where
     return_tree : (os : Open) (size : ℕ) (ret : Returning) (env : Scope) (E : S.Known → End (Unit {0}) → Type 0) (e : Option Expression) → Returns (heads_of r) ret env e → AreOpen env os → ((H : S.Known) (f : Fault) (n : ℕ) (o : Own) → Fit S H size env o.locals → E H (raises f n o)) → ((H : S.Known) (v : Value) (n : ℕ) (o : Own) → Result H ret v → E H (leaves v n o)) → (p : At) (n : ℕ) (o : Own) (G : S.Known) → Fit S G size env o.locals → IsWell S E G (and_then (eval_option r call e p n o) (λ v n o. returns os v n o))
     return_tree os size (in_function None) env E None h op f k p n o G l =
         and_value S size env (λ G v. Unit {0}) E G _ _ (λ H m. f H) (tt, l) (λ H m v n o i l. returns_tree size env E H os v n o op (λ J m. f J) (λ J m n o. k J v n o tt) l)
-    return_tree os size (in_function None) env E (Some e) h op f k p n o G l = absurd h
-    return_tree os size (in_function (Some t)) env E None h op f k p n o G l = absurd h
     return_tree os size (in_function (Some t)) env E (Some e) h op f k p n o G l =
         operand_tree size env t e E G p n o _ h (λ H m. f H) l (λ H m v n o i l. returns_tree size env E H os v n o op (λ J m. f J) (λ J m n o. k J v n o (S.is_on H J m t v i)) l)
-    return_tree os size in_region env E e h op f k p n o G l = absurd h
+    return_tree os size ret env E e h op f k p n o G l = absurd h
 
     mutual
       pub exec_tree : (os : Open) (slots : List ResolvedType) (ret : Returning) (env : Scope) (s : Statement) → IsStatement (heads_of r) slots ret env s → AreOpen env os → (p : At) (n : ℕ) (o : Own) (G : S.Known) → Fit S G (length slots) env o.locals → IsWell S (OfStatement slots ret env s) G (exec r call again os s p n o)

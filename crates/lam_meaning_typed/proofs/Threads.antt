@@ -1,5 +1,6 @@
 -- Threads of typed programs meet no operand of another kind; where values are of their types' sorts, they are not broken.
 use Rattle.std.proofs.Common.{◌≡◌, ◌≢◌, ℕ, zero, suc, Bool, true, false, List, [], ◌∷◌, Option, Some, None, refl, sym, subst, length}
+use Rattle.std.proofs.lemmas.Option.{same_Some}
 use Rattle.std.specs.Prelude.{if◌then◌else◌, nat_lt, slice_get}
 use Rattle.flow_labels.specs.Flow.{public_label}
 use Rattle.capabilities.specs.declared.Caps.{Caps}
@@ -20,14 +21,14 @@ use Rattle.lam_meaning_typed.specs.Kinds.{IsA, AreOf, NeverBroken}
 use Rattle.lam_meaning_typed.proofs.Values.{null_is}
 use Rattle.lam_meaning_typed.proofs.Sorts.{AreBy, Sorts, IsWell}
 use Rattle.lam_meaning_typed.proofs.Places.{GivesA}
-use Rattle.lam_meaning_typed.proofs.Locals.{Fit, fit_on, some_is, fit_head}
+use Rattle.lam_meaning_typed.proofs.Locals.{Fit, fit_on, fit_head}
 use Rattle.lam_meaning_typed.proofs.Trees.{end_tree, done_tree, if_tree, spend_tree}
 use Rattle.lam_meaning_typed.proofs.Expressions.{Values, CallsWell}
 use Rattle.lam_meaning_typed.proofs.Statements.{OfBlock, DoesWell, exec_tree, block_tree}
 
 pub function_at : (p : ResolvedSignatures) (fs : List ResolvedFunction) (f : ℕ) (fn : ResolvedFunction) → AreFunctions p fs → slice_get fs f ≡ Some fn → IsFunction p fn
 function_at p [] f fn h e = absurd cc
-function_at p (g ∷ fs) zero fn h e = subst (λ g. IsFunction p g) (some_is g fn e) h.0
+function_at p (g ∷ fs) zero fn h e = subst (λ g. IsFunction p g) (same_Some g fn e) h.0
 function_at p (g ∷ fs) (suc f) fn h e = function_at p fs f fn h.1 e
 
 -- a function's body
