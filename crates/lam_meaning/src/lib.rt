@@ -21,4 +21,7 @@
 //!
 //! The compiler's contract is that its code is this one. `lam_meaning_laws` proves of this scheme that the code acts as
 //! its program.
+//!
+//! Nothing here is a matter of speed. The promises of `compile` (`barrier_compiler`) and of `walk` (`source_walk`) are
+//! made in these definitions.
 #![tactic(auto)]

@@ -1,8 +1,9 @@
 -- Each constant of the scheme's code stands at its place.
-use Rattle.std.proofs.Common.{◌≡◌, ℕ, zero, suc, Bool, true, false, List, [], ◌∷◌, ◌++◌, Option, Some, refl, sym, ap, subst}
+use Rattle.std.proofs.Common.{◌≡◌, ℕ, zero, suc, Bool, true, false, List, [], ◌∷◌, ◌++◌, Some, refl, sym, ap, subst}
 use Rattle.std.proofs.lemmas.Bool.Decides.{Decides-int_eq}
 use Rattle.std.proofs.lemmas.Cmp.{int_eq_equiv}
 use Rattle.std.proofs.lemmas.Slice.Eq.{bytes_eq-Decides}
+use Rattle.std.proofs.lemmas.Option.{same_Some}
 use Rattle.std.specs.Prelude.{if◌then◌else◌, slice_get}
 use Rattle.lam_value.specs.declared.values.Value.{Value}
 use Rattle.lam_value.specs.declared.values.Value.TheVariants.{Int, Bool as Truth, Bytes, Nothing}
@@ -97,12 +98,9 @@ all_own vs [] = tt
 all_own vs (an_op o ∷ fs) = all_own vs fs
 all_own vs (a_constant v ∷ fs) = (λ c. in_code (with_constant vs v) fs v (in_own vs v c), all_own (with_constant vs v) fs)
 
-some_is : {A : Type 0} (a b : A) → ◌≡◌ {A = Option A} (Some a) (Some b) → a ≡ b
-some_is a b e = cc
-
 pub draft_constants : (vs : List Value) (ds : List Draft) (i : ℕ) (d : Draft) → slice_get ds i ≡ Some d → AllIn (all_constants vs ds) d.code
 draft_constants vs [] i d e = absurd cc
 draft_constants vs (x ∷ ds) zero d e =
-    subst (λ (d : Draft). AllIn (all_constants (constants_in vs x.code) ds) d.code) (some_is x d e)
+    subst (λ (d : Draft). AllIn (all_constants (constants_in vs x.code) ds) d.code) (same_Some x d e)
     (all_more (constants_in vs x.code) (all_constants (constants_in vs x.code) ds) x.code (λ v k. in_drafts (constants_in vs x.code) ds v k) (all_own vs x.code))
 draft_constants vs (x ∷ ds) (suc i) d e = draft_constants (constants_in vs x.code) ds i d e

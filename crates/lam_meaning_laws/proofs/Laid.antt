@@ -9,7 +9,7 @@ use Rattle.lam_bytecode.specs.declared.op.Op.{Op}
 use Rattle.lam_bytecode.specs.declared.op.Op.TheVariants.{Const, Jump, JumpIfFalse}
 use Rattle.lam_meaning_typed.specs.Pieces as laid
 use Rattle.lam_meaning_typed.specs.Pieces.{Piece, Pieces, no_pieces, pieces, joined, size_of, size, Flat, an_op, a_constant, flat_of, flat, is_in, place_of, numbered}
-use Rattle.lam_meaning_laws.specs.Nested.{Nested, no_code, does, puts, both, when, either, loops, enters, pieces_of}
+use Rattle.lam_meaning_laws.specs.Nested.{Nested, does, puts, both, when, either, loops, pieces_of}
 use Rattle.lam_meaning_laws.proofs.Stands.{width, op_here}
 use Rattle.lam_meaning_laws.proofs.Constants.{AllIn}
 
@@ -46,14 +46,11 @@ flat_joined at (pieces p ps) qs =
     sym (append_assoc (flat_of at p) (flat (at + size_of p) ps) (flat (at + (size_of p + size ps)) qs))
 
 pub width_size : (c : Nested) → size (pieces_of c) ≡ width c
-width_size no_code = refl
-width_size (does o) = refl
-width_size (puts v) = refl
 width_size (both a b) = omega (arith, size_joined (pieces_of a) (pieces_of b), width_size a, width_size b)
 width_size (when a) = omega (arith, width_size a)
 width_size (either a b) = omega (arith, width_size a, width_size b)
 width_size (loops t b) = omega (arith, width_size t, width_size b)
-width_size (enters number captures slots body handler) = refl
+width_size c = refl
 
 pub numbered_length : (vs : List Value) (fs : List Flat) → length (numbered vs fs) ≡ length fs
 numbered_length vs [] = refl

@@ -1,3 +1,5 @@
+pub use Rattle.lam_meaning_typed.proofs.Locals
+pub use Rattle.lam_meaning_typed.proofs.Expressions as TypedExpressions
 pub mod Grows
 pub mod Acting
 pub mod Pieces

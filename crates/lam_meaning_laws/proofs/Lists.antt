@@ -3,7 +3,7 @@ use Rattle.std.proofs.Common.{◌≡◌, ℕ, zero, suc, ◌<◌, true, false, L
 use Rattle.std.proofs.lemmas.Bool.Decides.{nat_tests}
 use Rattle.std.proofs.lemmas.List.{reverse-reverse, length-reverse, take-append-le, drop-append-le, take_all, drop_all}
 use Rattle.std.proofs.lemmas.Grind.{reverse_onto}
-use Rattle.std.specs.Prelude.{if◌then◌else◌, ◌||◌, reverse, nat_le, nat_lt, nat_eq, slice_get, slice_set}
+use Rattle.std.specs.Prelude.{if◌then◌else◌, ◌||◌, reverse, nat_le, nat_eq, slice_get, slice_set}
 use Rattle.std.specs.Ordering.{is_eq}
 use Rattle.std.proofs.lemmas.Cmp.{tied_itself}
 use Rattle.std.specs.List.{list_any}
@@ -13,7 +13,7 @@ use Rattle.lam_value.specs.declared.values.Value.{Value}
 use Rattle.thread_steps.specs.Equal.{same_names}
 use Rattle.thread_steps.specs.Ops.{Did, breaks, on_many, is_held}
 use Rattle.thread_steps.specs.Next.{held_by, without}
-use Rattle.lam_meaning_typed.specs.Trees.{value_or_null}
+use Rattle.lam_meaning_typed.proofs.Locals.{at_slot, set_apart}
 
 -- ---- operands
 
@@ -45,33 +45,10 @@ many_same vs s n go e = ap (λ l. on_many n l go) (push_is s vs) ∙ on_front (r
 
 -- ---- locals
 
-abbrev pub at_slot : List Value → ℕ → Value
-at_slot ls x = value_or_null (slice_get ls x)
-
 pub slot_there : (ls : List Value) (x : ℕ) → x < length ls → slice_get ls x ≡ Some (at_slot ls x)
 slot_there [] x h = absurd (omega (arith, h))
 slot_there (a ∷ ls) zero h = refl
 slot_there (a ∷ ls) (suc x) h = slot_there ls x (omega (arith, h))
-
-pub length-set_slot : (ls : List Value) (x : ℕ) (v : Value) → length (slice_set ls x v) ≡ length ls
-length-set_slot [] x v = refl
-length-set_slot (a ∷ ls) zero v = refl
-length-set_slot (a ∷ ls) (suc x) v = ap suc (length-set_slot ls x v)
-
-pub set_there : (ls : List Value) (x : ℕ) (v : Value) → x < length ls → at_slot (slice_set ls x v) x ≡ v
-set_there [] x v h = absurd (omega (arith, h))
-set_there (a ∷ ls) zero v h = refl
-set_there (a ∷ ls) (suc x) v h = set_there ls x v (omega (arith, h))
-
-pub set_apart : (ls : List Value) (x y : ℕ) (v : Value) → nat_eq y x ≡ false → at_slot (slice_set ls x v) y ≡ at_slot ls y
-set_apart [] x y v h = refl
-set_apart (a ∷ ls) zero zero v h = absurd (grind (arith, nat_tests, h))
-set_apart (a ∷ ls) zero (suc y) v h = refl
-set_apart (a ∷ ls) (suc x) zero v h = refl
-set_apart (a ∷ ls) (suc x) (suc y) v h = set_apart ls x y v (grind (arith, nat_tests, h))
-
-pub is_below : (x n : ℕ) → x < n → nat_lt x n ≡ true
-is_below x n h = grind (arith, nat_tests, h)
 
 -- ---- monitors
 

@@ -1,12 +1,13 @@
 -- Single operations, beside what the tree does there.
 use Rattle.std.proofs.Common.{◌≡◌, ℕ, ◌<◌, ℤ, pos, negsuc, Bool, true, false, List, [], ◌∷◌, ◌++◌, length, Option, Some, None, refl, sym, ap, ◌∙◌, subst}
 use Rattle.std.specs.Prelude.{if◌then◌else◌, ◌&&◌, nat_lt, nat_le, slice_get, slice_set}
+use Rattle.std.proofs.lemmas.Bool.{lt-ltb}
 use Rattle.flow_labels.specs.declared.Label.{Label}
 use Rattle.flow_labels.specs.declared.Denied.{Denied as Denial}
 use Rattle.capabilities.specs.declared.Caps.{Caps}
 use Rattle.lam_value.specs.declared.names.Name.{Name}
 use Rattle.lam_value.specs.declared.values.Value.{Value}
-use Rattle.lam_value.specs.declared.values.Value.TheVariants.{Int, Bytes, Nothing, Obj, Arr, File, Dir, Pipe, Thread, Tag, Lab, CapV}
+use Rattle.lam_value.specs.declared.values.Value.TheVariants.{Int, Bytes, Nothing, Obj, Arr, File, Dir, Pipe, Thread, Lab, CapV}
 use Rattle.decimal_text.specs.Decimal.{int_of}
 use Rattle.lam_value.specs.declared.shapes.Kind.{Kind}
 use Rattle.lam_value.specs.declared.shapes.Shape.TheVariants.{Array}
@@ -31,9 +32,10 @@ use Rattle.thread_steps.specs.Next.{held_by, without}
 use Rattle.lam_resolve_tree.specs.Tree.{ResolvedType}
 use Rattle.lam_meaning_typed.specs.Trees.{Own, Asked, asked, Tree, broken, fails, asks, on_end, purely, value_reply, nothing_gained, ask_value, done_reply, ask_done, ask_unit, unless_denied, on_object, on_array, gained, local}
 use Rattle.lam_meaning_typed.specs.Means.{At, may_read, may_write, within, on_number, makes_array, result_sort, called_in, take, give_back, throws}
+use Rattle.lam_meaning_typed.proofs.Expressions.{gained_same}
 use Rattle.lam_meaning_laws.specs.Gathers.{Along, with_locals, answered, Out, gone, returned, and_on, Caller, Enters, never_enters, done, replied, awaits, did, op_does}
 use Rattle.lam_meaning_laws.proofs.Plays.{Keep, Held, along, Matches, MatchesAt, suits_same}
-use Rattle.lam_meaning_laws.proofs.Lists.{slot_there, is_below, listed, first_held, first_back}
+use Rattle.lam_meaning_laws.proofs.Lists.{slot_there, listed, first_held, first_back}
 
 abbrev pub onto : List Value → Value → List Value
 onto s v = v ∷ s
@@ -44,11 +46,6 @@ stays s u = s
 -- the ask only lets the code go on
 abbrev pub IsPlain : Ask → Type 0
 IsPlain a = (s : List Value) (n : ℕ) (held : List Name) (st : Along) → done a s n held st ≡ gone s n held st
-
-gained_same : (a : Ask) (v : Value) (o : Own) → (gained a v o).locals ≡ o.locals
-gained_same ask.Mint (Tag t) o = refl
-gained_same (ask.ReceiveCaps p) (CapV a b) o = refl
-gained_same a v o = refl
 
 -- the rows of built-in calls that act ask for no change of contexts
 abbrev pub ActsPlainly : Calls → Type 0
@@ -248,7 +245,7 @@ module _ (code : CodeTree) (caller : Caller) (enter : Enters) (p : At) (n : ℕ)
 
   pub store_is : (x : ℕ) (v : Value) → x < length st.own.locals → op_does code caller enter (Store x) p n (v ∷ s) held st ≡ gone s n held (with_locals st (slice_set st.own.locals x v))
   unfolding effect
-  store_is x v lt = ap (λ b. did caller enter (if b then sets (slice_set st.own.locals x v) s else breaks) p n held st) (is_below x (length st.own.locals) lt)
+  store_is x v lt = ap (λ b. did caller enter (if b then sets (slice_set st.own.locals x v) s else breaks) p n held st) (lt-ltb x (length st.own.locals) lt)
 
   pub pop_is : (v : Value) → op_does code caller enter Pop p n (v ∷ s) held st ≡ gone s n held st
   unfolding effect

@@ -6,7 +6,7 @@ use Rattle.lam_operators.specs.declared.BinaryOp.{BinaryOp}
 use Rattle.lam_operators.specs.declared.BinaryOp.TheVariants as binary
 use Rattle.lam_bytecode.specs.declared.op.Op.TheVariants.{Load, Store, Pop, Add, Sub, Mul, Div, Rem, Eq, Ne, Lt, Le, Gt, Ge, Call, Return, Throw, ReadBarrier, WriteBarrier, GetField, PutField, GetElement, PutElement, NewArray, MakeLabel, NoCaps, System, EnterMonitor, LeaveMonitor, EnterRegion, Spawn}
 use Rattle.lam_meaning_typed.specs.Means.{kind_of}
-use Rattle.lam_resolve_tree.specs.Tree.{CapSlot, Expression, number_value, text_value, bool_value, null_value, local_value, unary_of, binary_of, field_of, element_of, call_of, builtin_of, new_object, new_array, label_of, caps_of, spawn_of, Expressions, args_end, args_more, Statement, let_slot, if_block, while_block, return_value, throw_value, sync_block, region_block, do_value, set_local, set_field, set_element, Block, block_end, block_more, OtherBlock, no_other, other_block}
+use Rattle.lam_resolve_tree.specs.Tree.{CapSlot, Expression, unary_of, binary_of, field_of, element_of, call_of, builtin_of, new_array, label_of, caps_of, spawn_of, Expressions, args_end, args_more, Statement, let_slot, if_block, while_block, return_value, throw_value, sync_block, region_block, do_value, set_local, set_field, set_element, Block, block_end, block_more, OtherBlock, no_other, other_block}
 use Rattle.lam_meaning_typed.specs.Pieces.{Pieces, joined, one, op, puts, when, either, loops}
 use Rattle.lam_meaning_typed.specs.Scheme.{between, prefix_op, sign_op, signs, count, expression, expressions, loads, gives_back, value_or_null, branches, statement, block, other_block_of}
 use Rattle.lam_meaning_laws.specs.Nested.{Nested, pieces_of, operator_code, signs_code, expression_code, expressions_code, loads_code, gives_back_code, value_code, statement_code, block_code, branches_code}
@@ -35,11 +35,6 @@ signs_pieces (x ∷ xs) = ap (λ ps. joined (op (Load x.slot)) (joined (op (sign
 
 mutual
   pub expression_pieces : (e : Expression) → pieces_of (expression_code e) ≡ expression e
-  expression_pieces (number_value z) = refl
-  expression_pieces (text_value bs) = refl
-  expression_pieces (bool_value b) = refl
-  expression_pieces null_value = refl
-  expression_pieces (local_value x) = refl
   expression_pieces (unary_of o e) = ap (λ ps. joined ps (op (prefix_op o))) (expression_pieces e)
   expression_pieces (binary_of o a b) =
       both_joined (pieces_of (expression_code a)) (expression a) (pieces_of (operator_code o (expression_code b))) (between o (expression b)) (expression_pieces a) (operator_pieces o (expression_code b) (expression b) (expression_pieces b))
@@ -48,13 +43,13 @@ mutual
       both_joined (pieces_of (expression_code e)) (expression e) _ _ (expression_pieces e) (ap (λ ps. joined ps (joined (op (ReadBarrier 1)) (op GetElement))) (expression_pieces i))
   expression_pieces (call_of f args) = ap (λ ps. joined ps (op (Call f))) (expressions_pieces args)
   expression_pieces (builtin_of b args t) = ap (λ ps. joined ps (op (System b))) (expressions_pieces args)
-  expression_pieces (new_object c) = refl
   expression_pieces (new_array t n) = ap (λ ps. joined ps (op (NewArray (kind_of t)))) (expression_pieces n)
   expression_pieces (label_of s i) =
       both_joined (pieces_of (expressions_code s)) (expressions s) _ _ (expressions_pieces s) (ap (λ ps. joined ps (op (MakeLabel (count s) (count i)))) (expressions_pieces i))
   expression_pieces (caps_of items) = ap (joined (op NoCaps)) (signs_pieces items)
   expression_pieces (spawn_of c f args) =
       both_joined (pieces_of (expression_code c)) (expression c) _ _ (expression_pieces c) (ap (λ ps. joined ps (op (Spawn f))) (expressions_pieces args))
+  expression_pieces e = refl
 
   pub expressions_pieces : (args : Expressions) → pieces_of (expressions_code args) ≡ expressions args
   expressions_pieces args_end = refl

@@ -1,6 +1,7 @@
 -- Where the units of a program's functions and regions stand in the scheme's code.
-use Rattle.std.proofs.Common.{◌≡◌, ℕ, zero, suc, ◌+◌, true, false, List, [], ◌∷◌, ◌++◌, length, map, Option, Some, refl, sym, ap, ◌∙◌, subst, arith}
+use Rattle.std.proofs.Common.{◌≡◌, ℕ, zero, suc, ◌+◌, true, false, List, [], ◌∷◌, ◌++◌, length, map, Some, refl, sym, ap, ◌∙◌, subst, arith}
 use Rattle.std.proofs.lemmas.Bool.Decides.{nat_tests}
+use Rattle.std.proofs.lemmas.Option.{same_Some}
 use Rattle.std.specs.Prelude.{if◌then◌else◌, nat_eq, slice_get}
 use Rattle.lam_value.specs.declared.values.Value.{Value}
 use Rattle.lam_bytecode.specs.declared.unit.UnitKind.{UnitKind}
@@ -39,19 +40,16 @@ abbrev mutual
   OtherPlaced r no_other = Unit {0}
   OtherPlaced r (other_block body) = BlockPlaced r body
 
-some_is : {A : Type 0} (a b : A) → ◌≡◌ {A = Option A} (Some a) (Some b) → a ≡ b
-some_is a b e = cc
-
 -- ---- functions
 
 draft_at : (vs : List Value) (fs : List ResolvedFunction) (more : List Draft) (f : ℕ) (fn : ResolvedFunction) → slice_get fs f ≡ Some fn → slice_get (map (unit_of vs) (map function_draft fs ++ more)) f ≡ Some (unit_of vs (function_draft fn))
 draft_at vs [] more f fn e = absurd cc
-draft_at vs (g ∷ fs) more zero fn e = ap (λ (x : ResolvedFunction). Some (unit_of vs (function_draft x))) (some_is g fn e)
+draft_at vs (g ∷ fs) more zero fn e = ap (λ (x : ResolvedFunction). Some (unit_of vs (function_draft x))) (same_Some g fn e)
 draft_at vs (g ∷ fs) more (suc f) fn e = draft_at vs fs more f fn e
 
 draft_first : (fs : List ResolvedFunction) (more : List Draft) (f : ℕ) (fn : ResolvedFunction) → slice_get fs f ≡ Some fn → slice_get (map function_draft fs ++ more) f ≡ Some (function_draft fn)
 draft_first [] more f fn e = absurd cc
-draft_first (g ∷ fs) more zero fn e = ap (λ (x : ResolvedFunction). Some (function_draft x)) (some_is g fn e)
+draft_first (g ∷ fs) more zero fn e = ap (λ (x : ResolvedFunction). Some (function_draft x)) (same_Some g fn e)
 draft_first (g ∷ fs) more (suc f) fn e = draft_first fs more f fn e
 
 pub function_drafted : (r : ResolvedTree) (f : ℕ) (fn : ResolvedFunction) → slice_get r.functions f ≡ Some fn → slice_get (drafts r) f ≡ Some (function_draft fn)
@@ -131,7 +129,7 @@ find_region vs (x ∷ ds) n zero j d h e =
     let z : n + zero ≡ n = omega arith in
     let w : j ≡ j + zero = omega arith in
     ap (λ b. if b then Some (record { number = j; it = unit_of vs x }) else region_from (j + 1) (n + zero) (map (unit_of vs) ds)) (ap (λ k. is_region k x.kind) z ∙ is_here n x.kind h.0) ∙
-    ap (λ k. Some (record { number = k; it = unit_of vs x })) w ∙ ap (λ (d : Draft). Some (record { number = j + zero; it = unit_of vs d })) (some_is x d e)
+    ap (λ k. Some (record { number = k; it = unit_of vs x })) w ∙ ap (λ (d : Draft). Some (record { number = j + zero; it = unit_of vs d })) (same_Some x d e)
 find_region vs (x ∷ ds) n (suc i) j d h e =
     let z : n + suc i ≡ suc n + i = omega arith in
     let w : j + 1 + i ≡ j + suc i = omega arith in
@@ -145,7 +143,7 @@ past_functions vs (f ∷ fs) ds m j k e = past_functions vs fs ds m (j + 1) k (o
 
 slice_past : (vs : List Value) (fs : List ResolvedFunction) (ds : List Draft) (i : ℕ) (d : Draft) → slice_get ds i ≡ Some d → slice_get (map (unit_of vs) (map function_draft fs ++ ds)) (length fs + i) ≡ Some (unit_of vs d)
 slice_past vs [] [] i d e = absurd cc
-slice_past vs [] (x ∷ ds) zero d e = ap (λ (d : Draft). Some (unit_of vs d)) (some_is x d e)
+slice_past vs [] (x ∷ ds) zero d e = ap (λ (d : Draft). Some (unit_of vs d)) (same_Some x d e)
 slice_past vs [] (x ∷ ds) (suc i) d e =
     let z : suc (0 + i) ≡ 0 + suc i = omega arith in
     subst (λ k. slice_get (map (unit_of vs) (x ∷ ds)) k ≡ Some (unit_of vs d)) z (slice_past vs [] ds i d e)
@@ -177,7 +175,7 @@ placed_at r i d numbered e =
 -- its place among the regions is its number
 number_at : (ds : List Draft) (n i : ℕ) (d : Draft) → AreCounted n ds → slice_get ds i ≡ Some d → IsNumber (n + i) d.kind
 number_at [] n i d h e = absurd cc
-number_at (x ∷ ds) n zero d h e = let z : n ≡ n + zero = omega arith in subst (λ k. IsNumber k d.kind) z (subst (λ (x : Draft). IsNumber n x.kind) (some_is x d e) h.0)
+number_at (x ∷ ds) n zero d h e = let z : n ≡ n + zero = omega arith in subst (λ k. IsNumber k d.kind) z (subst (λ (x : Draft). IsNumber n x.kind) (same_Some x d e) h.0)
 number_at (x ∷ ds) n (suc i) d h e = let z : suc n + i ≡ n + suc i = omega arith in subst (λ k. IsNumber k d.kind) z (number_at ds (suc n) i d h.1 e)
 
 -- ---- the regions of a statement are among all
@@ -231,7 +229,7 @@ module _ (r : ResolvedTree) (numbered : AreNumbered r) where
 
   among_functions : (fs : List ResolvedFunction) (f : ℕ) (fn : ResolvedFunction) → slice_get fs f ≡ Some fn → Among (regions_in fn.body) (all_regions fs)
   among_functions [] f fn e i d k = absurd cc
-  among_functions (g ∷ fs) zero fn e i d k = (i, front_at (regions_in g.body) (all_regions fs) i d (subst (λ (x : ResolvedFunction). slice_get (regions_in x.body) i ≡ Some d) (sym (some_is g fn e)) k))
+  among_functions (g ∷ fs) zero fn e i d k = (i, front_at (regions_in g.body) (all_regions fs) i d (subst (λ (x : ResolvedFunction). slice_get (regions_in x.body) i ≡ Some d) (sym (same_Some g fn e)) k))
   among_functions (g ∷ fs) (suc f) fn e i d k = let at = among_functions fs f fn e i d k in (length (regions_in g.body) + at.0, back_at (regions_in g.body) (all_regions fs) at.0 d at.1)
 
   -- all regions of all functions

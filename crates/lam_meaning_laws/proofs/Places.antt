@@ -1,5 +1,6 @@
 -- The scheme's code stands in its units.
 use Rattle.std.proofs.Common.{◌≡◌, ℕ, zero, suc, ◌+◌, ◌<◌, ◌≤◌, List, [], ◌∷◌, ◌++◌, length, map, Option, Some, None, refl, sym, ap, ◌∙◌, subst, arith, length-append}
+use Rattle.std.proofs.lemmas.Option.{same_Some}
 use Rattle.std.specs.Prelude.{slice_get}
 use Rattle.lam_value.specs.declared.values.Value.{Value}
 use Rattle.lam_value.specs.declared.values.Value.TheVariants.{Nothing}
@@ -12,7 +13,7 @@ use Rattle.lam_bytecode.specs.declared.unit.CodeUnit.{CodeUnit}
 use Rattle.lam_bytecode.specs.declared.unit.UnitKind.TheVariants.{Region}
 use Rattle.thread_steps.specs.Ops.{region_in}
 use Rattle.thread_steps.specs.Next.{ops_of, ops_in}
-use Rattle.lam_resolve_tree.specs.Tree.{CapSlot, Expression, number_value, text_value, bool_value, null_value, local_value, unary_of, binary_of, field_of, element_of, call_of, builtin_of, new_object, new_array, label_of, caps_of, spawn_of, Expressions, args_end, args_more, Statement, let_slot, if_block, while_block, return_value, throw_value, sync_block, region_block, do_value, set_local, set_field, set_element, Block, block_end, block_more, OtherBlock, no_other, other_block, ResolvedFunction, ResolvedTree}
+use Rattle.lam_resolve_tree.specs.Tree.{CapSlot, Expression, unary_of, binary_of, field_of, element_of, call_of, builtin_of, new_array, label_of, caps_of, spawn_of, Expressions, args_end, args_more, Statement, let_slot, if_block, while_block, return_value, throw_value, sync_block, region_block, do_value, set_local, set_field, set_element, Block, block_end, block_more, OtherBlock, no_other, other_block, ResolvedFunction, ResolvedTree}
 use Rattle.lam_resolve_tree.specs.Regions.{AreNumbered}
 use Rattle.lam_meaning_typed.specs.Pieces as laid
 use Rattle.lam_meaning_typed.specs.Pieces.{Pieces, joined, one, op, size, an_op, a_constant, flat, place_of, numbered}
@@ -113,19 +114,8 @@ module _ (code : CodeTree) where
 
 module _ (code : CodeTree) where
   operator_laid : (o : BinaryOp) (c : Nested) → IsLaid code c → IsLaid code (operator_code o c)
-  operator_laid binary.And c h = (h, tt)
   operator_laid binary.Or c h = (tt, h)
-  operator_laid binary.Eq c h = (h, tt)
-  operator_laid binary.Ne c h = (h, tt)
-  operator_laid binary.Lt c h = (h, tt)
-  operator_laid binary.Le c h = (h, tt)
-  operator_laid binary.Gt c h = (h, tt)
-  operator_laid binary.Ge c h = (h, tt)
-  operator_laid binary.Add c h = (h, tt)
-  operator_laid binary.Sub c h = (h, tt)
-  operator_laid binary.Mul c h = (h, tt)
-  operator_laid binary.Div c h = (h, tt)
-  operator_laid binary.Rem c h = (h, tt)
+  operator_laid o c h = (h, tt)
 
   signs_laid : (xs : List CapSlot) → IsLaid code (signs_code xs)
   signs_laid [] = tt
@@ -133,22 +123,17 @@ module _ (code : CodeTree) where
 
   mutual
     expression_laid : (e : Expression) → IsLaid code (expression_code e)
-    expression_laid (number_value z) = tt
-    expression_laid (text_value bs) = tt
-    expression_laid (bool_value b) = tt
-    expression_laid null_value = tt
-    expression_laid (local_value x) = tt
     expression_laid (unary_of o e) = (expression_laid e, tt)
     expression_laid (binary_of o a b) = (expression_laid a, operator_laid o (expression_code b) (expression_laid b))
     expression_laid (field_of e c f t) = (expression_laid e, (tt, tt))
     expression_laid (element_of e i t) = (expression_laid e, (expression_laid i, (tt, tt)))
     expression_laid (call_of f args) = (expressions_laid args, tt)
     expression_laid (builtin_of b args t) = (expressions_laid args, tt)
-    expression_laid (new_object c) = tt
     expression_laid (new_array t n) = (expression_laid n, tt)
     expression_laid (label_of s i) = (expressions_laid s, (expressions_laid i, tt))
     expression_laid (caps_of items) = (tt, signs_laid items)
     expression_laid (spawn_of c f args) = (expression_laid c, (expressions_laid args, tt))
+    expression_laid e = tt
 
     expressions_laid : (args : Expressions) → IsLaid code (expressions_code args)
     expressions_laid args_end = tt
@@ -166,6 +151,9 @@ module _ (code : CodeTree) where
   value_laid None = tt
   value_laid (Some e) = expression_laid e
 
+pub block_width : (b : Block) → size (block [] b) ≡ width (block_code [] b)
+block_width b = ap size (sym (block_pieces [] b)) ∙ width_size (block_code [] b)
+
 -- the operations of a unit that is in the code
 module _ (r : ResolvedTree) where
   unit_laid : (u : ℕ) (d : Draft) → slice_get (scheme r).units u ≡ Some (unit_of (constants_of r) d) → slice_get (drafts r) u ≡ Some d → AllFlat (scheme r) u 0 d.code × (length (ops_of (scheme r) u) ≡ length d.code)
@@ -173,9 +161,6 @@ module _ (r : ResolvedTree) where
   unit_laid u d there drafted =
       let same = ap ops_in there in
       (unit_at (scheme r) u (numbered (constants_of r) d.code) d.code (λ i. ap (λ (ops : List Op). slice_get ops i) same) refl (draft_constants [] (drafts r) u d drafted), ap (λ (ops : List Op). length ops) same ∙ numbered_length (constants_of r) d.code)
-
-  block_width : (b : Block) → size (block [] b) ≡ width (block_code [] b)
-  block_width b = ap size (sym (block_pieces [] b)) ∙ width_size (block_code [] b)
 
   region_laid : (number : ℕ) (from : List ℕ) (slots : List _) (body : Block) (slot : ℕ) (handler : Block) → Placed r number (region_draft number from slots body slot handler) → IsLaid (scheme r) (block_code [] body) → IsLaid (scheme r) (block_code [] handler) → IsLaid (scheme r) (enters number (length from) (length slots) (block_code [] body) (both (does (Store slot)) (block_code [] handler)))
   region_laid number from slots body slot handler p hb hh =
@@ -230,14 +215,12 @@ inner (loops t b) = inner t + inner b
 inner (enters number captures slots body handler) = width body + 1 + width handler + 1 + inner body + inner handler
 
 cost_is : (c : Nested) → cost c ≡ width c + inner c
-cost_is no_code = refl
-cost_is (does o) = refl
-cost_is (puts v) = refl
 cost_is (both a b) = omega (arith, cost_is a, cost_is b)
 cost_is (when a) = omega (arith, cost_is a)
 cost_is (either a b) = omega (arith, cost_is a, cost_is b)
 cost_is (loops t b) = omega (arith, cost_is t, cost_is b)
 cost_is (enters number captures slots body handler) = omega (arith, cost_is body, cost_is handler)
+cost_is c = refl
 
 pub total-append : (a b : List Draft) → scheme_of.ops_in (a ++ b) ≡ scheme_of.ops_in a + scheme_of.ops_in b
 total-append [] b = omega arith
@@ -245,18 +228,7 @@ total-append (d ∷ a) b = omega (arith, total-append a b)
 
 operator_inner : (o : BinaryOp) (c : Nested) → inner (operator_code o c) ≡ inner c
 operator_inner binary.And c = omega arith
-operator_inner binary.Or c = omega arith
-operator_inner binary.Eq c = omega arith
-operator_inner binary.Ne c = omega arith
-operator_inner binary.Lt c = omega arith
-operator_inner binary.Le c = omega arith
-operator_inner binary.Gt c = omega arith
-operator_inner binary.Ge c = omega arith
-operator_inner binary.Add c = omega arith
-operator_inner binary.Sub c = omega arith
-operator_inner binary.Mul c = omega arith
-operator_inner binary.Div c = omega arith
-operator_inner binary.Rem c = omega arith
+operator_inner o c = omega arith
 
 signs_inner : (xs : List CapSlot) → inner (signs_code xs) ≡ 0
 signs_inner [] = refl
@@ -264,22 +236,17 @@ signs_inner (x ∷ xs) = omega (arith, signs_inner xs)
 
 mutual
   expression_inner : (e : Expression) → inner (expression_code e) ≡ 0
-  expression_inner (number_value z) = refl
-  expression_inner (text_value bs) = refl
-  expression_inner (bool_value b) = refl
-  expression_inner null_value = refl
-  expression_inner (local_value x) = refl
   expression_inner (unary_of o e) = omega (arith, expression_inner e)
   expression_inner (binary_of o a b) = omega (arith, expression_inner a, operator_inner o (expression_code b), expression_inner b)
   expression_inner (field_of e c f t) = omega (arith, expression_inner e)
   expression_inner (element_of e i t) = omega (arith, expression_inner e, expression_inner i)
   expression_inner (call_of f args) = omega (arith, expressions_inner args)
   expression_inner (builtin_of b args t) = omega (arith, expressions_inner args)
-  expression_inner (new_object c) = refl
   expression_inner (new_array t n) = omega (arith, expression_inner n)
   expression_inner (label_of s i) = omega (arith, expressions_inner s, expressions_inner i)
   expression_inner (caps_of items) = omega (arith, signs_inner items)
   expression_inner (spawn_of c f args) = omega (arith, expression_inner c, expressions_inner args)
+  expression_inner e = refl
 
   expressions_inner : (args : Expressions) → inner (expressions_code args) ≡ 0
   expressions_inner args_end = refl
@@ -340,19 +307,15 @@ function_length fn =
     let b = block [] fn.body in
     let all = flat_length 0 (joined b (joined (one (laid.puts Nothing)) (op Return))) in
     let whole : size (joined b (joined (one (laid.puts Nothing)) (op Return))) ≡ size b + 2 = size_joined b (joined (one (laid.puts Nothing)) (op Return)) in
-    let wb : size b ≡ width (block_code [] fn.body) = ap size (sym (block_pieces [] fn.body)) ∙ width_size (block_code [] fn.body) in
-    omega (arith, all, whole, wb)
+    omega (arith, all, whole, block_width fn.body)
 
 -- no more than all operations
 cost_within : (fs : List ResolvedFunction) (f : ℕ) (fn : ResolvedFunction) → slice_get fs f ≡ Some fn → cost (block_code [] fn.body) + 2 ≤ scheme_of.ops_in (map function_draft fs) + scheme_of.ops_in (all_regions fs)
 cost_within [] f fn e = absurd cc
 cost_within (g ∷ fs) zero fn e =
-    let same : g ≡ fn = some_is g fn e in
+    let same : g ≡ fn = same_Some g fn e in
     let here : cost (block_code [] g.body) + 2 ≤ scheme_of.ops_in (map function_draft (g ∷ fs)) + scheme_of.ops_in (all_regions (g ∷ fs)) = omega (arith, cost_is (block_code [] g.body), block_inner [] g.body, function_length g, total-append (regions_in g.body) (all_regions fs)) in
     subst (λ (x : ResolvedFunction). cost (block_code [] x.body) + 2 ≤ scheme_of.ops_in (map function_draft (g ∷ fs)) + scheme_of.ops_in (all_regions (g ∷ fs))) same here
-  where
-    some_is : (a b : ResolvedFunction) → ◌≡◌ {A = Option ResolvedFunction} (Some a) (Some b) → a ≡ b
-    some_is a b e = cc
 cost_within (g ∷ fs) (suc f) fn e = omega (arith, cost_within fs f fn e, total-append (regions_in g.body) (all_regions fs))
 
 pub all_stand : (r : ResolvedTree) → AreNumbered r → AllStand (scheme r) (bound r) r

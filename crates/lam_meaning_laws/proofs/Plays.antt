@@ -8,7 +8,7 @@ use Rattle.lam_asks.specs.declared.answer.Answer.{Answer}
 use Rattle.lam_asks.specs.declared.ask.Ask.{Ask}
 use Rattle.lam_asks.specs.Suits.{fits}
 use Rattle.lam_meaning_typed.specs.Trees.{Own, Asked, End, goes, raises, leaves, Tree, ends, spent, broken, asks, on_end, next, and_then}
-use Rattle.lam_meaning_typed.specs.Plays.{How, has_ended, waits, is_spent, is_broken, asks_of, how_of, AllFit}
+use Rattle.lam_meaning_typed.specs.Plays.{How, waits, is_spent, is_broken, asks_of, how_of, AllFit}
 use Rattle.lam_meaning_laws.specs.Gathers.{Along, Out, gone, raised, returned, stops, and_on, final_of}
 
 -- what stays along code: the number of locals, and the monitors that its context has where it returns
@@ -81,20 +81,14 @@ All P (asks q k) = (x : Answer) → All P (k x)
 
 pub all_any : {A : Type 0} (t : Tree A) → All (λ a. Unit {0}) t
 all_any (ends (goes a n o)) = tt
-all_any (ends (raises f n o)) = tt
-all_any (ends (leaves v n o)) = tt
-all_any spent = tt
-all_any broken = tt
 all_any (asks q k) = λ x. all_any (k x)
+all_any t = tt
 
 pub all_then : {A B : Type 0} (P : A → Type 0) (Q : B → Type 0) (t : Tree A) (f : A → ℕ → Own → Tree B) → All P t → ((a : A) (n : ℕ) (o : Own) → P a → All Q (f a n o)) → All Q (and_then t f)
 unfolding on_end
 all_then P Q (ends (goes a n o)) f h k = k a n o h
-all_then P Q (ends (raises x n o)) f h k = tt
-all_then P Q (ends (leaves v n o)) f h k = tt
-all_then P Q spent f h k = tt
-all_then P Q broken f h k = tt
 all_then P Q (asks q j) f h k = λ x. all_then P Q (j x) f (h x) k
+all_then P Q t f h k = tt
 
 -- ---- the one induction over trees
 
@@ -149,9 +143,7 @@ maps {A = A} kp H f k t st r m = end_on kp kp H H (λ a. k (f a)) k t st.answers
 
 told_on : {A B : Type 0} (h : A → B) (r : Out A) → told h r ≡ and_on (told (λ a. a) r) (λ a n held st. gone (h a) n held st)
 told_on h (gone a n held st) = refl
-told_on h (raised f n st) = refl
-told_on h (returned v n held st) = refl
-told_on h (stops how made) = refl
+told_on h r = refl
 
 -- what ends with a value, beside what puts it on a stack
 pub onto_same : {A B : Type 0} (kp : Keep) (H : Held) (h : A → B) (t : Tree A) (st : Along) (r : Out A) → MatchesAt kp H (λ a. a) t st r → MatchesAt kp H h t st (and_on r (λ a n held st. gone (h a) n held st))
@@ -159,9 +151,7 @@ onto_same kp H h t st r m = record { by = λ ok. told_on h (played kp H t st.ans
 
 pub and_assoc : {A B C : Type 0} (r : Out A) (f : A → ℕ → List Name → Along → Out B) (g : B → ℕ → List Name → Along → Out C) → and_on (and_on r f) g ≡ and_on r (λ a n held st. and_on (f a n held st) g)
 and_assoc (gone a n held st) f g = refl
-and_assoc (raised x n st) f g = refl
-and_assoc (returned v n held st) f g = refl
-and_assoc (stops how made) f g = refl
+and_assoc r f g = refl
 
 -- an answer that suits is all that matters
 pub suits_same : {A B : Type 0} (kp : Keep) (H : Held) (h : A → B) (b : Bool) (t : Tree A) (xs : List Answer) (made old : List Ask) (r : Out B) → (b ≡ true → Matches kp H h t xs made r) → (NotBroken (tested b (played kp H t xs made) old) → told h (tested b (played kp H t xs made) old) ≡ r) × Sized kp.size (tested b (played kp H t xs made) old)
@@ -176,41 +166,27 @@ first_fits false q x xs made e h = absurd (let z : false ≡ true = sym e ∙ h.
 
 pub how_played : {A : Type 0} (kp : Keep) (H : Held) (t : Tree A) (xs : List Answer) (made : List Ask) → AllFit (asks_of t xs) xs → (final_of (played kp H t xs made)).how ≡ how_of t xs
 how_played kp H (ends (goes a n o)) xs made ok = refl
-how_played kp H (ends (raises f n o)) xs made ok = refl
-how_played kp H (ends (leaves v n o)) xs made ok = refl
-how_played kp H spent xs made ok = refl
-how_played kp H broken xs made ok = refl
-how_played kp H (asks q k) [] made ok = refl
 how_played kp H (asks q k) (x ∷ xs) made ok =
     let h = first_fits (fits q.want x) q x xs (asks_of (k x) xs) refl ok in
     subst (λ b. (final_of (tested b (played kp H (k x) xs (made ++ q.ask ∷ [])) made)).how ≡ (if b then how_of (k x) xs else waits)) (sym h.0) (how_played kp H (k x) xs (made ++ q.ask ∷ []) h.1)
+how_played kp H t xs made ok = refl
 
 abbrev pub plain : List Asked → List Ask
 plain qs = map (λ q. q.ask) qs
 
 pub asks_played : {A : Type 0} (kp : Keep) (H : Held) (t : Tree A) (xs : List Answer) (made : List Ask) → AllFit (asks_of t xs) xs → (final_of (played kp H t xs made)).asks ≡ made ++ plain (asks_of t xs)
 asks_played kp H (ends (goes a n o)) xs made ok = sym (append-nil made)
-asks_played kp H (ends (raises f n o)) xs made ok = sym (append-nil made)
-asks_played kp H (ends (leaves v n o)) xs made ok = sym (append-nil made)
-asks_played kp H spent xs made ok = sym (append-nil made)
-asks_played kp H broken xs made ok = sym (append-nil made)
 asks_played kp H (asks q k) [] made ok = refl
 asks_played kp H (asks q k) (x ∷ xs) made ok =
     let h = first_fits (fits q.want x) q x xs (asks_of (k x) xs) refl ok in
     subst (λ b. (final_of (tested b (played kp H (k x) xs (made ++ q.ask ∷ [])) made)).asks ≡ made ++ plain (if b then q ∷ asks_of (k x) xs else q ∷ [])) (sym h.0)
     (asks_played kp H (k x) xs (made ++ q.ask ∷ []) h.1 ∙ append_assoc made (q.ask ∷ []) (plain (asks_of (k x) xs)))
+asks_played kp H t xs made ok = sym (append-nil made)
 
 pub not_broken : {A : Type 0} (r : Out A) → (final_of r).how ≢ is_broken → NotBroken r
-not_broken (gone a n held st) h = tt
-not_broken (raised f n st) h = tt
-not_broken (returned v n held st) h = tt
-not_broken (stops has_ended made) h = tt
-not_broken (stops waits made) h = tt
-not_broken (stops is_spent made) h = tt
 not_broken (stops is_broken made) h = absurd (h refl)
+not_broken r h = tt
 
 pub final_told : {A B : Type 0} (h : A → B) (r : Out A) → final_of (told h r) ≡ final_of r
 final_told h (gone a n held st) = refl
-final_told h (raised f n st) = refl
-final_told h (returned v n held st) = refl
-final_told h (stops how made) = refl
+final_told h r = refl

@@ -1,7 +1,7 @@
 -- The flat machine follows nested code.
 use Rattle.std.proofs.Common.{◌≡◌, ℕ, zero, suc, ◌+◌, ◌<◌, ◌≤◌, Bool, true, false, List, [], ◌∷◌, ◌++◌, length, Option, Some, None, refl, sym, ap, ◌∙◌, subst, arith}
-use Rattle.std.proofs.lemmas.Bool.Decides.{nat_tests}
-use Rattle.std.specs.Prelude.{if◌then◌else◌, ◌-◌, nat_lt, nat_le, take, drop, reverse, replicate, slice_get}
+use Rattle.std.specs.Prelude.{if◌then◌else◌, ◌-◌, nat_le, take, drop, reverse, replicate, slice_get}
+use Rattle.std.proofs.lemmas.Bool.{lt-ltb}
 use Rattle.capabilities.specs.declared.Caps.{Caps}
 use Rattle.flow_labels.specs.declared.Label.{Label}
 use Rattle.lam_value.specs.declared.names.Name.{Name}
@@ -33,9 +33,6 @@ use Rattle.lam_meaning_laws.proofs.Steps.{CallsRun, op_runs, const_turn, put_run
 use Rattle.lam_meaning_laws.proofs.Stands.{width, cost, IsAddress, PutsAt, Stands, AllStand}
 use Rattle.lam_meaning_laws.proofs.Contexts.{inside, enter_runs, entered_runs}
 
-is_below : (x n : ℕ) → x < n → nat_lt x n ≡ true
-is_below x n h = grind (arith, nat_tests, h)
-
 module _ (code : CodeTree) (C : ℕ) where
   -- ---- jumps
 
@@ -43,28 +40,26 @@ module _ (code : CodeTree) (C : ℕ) where
   unfolding effect
   jump_turn kp pc w to s held st res at_op is =
       step code C kp pc w s held st res (Jump to) at_op ∙
-      ap (λ b. done code (thread_of kp res (context kp pc s held st.own)) (context kp pc s held st.own) kp.below st.answers st.asks w (w + 1) (next_by code kp.phase (context kp pc s held st.own).inside (if b then ops.jumps to s else ops.breaks))) (is_below to (length (ops_of code kp.unit)) is)
+      ap (λ b. done code (thread_of kp res (context kp pc s held st.own)) (context kp pc s held st.own) kp.below st.answers st.asks w (w + 1) (next_by code kp.phase (context kp pc s held st.own).inside (if b then ops.jumps to s else ops.breaks))) (lt-ltb to (length (ops_of code kp.unit)) is)
 
   true_turn : (kp : Kept) (pc w to : ℕ) (s : List Value) (held : List Name) (st : Along) (res : Option Outcome) → op_at code C kp.unit pc ≡ Some (JumpIfFalse to) → IsAddress code kp.unit to → turns code 1 (at kp pc (Truth true ∷ s) held st res w) ≡ at kp (pc + 1) s held st res (w + 1)
   unfolding effect
   true_turn kp pc w to s held st res at_op is =
       step code C kp pc w (Truth true ∷ s) held st res (JumpIfFalse to) at_op ∙
-      ap (λ b. done code (thread_of kp res (context kp pc (Truth true ∷ s) held st.own)) (context kp pc (Truth true ∷ s) held st.own) kp.below st.answers st.asks w (w + 1) (next_by code kp.phase (context kp pc (Truth true ∷ s) held st.own).inside (if b then ops.gives s else ops.breaks))) (is_below to (length (ops_of code kp.unit)) is)
+      ap (λ b. done code (thread_of kp res (context kp pc (Truth true ∷ s) held st.own)) (context kp pc (Truth true ∷ s) held st.own) kp.below st.answers st.asks w (w + 1) (next_by code kp.phase (context kp pc (Truth true ∷ s) held st.own).inside (if b then ops.gives s else ops.breaks))) (lt-ltb to (length (ops_of code kp.unit)) is)
 
   false_turn : (kp : Kept) (pc w to : ℕ) (s : List Value) (held : List Name) (st : Along) (res : Option Outcome) → op_at code C kp.unit pc ≡ Some (JumpIfFalse to) → IsAddress code kp.unit to → turns code 1 (at kp pc (Truth false ∷ s) held st res w) ≡ at kp to s held st res (w + 1)
   unfolding effect
   false_turn kp pc w to s held st res at_op is =
       step code C kp pc w (Truth false ∷ s) held st res (JumpIfFalse to) at_op ∙
-      ap (λ b. done code (thread_of kp res (context kp pc (Truth false ∷ s) held st.own)) (context kp pc (Truth false ∷ s) held st.own) kp.below st.answers st.asks w (w + 1) (next_by code kp.phase (context kp pc (Truth false ∷ s) held st.own).inside (if b then ops.jumps to s else ops.breaks))) (is_below to (length (ops_of code kp.unit)) is)
+      ap (λ b. done code (thread_of kp res (context kp pc (Truth false ∷ s) held st.own)) (context kp pc (Truth false ∷ s) held st.own) kp.below st.answers st.asks w (w + 1) (next_by code kp.phase (context kp pc (Truth false ∷ s) held st.own).inside (if b then ops.jumps to s else ops.breaks))) (lt-ltb to (length (ops_of code kp.unit)) is)
 
   no_turn : (kp : Kept) (n w pc : ℕ) (s : List Value) (held : List Name) (st : Along) (res : Option Outcome) → Ends code C kp (at kp pc s held st res w) n w pc 0 (gone s n held st)
   no_turn kp n w pc s held st res = record { res = res; work = w; reach = record { count = 0; same = refl; few = omega arith; work = omega arith; less = omega arith } }
 
   and_gone : (o : Out (List Value)) → and_on o (λ s n held st. gone s n held st) ≡ o
   and_gone (gone s n held st) = refl
-  and_gone (raised f n st) = refl
-  and_gone (returned v n held st) = refl
-  and_gone (stops how made) = refl
+  and_gone o = refl
 
   -- the jump at the end of a piece
   then_jumps : (kp : Kept) (s0 : Lone) (n w pc pc1 c : ℕ) (o : Out (List Value)) → op_at code C kp.unit pc1 ≡ Some (Jump pc) → IsAddress code kp.unit pc → Ends code C kp s0 n w pc1 c o → Ends code C kp s0 n w pc (c + 1) o

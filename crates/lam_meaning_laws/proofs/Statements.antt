@@ -20,12 +20,13 @@ use Rattle.lam_meaning_typed.specs.Scheme.{scheme}
 use Rattle.lam_meaning_laws.specs.Nested.{Nested, loads_code, gives_back_code, value_code, statement_code, block_code, branches_code}
 use Rattle.lam_meaning_laws.specs.Gathers.{Along, with_locals, Out, gone, and_on, Does, Caller, never_enters, around, did, op_does, region_by, picks, use_unit, acts}
 use Rattle.lam_meaning_laws.proofs.Plays.{Keep, Held, MatchesAt, binds, and_assoc}
-use Rattle.lam_meaning_laws.proofs.Lists.{push_all, length-set_slot, set_there, listed, monitors, AllApart, monitors_set}
+use Rattle.lam_meaning_typed.proofs.Locals.{length-set_slot, set_here, slot_here}
+use Rattle.lam_meaning_laws.proofs.Lists.{push_all, listed, monitors, AllApart, monitors_set}
 use Rattle.lam_meaning_laws.proofs.Operations.{onto, stays, write_field, write_element, throw_at, take_at, give_at, load_is, store_is, pop_is, return_is}
 use Rattle.lam_meaning_laws.proofs.Effects.{region_is}
 use Rattle.lam_meaning_laws.proofs.Expressions.{SameCalls, Inside, eval_same}
 use Rattle.lam_meaning_laws.proofs.Regions.{no_monitors, within_unit, place_at}
-use Rattle.lam_meaning_laws.proofs.Scopes.{AreOpen, apart_new, apart_local, open_new, use_here, inside_new, inside_head, open_after, inside_after}
+use Rattle.lam_meaning_laws.proofs.Scopes.{AreOpen, apart_new, apart_local, open_new, inside_new, inside_head, captured_long, open_after, inside_after}
 
 -- the regions of a statement are in the code, with as many captures
 abbrev mutual
@@ -126,7 +127,7 @@ module _ (r : ResolvedTree) (call : means.Caller) (caller : Caller) (same_calls 
         let inner = λ (s : List Value) (n : ℕ) (held : List Name) (st : Along). and_on (acts code caller again' body p n s held st) after_body in
         let enter = λ (s : List Value) (n : ℕ) (held : List Name) (st : Along). and_on (op_does code caller never_enters EnterMonitor p n s held st) inner in
         let load = λ (s : List Value) (n : ℕ) (held : List Name) (st : Along). and_on (op_does code caller never_enters (Load slot) p n s held st) enter in
-        let is : local st1.own slot ≡ v = set_there st.own.locals slot v here in
+        let is : local st1.own slot ≡ v = set_here st.own.locals slot v here in
         let same : H2 st1.own.locals ≡ listed v held = ap (λ w. listed w (H st1.own.locals)) is ∙ ap (λ ns. listed v ns) (monitors_set os base st.own.locals slot v apart) in
         subst (λ r. MatchesAt kp H (stays s) whole st (and_on r load)) (sym (store_is code caller never_enters p n s held st slot v here))
         (subst (λ r. MatchesAt kp H (stays s) whole st (and_on r enter)) (sym (load_is code caller never_enters p n s held st1 slot here1))
@@ -143,12 +144,6 @@ module _ (r : ResolvedTree) (call : means.Caller) (caller : Caller) (same_calls 
       let c = length-map from (λ x. local o x) in
       let d = ap length same ∙ length-append ts more in
       omega (arith, a, b, c, d, e)
-
-  as_captured : (env : Scope) (from : List ℕ) (ts : List ResolvedType) → AreCaptured env from ts → length from ≡ length ts
-  as_captured env [] [] h = refl
-  as_captured env [] (t ∷ ts) h = absurd h
-  as_captured env (x ∷ from) [] h = absurd h
-  as_captured env (x ∷ from) (t ∷ ts) h = ap suc (as_captured env from ts h.1)
 
   mutual
     pub exec_same : SameStatements r (exec r call again) (acts code caller again')
@@ -197,7 +192,7 @@ module _ (r : ResolvedTree) (call : means.Caller) (caller : Caller) (same_calls 
         let lt = slice_get_within slots x t hf.0 in
         binds kp H H (onto s) (stays s) _ st _ _ _ (eval_same r call caller same_calls again' kp H env is e _ he p n s st l) (λ v n st l.
         sync_at slots ret base os x v (block_code (x ∷ os) body) (λ n o. exec_block r call again (x ∷ os) body p n o) p n s st lt (apart_new env x hf.1 os op) l (λ n st l.
-        block_same (x ∷ os) slots ret (with_use env x (a_monitor t)) body hb ((t, use_here env x (a_monitor t)), open_new env x (a_monitor t) os hf.1 op) (inside_new (length slots) env x (a_monitor t) lt is) hr base p n s st l))
+        block_same (x ∷ os) slots ret (with_use env x (a_monitor t)) body hb ((t, slot_here env x (a_monitor t)), open_new env x (a_monitor t) os hf.1 op) (inside_new (length slots) env x (a_monitor t) lt is) hr base p n s st l))
     exec_same os slots ret env (region_block number l c from own body slot handler) (ts, more, hl, hc, hfrom, same, hb, hf, hh) op is (takes, rb, rh) base p n s st size =
         let kp = keep_of slots base in
         let H = monitors os base in
@@ -220,7 +215,7 @@ module _ (r : ResolvedTree) (call : means.Caller) (caller : Caller) (same_calls 
         subst (λ q. MatchesAt (within_unit (length own)) no_monitors (stays []) (exec_block r call again [] handler (inside l) n (with_local st.own slot (Int z))) st (and_on q (λ s n held st. acts code caller again' (block_code [] handler) (inside l) n s held st))) (sym (store_is code caller never_enters (inside l) n [] [] st slot (Int z) (subst (λ k. slot < k) (sym size) lt)))
         (block_same [] own in_region (with_use (locals_of ts) slot (a_local int)) handler hh tt (inside_new (length own) (locals_of ts) slot (a_local int) lt first) rh [] (inside l) n [] st1 (length-set_slot st.own.locals slot (Int z) ∙ size)))
         (ap (λ k. vs ++ replicate (length own - k) Nothing) (sym many))
-        (captured_length st.own from own ts more same (as_captured env from ts hfrom))
+        (captured_length st.own from own ts more same (captured_long env from ts hfrom))
         p v c n s st size))))
 
     pub block_same : (os : Open) (slots : List ResolvedType) (ret : Returning) (env : Scope) (b : Block) → IsBlock (heads_of r) slots ret env b → AreOpen env os → Inside (length slots) env → BlockIn (scheme r) b → (base : List Name) (p : At) (n : ℕ) (s : List Value) (st : Along) → length st.own.locals ≡ length slots → MatchesAt (keep_of slots base) (monitors os base) (stays s) (exec_block r call again os b p n st.own) st (acts code caller again' (block_code os b) p n s (monitors os base st.own.locals) st)

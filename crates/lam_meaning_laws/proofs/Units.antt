@@ -1,5 +1,5 @@
 -- What the scheme's code says of a program's functions and classes.
-use Rattle.std.proofs.Common.{◌≡◌, ℕ, zero, suc, ◌<◌, List, [], ◌∷◌, ◌++◌, length, map, Option, Some, refl, sym, ap, ◌∙◌, arith}
+use Rattle.std.proofs.Common.{◌≡◌, ℕ, zero, suc, ◌<◌, List, [], ◌∷◌, ◌++◌, length, map, Some, refl, sym, ap, ◌∙◌, arith}
 use Rattle.std.proofs.lemmas.List.{length-map}
 use Rattle.std.specs.Prelude.{slice_get}
 use Rattle.lam_value.specs.declared.values.Value.{Value}
@@ -11,20 +11,8 @@ use Rattle.lam_builtins.specs.Builtins.{row, row_by}
 use Rattle.thread_steps.specs.Ops.{function_takes}
 use Rattle.lam_resolve_tree.specs.Tree.{ResolvedType, ResolvedFunction, ResolvedTree}
 use Rattle.lam_meaning_typed.specs.Means.{kind_of, class_fields}
-use Rattle.lam_meaning_typed.specs.Scheme.{Draft, arg_kind, function_draft, unit_of, all_regions, all_constants, drafts, scheme}
-
-some_is : {A : Type 0} (a b : A) → ◌≡◌ {A = Option A} (Some a) (Some b) → a ≡ b
-some_is a b e = cc
-
-draft_at : (vs : List Value) (fs : List ResolvedFunction) (more : List Draft) (f : ℕ) (fn : ResolvedFunction) → slice_get fs f ≡ Some fn → slice_get (map (unit_of vs) (map function_draft fs ++ more)) f ≡ Some (unit_of vs (function_draft fn))
-draft_at vs [] more f fn e = absurd cc
-draft_at vs (g ∷ fs) more zero fn e = ap (λ (x : ResolvedFunction). Some (unit_of vs (function_draft x))) (some_is g fn e)
-draft_at vs (g ∷ fs) more (suc f) fn e = draft_at vs fs more f fn e
-
--- the unit of a function
-pub function_unit : (r : ResolvedTree) (f : ℕ) (fn : ResolvedFunction) → slice_get r.functions f ≡ Some fn → slice_get (scheme r).units f ≡ Some (unit_of (all_constants [] (drafts r)) (function_draft fn))
-unfolding scheme
-function_unit r f fn e = draft_at (all_constants [] (drafts r)) r.functions (all_regions r.functions) f fn e
+use Rattle.lam_meaning_typed.specs.Scheme.{arg_kind, scheme}
+use Rattle.lam_meaning_laws.proofs.Placed.{function_unit}
 
 pub takes_params : (r : ResolvedTree) (f : ℕ) (fn : ResolvedFunction) → slice_get r.functions f ≡ Some fn → function_takes (slice_get (scheme r).units f) ≡ Some (length fn.params)
 takes_params r f fn e = ap function_takes (function_unit r f fn e) ∙ ap Some (length-map fn.params arg_kind)
@@ -48,31 +36,4 @@ class_kinds r c h =
 -- a built-in call has as many arguments in each form of its row
 pub as_many : (b : Builtin) → length (row b).signature.takes ≡ length (row_by ℕ b).signature.takes
 as_many call.Len = refl
-as_many call.Size = refl
-as_many call.Byte = refl
-as_many call.Slice = refl
-as_many call.Cat = refl
-as_many call.Text = refl
-as_many call.Number = refl
-as_many call.MyLabel = refl
-as_many call.MyCaps = refl
-as_many call.Root = refl
-as_many call.LabelOf = refl
-as_many call.Copy = refl
-as_many call.Mint = refl
-as_many call.Say = refl
-as_many call.MakeFile = refl
-as_many call.MakeDir = refl
-as_many call.OpenFile = refl
-as_many call.OpenDir = refl
-as_many call.Remove = refl
-as_many call.Read = refl
-as_many call.Length = refl
-as_many call.Append = refl
-as_many call.Cut = refl
-as_many call.MakePipe = refl
-as_many call.Send = refl
-as_many call.SendCaps = refl
-as_many call.Receive = refl
-as_many call.ReceiveCaps = refl
-as_many call.Join = refl
+as_many b = refl

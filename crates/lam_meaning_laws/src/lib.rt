@@ -28,6 +28,9 @@
 //! has ways with their costs, `proofs/Steps` single operations, and `proofs/Contexts` regions. `proofs/Runs` has all
 //! forms of nested code at a place where it stands (`proofs/Stands`). `proofs/Constants`, `proofs/Laid` and
 //! `proofs/Places` say that the scheme's code stands in its units.
+//!
+//! A public promise rests on `compiled_code_acts_as_its_source`: a program's code makes the asks that the program
+//! means (clause `acts` of `compile`, `barrier_compiler`). Nothing here is a matter of speed.
 #![tactic(auto)]
 
 ghost use Rattle.lam_resolve_tree.specs.Tree.{ResolvedTree};

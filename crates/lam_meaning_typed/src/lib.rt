@@ -12,6 +12,8 @@
 //! The meaning of a thread has a number of *units*, one for each turn of a loop and each call. So its tree of asks is
 //! finite. With fewer units it is the same tree, cut off where the units are used up. So each list of asks that a
 //! meaning gives stays, and grows at its end alone.
+//!
+//! Nothing here is a matter of speed. The laws of compiled code (`lam_meaning_laws`) rest on this crate's lemmas.
 #![tactic(auto)]
 
 ghost use Rattle.lam_resolve_tree.specs.Tree.{ResolvedTree};
