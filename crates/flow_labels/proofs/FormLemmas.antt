@@ -1,12 +1,13 @@
 -- Reading stops at the least place that continues no text of the form, and nowhere else.
 use Rattle.std.proofs.Common.{◌≡◌, ℕ, ◌+◌, ◌<◌, ◌≤◌, List, [], ◌∷◌, ◌++◌, length, take, Option, Some, None, IsNone, IfSome, ◌↔◌, refl, sym, ap, subst, ◌∙◌, arith, suc}
+use Rattle.std.proofs.lemmas.Option.{same_Some}
 use Rattle.flow_labels.specs.TwoLists.{Text, AllNames, joined, braced, between, spelled, Spells, HasForm, IsBadPlace}
 use Rattle.flow_labels.specs.Reading.{start, step, at_end, go_on, bad_from, bad_place}
 use Rattle.flow_labels.specs.declared.two_lists.Form.{Form}
 use Rattle.flow_labels.specs.declared.two_lists.Form.TheVariants.{Label, Caps}
-use Rattle.flow_labels.specs.declared.two_lists.Side.TheVariants.{First, Second}
+use Rattle.flow_labels.specs.declared.two_lists.Side.TheVariants.{Second}
 use Rattle.flow_labels.specs.declared.two_lists.Spot.{Spot}
-use Rattle.flow_labels.specs.declared.two_lists.Spot.TheVariants.{Start, Brace, Open, Name, Comma, Closed}
+use Rattle.flow_labels.specs.declared.two_lists.Spot.TheVariants.{Closed}
 use Rattle.flow_labels.proofs.RestLemmas.{Rest, Next, IsEnd, Opened, Marked, read_on, read_back, end_read, alive}
 
 -- ---- a text that is read to its end
@@ -14,13 +15,8 @@ not_some : {X : Type 0} {x : X} → Some x ≡ None → ⊥
 not_some e = cc
 
 ended : (form : Form) (spot : Spot) (at : ℕ) → at_end spot at ≡ None → Rest form spot []
-ended form Start at e = absurd (not_some e)
-ended form (Brace side) at e = absurd (not_some e)
-ended form (Open side) at e = absurd (not_some e)
-ended form (Name side len) at e = absurd (not_some e)
-ended form (Comma side) at e = absurd (not_some e)
-ended form (Closed First) at e = absurd (not_some e)
 ended form (Closed Second) at e = refl
+ended form spot at e = absurd (not_some e)
 
 is_read : (form : Form) (text : Text) (spot : Spot) (at : ℕ) → bad_from form text spot at ≡ None → Rest form spot text
 is_read form [] spot at e = ended form spot at e
@@ -53,11 +49,8 @@ stuck form spot b t none h = let next : Next form spot b t = read_on form spot b
 goes_on : (form : Form) (spot next : Spot) (b : ℕ) (t : Text) → step form spot b ≡ Some next → Rest form spot (b ∷ t) → Rest form next t
 goes_on form spot next b t e h =
     let other : Next form spot b t = read_on form spot b t h in
-    let same : other.0 ≡ next = one (sym other.1 ∙ e) in
+    let same : other.0 ≡ next = same_Some _ _ (sym other.1 ∙ e) in
     subst (λ (s : Spot). Rest form s t) same other.2
-  where
-    one : {X : Type 0} {x y : X} → Some x ≡ Some y → x ≡ y
-    one e = cc
 
 stop_end : (form : Form) (spot : Spot) (at k : ℕ) → at_end spot at ≡ Some k → Stopped form spot [] at k
 stop_end form spot at k e =
@@ -74,13 +67,8 @@ stop_end form spot at k e =
     )
   where
     place : (spot : Spot) (at k : ℕ) → at_end spot at ≡ Some k → k ≡ at + 0
-    place Start at k e = let same : at ≡ k = cc in omega arith
-    place (Brace side) at k e = let same : at ≡ k = cc in omega arith
-    place (Open side) at k e = let same : at ≡ k = cc in omega arith
-    place (Name side len) at k e = let same : at ≡ k = cc in omega arith
-    place (Comma side) at k e = let same : at ≡ k = cc in omega arith
-    place (Closed First) at k e = let same : at ≡ k = cc in omega arith
     place (Closed Second) at k e = absurd cc
+    place spot at k e = let same : at ≡ k = cc in omega arith
 
     no_end : (spot : Spot) (at k : ℕ) → at_end spot at ≡ Some k → spot ≡ Closed Second → ⊥
     no_end spot at k e same = let none : at_end spot at ≡ None = rw same refl in not_some (sym e ∙ none)

@@ -11,6 +11,8 @@ use Rattle.std.specs.List.{list_all, list_any, position_from}
 use Rattle.std.specs.Bool.{Decides}
 use Rattle.std.proofs.lemmas.Iterator.Adapters.{position_from-zero}
 use Rattle.std.proofs.lemmas.Slice.Eq.{bytes_eq-Decides}
+use Rattle.std.proofs.lemmas.Bool.{and_parts, or_parts}
+pub use Rattle.std.proofs.lemmas.Bool.{and_parts as and_both}
 use Rattle.std.proofs.lemmas.Bool.Decides.{same_from_decides}
 use Rattle.std.proofs.lemmas.Str.{IsUtf8-from_ascii}
 use Rattle.std.proofs.lemmas.Bool.Decides.{nat_tests}
@@ -32,14 +34,10 @@ none_after_push t [] x = λ none no. rw no refl
 none_after_push t (y ∷ xs) x =
     elim (t y) as (λ b. (b || list_any t xs) ≡ false → t x ≡ false → (b || list_any t (xs ++ x ∷ [])) ≡ false) [ true ↦ λ e no. cc | false ↦ λ e no. none_after_push t xs x e no ]
 
-or_false : (a b : Bool) → (a || b) ≡ false → (a ≡ false) × (b ≡ false)
-or_false true b e = absurd cc
-or_false false b e = (refl, e)
-
 push : (ns : List (List ℕ)) (n : List ℕ) → AreNames ns → is_name n ≡ true → list_any (bytes_eq n) ns ≡ false → AreNames (ns ++ n ∷ [])
 push [] n all is none = (is, refl, tt)
 push (x ∷ ns) n all is none =
-    let parts : (bytes_eq n x ≡ false) × (list_any (bytes_eq n) ns ≡ false) = or_false _ _ none in
+    let parts : (bytes_eq n x ≡ false) × (list_any (bytes_eq n) ns ≡ false) = or_parts _ _ none in
     (all.0, none_after_push (bytes_eq x) ns n all.1 (bytes_eq_sym x n ∙ parts.0), push ns n all.2 is parts.1)
 
 pub no_name : (ns : List (List ℕ)) (n : List ℕ) → place_of ns n ≡ None → list_any (bytes_eq n) ns ≡ false
@@ -64,7 +62,7 @@ texts_push f ks new k ns n e same is = ap (map f) is ∙ map-push f ks k ∙ (λ
 found_last : (t : List ℕ → Bool) (i : ℕ) (ns : List (List ℕ)) (n : List ℕ) → list_any t ns ≡ false → t n ≡ true → position_from t i (ns ++ n ∷ []) ≡ Some (i + length ns)
 found_last t i [] n none is = rw is (ap Some (omega arith))
 found_last t i (x ∷ ns) n none is =
-    let parts : (t x ≡ false) × (list_any t ns ≡ false) = or_false (t x) (list_any t ns) none in
+    let parts : (t x ≡ false) × (list_any t ns ≡ false) = or_parts (t x) (list_any t ns) none in
     rw parts.0 (found_last t (i + 1) ns n parts.1 is ∙ ap Some (omega arith))
 
 found_before : (t : List ℕ → Bool) (i : ℕ) (ns : List (List ℕ)) (n : List ℕ) → t n ≡ false → position_from t i (ns ++ n ∷ []) ≡ position_from t i ns
@@ -108,8 +106,8 @@ module _ {A : Type 0} where
 -- ---- copying
 any_later : (t : List ℕ → Bool) (xs : List (List ℕ)) (i : ℕ) (d : List ℕ) → i < length xs → list_any t xs ≡ false → t (get_or xs i d) ≡ false
 any_later t [] i d less none = absurd (omega arith)
-any_later t (x ∷ xs) zero d less none = (or_false (t x) (list_any t xs) none).0
-any_later t (x ∷ xs) (suc i) d less none = any_later t xs i d (omega arith) (or_false (t x) (list_any t xs) none).1
+any_later t (x ∷ xs) zero d less none = (or_parts (t x) (list_any t xs) none).0
+any_later t (x ∷ xs) (suc i) d less none = any_later t xs i d (omega arith) (or_parts (t x) (list_any t xs) none).1
 
 -- a name that stands later is not among those before it
 not_before : (ns : List (List ℕ)) (i : ℕ) (d : List ℕ) → i < length ns → AreNames ns → list_any (bytes_eq (get_or ns i d)) (take i ns) ≡ false
@@ -122,7 +120,7 @@ not_before (n ∷ ns) (suc i) d less all =
 none_at : (t : List ℕ → Bool) (i : ℕ) (xs : List (List ℕ)) → list_any t xs ≡ false → position_from t i xs ≡ None
 none_at t i [] none = refl
 none_at t i (x ∷ xs) none =
-    let parts : (t x ≡ false) × (list_any t xs ≡ false) = or_false (t x) (list_any t xs) none in
+    let parts : (t x ≡ false) × (list_any t xs ≡ false) = or_parts (t x) (list_any t xs) none in
     rw parts.0 (none_at t (i + 1) xs parts.1)
 
 -- each of the names is one
@@ -136,24 +134,19 @@ pub new_at : (ns : List (List ℕ)) (i : ℕ) (d : List ℕ) → i < length ns �
 new_at ns i d less all = position_from-zero (bytes_eq (get_or ns i d)) (take i ns) ∙ none_at (bytes_eq (get_or ns i d)) 0 (take i ns) (not_before ns i d less all)
 
 -- ---- names are text
-pub and_both : (a b : Bool) → (a && b) ≡ true → (a ≡ true) × (b ≡ true)
-and_both true true e = (refl, refl)
-and_both true false e = absurd cc
-and_both false b e = absurd cc
-
 word_is_ascii : (b : ℕ) → is_word b ≡ true → b < 128
 word_is_ascii b e = grind (arith, nat_tests)
 
 words_are_ascii : (bs : List ℕ) → list_all is_word bs ≡ true → (i : ℕ) → get_or bs i 0 < 128
 words_are_ascii [] e i = lit< tt
-words_are_ascii (b ∷ bs) e zero = word_is_ascii b (and_both (is_word b) (list_all is_word bs) e).0
-words_are_ascii (b ∷ bs) e (suc i) = words_are_ascii bs (and_both (is_word b) (list_all is_word bs) e).1 i
+words_are_ascii (b ∷ bs) e zero = word_is_ascii b (and_parts (is_word b) (list_all is_word bs) e).0
+words_are_ascii (b ∷ bs) e (suc i) = words_are_ascii bs (and_parts (is_word b) (list_all is_word bs) e).1 i
 
 pub name_is_words : (n : List ℕ) → is_name n ≡ true → list_all is_word n ≡ true
 name_is_words n e =
-    let short = and_both (ltb 0 (length n)) (leb (length n) 32 && (is_letter (get_or n 0 0) && list_all is_word n)) e in
-    let letter = and_both (leb (length n) 32) (is_letter (get_or n 0 0) && list_all is_word n) short.1 in
-    (and_both (is_letter (get_or n 0 0)) (list_all is_word n) letter.1).1
+    let short = and_parts (ltb 0 (length n)) (leb (length n) 32 && (is_letter (get_or n 0 0) && list_all is_word n)) e in
+    let letter = and_parts (leb (length n) 32) (is_letter (get_or n 0 0) && list_all is_word n) short.1 in
+    (and_parts (is_letter (get_or n 0 0)) (list_all is_word n) letter.1).1
 
 name_is_text : (n : List ℕ) → is_name n ≡ true → IsUtf8 n
 name_is_text n e = IsUtf8-from_ascii n (words_are_ascii n (name_is_words n e))

@@ -1,9 +1,10 @@
 -- What may follow where reading stands, said by lists of names: a byte is read exactly where it is the
 -- first of something that may follow.
-use Rattle.std.proofs.Common.{◌≡◌, ℕ, ◌+◌, ◌-◌, ◌<◌, ◌≤◌, Bool, true, false, cond, ◌&&◌, eqb, ltb, leb, ◌⊎◌, inl, inr, List, [], ◌∷◌, ◌++◌, length, Some, None, refl, sym, ap, subst, ◌∙◌, arith, append_assoc, suc}
+use Rattle.std.proofs.Common.{◌≡◌, ℕ, ◌+◌, ◌-◌, ◌<◌, ◌≤◌, true, false, cond, ◌&&◌, eqb, ltb, leb, ◌⊎◌, inl, inr, List, [], ◌∷◌, ◌++◌, length, Some, None, refl, sym, ap, subst, ◌∙◌, arith, append_assoc, suc}
 use Rattle.std.specs.List.{list_all}
 use Rattle.std.proofs.lemmas.Bool.Decides.{nat_tests}
-use Rattle.std.proofs.lemmas.Bool.{eqb-true}
+use Rattle.std.proofs.lemmas.Bool.{and_parts, eqb-true, le-leb, lt-ltb}
+use Rattle.std.proofs.lemmas.Option.{cond_some, same_Some}
 use Rattle.flow_labels.specs.Names.{is_letter, is_word, is_name}
 use Rattle.flow_labels.specs.TwoLists.{Text, AllNames, after_commas, joined, between}
 use Rattle.flow_labels.specs.Reading.{step, after_letter}
@@ -13,7 +14,6 @@ use Rattle.flow_labels.specs.declared.two_lists.Side.{Side}
 use Rattle.flow_labels.specs.declared.two_lists.Side.TheVariants.{First, Second}
 use Rattle.flow_labels.specs.declared.two_lists.Spot.{Spot}
 use Rattle.flow_labels.specs.declared.two_lists.Spot.TheVariants.{Start, Brace, Open, Name, Comma, Closed}
-use Rattle.flow_labels.proofs.NameLemmas.{and_both}
 
 -- ---- what may follow; A is what may follow the brace that ends the list
 
@@ -87,25 +87,19 @@ pub record NameParts (b : ℕ) (bs : Text) : Type 0 where
 
 pub name_parts : (b : ℕ) (bs : Text) → is_name (b ∷ bs) ≡ true → NameParts b bs
 name_parts b bs e =
-    let one : (leb (length (b ∷ bs)) 32 && (is_letter b && (is_word b && list_all is_word bs))) ≡ true = (and_both (ltb 0 (length (b ∷ bs))) _ e).1 in
-    let two : (leb (length (b ∷ bs)) 32 ≡ true) × ((is_letter b && (is_word b && list_all is_word bs)) ≡ true) = and_both (leb (length (b ∷ bs)) 32) _ one in
-    let three : (is_letter b ≡ true) × ((is_word b && list_all is_word bs) ≡ true) = and_both (is_letter b) _ two.1 in
-    record { letter = three.0; others = (and_both (is_word b) _ three.1).1; short = within (length bs) two.0 }
+    let one : (leb (length (b ∷ bs)) 32 && (is_letter b && (is_word b && list_all is_word bs))) ≡ true = (and_parts (ltb 0 (length (b ∷ bs))) _ e).1 in
+    let two : (leb (length (b ∷ bs)) 32 ≡ true) × ((is_letter b && (is_word b && list_all is_word bs)) ≡ true) = and_parts (leb (length (b ∷ bs)) 32) _ one in
+    let three : (is_letter b ≡ true) × ((is_word b && list_all is_word bs) ≡ true) = and_parts (is_letter b) _ two.1 in
+    record { letter = three.0; others = (and_parts (is_word b) _ three.1).1; short = within (length bs) two.0 }
   where
     within : (n : ℕ) → leb (suc n) 32 ≡ true → n ≤ 31
     within n e = grind (arith, nat_tests)
 
 pub parts_name : (b : ℕ) (bs : Text) → is_letter b ≡ true → list_all is_word bs ≡ true → length bs ≤ 31 → is_name (b ∷ bs) ≡ true
 parts_name b bs letter others short =
-    let some : ltb 0 (length (b ∷ bs)) ≡ true = some_of (length bs) in
-    let within : leb (length (b ∷ bs)) 32 ≡ true = within_of (length bs) short in
+    let some : ltb 0 (length (b ∷ bs)) ≡ true = lt-ltb 0 (suc (length bs)) (omega arith) in
+    let within : leb (length (b ∷ bs)) 32 ≡ true = le-leb (suc (length bs)) 32 (omega arith) in
     rw (some, within, letter, others) refl
-  where
-    some_of : (n : ℕ) → ltb 0 (suc n) ≡ true
-    some_of n = grind (arith, nat_tests)
-
-    within_of : (n : ℕ) → n ≤ 31 → leb (suc n) 32 ≡ true
-    within_of n h = grind (arith, nat_tests)
 
 letter_no_brace : (b : ℕ) → is_letter b ≡ true → eqb b 125 ≡ false
 letter_no_brace b e = grind (arith, nat_tests)
@@ -168,7 +162,7 @@ name_letter left less b t wordy fits h = record {
 name_back_at : {A : Text → Type 0} (left less b : ℕ) (t word tail : Text) → less ≡ left - 1 → list_all is_word word ≡ true → length word ≤ left → More A tail → b ∷ t ≡ word ++ tail → ((is_word b ≡ true) × (0 < left) × InName A less t) ⊎ More A (b ∷ t)
 name_back_at {A} left less b t [] tail fits wordy short more e = inr (subst (More A) (sym e) more)
 name_back_at {A} left less b t (w ∷ ws) tail fits wordy short more e =
-    let both = and_both (is_word w) (list_all is_word ws) wordy in
+    let both = and_parts (is_word w) (list_all is_word ws) wordy in
     let same : b ≡ w = head_same e in
     let first : is_word b ≡ true = rw same both.0 in
     inl (first, omega arith, record { word = ws; tail = tail; wordy = both.1; short = omega arith; more = more; text_is = tail_same e })
@@ -281,49 +275,39 @@ read_on form (Closed Second) b t h = cc
 
 -- nothing is left only at the end
 pub end_read : (form : Form) (spot : Spot) → Rest form spot [] → spot ≡ Closed Second
-end_read form Start h = absurd (marked_empty h)
-end_read form (Brace side) h = absurd (marked_empty h)
 end_read form (Open side) h = absurd (opened_empty h)
 end_read form (Name side len) h = absurd (name_empty h)
 end_read form (Comma side) h = absurd (fresh_empty h)
-end_read form (Closed First) h = absurd (marked_empty h)
 end_read form (Closed Second) h = refl
+end_read form spot h = absurd (marked_empty h)
 
 -- ---- and what may follow after a byte may follow before it
 marked : {m : ℕ} {B : Text → Type 0} (b : ℕ) (t : Text) → b ≡ m → B t → Marked m B (b ∷ t)
 marked b t same h = record { rest = t; goes = h; text_is = ap (λ (c : ℕ). c ∷ t) same }
 
--- a test that passed
-passed : {X : Type 0} (test : Bool) (x y : X) → cond test (Some x) None ≡ Some y → (test ≡ true) × (x ≡ y)
-passed true x y e = (refl, cc)
-passed false x y e = absurd cc
-
-some_same : {X : Type 0} {x y : X} → Some x ≡ Some y → x ≡ y
-some_same e = cc
-
 letter_before : (form : Form) (side : Side) (next : Spot) (b : ℕ) (t : Text) → after_letter side b ≡ Some next → Rest form next t → Fresh (Ends form side) (b ∷ t)
-letter_before form side next b t e h = let both = passed (is_letter b) (Name side 1) next e in fresh_letter b t both.0 (subst (λ (spot : Spot). Rest form spot t) (sym both.1) h)
+letter_before form side next b t e h = let both = cond_some (is_letter b) (Name side 1) next e in fresh_letter b t both.0 (subst (λ (spot : Spot). Rest form spot t) (sym both.1) h)
 
 pub read_back : (form : Form) (spot next : Spot) (b : ℕ) (t : Text) → step form spot b ≡ Some next → Rest form next t → Rest form spot (b ∷ t)
-read_back form Start next b t e h = let both = passed (eqb b 43) (Brace First) next e in marked b t (eqb-true b 43 both.0) (subst (λ (spot : Spot). Rest form spot t) (sym both.1) h)
-read_back form (Brace side) next b t e h = let both = passed (eqb b 123) (Open side) next e in marked b t (eqb-true b 123 both.0) (subst (λ (spot : Spot). Rest form spot t) (sym both.1) h)
+read_back form Start next b t e h = let both = cond_some (eqb b 43) (Brace First) next e in marked b t (eqb-true b 43 both.0) (subst (λ (spot : Spot). Rest form spot t) (sym both.1) h)
+read_back form (Brace side) next b t e h = let both = cond_some (eqb b 123) (Open side) next e in marked b t (eqb-true b 123 both.0) (subst (λ (spot : Spot). Rest form spot t) (sym both.1) h)
 read_back form (Open side) next b t e h = elim (eqb b 125) as (λ v. eqb b 125 ≡ v → cond v (Some (Closed side)) (after_letter side b) ≡ Some next → Opened (Ends form side) (b ∷ t)) [
-  | true ↦ λ is same. subst (λ (c : ℕ). Opened (Ends form side) (c ∷ t)) (sym (eqb-true b 125 is)) (opened_close (subst (λ (spot : Spot). Rest form spot t) (sym (some_same same)) h))
+  | true ↦ λ is same. subst (λ (c : ℕ). Opened (Ends form side) (c ∷ t)) (sym (eqb-true b 125 is)) (opened_close (subst (λ (spot : Spot). Rest form spot t) (sym (same_Some _ _ same)) h))
   | false ↦ λ is letter. opened_fresh (letter_before form side next b t letter h)
 ] refl e
 read_back form (Comma side) next b t e h = letter_before form side next b t e h
 read_back form (Name side len) next b t e h = elim (eqb b 125) as (λ v. eqb b 125 ≡ v → cond v (Some (Closed side)) (cond (eqb b 44) (Some (Comma side)) (cond (is_word b && ltb len 32) (Some (Name side (len + 1))) None)) ≡ Some next → InName (Ends form side) (32 - len) (b ∷ t)) [
-  | true ↦ λ is same. subst (λ (c : ℕ). InName (Ends form side) (32 - len) (c ∷ t)) (sym (eqb-true b 125 is)) (name_end (close (subst (λ (spot : Spot). Rest form spot t) (sym (some_same same)) h)))
+  | true ↦ λ is same. subst (λ (c : ℕ). InName (Ends form side) (32 - len) (c ∷ t)) (sym (eqb-true b 125 is)) (name_end (close (subst (λ (spot : Spot). Rest form spot t) (sym (same_Some _ _ same)) h)))
   | false ↦ λ is later. elim (eqb b 44) as (λ v. eqb b 44 ≡ v → cond v (Some (Comma side)) (cond (is_word b && ltb len 32) (Some (Name side (len + 1))) None) ≡ Some next → InName (Ends form side) (32 - len) (b ∷ t)) [
-    | true ↦ λ was same. subst (λ (c : ℕ). InName (Ends form side) (32 - len) (c ∷ t)) (sym (eqb-true b 44 was)) (name_end (comma (subst (λ (spot : Spot). Rest form spot t) (sym (some_same same)) h)))
-    | false ↦ λ was word. let both = passed (is_word b && ltb len 32) (Name side (len + 1)) next word in let parts = and_both (is_word b) (ltb len 32) both.0 in
+    | true ↦ λ was same. subst (λ (c : ℕ). InName (Ends form side) (32 - len) (c ∷ t)) (sym (eqb-true b 44 was)) (name_end (comma (subst (λ (spot : Spot). Rest form spot t) (sym (same_Some _ _ same)) h)))
+    | false ↦ λ was word. let both = cond_some (is_word b && ltb len 32) (Name side (len + 1)) next word in let parts = and_parts (is_word b) (ltb len 32) both.0 in
         name_letter (32 - len) (32 - (len + 1)) b t parts.0 (fits len parts.1) (subst (λ (spot : Spot). Rest form spot t) (sym both.1) h)
   ] refl later
 ] refl e
   where
     fits : (n : ℕ) → ltb n 32 ≡ true → 32 - (n + 1) + 1 ≡ 32 - n
     fits n e = let less : n < 32 = grind (arith, nat_tests) in omega arith
-read_back form (Closed First) next b t e h = let both = passed (eqb b (between form)) (Brace Second) next e in marked b t (eqb-true b (between form) both.0) (subst (λ (spot : Spot). Rest form spot t) (sym both.1) h)
+read_back form (Closed First) next b t e h = let both = cond_some (eqb b (between form)) (Brace Second) next e in marked b t (eqb-true b (between form) both.0) (subst (λ (spot : Spot). Rest form spot t) (sym both.1) h)
 read_back form (Closed Second) next b t e h = absurd cc
 
 -- ---- something may always follow

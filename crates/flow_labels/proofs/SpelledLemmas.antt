@@ -1,8 +1,10 @@
 -- The words of a text that two lists of names spell are the names, at their places.
-use Rattle.std.proofs.Common.{◌≡◌, ℕ, ◌+◌, ◌-◌, ◌<◌, Bool, true, false, not, ◌||◌, eqb, List, [], ◌∷◌, ◌++◌, length, take, drop, map, get_or, Some, Ok, refl, sym, ap, ◌∙◌, arith, append_assoc, append-nil, add-zero, suc}
+use Rattle.std.proofs.Common.{◌≡◌, ℕ, ◌+◌, ◌-◌, ◌<◌, Bool, true, false, not, eqb, List, [], ◌∷◌, ◌++◌, length, take, drop, map, get_or, Some, Ok, refl, sym, ap, ◌∙◌, arith, append_assoc, append-nil, add-zero, suc}
 use Rattle.std.specs.List.{list_all, prefix_len}
 use Rattle.std.proofs.Math.Seq.{take-append_seam, drop-append_seam}
+use Rattle.std.proofs.lemmas.Bool.{and_from, and_parts, eq-eqb, or_right}
 use Rattle.std.proofs.lemmas.Bool.Decides.{nat_tests}
+use Rattle.std.proofs.lemmas.List.Folds.{list_all-append}
 use Rattle.std.proofs.lemmas.Option.{slice_get-get_or}
 use Rattle.tag_sets.specs.Tags.{Tags, tags_of}
 use Rattle.tag_sets.specs.Rising.{has}
@@ -13,7 +15,7 @@ use Rattle.flow_labels.specs.Reading.{closing, words, tags_of_names, sets_of, fi
 use Rattle.flow_labels.specs.LabelText.{label_or, LabelsAreRead, TextsAreRead}
 use Rattle.flow_labels.specs.declared.two_lists.Form.{Form}
 use Rattle.flow_labels.specs.declared.two_lists.Form.TheVariants.{Label as label_form, Caps}
-use Rattle.flow_labels.proofs.NameLemmas.{and_both, name_is_words, named_at, place_at}
+use Rattle.flow_labels.proofs.NameLemmas.{name_is_words, named_at, place_at}
 use Rattle.flow_labels.proofs.FormLemmas.{form_read}
 
 -- ---- words
@@ -23,7 +25,7 @@ moved t word m n e = ap (words t word) e
 pub words-name : (n t word : Text) (at : ℕ) → list_all is_word n ≡ true → words (n ++ t) word at ≡ words t (word ++ n) (at + length n)
 words-name [] t word at all = sym (ap (λ (w : Text). words t w (at + 0)) (append-nil word) ∙ moved t word (at + 0) at (add-zero at))
 words-name (c ∷ cs) t word at all =
-    let both = and_both (is_word c) (list_all is_word cs) all in
+    let both = and_parts (is_word c) (list_all is_word cs) all in
     let later : words (cs ++ t) (word ++ c ∷ []) (at + 1) ≡ words t ((word ++ c ∷ []) ++ cs) (at + 1 + length cs) = words-name cs t (word ++ c ∷ []) (at + 1) both.1 in
     let here : words (c ∷ (cs ++ t)) word at ≡ words (cs ++ t) (word ++ c ∷ []) (at + 1) = rw both.0 refl in
     here ∙ later ∙ ap (λ (w : Text). words t w (at + 1 + length cs)) (append_assoc word (c ∷ []) cs) ∙ moved t (word ++ c ∷ cs) (at + 1 + length cs) (at + suc (length cs)) (omega arith)
@@ -66,11 +68,10 @@ word_passes b e = let no : eqb b 125 ≡ false = grind (arith, nat_tests) in rw 
 
 all_pass : (n : Text) → list_all is_word n ≡ true → list_all (λ b. not (eqb b 125)) n ≡ true
 all_pass [] e = refl
-all_pass (c ∷ cs) e = let both = and_both (is_word c) (list_all is_word cs) e in rw (word_passes c both.0) (all_pass cs both.1)
+all_pass (c ∷ cs) e = let both = and_parts (is_word c) (list_all is_word cs) e in rw (word_passes c both.0) (all_pass cs both.1)
 
 all_append : (p : ℕ → Bool) (xs ys : Text) → list_all p xs ≡ true → list_all p ys ≡ true → list_all p (xs ++ ys) ≡ true
-all_append p [] ys e f = f
-all_append p (x ∷ xs) ys e f = let both = and_both (p x) (list_all p xs) e in rw both.0 (all_append p xs ys both.1 f)
+all_append p xs ys e f = list_all-append p xs ys ∙ and_from (list_all p xs) (list_all p ys) e f
 
 after_pass : (ns : List Text) → AllNames ns → list_all (λ b. not (eqb b 125)) (after_commas ns) ≡ true
 after_pass [] all = refl
@@ -83,7 +84,7 @@ joined_pass (n ∷ ns) all = all_append (λ b. not (eqb b 125)) n (after_commas 
 front_len : (p : ℕ → Bool) (xs ys : Text) (y : ℕ) → list_all p xs ≡ true → p y ≡ false → prefix_len p (xs ++ y ∷ ys) ≡ length xs
 front_len p [] ys y all stop = rw stop refl
 front_len p (x ∷ xs) ys y all stop =
-    let both = and_both (p x) (list_all p xs) all in
+    let both = and_parts (p x) (list_all p xs) all in
     let later : prefix_len p (xs ++ y ∷ ys) ≡ length xs = front_len p xs ys y both.1 stop in
     rw both.0 (rw later (omega arith))
 
@@ -121,14 +122,7 @@ EachHasName names (t ∷ ts) = (t < length names) × EachHasName names ts
 
 each_has_name : (names : List Text) (ts : List ℕ) → ((t : ℕ) → has ts t ≡ true → t < length names) → EachHasName names ts
 each_has_name names [] h = tt
-each_has_name names (t ∷ ts) h = (h t (rw (same t) refl), each_has_name names ts (λ u e. h u (or_true (eqb t u) (has ts u) e)))
-  where
-    same : (n : ℕ) → eqb n n ≡ true
-    same n = grind (arith, nat_tests)
-
-    or_true : (a b : Bool) → b ≡ true → (a || b) ≡ true
-    or_true true b e = refl
-    or_true false b e = e
+each_has_name names (t ∷ ts) h = (h t (rw (eq-eqb t t refl) refl), each_has_name names ts (λ u e. h u (or_right (eqb t u) (has ts u) e)))
 
 tag_text-is : (names : List Text) (t : ℕ) → t < length names → tag_text names t ≡ get_or names t []
 tag_text-is names t less = rw (slice_get-get_or names t [] less) refl
