@@ -2,7 +2,8 @@
 use Rattle.std.proofs.Common.{◌≡◌, ℕ, ◌+◌, ◌-◌, ◌≤◌, Bool, true, false, cond, List, [], ◌∷◌, ◌++◌, map, length, drop, take, slice_get, Some, None, suc, zero, refl, sym, ap, subst, ◌∙◌, arith, add-one}
 use Rattle.std.specs.Prelude.{◌&&◌}
 use Rattle.std.specs.Borrow.{Bor}
-use Rattle.std.proofs.lemmas.List.{append-nil, append_assoc, map-append}
+use Rattle.std.proofs.lemmas.List.{append-nil, append_assoc, length-map, map-append}
+use Rattle.std.proofs.lemmas.Bool.{and_right}
 use Rattle.std.specs.Map.{lookup, keys_of}
 use Rattle.std.specs.HashMap.{HashMap, IsUnique}
 use Rattle.std.specs.List.{IsDistinct, AllByRecursion}
@@ -10,7 +11,7 @@ use Rattle.std.specs.FinMap.{get}
 use Rattle.flow_labels.specs.declared.Label.{Label}
 use Rattle.lam_value_homes.specs.Homes.{Home, home_of, label_eq, home_eq, homes_in, homes_of, listed_home, Counts, IsListing}
 use Rattle.lam_value_homes.proofs.Keys.{label_exact, label_total, label_ties, home_exact, home_total, home_ties}
-use Rattle.lam_value_homes.proofs.Rows.{itself, is_same, label_same, absent, get_same}
+use Rattle.lam_value_homes.proofs.Rows.{itself, is_same, label_same, absent, get_same, taken}
 
 -- ---- a place in one list after another
 before : {X : Type 0} (xs ys : List X) (i : ℕ) (x : X) → slice_get xs i ≡ Some x → slice_get (xs ++ ys) i ≡ Some x
@@ -42,10 +43,6 @@ in_row m [] i own n at = cc
 in_row m (e ∷ es) zero own n at = let same : e ≡ (own, n) = cc in ap (λ (x : Label × ℕ). Some (home_of m x.0, x.1)) same
 in_row m (e ∷ es) (suc i) own n at = in_row m es i own n at
 
-length_row : (m : Label) (es : List (Label × ℕ)) → length (map {B = Home × ℕ} (λ (e : Label × ℕ). (home_of m e.0, e.1)) es) ≡ length es
-length_row m [] = refl
-length_row m (e ∷ es) = ap suc (length_row m es)
-
 module _ {S : Type 0} (rows : List (Label × HashMap Label ℕ S)) (at : ℕ) (maker : Label) (row : HashMap Label ℕ S) (is : slice_get rows at ≡ Some (maker, row)) (rest : ℕ) where
   -- the place is one of that maker's
   pub place_here : (own : Label) (n : ℕ) → slice_get row.entries rest ≡ Some (own, n) → slice_get (homes_in (drop at rows)) rest ≡ Some (home_of maker own, n)
@@ -57,17 +54,9 @@ module _ {S : Type 0} (rows : List (Label × HashMap Label ℕ S)) (at : ℕ) (m
   pub place_later : length row.entries ≤ rest → slice_get (homes_in (drop (at + 1) rows)) (rest - length row.entries) ≡ slice_get (homes_in (drop at rows)) rest
   place_later le =
       sym (ap (λ rs. slice_get (homes_in rs) rest) (from rows at (maker, row) is)
-      ∙ after (map {B = Home × ℕ} (λ (e : Label × ℕ). (home_of maker e.0, e.1)) row.entries) (homes_in (drop (at + 1) rows)) rest (rest - length row.entries) (omega (arith, le, length_row maker row.entries)))
+      ∙ after (map {B = Home × ℕ} (λ (e : Label × ℕ). (home_of maker e.0, e.1)) row.entries) (homes_in (drop (at + 1) rows)) rest (rest - length row.entries) (omega (arith, le, length-map {B = Home × ℕ} row.entries (λ (e : Label × ℕ). (home_of maker e.0, e.1)))))
 
 -- ---- a list made home by home and maker by maker
-through : {X : Type 0} (xs : List X) (i : ℕ) (x : X) → slice_get xs i ≡ Some x → take (i + 1) xs ≡ take i xs ++ x ∷ []
-through xs i x at = ap (λ n. take n xs) (add-one i) ∙ by xs i at
-  where
-    by : (ys : List _) (j : ℕ) → slice_get ys j ≡ Some x → take (suc j) ys ≡ take j ys ++ x ∷ []
-    by [] j e = cc
-    by (y ∷ ys) zero e = let same : y ≡ x = cc in ap (λ z. z ∷ []) same
-    by (y ∷ ys) (suc j) e = ap (λ zs. y ∷ zs) (by ys j e)
-
 of_append : (m : Label) (es fs : List (Label × ℕ)) → homes_of m (es ++ fs) ≡ homes_of m es ++ homes_of m fs
 of_append m [] fs = refl
 of_append m (e ∷ es) fs = λ j. (home_of m e.0, e.1) ∷ of_append m es fs j
@@ -79,7 +68,7 @@ one_home_more maker own n es i at first old new more so_far =
     ap (map listed_home) more ∙ map-append listed_home old ((maker, own, n) ∷ [])
     ∙ ap (λ hs. hs ++ (home_of maker.now own.now, n) ∷ []) so_far
     ∙ append_assoc (map listed_home first) (homes_of maker.now (take i es)) ((home_of maker.now own.now, n) ∷ [])
-    ∙ ap (λ hs. map listed_home first ++ hs) (sym (ap (homes_of maker.now) (through es i (own.now, n) at) ∙ of_append maker.now (take i es) ((own.now, n) ∷ [])))
+    ∙ ap (λ hs. map listed_home first ++ hs) (sym (ap (homes_of maker.now) (taken es i (own.now, n) at) ∙ of_append maker.now (take i es) ((own.now, n) ∷ [])))
 
 module _ {S : Type 0} where
   in_append : (rows more : List (Label × HashMap Label ℕ S)) → homes_in (rows ++ more) ≡ homes_in rows ++ homes_in more
@@ -92,18 +81,14 @@ module _ {S : Type 0} where
   one_maker_more rows i maker row at old new so_far more =
       more ∙ ap (λ hs. hs ++ homes_of maker row.entries) so_far
       ∙ ap (λ hs. homes_in (take i rows) ++ hs) (sym (append-nil (homes_of maker row.entries)))
-      ∙ sym (ap (λ rs. homes_in rs) (through rows i (maker, row) at) ∙ in_append (take i rows) ((maker, row) ∷ []))
+      ∙ sym (ap (λ rs. homes_in rs) (taken rows i (maker, row) at) ∙ in_append (take i rows) ((maker, row) ∷ []))
 
 -- ---- each home stands once
-never : (b : Bool) → b && false ≡ false
-never true = refl
-never false = refl
-
 -- a maker's home that is in neither list is not in both together
 apart : (m k : Label) (es : List (Label × ℕ)) (hs : List (Home × ℕ)) → AllByRecursion (λ y. label_eq k y ≡ false) (keys_of es) → AllByRecursion (λ h. home_eq (home_of m k) h ≡ false) (keys_of hs)
     → AllByRecursion (λ h. home_eq (home_of m k) h ≡ false) (keys_of (map {B = Home × ℕ} (λ (e : Label × ℕ). (home_of m e.0, e.1)) es ++ hs))
 apart m k [] hs a b = b
-apart m k (e ∷ es) hs a b = (ap (λ t. label_eq m m && t) a.0 ∙ never (label_eq m m), apart m k es hs a.1 b)
+apart m k (e ∷ es) hs a b = (and_right (label_eq m m) (label_eq k e.0) a.0, apart m k es hs a.1 b)
 
 -- nor is it among the homes of another maker
 elsewhere : (m k p : Label) (es : List (Label × ℕ)) (hs : List (Home × ℕ)) → label_eq m p ≡ false → AllByRecursion (λ h. home_eq (home_of m k) h ≡ false) (keys_of hs)
