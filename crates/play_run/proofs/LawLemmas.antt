@@ -2,7 +2,7 @@
 use Rattle.std.proofs.Common.{◌≡◌, ℕ, zero, suc, ℤ, Bool, true, false, List, [], ◌∷◌, ◌++◌, Option, Some, None, refl, sym, ap, ◌∙◌, subst}
 use Rattle.std.specs.Prelude.{if◌then◌else◌, map, slice_get}
 use Rattle.std.specs.List.{AllByRecursion, cons_option}
-use Rattle.std.proofs.lemmas.Option.{slice_get-map}
+use Rattle.std.proofs.lemmas.Option.{same_Some, slice_get-map}
 use Rattle.std.specs.Option.{option_map}
 use Rattle.std.specs.FinSet.{difference}
 use Rattle.flow_labels.specs.Tags.{least}
@@ -18,7 +18,6 @@ use Rattle.capabilities.specs.Changes.{used, MayChange, Covers, change_test}
 use Rattle.capabilities.specs.Kinds.{public_of}
 use Rattle.labelled_heap.specs.declared.cells.Cell.{Cell}
 use Rattle.labelled_heap.specs.CellAt.{with_value}
-use Rattle.play_script.specs.declared.Actor.{Actor}
 use Rattle.play_script.specs.declared.Step.{Step}
 use Rattle.play_script.specs.declared.Step.TheVariants.{Read, Write, Copy}
 use Rattle.play_script.specs.Script.{Play}
@@ -28,7 +27,7 @@ use Rattle.play_run.specs.Steps.{Cast, Release, Copied, Moment, cast_of, copy_te
 use Rattle.play_run.specs.Seen.{Entry, Seen, Released, past, noted, notes, trace}
 use Rattle.play_run.specs.Laws.{Shows, step, release, NotesAreExact, cell_labels, usable, IsAllowed, ReleasesAreAllowed}
 use Rattle.play_run.proofs.FlowLemmas.{flows-trans, read-flows}
-use Rattle.play_run.proofs.MomentLemmas.{Noting, Watched, Hidden, noting, entry_of, PastCopied, past_copied, TookCopy, took_read, took_write, took_copy}
+use Rattle.play_run.proofs.MomentLemmas.{Noting, Watched, Hidden, noting, PastCopied, past_copied, TookCopy, took_read, took_write, took_copy}
 
 -- ---- what a moment shows
 
@@ -43,7 +42,7 @@ noted-shows : (o : Label) (m : Moment) (e : Entry) → noted o m ≡ Some e → 
 noted-shows o m e is = sort (noting o m)
   where
     sort : Noting o m (noted o m) → Shows o m e
-    sort (Watched seen f) = subst (λ x. Shows o m x) (entry_of (Seen m.event) e (sym f ∙ is)) (step seen)
+    sort (Watched seen f) = subst (λ x. Shows o m x) (same_Some (Seen m.event) e (sym f ∙ is)) (step seen)
     sort (Hidden unseen f) =
         let p = past_copied o m.copied e (sym f ∙ is) in
         subst (λ x. Shows o m x) (sym p.entry) (release p.copied unseen p.is p.seen)
@@ -63,10 +62,7 @@ parts (p ∷ a) b e = step_holds p.0 (least p.1) (first_failing (a ++ b)) (first
 
 four : (a b c d : Option ℕ) (r r' q q' : Rule) → denied_or r a (denied_or r' b (denied_or q c (denied_or q' d None))) ≡ None → (a ≡ None) × (b ≡ None) × (c ≡ None) × (d ≡ None)
 four None None None None r r' q q' e = (refl, refl, refl, refl)
-four None None None (Some t) r r' q q' e = absurd cc
-four None None (Some t) d r r' q q' e = absurd cc
-four None (Some t) c d r r' q q' e = absurd cc
-four (Some t) b c d r r' q q' e = absurd cc
+four a b c d r r' q q' e = absurd cc
 
 change-may : (c : Caps) (x y : Label) → first_failing (change_test c x y) ≡ None → MayChange c x y
 change-may c x y e =
@@ -172,7 +168,7 @@ fine_moment play o cells s m (Released r) labels h is = sort (noting o m)
   where
     sort : Noting o m (noted o m) → IsAllowed play o r
     sort (Watched seen f) =
-        let clash : Seen m.event ≡ Released r = entry_of (Seen m.event) (Released r) (sym f ∙ is) in
+        let clash : Seen m.event ≡ Released r = same_Some (Seen m.event) (Released r) (sym f ∙ is) in
         absurd cc
     sort (Hidden unseen f) = allowed_moment play o cells s m r labels h unseen (past_copied o m.copied (Released r) (sym f ∙ is))
 

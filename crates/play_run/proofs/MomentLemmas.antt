@@ -1,6 +1,7 @@
 -- one step of a run, and the same step of another run whose cells look the same
 use Rattle.std.proofs.Common.{◌≡◌, ℕ, ℤ, Bool, true, false, List, Option, Some, None, refl, sym, ap, ◌∙◌}
 use Rattle.std.specs.Prelude.{if◌then◌else◌, slice_get}
+use Rattle.std.proofs.lemmas.Option.{same_Some}
 use Rattle.flow_labels.specs.declared.Label.{Label}
 use Rattle.flow_labels.specs.declared.Denied.{Denied}
 use Rattle.flow_labels.specs.Flow.{flows}
@@ -51,9 +52,8 @@ record Two {A B : Type 0} (x : Option A) (y : Option B) (f : A → B → Moment)
   is : m ≡ f first second
 
 two : {A B : Type 0} (x : Option A) (y : Option B) (f : A → B → Moment) (m : Moment) → found x (λ p. found y (λ c. Some (f p c))) ≡ Some m → Two x y f m
-two None y f m e = absurd cc
-two (Some p) None f m e = absurd cc
 two (Some p) (Some c) f m e = record { first = p; second = c; first_is = refl; second_is = refl; is = let same : f p c ≡ m = cc in sym same }
+two x y f m e = absurd cc
 
 -- what three found
 record Three {A B C : Type 0} (x : Option A) (y : Option B) (z : Option C) (f : A → B → C → Moment) (m : Moment) : Type 0 where
@@ -66,10 +66,8 @@ record Three {A B C : Type 0} (x : Option A) (y : Option B) (z : Option C) (f : 
   is : m ≡ f first second third
 
 three : {A B C : Type 0} (x : Option A) (y : Option B) (z : Option C) (f : A → B → C → Moment) (m : Moment) → found x (λ p. found y (λ c. found z (λ d. Some (f p c d)))) ≡ Some m → Three x y z f m
-three None y z f m e = absurd cc
-three (Some p) None z f m e = absurd cc
-three (Some p) (Some c) None f m e = absurd cc
 three (Some p) (Some c) (Some d) f m e = record { first = p; second = c; third = d; first_is = refl; second_is = refl; third_is = refl; is = let same : f p c d ≡ m = cc in sym same }
+three x y z f m e = absurd cc
 
 pub took_read : (cast : Cast) (cells : List Cell) (a n : ℕ) (m : Moment) → moment_of cast cells (Read a n) ≡ Some m → TookRead cast cells a n m
 took_read cast cells a n m e =
@@ -163,9 +161,6 @@ went_same : (x : Option Denied) (v v' : ℤ) → (x ≡ None → v ≡ v') → w
 went_same None v v' e = ap Done (e refl)
 went_same (Some denied) v v' e = refl
 
-some_inj : {A : Type 0} (x y : A) → Some x ≡ Some y → x ≡ y
-some_inj x y e = cc
-
 taken_alike : (o : Label) (cells cells' : List Cell) (p p' : Actor) (s : Step) (w w' : Outcome) (into into' : Option Label) (m m' : Moment) → m ≡ taken cells p s w into → m' ≡ taken cells' p' s w' into' → p ≡ p' → w ≡ w' → view o cells ≡ view o cells' → Alike o m m'
 taken_alike o cells cells' p p' s w w' into into' m m' is is' actors outcomes views =
     record {
@@ -179,7 +174,7 @@ pub seen_pair : (o : Label) (cast : Cast) (cells cells' : List Cell) (s : Step) 
 seen_pair o cast cells cells' (Read a n) m m' views e e' seen =
     let t = took_read cast cells a n m e in
     let t' = took_read cast cells' a n m' e' in
-    let actor = some_inj t.actor t'.actor (sym t.named ∙ t'.named) in
+    let actor = same_Some t.actor t'.actor (sym t.named ∙ t'.named) in
     let alike = look_alike o cells cells' n t.cell t'.cell views t.there t'.there in
     let seen_actor : flows t.actor.label o ≡ true = ap (λ x. flows x.event.label o) (sym t.is) ∙ seen in
     let test = λ (p : Actor) (l : Label). first_failing (read_test p.label l) in
@@ -191,7 +186,7 @@ seen_pair o cast cells cells' (Read a n) m m' views e e' seen =
 seen_pair o cast cells cells' (Write a n v) m m' views e e' seen =
     let t = took_write cast cells a n v m e in
     let t' = took_write cast cells' a n v m' e' in
-    let actor = some_inj t.actor t'.actor (sym t.named ∙ t'.named) in
+    let actor = same_Some t.actor t'.actor (sym t.named ∙ t'.named) in
     let alike = look_alike o cells cells' n t.cell t'.cell views t.there t'.there in
     let outcomes : outcome_of (write_test t.actor.label t.cell.label) v ≡ outcome_of (write_test t'.actor.label t'.cell.label) v =
     (λ j. outcome_of (write_test (actor j).label (alike.labels j)) v) in
@@ -199,7 +194,7 @@ seen_pair o cast cells cells' (Write a n v) m m' views e e' seen =
 seen_pair o cast cells cells' (Copy a n k) m m' views e e' seen =
     let t = took_copy cast cells a n k m e in
     let t' = took_copy cast cells' a n k m' e' in
-    let actor = some_inj t.actor t'.actor (sym t.named ∙ t'.named) in
+    let actor = same_Some t.actor t'.actor (sym t.named ∙ t'.named) in
     let from = look_alike o cells cells' n t.from t'.from views t.there t'.there in
     let to = look_alike o cells cells' k t.to t'.to views t.other t'.other in
     let seen_actor : flows t.actor.label o ≡ true = ap (λ x. flows x.event.label o) (sym t.is) ∙ seen in
@@ -249,9 +244,6 @@ pub record Together (o : Label) (e e' : Entry) (m m' : Moment) : Type 0 where
   pub entries : e ≡ e'
   pub views : view o m.cells ≡ view o m'.cells
 
-pub entry_of : (e e' : Entry) → Some e ≡ Some e' → e ≡ e'
-entry_of e e' h = cc
-
 took_step : (cast : Cast) (cells : List Cell) (s : Step) (m : Moment) → moment_of cast cells s ≡ Some m → m.event.step ≡ s
 took_step cast cells (Read a n) m e = ap (λ x. x.event.step) (took_read cast cells a n m e).is
 took_step cast cells (Write a n v) m e = ap (λ x. x.event.step) (took_write cast cells a n v m e).is
@@ -285,8 +277,8 @@ together o cast cells cells' s s' m m' e e' views h h' is is' same = sort (notin
   where
     sort : Noting o m (noted o m) → Noting o m' (noted o m') → Together o e e' m m'
     sort (Watched seen f) (Watched seen' f') =
-        let entry : e ≡ Seen m.event = entry_of e (Seen m.event) (sym is ∙ f) in
-        let entry' : e' ≡ Seen m'.event = entry_of e' (Seen m'.event) (sym is' ∙ f') in
+        let entry : e ≡ Seen m.event = same_Some e (Seen m.event) (sym is ∙ f) in
+        let entry' : e' ≡ Seen m'.event = same_Some e' (Seen m'.event) (sym is' ∙ f') in
         let steps : m.event.step ≡ m'.event.step = acts_inj m.event.step m'.event.step (ap item_of (sym entry) ∙ same ∙ ap item_of entry') in
         let step : s' ≡ s = sym (took_step cast cells' s' m' h') ∙ sym steps ∙ took_step cast cells s m h in
         let pair = seen_pair o cast cells cells' s m m' views h (ap (λ t. moment_of cast cells' t) (sym step) ∙ h') seen in
@@ -305,12 +297,12 @@ together o cast cells cells' s s' m m' e e' views h h' is is' same = sort (notin
               ∙ ap (λ x. view o (cells_after cells' x.copy (Done x.value))) releases ∙ ap (view o) (sym after'.cells_are);
         }
     sort (Watched seen f) (Hidden unseen' f') =
-        let entry : e ≡ Seen m.event = entry_of e (Seen m.event) (sym is ∙ f) in
+        let entry : e ≡ Seen m.event = same_Some e (Seen m.event) (sym is ∙ f) in
         let r' = past_copied o m'.copied e' (sym f' ∙ is') in
         let items : Acts m.event.step ≡ Releases r'.copied.release = ap item_of (sym entry) ∙ same ∙ ap item_of r'.entry in
         absurd cc
     sort (Hidden unseen f) (Watched seen' f') =
-        let entry' : e' ≡ Seen m'.event = entry_of e' (Seen m'.event) (sym is' ∙ f') in
+        let entry' : e' ≡ Seen m'.event = same_Some e' (Seen m'.event) (sym is' ∙ f') in
         let r = past_copied o m.copied e (sym f ∙ is) in
         let items : Releases r.copied.release ≡ Acts m'.event.step = ap item_of (sym r.entry) ∙ same ∙ ap item_of entry' in
         absurd cc
