@@ -1,4 +1,5 @@
 pub mod Homes
+pub mod Limits
 pub mod NameParts
 pub mod Names
 pub mod Shapes

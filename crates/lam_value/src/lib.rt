@@ -7,6 +7,7 @@
 //! - `homes`: homes, each a pair of a maker's label and an own label, and look-up in a map by home.
 //! - `names`: names and their order, by which stores are maps from names.
 //! - `byte_text` and `values`: the values.
+//! - `limits`: limits that more than one crate above speaks of.
 //! - `shapes`: the classes, kinds and sizes of new things.
 //! - `text`: the printed values.
 //!
@@ -21,6 +22,7 @@
 
 mod byte_text;
 mod homes;
+mod limits;
 mod names;
 mod same_lists;
 mod shapes;
@@ -33,6 +35,7 @@ pub use lam_value_homes::{
     Counters, Denied, HomeCounts, Label, Labelled, NoMemory, Same, TagNames, Whole, push_number,
     same_maps,
 };
+pub use limits::{BYTES_LIMIT, TAG_LIMIT};
 pub use names::Name;
 pub use same_lists::same_values;
 pub use shapes::{Kind, Shape};
