@@ -9,6 +9,7 @@ pub use Rattle.capabilities.specs.declared.Caps
 pub use Rattle.lam_value.specs.Flow
 pub use Rattle.lam_value.specs.Homes
 pub use Rattle.lam_value.specs.Label
+pub use Rattle.lam_value.specs.Limits
 pub use Rattle.lam_value.specs.NameParts
 pub use Rattle.lam_value.specs.Names
 pub use Rattle.lam_value.specs.Shapes

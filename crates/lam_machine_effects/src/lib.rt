@@ -20,5 +20,6 @@ mod stores;
 
 pub use applying::apply;
 pub use effect::Effect;
+pub use lam_value::TAG_LIMIT;
 pub use served::Served;
-pub use stores::{Stores, TAG_LIMIT, THREAD_LIMIT};
+pub use stores::{Stores, THREAD_LIMIT};

@@ -15,9 +15,6 @@ use lam_value::TagNames;
 use std::alloc::Global;
 use want_of_memory::NoMemory;
 
-/// The number of tags that there may be.
-pub const TAG_LIMIT: u64 = 65_536;
-
 /// The number of threads that there may be.
 pub const THREAD_LIMIT: u64 = 4_096;
 

@@ -1,9 +1,7 @@
--- How much a world may have, beside what the stores say of themselves.
+-- How much a world may have, beside what the stores say of themselves. First tags and minted ones together are at most
+-- `most_tags`.
 use Rattle.std.specs.Prelude.{ℕ}
-
--- first tags and minted ones together
-abbrev pub most_tags : ℕ
-most_tags = 65536
+pub use Rattle.labelled_heap.specs.Limits.{most_tags}
 
 -- those that have ended are counted too
 abbrev pub most_threads : ℕ

@@ -26,11 +26,9 @@ use decimal_text::read_int;
 use flow_labels::Label;
 use lam_asks::Fault;
 use lam_builtins::Builtin;
-use lam_value::{ByteText, Name, Value};
+use lam_value::{BYTES_LIMIT, ByteText, Name, Value};
 use thread_core_effects::{AskRef, Called, OpEffect, Operands, ValueRef, some_null};
 
-/// How many bytes a value may have, and how many of a file are read at once.
-const BYTES_LIMIT: usize = 65_536;
 /// How many bytes a message may have.
 const MESSAGE_LIMIT: usize = 4_096;
 

@@ -16,13 +16,10 @@ ghost use Rattle.world_doc.specs.Found.{read_as, one_more, IsFound, argument_of}
 use crate::pipes::{PipeNames, find_pipe};
 use flow_labels::TagNames;
 use lam_bytecode::ArgKind;
-use lam_value::{ByteText, Value, Values};
+use lam_value::{BYTES_LIMIT, ByteText, Value, Values};
 use serde_json::Value as Json;
 use std::alloc::Global;
 use world_doc_stores::{WorldFault, array_member, bad_member, object, read_tag};
-
-/// The number of bytes that a value may have.
-const TEXT_LIMIT: usize = 65_536;
 
 // The kinds of contents that an argument may have.
 #[derive(Clone, Copy)]
@@ -94,7 +91,7 @@ fn text_of(alloc: Global, content: &Json) -> Result<Value, WorldFault>
     ensures { Gives (λ v. v) result (text_of (view content.now)) }
 {
     match content.as_str() {
-        Some(text) if text.len() <= TEXT_LIMIT => {
+        Some(text) if text.len() <= BYTES_LIMIT => {
             Ok(Value::Bytes(ByteText::from_slice(alloc, text.as_bytes())?))
         }
         _ => Err(bad_member(alloc, "text")),
