@@ -2,9 +2,9 @@
 use Rattle.std.proofs.Common.{◌≡◌, ℕ, Bool, true, false, cond, List, [], ◌∷◌, length, nat_eq, Option, Some, None, is_some, refl, sym, ap, ◌∙◌, subst, arith, Result, Ok, Err, IfOk, eq-eqb}
 use Rattle.std.proofs.lemmas.Bool.Decides.{nat_tests}
 use Rattle.std.proofs.lemmas.Slice.Eq.{bytes_eq-Decides}
-use Rattle.lam_syntax.specs.Tree.{CapTree, TypeTree, type_node, TypeForm, int_type, bool_type, bytes_type, tag_type, label_type, caps_type, file_type, dir_type, pipe_type, thread_type, class_type, array_type, ExprTree, expr_node, ExprForm, binary_expr, unary_expr, field_expr, element_expr, number_expr, text_expr, bool_expr, null_expr, name_expr, call_expr, new_class_expr, new_array_expr, label_expr, caps_expr, spawn_expr, ExprList, no_exprs, exprs}
+use Rattle.lam_syntax.specs.Tree.{CapTree, TypeTree, type_node, TypeForm, class_type, array_type, ExprTree, expr_node, ExprForm, binary_expr, unary_expr, field_expr, element_expr, number_expr, text_expr, bool_expr, null_expr, name_expr, call_expr, new_class_expr, new_array_expr, label_expr, caps_expr, spawn_expr, ExprList, no_exprs, exprs}
 use Rattle.lam_operators.specs.Words.{Word}
-use Rattle.lam_builtins.specs.Types.{ValueType, int, bool, bytes, tag, label, caps, file, dir, pipe, thread, object, array, Given, a_value, a_null, nothing, given_type, Place, exactly, any_class, any_array, suits, wanted_type, comparable, same_type}
+use Rattle.lam_builtins.specs.Types.{ValueType, int, bool, bytes, tag, label, caps, thread, object, array, Given, a_value, a_null, nothing, given_type, Place, exactly, any_class, any_array, suits, wanted_type, comparable, same_type}
 use Rattle.lam_types_kinds.specs.Written.{written}
 use Rattle.lam_types_kinds.specs.Verdicts.{Fine, Stop, then_on}
 use Rattle.lam_types_kinds.specs.Breaks.{Break, no_name, arity, Verdict, fit, unequal, mismatch_of}
@@ -40,16 +40,7 @@ mutual
   declared_form : (d : Decls) (at : ℕ) (form : TypeForm) → IsDeclaredForm d form → form_known d at form ≡ Fine tt
   declared_form d at (class_type c) (fields, e) = named_fine at (find c d.classes) fields e
   declared_form d at (array_type t) h = declared_fine d t h
-  declared_form d at int_type h = refl
-  declared_form d at bool_type h = refl
-  declared_form d at bytes_type h = refl
-  declared_form d at tag_type h = refl
-  declared_form d at label_type h = refl
-  declared_form d at caps_type h = refl
-  declared_form d at file_type h = refl
-  declared_form d at dir_type h = refl
-  declared_form d at pipe_type h = refl
-  declared_form d at thread_type h = refl
+  declared_form d at _ h = refl
 
 operate_fine : (o : Option ValueType) (t : ValueType) (la ra : ℕ) (v w : Verdict Given) (L R : Given → Type 0) → ((h : Given) → L h → v ≡ Fine h) → ((h : Given) → R h → w ≡ Fine h) →
     Operates o L R → then_on v (λ g. then_on w (λ h. operate o t la ra g h)) ≡ Fine (a_value t)
@@ -100,10 +91,6 @@ mutual
       on (placed (at_of e) any_array (given_of d env e)) (a_value (array t)) (λ g. then_on (placed (at_of i) (exactly int) (given_of d env i)) (λ _. Fine (element_of g))) (Fine g)
       (placed_fine (at_of e) any_array (given_of d env e) (a_value (array t)) (given_fine d env e (a_value (array t)) p) refl)
       (on (placed (at_of i) (exactly int) (given_of d env i)) q.0 (λ _. Fine (a_value t)) (Fine g) (fits_is (at_of i) (exactly int) (given_of d env i) (λ g. IsGiven d env i g) q (given_fine d env i q.0 q.1)) (ap Fine (sym r)))
-  form_fine d env at (number_expr n) g e = ap Fine (sym e)
-  form_fine d env at (text_expr t) g e = ap Fine (sym e)
-  form_fine d env at (bool_expr b) g e = ap Fine (sym e)
-  form_fine d env at null_expr g e = ap Fine (sym e)
   form_fine d env at (name_expr x) g (t, f, e) = ap (known at) f ∙ ap Fine (sym e)
   form_fine d env at (call_expr f args) g (s, first, p, q, r) =
       ap (λ (o : Option Signature). called at o (count args) (λ ps. args_given d env ps args)) p ∙
@@ -123,6 +110,7 @@ mutual
       (spawn_fine at (find f.word d.functions) s (count args) p a (args_many d env s.takes args first h))
       (on (placed (at_of c) (exactly caps) (given_of d env c)) q.0 (λ _. started f.at (Some s) (λ ps. args_given d env ps args)) (Fine g) (fits_is (at_of c) (exactly caps) (given_of d env c) (λ g. IsGiven d env c g) q (given_fine d env c q.0 q.1))
       (on (args_given d env s.takes args) first (λ _. Fine (a_value thread)) (Fine g) (args_fine d env s.takes args first h) (ap Fine (sym r))))
+  form_fine d env at _ g e = ap Fine (sym e)
 
   args_many : (d : Decls) (env : Names) (ps : List Place) (es : ExprList) (first : Given) → AreArgs d env ps es first → length ps ≡ count es
   args_many d env [] no_exprs first h = refl
@@ -192,16 +180,7 @@ mutual
   declared_form_back : (d : Decls) (at : ℕ) (form : TypeForm) (u : Unit {0}) → form_known d at form ≡ Fine u → IsDeclaredForm d form
   declared_form_back d at (class_type c) u e = named_back at (find c d.classes) u e
   declared_form_back d at (array_type t) u e = declared_back d t u e
-  declared_form_back d at int_type u e = tt
-  declared_form_back d at bool_type u e = tt
-  declared_form_back d at bytes_type u e = tt
-  declared_form_back d at tag_type u e = tt
-  declared_form_back d at label_type u e = tt
-  declared_form_back d at caps_type u e = tt
-  declared_form_back d at file_type u e = tt
-  declared_form_back d at dir_type u e = tt
-  declared_form_back d at pipe_type u e = tt
-  declared_form_back d at thread_type u e = tt
+  declared_form_back d at _ u e = tt
 
 operate_back : (o : Option ValueType) (t : ValueType) (la ra : ℕ) (g h k : Given) (L R : Given → Type 0) → L g → R h → operate o t la ra g h ≡ Fine k → Operates o L R × (k ≡ a_value t)
 operate_back None t la ra g h k L R l r e =
@@ -239,19 +218,10 @@ array_back (a_value (array t)) s = (t, refl)
 array_back _ s = absurd cc
 
 pub type_back : (t u : ValueType) → same_type t u ≡ true → t ≡ u
-type_back int int e = refl
-type_back bool bool e = refl
-type_back bytes bytes e = refl
-type_back tag tag e = refl
-type_back label label e = refl
-type_back caps caps e = refl
-type_back file file e = refl
-type_back dir dir e = refl
-type_back pipe pipe e = refl
-type_back thread thread e = refl
 type_back (object x) (object y) e = ap object ((bytes_eq-Decides x y).0 e)
 type_back (array t) (array u) e = ap array (type_back t u e)
-type_back _ _ e = absurd cc
+type_back _ int e = cc
+type_back _ _ e = cc
 
 answer_back : (a : Answer) → suits (exactly int) (answered a nothing) ≡ true → a ≡ answers int
 answer_back (answers t) e = ap answers (sym (type_back int t e))
