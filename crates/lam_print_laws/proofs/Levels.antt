@@ -15,6 +15,10 @@ use Rattle.lam_print.specs.Canon.{grouped}
 use Rattle.lam_print_laws.proofs.Spans.{nothing, token, joins}
 use Rattle.lam_print_laws.proofs.Marks.{tok, ended, Here, Gives, made, Follow, looser, stage, no_operator, comparison_ends, post_ends, prim_expr, no_sign}
 
+prim_parens : (k : TokenKind) → begins parens k ≡ true → begins prim k ≡ true
+prim_parens Kind.ParenOpen h = refl
+prim_parens _ h = cc
+
 module _ (look : ℕ → Option Token) where
   -- The rule reads e from i on, and then come the kinds ks.
   pub record Read (r : Rule) (e : ExprTree) (i : ℕ) (ks : List TokenKind) : Type 0 where
@@ -65,6 +69,10 @@ module _ (look : ℕ → Option Token) where
 
   -- ---- from one level to the next
 
+  -- the same, read by another rule
+  moved : (q r : Rule) (e : ExprTree) (i : ℕ) (ks : List TokenKind) → (x : Read q e i ks) → ((before : Value) → Gives look r before i (expr_value x.begin x.tree) x.end) → begins r x.first.kind ≡ true → Read r e i ks
+  moved q r e i ks x gives opens = record { begin = x.begin; tree = x.tree; end = x.end; gives = gives; rest = x.rest; same = x.same; first = x.first; there = x.there; opens = opens }
+
   pub core : (e : ExprTree) (i : ℕ) (ks : List TokenKind) → Read prim e i ks → Core e i ks
   core e i ks r = record {
     begin = r.begin;
@@ -100,17 +108,7 @@ module _ (look : ℕ → Option Token) where
       }
 
   pub plain : (e : ExprTree) (i : ℕ) (ks : List TokenKind) → Read post e i ks → Read unary e i ks
-  plain e i ks r = record {
-    begin = r.begin;
-    tree = r.tree;
-    end = r.end;
-    gives = λ before. made unary before (rule post ∷ []) (expr_value r.begin r.tree ∷ []) r.there (ap (λ (b : Bool). Some (cond b (prefix ∷ rule unary ∷ []) (rule post ∷ []))) (no_sign r.first.kind r.opens)) (r.gives before);
-    rest = r.rest;
-    same = r.same;
-    first = r.first;
-    there = r.there;
-    opens = prim_expr r.first.kind r.opens;
-  }
+  plain e i ks r = moved post unary e i ks r (λ before. made unary before (rule post ∷ []) (expr_value r.begin r.tree ∷ []) r.there (ap (λ (b : Bool). Some (cond b (prefix ∷ rule unary ∷ []) (rule post ∷ []))) (no_sign r.first.kind r.opens)) (r.gives before)) (prim_expr r.first.kind r.opens)
 
   pub left : (l : Level) (e : ExprTree) (i : ℕ) (ks : List TokenKind) → (r : Read (operand_rule l) e i ks) → begins_expr r.first.kind ≡ true → Left l e i ks
   left l e i ks r o = record {
@@ -171,17 +169,7 @@ module _ (look : ℕ → Option Token) where
   -- no comparison
   pub compared : (e : ExprTree) (i : ℕ) (ks : List TokenKind) → Read (chain sum_level) e i ks → Follow 5 ks → Read comparison e i ks
   compared e i [] r f = absurd f
-  compared e i (k ∷ ks) r f = record {
-    begin = r.begin;
-    tree = r.tree;
-    end = r.end;
-    gives = λ before. made comparison before (rule (chain sum_level) ∷ rule comparison_tail ∷ []) (expr_value r.begin r.tree ∷ operations_value no_more ∷ []) r.there refl (joins (r.gives before) (made comparison_tail (expr_value r.begin r.tree) [] [] r.rest.1 (comparison_ends (expr_value r.begin r.tree) r.rest.0 k f) nothing));
-    rest = r.rest;
-    same = r.same;
-    first = r.first;
-    there = r.there;
-    opens = r.opens;
-  }
+  compared e i (k ∷ ks) r f = moved (chain sum_level) comparison e i (k ∷ ks) r (λ before. made comparison before (rule (chain sum_level) ∷ rule comparison_tail ∷ []) (expr_value r.begin r.tree ∷ operations_value no_more ∷ []) r.there refl (joins (r.gives before) (made comparison_tail (expr_value r.begin r.tree) [] [] r.rest.1 (comparison_ends (expr_value r.begin r.tree) r.rest.0 k f) nothing))) r.opens
 
   -- a comparison
   pub comparing_two : (k : TokenKind) (at : ℕ) (a b : ExprTree) (i : ℕ) (kr ks : List TokenKind) → compares k ≡ true → (c : Read (chain sum_level) a i (k ∷ kr)) → Read (chain sum_level) b (c.end + 1) ks → Read comparison (expr_node at (binary_expr (binary_op k) a b)) i ks
@@ -200,17 +188,7 @@ module _ (look : ℕ → Option Token) where
       }
 
   pub any : (e : ExprTree) (i : ℕ) (ks : List TokenKind) → Read (chain or_level) e i ks → Read expr e i ks
-  any e i ks r = record {
-    begin = r.begin;
-    tree = r.tree;
-    end = r.end;
-    gives = λ before. made expr before (rule (chain or_level) ∷ []) (expr_value r.begin r.tree ∷ []) r.there refl (r.gives before);
-    rest = r.rest;
-    same = r.same;
-    first = r.first;
-    there = r.there;
-    opens = r.opens;
-  }
+  any e i ks r = moved (chain or_level) expr e i ks r (λ before. made expr before (rule (chain or_level) ∷ []) (expr_value r.begin r.tree ∷ []) r.there refl (r.gives before)) r.opens
 
   -- ---- the ways up, from where an expression is read
 
@@ -297,17 +275,7 @@ module _ (look : ℕ → Option Token) where
     down : Own (Read expr e) 7 inside → Own (Core e) 0 (λ ps. piece Kind.ParenOpen ∷ inside (piece Kind.ParenClose ∷ ps))
     down own i ps h f =
         let r : Read parens e i (ended ps) = in_parens e inside own i ps h in
-        core e i (ended ps) (record {
-          begin = r.begin;
-          tree = r.tree;
-          end = r.end;
-          gives = λ before. made prim before (rule parens ∷ []) (expr_value r.begin r.tree ∷ []) h.1 refl (r.gives before);
-          rest = r.rest;
-          same = r.same;
-          first = tok h.0 Kind.ParenOpen;
-          there = h.1;
-          opens = refl;
-        })
+        core e i (ended ps) (moved parens prim e i (ended ps) r (λ before. made prim before (rule parens ∷ []) (expr_value r.begin r.tree ∷ []) h.1 refl (r.gives before)) (prim_parens r.first.kind r.opens))
 
   abbrev between : (List Piece → List Piece) → List Piece → List Piece
   between inside ps = piece Kind.ParenOpen ∷ inside (piece Kind.ParenClose ∷ ps)
