@@ -1,7 +1,8 @@
 -- The code of a typed expression puts a value of its kind on the operands.
-use Rattle.std.proofs.Common.{◌≡◌, ℕ, zero, suc, ◌+◌, ◌<◌, Bool, true, false, if◌then◌else◌, List, [], ◌∷◌, ◌++◌, map, length, is_some, Option, Some, None, slice_get, refl, sym, ap, ◌∙◌, subst, arith, length-append}
+use Rattle.std.proofs.Common.{◌≡◌, ℕ, zero, suc, ◌+◌, ◌<◌, Bool, true, false, if◌then◌else◌, List, [], ◌∷◌, ◌++◌, length, is_some, Option, Some, None, slice_get, refl, sym, ap, ◌∙◌, subst, arith, length-append}
 use Rattle.std.specs.Prelude.{drop, replicate, reverse}
 use Rattle.std.proofs.lemmas.Option.{slice_get_within}
+use Rattle.std.proofs.lemmas.Bool.{lt-ltb}
 use Rattle.lam_operators.specs.declared.BinaryOp.{BinaryOp}
 use Rattle.lam_operators.specs.declared.BinaryOp.TheVariants as binary
 use Rattle.lam_operators.specs.declared.UnaryOp.{UnaryOp}
@@ -16,35 +17,28 @@ use Rattle.lam_bytecode.specs.declared.op.Op.{Op}
 use Rattle.lam_bytecode.specs.declared.op.Op.TheVariants.{Load, Add, Sub, Mul, Div, Rem, Eq, Ne, Lt, Le, Gt, Ge, Call, ReadBarrier, GetField, GetElement, NewObject, MakeLabel, System, Spawn}
 use Rattle.thread_steps.specs.Ops.{function_takes}
 use Rattle.lam_resolve_tree.specs.Tree.{ResolvedType, ResolvedGiven, ResolvedPlace, CapSlot, Expression, number_value, text_value, bool_value, null_value, local_value, unary_of, binary_of, field_of, element_of, call_of, builtin_of, new_object, new_array, label_of, caps_of, spawn_of, Expressions, args_end, args_more, ResolvedFunction, ResolvedTree}
-use Rattle.lam_resolve_tree.specs.Typing.{ResolvedSignature, head_of, heads_of, given_by, exact_places, Use, a_local, Scope, FitsBy, Operates, AreTags, Gives, AreRest, AreTagArgs}
+use Rattle.lam_resolve_tree.specs.Typing.{ResolvedSignature, heads_of, given_by, exact_places, Use, a_local, Scope, FitsBy, Operates, AreTags, Gives, AreRest, AreTagArgs}
 use Rattle.lam_meaning.specs.Scheme.{is_int, count, prefix_op, sign_op, scheme}
 use Rattle.lam_meaning_laws.specs.Nested.{Nested, does, puts, both, either, operator_code, signs_code, expression_code, expressions_code}
-use Rattle.lam_meaning_laws.proofs.Units.{function_unit, takes_params, class_kinds}
+use Rattle.lam_meaning_laws.proofs.TypedExpressions.{head_at}
+use Rattle.lam_meaning_laws.proofs.Expressions.{Inside}
+use Rattle.lam_meaning_laws.proofs.Placed.{function_unit}
+use Rattle.lam_meaning_laws.proofs.Units.{takes_params, class_kinds}
 use Rattle.guarded_code.specs.declared.known.ValueKind.{ValueKind}
 use Rattle.guarded_code.specs.declared.known.ValueKind.TheVariants.{Number, Truth, Other, Unknown}
 use Rattle.guarded_code.specs.declared.known.Access.TheVariants.{Reading}
 use Rattle.guarded_code.specs.Changes.{Place, Any, Only, Trades, kind_of_type, kind_of_place, kind_of_value, kind_of_answer, result_kind, places_of, anything}
-use Rattle.guarded_code.proofs.Tables.{some_inj}
 use Rattle.compiled_code_guarded.specs.Layouts.{fact_of, IsOfKind, TakesKinds, IsKnown, Follows}
-use Rattle.compiled_code_guarded.proofs.Runs.{lt_test, slots_same, Branches, Steps, Runs}
+use Rattle.compiled_code_guarded.proofs.Runs.{slots_same, Branches, Steps, Runs}
 use Rattle.compiled_code_guarded.proofs.Operands.{kind_of_given, slot_kind, slots_of, at, of_same, kind_known, fits_kind, compare_kinds, onto, drop_onto, EachTakes, same_onto, any_each, place_kinds, exact_long, args_taken, args_long, rest_of, same_places, answer_kind}
 
--- each slot in scope is one of the unit's
-abbrev pub IsWithin : ℕ → Scope → Type 0
-IsWithin locals env = (n : ℕ) (u : Use) → env n ≡ Some u → n < locals
-
 -- ---- what the program declares
-
-pub function_there : (fs : List ResolvedFunction) (f : ℕ) (h : ResolvedSignature) → slice_get (map head_of fs) f ≡ Some h → (fn : ResolvedFunction) × (slice_get fs f ≡ Some fn) × (head_of fn ≡ h)
-function_there [] f h e = absurd cc
-function_there (fn ∷ fs) zero h e = (fn, refl, some_inj e)
-function_there (fn ∷ fs) (suc f) h e = function_there fs f h e
 
 -- a call's result is of its function's kind
 result_of : (t : Option ResolvedType) → IsOfKind (if is_int t then Number else Unknown) (kind_of_given (given_by t))
 result_of None = refl
 result_of (Some int) = refl
-result_of (Some t) = refl
+result_of t = refl
 
 -- ---- lists of operands
 
@@ -91,7 +85,7 @@ branch env st = ((refl, tt), gives_none env (Only Truth ∷ []) (Truth ∷ st) s
 two_numbers : (env : Scope) (k : ValueKind) (st : List ValueKind) → Follows (Trades (Only Number ∷ Only Number ∷ []) (Some k)) (at env (Number ∷ Number ∷ st)) (at env (k ∷ st))
 two_numbers env k st = gives_put env (Only Number ∷ Only Number ∷ []) k k (Number ∷ Number ∷ st) st refl (of_same k)
 
-module _ (r : ResolvedTree) (locals : ℕ) (env : Scope) (within : IsWithin locals env) where
+module _ (r : ResolvedTree) (locals : ℕ) (env : Scope) (within : Inside locals env) where
   abbrev pub Leads : Nested → List ValueKind → List ValueKind → Type 0
   Leads c st to = Runs (scheme r) locals c (at env st) (at env to)
 
@@ -103,7 +97,7 @@ module _ (r : ResolvedTree) (locals : ℕ) (env : Scope) (within : IsWithin loca
 
   pub load_step : (n : ℕ) (u : Use) (st : List ValueKind) → env n ≡ Some u → Step (Load n) st (slot_kind (Some u) ∷ st)
   load_step n u st e = (
-    record { names = lt_test n locals (within n u e); takes = tt; compares = tt; behind = tt },
+    record { names = lt-ltb n locals (within n u e); takes = tt; compares = tt; behind = tt },
     λ a. (refl, (ap (λ o. slot_kind o ∷ st) (sym e), slots_same (slots_of env), tt), tt),
   )
 
@@ -279,7 +273,7 @@ module _ (r : ResolvedTree) (locals : ℕ) (env : Scope) (within : IsWithin loca
         given (expression_code (element_of e i t)) st g (a_value t) h.2
         (at env (Other ∷ st), expression_runs e (a_value (array t)) h.0 st, (at env (Number ∷ Other ∷ st), fit (expression_code i) (exactly int) (Typed i) h.1 (expression_runs i) (Other ∷ st), reads_element (kind_of_type t) st))
     expression_runs (call_of f args) g h st =
-        let there = function_there r.functions f h.0 h.2 in
+        let there = head_at r.functions f h.0 h.2 in
         let ws = exact_places h.0.params in
         let long = exact_long h.0.params ∙ ap (λ (x : ResolvedSignature). length x.params) (sym there.2) in
         let result = h.4 ∙ ap (λ (x : ResolvedSignature). given_by x.result) (sym there.2) in
@@ -296,7 +290,7 @@ module _ (r : ResolvedTree) (locals : ℕ) (env : Scope) (within : IsWithin loca
     expression_runs (new_object c) g h st =
         let kinds = class_kinds r c h.0 in
         given (does (NewObject c)) st g (a_value (object c)) h.1
-        (record { names = lt_test c (length (scheme r).classes) (slice_get_within (scheme r).classes c kinds.0 kinds.1); takes = tt; compares = tt; behind = tt }, λ at. (refl, gives_put env [] Other Other st st refl refl, tt))
+        (record { names = lt-ltb c (length (scheme r).classes) (slice_get_within (scheme r).classes c kinds.0 kinds.1); takes = tt; compares = tt; behind = tt }, λ at. (refl, gives_put env [] Other Other st st refl refl, tt))
     expression_runs (new_array t n) g h st =
         given (expression_code (new_array t n)) st g (a_value (array t)) h.2 (
           at env (Number ∷ st),
@@ -310,7 +304,7 @@ module _ (r : ResolvedTree) (locals : ℕ) (env : Scope) (within : IsWithin loca
         given (expression_code (caps_of items)) st g (a_value caps) h.1
         (at env (Other ∷ st), (record { names = refl; takes = tt; compares = tt; behind = tt }, λ at. (refl, gives_put env [] Other Other st st refl refl, tt)), signs_run items st h.0)
     expression_runs (spawn_of c f args) g h st =
-        let there = function_there r.functions f h.0 h.3 in
+        let there = head_at r.functions f h.0 h.3 in
         let ws = exact_places h.0.params in
         let long = exact_long h.0.params ∙ ap (λ (x : ResolvedSignature). length x.params) (sym there.2) in
         given (expression_code (spawn_of c f args)) st g (a_value thread) h.6 (

@@ -153,11 +153,9 @@ place_fits access zero (o ∷ os) (k ∷ ks) h = (tested_fits access o k h.0, h.
 place_fits access (suc i) (o ∷ os) (k ∷ ks) h = (h.0, place_fits access i os ks h.1)
 
 place_known : (access : Access) (i : ℕ) (ks : List Known) (n : ℕ) → (known_at (at_place (tested access) i ks) n).kind ≡ (known_at ks n).kind
-place_known access i [] n = refl
 place_known access zero (k ∷ ks) zero = tested_kind access k
-place_known access zero (k ∷ ks) (suc n) = refl
-place_known access (suc i) (k ∷ ks) zero = refl
 place_known access (suc i) (k ∷ ks) (suc n) = place_known access i ks n
+place_known access i ks n = refl
 
 local_known : (access : Access) (c : Option ℕ) (ks : List Known) (n : ℕ) → (known_at (tested_local access c ks) n).kind ≡ (known_at ks n).kind
 local_known access None ks n = refl

@@ -1,8 +1,7 @@
 -- A unit with a layout breaks no rule.
 use Rattle.std.proofs.Common.{IsTrue, ◌≡◌, ℕ, suc, ◌+◌, ◌<◌, ◌≤◌, Bool, true, if◌then◌else◌, List, [], ◌∷◌, map, Option, Some, None, length, slice_get, refl, sym, ap, ◌∙◌, subst, arith}
-use Rattle.std.specs.Prelude.{nat_le, nat_lt, option_map}
-use Rattle.std.proofs.lemmas.Bool.{and_from}
-use Rattle.std.proofs.lemmas.Bool.Decides.{nat_tests}
+use Rattle.std.specs.Prelude.{nat_lt, option_map}
+use Rattle.std.proofs.lemmas.Bool.{and_from, lt-ltb, le-leb}
 use Rattle.std.proofs.lemmas.Option.{slice_get_within}
 use Rattle.lam_bytecode.specs.Codes.{CodeTree}
 use Rattle.lam_bytecode.specs.declared.unit.CodeUnit.{CodeUnit}
@@ -22,12 +21,6 @@ use Rattle.compiled_code_guarded.specs.Layouts.{Fact, Shape, OperandFits, HasFac
 use Rattle.compiled_code_guarded.proofs.Surely.{AllBound, Surely, Within, after_within}
 use Rattle.compiled_code_guarded.proofs.OfKinds.{both_agree, all_taken_fit}
 use Rattle.compiled_code_guarded.proofs.Fitting.{fits_meet, fits_left, taken_long}
-
-lt_test : (a b : ℕ) → a < b → nat_lt a b ≡ true
-lt_test a b h = grind (arith, nat_tests)
-
-le_test : (a b : ℕ) → a ≤ b → nat_le a b ≡ true
-le_test a b h = grind (arith, nat_tests)
 
 module _ (code : CodeTree) (u : CodeUnit) (ss : List Shape) (lay : IsLayout code u ss) where
   -- a shape stands at the address, and the description fits it
@@ -54,7 +47,7 @@ module _ (code : CodeTree) (u : CodeUnit) (ss : List Shape) (lay : IsLayout code
   enough_stand c d s takes h =
       let long = each_long_same OperandFits d.stack s.stack h.stack in
       let most = taken_long (wanted c) s.stack takes in
-      ap (λ b. if b then Some (left c d) else None) (le_test (length (wanted c)) (length d.stack) (omega (arith, long, most)))
+      ap (λ b. if b then Some (left c d) else None) (le-leb (length (wanted c)) (length d.stack) (omega (arith, long, most)))
 
   op_passes : (a : ℕ) (op : Op) (d : Description) (s : Shape) → Fits u.locals d s → IsLegal code u ss a op s → Passing (passed code (Some op) a d)
   op_passes a op d s h legal =
@@ -85,13 +78,13 @@ module _ (code : CodeTree) (u : CodeUnit) (ss : List Shape) (lay : IsLayout code
   starts_within [] h = refl
   starts_within (p ∷ ps) h =
       let within = slice_get_within ss p.0 h.0.0 h.0.1 in
-      and_from (nat_lt p.0 (length u.ops)) (all_within (length u.ops) (map (λ (p : ℕ × Description). p.0) ps)) (lt_test p.0 (length u.ops) (omega (arith, within, lay.size))) (starts_within ps h.1)
+      and_from (nat_lt p.0 (length u.ops)) (all_within (length u.ops) (map (λ (p : ℕ × Description). p.0) ps)) (lt-ltb p.0 (length u.ops) (omega (arith, within, lay.size))) (starts_within ps h.1)
 
   leads_within : (c : Change) (s : Shape) (bs : List ℕ) → AllLead ss c s bs → all_within (length u.ops) bs ≡ true
   leads_within c s [] h = refl
   leads_within c s (b ∷ bs) h =
       let within = slice_get_within ss b h.0.0 h.0.1 in
-      and_from (nat_lt b (length u.ops)) (all_within (length u.ops) bs) (lt_test b (length u.ops) (omega (arith, within, lay.size))) (leads_within c s bs h.1)
+      and_from (nat_lt b (length u.ops)) (all_within (length u.ops) bs) (lt-ltb b (length u.ops) (omega (arith, within, lay.size))) (leads_within c s bs h.1)
 
   well_targeted : (a : ℕ) (op : Op) → slice_get u.ops a ≡ Some op → is_well_targeted code u a op ≡ true
   well_targeted a op e =

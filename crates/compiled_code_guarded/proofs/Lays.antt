@@ -1,6 +1,6 @@
 -- The shapes of nested code are legal where it stands.
 use Rattle.std.proofs.Common.{◌≡◌, ℕ, suc, ◌+◌, ◌<◌, ◌≤◌, List, [], ◌∷◌, ◌++◌, Option, Some, None, length, slice_get, refl, sym, ap, ◌∙◌, subst, arith, ⊎_elim, length-append}
-use Rattle.std.proofs.lemmas.Bool.{cases_lt}
+use Rattle.std.proofs.lemmas.Bool.{cases_lt, lt-ltb}
 use Rattle.std.proofs.lemmas.Option.{slice_get_within}
 use Rattle.lam_value.specs.declared.values.Value.{Value}
 use Rattle.lam_bytecode.specs.Codes.{CodeTree}
@@ -14,7 +14,7 @@ use Rattle.thread_steps.specs.Next.{ops_in}
 use Rattle.guarded_code.specs.Changes.{Change, Trades, change, goes, kind_of_value, constant_kind}
 use Rattle.guarded_code.proofs.Tables.{some_inj}
 use Rattle.compiled_code_guarded.specs.Layouts.{Shape, Finds, Follows, Leads, AllLead, StartsFit, IsLegal, IsLayout}
-use Rattle.compiled_code_guarded.proofs.Runs.{lt_test, Weakens, weakens_same, weakens_trans, follows_less, Joins, joins_weakens, Branches, OnlyNext, Steps, Runs, shapes}
+use Rattle.compiled_code_guarded.proofs.Runs.{Weakens, weakens_same, weakens_trans, follows_less, Joins, joins_weakens, Branches, OnlyNext, Steps, Runs, shapes}
 
 -- ---- a list that stands in another
 
@@ -45,9 +45,6 @@ all_back all pc to (x ∷ xs) ys e h = all_back all (pc + 1) to xs ys (omega (ar
 -- ---- as many shapes as operations
 
 pub shapes_long : (code : CodeTree) (locals : ℕ) (c : Nested) (s t : Shape) (h : Runs code locals c s t) → length (shapes code locals c s t h) ≡ width c
-shapes_long code locals no_code s t h = refl
-shapes_long code locals (does o) s t h = refl
-shapes_long code locals (puts v) s t h = refl
 shapes_long code locals (both a b) s t h =
     omega (arith, length-append (shapes code locals a s h.0 h.1) (shapes code locals b h.0 t h.2), shapes_long code locals a s h.0 h.1, shapes_long code locals b h.0 t h.2)
 shapes_long code locals (when a) s t h = omega (arith, shapes_long code locals a h.0 h.1 h.4)
@@ -56,7 +53,7 @@ shapes_long code locals (either a b) s t h =
 shapes_long code locals (loops x b) s t h =
     let body = shapes code locals b h.1 h.2 h.6 in
     omega (arith, length-append (shapes code locals x s h.0 h.3) (h.0 ∷ (body ++ (h.2 ∷ []))), length-append body (h.2 ∷ []), shapes_long code locals x s h.0 h.3, shapes_long code locals b h.1 h.2 h.6)
-shapes_long code locals (enters number captures slots body handler) s t h = refl
+shapes_long code locals c s t h = refl
 
 -- u: the number of the unit
 module _ (code : CodeTree) (u : ℕ) (it : CodeUnit) (ss : List Shape) where
@@ -110,7 +107,7 @@ module _ (code : CodeTree) (u : ℕ) (it : CodeUnit) (ss : List Shape) where
       let kind = sym (ap constant_kind p.2) in
       range_one pc (Const p.0) s p.1 es
       (record {
-        finds = record { names = lt_test p.0 (length code.constants) within; takes = tt; compares = tt; behind = tt };
+        finds = record { names = lt-ltb p.0 (length code.constants) within; takes = tt; compares = tt; behind = tt };
         leads = (leads_to (Trades [] (Some (constant_kind (slice_get code.constants p.0)))) s t (pc + 1) (subst (λ k. Follows (Trades [] (Some k)) s t) kind f) next, tt);
       })
 
@@ -140,19 +137,15 @@ module _ (code : CodeTree) (u : ℕ) (it : CodeUnit) (ss : List Shape) where
   -- the shape at its first address, or at the one behind where it has none
   pub entry_at : (c : Nested) (pc : ℕ) (s t : Shape) (h : Code c s t) → AllAt ss pc (table c s t h) → At (pc + width c) t → At pc s
   entry_at no_code pc s t h all exit = subst (λ x. At pc x) (sym h) (at_same (pc + 0) pc t (omega arith) exit)
-  entry_at (does o) pc s t h all exit = here pc s all.0
-  entry_at (puts v) pc s t h all exit = here pc s all.0
   entry_at (both a b) pc s t h all exit =
       let front = all_front ss pc (table a s h.0 h.1) (table b h.0 t h.2) all in
       let back = all_back ss pc (pc + width a) (table a s h.0 h.1) (table b h.0 t h.2) (long pc (pc + width a) a s h.0 h.1 refl) all in
       entry_at a pc s h.0 h.1 front (entry_at b (pc + width a) h.0 t h.2 back (at_same (pc + (width a + width b)) (pc + width a + width b) t (omega arith) exit))
-  entry_at (when a) pc s t h all exit = here pc s all.0
-  entry_at (either a b) pc s t h all exit = here pc s all.0
   entry_at (loops x b) pc s t h all exit =
       let rest = h.0 ∷ (table b h.1 h.2 h.6 ++ (h.2 ∷ [])) in
       let back = all_back ss pc (pc + width x) (table x s h.0 h.3) rest (long pc (pc + width x) x s h.0 h.3 refl) all in
       entry_at x pc s h.0 h.3 (all_front ss pc (table x s h.0 h.3) rest all) (here (pc + width x) h.0 back.0)
-  entry_at (enters number captures slots body handler) pc s t h all exit = here pc s all.0
+  entry_at c pc s t h all exit = here pc s all.0
 
   -- where it stands, with what follows it behind, all its addresses are legal
   pub lays : (c : Nested) (pc : ℕ) (s t : Shape) (h : Code c s t) → Stands code u pc c → AllAt ss pc (table c s t h) → At (pc + width c) t → Range pc (width c)

@@ -16,9 +16,7 @@ use Rattle.compiled_code_guarded.specs.Layouts.{IsOfKind, OperandFits, TakesKind
 -- ---- kinds
 pub any_kind : (k : ValueKind) → IsOfKind k Unknown
 any_kind Number = refl
-any_kind Truth = refl
-any_kind Other = refl
-any_kind Unknown = refl
+any_kind k = refl
 
 pub met_of_kind : (k m z : ValueKind) → IsOfKind k z → IsOfKind m z → IsOfKind (met_kind k m) z
 met_of_kind Number Number z h i = h
@@ -29,9 +27,7 @@ met_of_kind k m z h i = refl
 -- what is of a kind is of one that says no more
 pub of_less : (k m z : ValueKind) → IsOfKind k m → KindSays m z → IsOfKind k z
 of_less k m Unknown h s = any_kind k
-of_less k m Number h s = subst (IsOfKind k) s h
-of_less k m Truth h s = subst (IsOfKind k) s h
-of_less k m Other h s = subst (IsOfKind k) s h
+of_less k m z h s = subst (IsOfKind k) s h
 
 agree_back : (k m : ValueKind) → IsOfKind k m → IsOfKind m k
 agree_back Number Number h = refl

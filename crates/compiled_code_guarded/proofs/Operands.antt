@@ -9,7 +9,7 @@ use Rattle.lam_builtins.specs.Builtins.{answered, row, row_by}
 use Rattle.lam_resolve_tree.specs.Tree.{ResolvedType, ResolvedGiven, ResolvedPlace, Expressions, args_end, args_more}
 use Rattle.lam_resolve_tree.specs.Typing.{ResolvedSignatures, exact_places, Use, a_local, a_monitor, Scope, is_object, is_labelled, Takes, TakesNull, Fits, Compare, AreArgs, AreRest}
 use Rattle.guarded_code.specs.declared.known.ValueKind.{ValueKind}
-use Rattle.guarded_code.specs.declared.known.ValueKind.TheVariants.{Number, Truth, Other, Unknown}
+use Rattle.guarded_code.specs.declared.known.ValueKind.TheVariants.{Number, Other, Unknown}
 use Rattle.guarded_code.specs.Changes.{Place, Any, Only, kind_of_type, kind_of_place, kind_of_answer, places_of}
 use Rattle.compiled_code_guarded.specs.Layouts.{Shape, IsOfKind, TakesKind, TakesKinds, IsKnown}
 
@@ -35,9 +35,7 @@ at env stack = record { stack = stack; slots = slots_of env; fact = None }
 
 pub of_same : (k : ValueKind) → IsOfKind k k
 of_same Number = refl
-of_same Truth = refl
-of_same Other = refl
-of_same Unknown = refl
+of_same k = refl
 
 pub kind_known : (g : ResolvedGiven) → IsKnown (kind_of_given g)
 kind_known (a_value t) = type_known t
@@ -78,10 +76,7 @@ takes_kind any_labelled t h = labelled_kind t h
 
 null_fits : (w : ResolvedPlace) → TakesNull w → Other ≡ kind_of_place w
 null_fits (exactly t) h = sym (null_kind t h)
-null_fits any_class h = absurd h
-null_fits any_array h = absurd h
-null_fits any_object h = absurd h
-null_fits any_labelled h = absurd h
+null_fits w h = absurd h
 
 pub fits_kind : (w : ResolvedPlace) (g : ResolvedGiven) → Fits w g → kind_of_given g ≡ kind_of_place w
 fits_kind w (a_value t) h = takes_kind w t h
@@ -93,9 +88,7 @@ compare_kinds (a_value t) (a_value u) e = ap kind_of_type (sym e)
 compare_kinds (a_value t) a_null e = sym (null_kind t e)
 compare_kinds a_null (a_value u) e = null_kind u e
 compare_kinds a_null a_null e = refl
-compare_kinds (a_value t) nothing e = absurd e
-compare_kinds a_null nothing e = absurd e
-compare_kinds nothing h e = absurd e
+compare_kinds g h e = absurd e
 
 -- ---- operands in order
 
@@ -176,63 +169,9 @@ first_fits p env w ws (args_more e rest) first h = h.1
 
 pub same_places : (b : Builtin) → place_kinds (row_by ℕ b).signature.takes ≡ place_kinds (row b).signature.takes
 same_places call.Len = refl
-same_places call.Size = refl
-same_places call.Byte = refl
-same_places call.Slice = refl
-same_places call.Cat = refl
-same_places call.Text = refl
-same_places call.Number = refl
-same_places call.MyLabel = refl
-same_places call.MyCaps = refl
-same_places call.Root = refl
-same_places call.LabelOf = refl
-same_places call.Copy = refl
-same_places call.Mint = refl
-same_places call.Say = refl
-same_places call.MakeFile = refl
-same_places call.MakeDir = refl
-same_places call.OpenFile = refl
-same_places call.OpenDir = refl
-same_places call.Remove = refl
-same_places call.Read = refl
-same_places call.Length = refl
-same_places call.Append = refl
-same_places call.Cut = refl
-same_places call.MakePipe = refl
-same_places call.Send = refl
-same_places call.SendCaps = refl
-same_places call.Receive = refl
-same_places call.ReceiveCaps = refl
-same_places call.Join = refl
+same_places b = refl
 
 -- a copy is of a reference
 pub answer_kind : (p : ResolvedSignatures) (env : Scope) (b : Builtin) (args : Expressions) (first : ResolvedGiven) → AreArgs p env (row_by ℕ b).signature.takes args first → kind_of_answer (row b).signature.answer ≡ kind_of_given (answered (row_by ℕ b).signature.answer first)
-answer_kind p env call.Len args first h = refl
-answer_kind p env call.Size args first h = refl
-answer_kind p env call.Byte args first h = refl
-answer_kind p env call.Slice args first h = refl
-answer_kind p env call.Cat args first h = refl
-answer_kind p env call.Text args first h = refl
-answer_kind p env call.Number args first h = refl
-answer_kind p env call.MyLabel args first h = refl
-answer_kind p env call.MyCaps args first h = refl
-answer_kind p env call.Root args first h = refl
-answer_kind p env call.LabelOf args first h = refl
 answer_kind p env call.Copy args first h = sym (fits_kind any_object first (first_fits p env any_object (exactly label ∷ []) args first h))
-answer_kind p env call.Mint args first h = refl
-answer_kind p env call.Say args first h = refl
-answer_kind p env call.MakeFile args first h = refl
-answer_kind p env call.MakeDir args first h = refl
-answer_kind p env call.OpenFile args first h = refl
-answer_kind p env call.OpenDir args first h = refl
-answer_kind p env call.Remove args first h = refl
-answer_kind p env call.Read args first h = refl
-answer_kind p env call.Length args first h = refl
-answer_kind p env call.Append args first h = refl
-answer_kind p env call.Cut args first h = refl
-answer_kind p env call.MakePipe args first h = refl
-answer_kind p env call.Send args first h = refl
-answer_kind p env call.SendCaps args first h = refl
-answer_kind p env call.Receive args first h = refl
-answer_kind p env call.ReceiveCaps args first h = refl
-answer_kind p env call.Join args first h = refl
+answer_kind p env b args first h = refl

@@ -1,21 +1,16 @@
 -- Nested code that leads from one shape to another, and the shapes at its addresses.
-use Rattle.std.proofs.Common.{◌≡◌, ℕ, ◌+◌, ◌<◌, true, List, [], ◌∷◌, ◌++◌, drop, length, Option, Some, None, refl, sym, ap, ◌∙◌, subst, arith}
-use Rattle.std.specs.Prelude.{nat_lt}
-use Rattle.std.proofs.lemmas.Bool.Decides.{nat_tests}
+use Rattle.std.proofs.Common.{◌≡◌, ℕ, ◌+◌, ◌<◌, List, [], ◌∷◌, ◌++◌, drop, length, Option, Some, None, refl, sym, ap, ◌∙◌, subst}
 use Rattle.lam_bytecode.specs.Codes.{CodeTree}
 use Rattle.lam_bytecode.specs.declared.op.Op.{Op}
 use Rattle.lam_bytecode.specs.declared.op.Op.TheVariants.{EnterRegion}
 use Rattle.lam_meaning_laws.specs.Nested.{Nested, no_code, does, puts, both, when, either, loops, enters}
 use Rattle.guarded_code.specs.declared.known.ValueKind.{ValueKind}
-use Rattle.guarded_code.specs.declared.known.ValueKind.TheVariants.{Number, Truth, Other, Unknown}
+use Rattle.guarded_code.specs.declared.known.ValueKind.TheVariants.{Truth, Unknown}
 use Rattle.guarded_code.specs.Changes.{Only, Change, Loads, Stores, Tests, Trades, change, goes, kind_of_value}
 use Rattle.guarded_code.specs.Says.{KindSays}
 use Rattle.guarded_code.proofs.Tables.{none_some}
 use Rattle.guarded_code.proofs.Order.{kind_same}
 use Rattle.compiled_code_guarded.specs.Layouts.{Fact, Shape, fact_of, TakesKinds, Finds, SlotsSay, FactSays, IsPut, Follows}
-
-pub lt_test : (a b : ℕ) → a < b → nat_lt a b ≡ true
-lt_test a b h = grind (arith, nat_tests)
 
 -- ---- what says no more
 
@@ -27,9 +22,7 @@ pub record Weakens (s t : Shape) : Type 0 where
 
 say_trans : (k m z : ValueKind) → KindSays k m → KindSays m z → KindSays k z
 say_trans k m Unknown a b = tt
-say_trans k m Number a b = subst (KindSays k) b a
-say_trans k m Truth a b = subst (KindSays k) b a
-say_trans k m Other a b = subst (KindSays k) b a
+say_trans k m z a b = subst (KindSays k) b a
 
 pub slots_same : (f : ℕ → ValueKind) → SlotsSay f f
 slots_same f n = kind_same (f n)

@@ -2,24 +2,26 @@
 use Rattle.std.proofs.Common.{◌≡◌, ℕ, ◌<◌, List, [], ◌∷◌, ◌++◌, map, length, is_some, Option, Some, None, refl, sym, ap, ◌∙◌, subst, arith, length-append}
 use Rattle.std.proofs.lemmas.List.{length-map}
 use Rattle.std.proofs.lemmas.Option.{slice_get_within}
+use Rattle.std.proofs.lemmas.Bool.{lt-ltb}
 use Rattle.lam_builtins.specs.Types.{int, bool, label, caps, object, array, a_value, exactly}
 use Rattle.lam_value.specs.declared.values.Value.TheVariants.{Nothing}
 use Rattle.lam_bytecode.specs.declared.op.Op.TheVariants.{Store, WriteBarrier, PutField, PutElement, LeaveMonitor, EnterRegion}
 use Rattle.thread_steps.specs.Ops.{region_in, region_takes}
 use Rattle.lam_resolve_tree.specs.Tree.{ResolvedType, Expression, Statement, let_slot, if_block, while_block, return_value, throw_value, sync_block, region_block, do_value, set_local, set_field, set_element, Block, block_end, block_more, OtherBlock, no_other, other_block, ResolvedTree}
-use Rattle.lam_resolve_tree.specs.Typing.{heads_of, a_local, a_monitor, Scope, with_use, Returning, in_region, in_function, Returns, AreCaptured, use_of, after, IsStatement, IsBlock, IsOther}
+use Rattle.lam_resolve_tree.specs.Typing.{heads_of, a_local, a_monitor, Scope, with_use, Returning, in_function, Returns, AreCaptured, use_of, after, IsStatement, IsBlock, IsOther}
 use Rattle.lam_meaning.specs.Scheme.{region_draft, scheme}
 use Rattle.lam_meaning_laws.specs.Nested.{Nested, does, both, expression_code, loads_code, gives_back_code, value_code, statement_code, block_code, branches_code}
+use Rattle.lam_meaning_laws.proofs.Scopes.{AreOpen, captured_long}
 use Rattle.lam_meaning_laws.proofs.Placed.{Placed, IsPlaced, BlockPlaced, OtherPlaced}
 use Rattle.guarded_code.specs.declared.known.ValueKind.{ValueKind}
 use Rattle.guarded_code.specs.declared.known.ValueKind.TheVariants.{Number, Truth, Other}
 use Rattle.guarded_code.specs.declared.known.Access.TheVariants.{Writing}
 use Rattle.guarded_code.specs.Changes.{Any, Only, kind_of_type, anything}
 use Rattle.compiled_code_guarded.specs.Layouts.{fact_of, TakesKinds, SlotsSay, with_slot}
-use Rattle.compiled_code_guarded.proofs.Runs.{lt_test, slots_same, slots_trans, Joins, Steps, Runs}
+use Rattle.compiled_code_guarded.proofs.Runs.{slots_same, slots_trans, Joins, Steps, Runs}
 use Rattle.compiled_code_guarded.proofs.Operands.{kind_of_given, slots_of, at, object_kind, onto, drop_onto, same_onto, any_each}
 use Rattle.compiled_code_guarded.proofs.Expressions.{as_long, gives_none, branch, puts_runs, load_step, expression_runs, stands_run}
-use Rattle.compiled_code_guarded.proofs.Scopes.{AllMonitors, IsOpen, open_monitor, stored_new, stored_old, says_without, at_end, open_after, open_end, says_end, captured_long}
+use Rattle.compiled_code_guarded.proofs.Scopes.{IsOpen, open_monitor, stored_new, stored_old, says_without, at_end, open_after, open_end, says_end}
 
 -- a block's end leads to what stood before it
 leaves_block : (env later : Scope) (st : List ValueKind) → SlotsSay (slots_of later) (slots_of env) → Joins (at later st) (at env st)
@@ -34,7 +36,7 @@ module _ (r : ResolvedTree) (slots : List ResolvedType) where
   -- the top goes into a slot, whose kind it is of from then on
   pub store_step : (n : ℕ) (k : ValueKind) (env later : Scope) (st : List ValueKind) → n < length slots → SlotsSay (with_slot (slots_of env) n k) (slots_of later) → Goes (does (Store n)) env (k ∷ st) later st
   store_step n k env later st lt h =
-      (record { names = lt_test n (length slots) lt; takes = (tt, tt); compares = tt; behind = tt }, λ at. (refl, (k, refl, h, tt), tt))
+      (record { names = lt-ltb n (length slots) lt; takes = (tt, tt); compares = tt; behind = tt }, λ at. (refl, (k, refl, h, tt), tt))
 
   leave_step : (env later : Scope) → SlotsSay (slots_of later) (slots_of env) → Goes (does LeaveMonitor) later (Other ∷ []) env []
   leave_step env later h = (record { names = refl; takes = (refl, tt); compares = tt; behind = tt }, λ at. (refl, (refl, h, tt), tt))
@@ -47,7 +49,7 @@ module _ (r : ResolvedTree) (slots : List ResolvedType) where
     loads_run (n ∷ ns) (t ∷ ts) st h = (at env (kind_of_type t ∷ st), load_step r (length slots) env open'.within n (a_local t) st h.0, loads_run ns ts (kind_of_type t ∷ st) h.1)
 
     -- the monitors that are held are given back
-    gives_back_runs : (xs : List ℕ) (st : List ValueKind) → AllMonitors env xs → Goes (gives_back_code xs) env st env st
+    gives_back_runs : (xs : List ℕ) (st : List ValueKind) → AreOpen env xs → Goes (gives_back_code xs) env st env st
     gives_back_runs [] st h = refl
     gives_back_runs (x ∷ xs) st h = (
       at env (Other ∷ st),
@@ -58,10 +60,7 @@ module _ (r : ResolvedTree) (slots : List ResolvedType) where
     value_runs : (ret : Returning) (e : Option Expression) → Returns (heads_of r) ret env e → (k : ValueKind) × Goes (value_code e) env [] env (k ∷ [])
     value_runs (in_function None) None h = (Other, puts_runs r (length slots) env open'.within Nothing [])
     value_runs (in_function (Some t)) (Some e) h = (kind_of_type t, stands_run r (length slots) env open'.within e (exactly t) [] h)
-    value_runs in_region None h = absurd h
-    value_runs in_region (Some e) h = absurd h
-    value_runs (in_function None) (Some e) h = absurd h
-    value_runs (in_function (Some t)) None h = absurd h
+    value_runs ret e h = absurd h
 
     -- ---- accesses
 

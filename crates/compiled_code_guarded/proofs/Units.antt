@@ -19,11 +19,11 @@ use Rattle.lam_meaning.specs.Scheme.{Draft, arg_kind, block, function_draft, reg
 use Rattle.lam_meaning.specs.Long.{first_long_unit, unless_long}
 use Rattle.lam_meaning_laws.specs.Nested.{Nested, does, puts, both, statement_code, block_code, branches_code}
 use Rattle.lam_meaning_laws.specs.Lone.{bound}
-use Rattle.lam_meaning_laws.proofs.Pieces.{block_pieces}
+use Rattle.lam_meaning_laws.proofs.Scopes.{captured_long}
 use Rattle.lam_meaning_laws.proofs.Placed.{constants_of, IsPlaced, BlockPlaced, OtherPlaced, function_unit, functions_placed}
 use Rattle.lam_meaning_laws.proofs.Stands.{width, op_here, Stands, FunctionStands}
-use Rattle.lam_meaning_laws.proofs.Laid.{size_joined, flat_length, width_size, numbered_length}
-use Rattle.lam_meaning_laws.proofs.Places.{all_stand}
+use Rattle.lam_meaning_laws.proofs.Laid.{size_joined, flat_length, numbered_length}
+use Rattle.lam_meaning_laws.proofs.Places.{block_width, all_stand}
 use Rattle.guarded_code.specs.declared.known.ValueKind.TheVariants.{Number, Other, Unknown}
 use Rattle.guarded_code.specs.Descriptions.{Description, untested, entry_locals, entry, catching}
 use Rattle.guarded_code.specs.Changes.{known_at}
@@ -40,7 +40,7 @@ use Rattle.compiled_code_guarded.proofs.Runs.{Weakens, Runs, shapes}
 use Rattle.compiled_code_guarded.proofs.Lays.{all_back, at_same, entry_at, whole, front_at, exit_at, unit_laid_out, shapes_long}
 use Rattle.compiled_code_guarded.proofs.Operands.{slot_kind, slots_of, at}
 use Rattle.compiled_code_guarded.proofs.Expressions.{as_long, puts_runs}
-use Rattle.compiled_code_guarded.proofs.Scopes.{open_more, stored_new, at_end, open_end, open_first, captured_long}
+use Rattle.compiled_code_guarded.proofs.Scopes.{open_more, stored_new, at_end, open_end, open_first}
 use Rattle.compiled_code_guarded.proofs.Statements.{store_step, block_runs}
 
 -- ---- where a unit begins
@@ -92,9 +92,6 @@ caught locals env = record {
 }
 
 -- ---- how long a unit is
-
-block_width : (b : Block) → size (block [] b) ≡ width (block_code [] b)
-block_width b = ap size (sym (block_pieces [] b)) ∙ width_size (block_code [] b)
 
 function_long : (vs : List Value) (fn : ResolvedFunction) → length (unit_of vs (function_draft fn)).ops ≡ width (block_code [] fn.body) + 2
 function_long vs fn =

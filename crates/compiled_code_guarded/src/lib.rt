@@ -10,6 +10,9 @@
 //! leads from one shape to another (`proofs/Runs`), with a legal shape at each of its addresses (`proofs/Lays`). So
 //! does the code of each expression (`proofs/Operands`, `proofs/Expressions`) and statement (`proofs/Scopes`,
 //! `proofs/Statements`) of a typed program. The units of its functions and regions have layouts (`proofs/Units`).
+//!
+//! A public promise rests on `compiled_code_is_guarded`: a program's code has no break, so `thin` of `barrier_thin`
+//! thins it (its clause `acts`). Nothing here is a matter of speed.
 #![tactic(auto)]
 
 mod laid_out;
