@@ -6,7 +6,7 @@ use Rattle.lam_machine_effects.specs.Codes.{CodeTree}
 use Rattle.lam_machine_effects.specs.Threads.{Inside, Phase, Bottom, Body, Catch, Context, Thread}
 use Rattle.lam_machine_effects.specs.Next.{asks, raised, next_in, next_of, started}
 use Rattle.lam_machine_effects.specs.Worlds.{World, thread_at, contexts_in, with_thread}
-use Rattle.lam_machine_effects.specs.Serves.{Effect, nothing, takes_tag, sets_slot, adds_thing, adds_copy, takes_monitor, gives_back, drops, adds_file, adds_dir, removes, appends, cuts, adds_pipe, sends, receives, adds_thread, effect_of}
+use Rattle.lam_machine_effects.specs.Serves.{Effect, adds_thread, effect_of}
 use Rattle.lam_machine_effects.specs.Turns.{Moment, step, and_then, moments}
 use Rattle.lam_machine_laws.proofs.TurnLemmas.{acts, turned}
 use Rattle.lam_machine_laws.specs.Laws.{StandsAbove, ComesBack, ContextsComeBack, handling}
@@ -32,23 +32,8 @@ grown_there (x ∷ xs) a (suc j) e = grown_there xs a j e
 
 -- an effect leaves the threads that are there
 pub effect_threads : (code : CodeTree) (t : ℕ) (e : Effect) (w : World) (j : ℕ) → is_some (thread_at w j) ≡ true → thread_at (effect_of code t e w) j ≡ thread_at w j
-effect_threads code t nothing w j h = refl
-effect_threads code t takes_tag w j h = refl
-effect_threads code t (sets_slot n at v) w j h = refl
-effect_threads code t (adds_thing home sort xs) w j h = refl
-effect_threads code t (adds_copy n home) w j h = refl
-effect_threads code t (takes_monitor n) w j h = refl
-effect_threads code t (gives_back n) w j h = refl
-effect_threads code t (drops ns) w j h = refl
-effect_threads code t (adds_file d text home) w j h = refl
-effect_threads code t (adds_dir d text home) w j h = refl
-effect_threads code t (removes d text) w j h = refl
-effect_threads code t (appends f bytes) w j h = refl
-effect_threads code t (cuts f len) w j h = refl
-effect_threads code t (adds_pipe home) w j h = refl
-effect_threads code t (sends p m) w j h = refl
-effect_threads code t (receives p k) w j h = refl
 effect_threads code t (adds_thread unit args caps) w j h = grown_there w.threads (started code unit args caps) j h
+effect_threads code t e w j h = refl
 
 -- a thread that is there is there after a turn
 pub still_there : (w : World) (t : ℕ) (to : Thread) (j : ℕ) → is_some (thread_at w j) ≡ true → is_some (thread_at (with_thread w t to) j) ≡ true

@@ -43,21 +43,12 @@ caps_in ds = map (λ (d : Context). d.caps) ds
 
 done_caps : (code : CodeTree) (c : Context) (i : Inside) (a : Ask) → caps_in (done code c [] i a) ≡ left_after c.caps a
 done_caps code c i ask.Leave = refl
-done_caps code c i (ask.Barred d) = refl
-done_caps code c i (ask.Caught f) = refl
-done_caps code c i (ask.Suppressed f) = refl
-done_caps code c i (ask.End r) = refl
-done_caps code c i (ask.MonEnter r) = refl
-done_caps code c i (ask.MonLeave r) = refl
 done_caps code c i a = refl
 
 -- the capabilities of a region that is entered are held
 abbrev CoversEntry : Caps → Caps → Answer → Type 0
-CoversEntry k d Done = Unit {0}
 CoversEntry k d Entered = Covers k d
-CoversEntry k d (Val v) = Unit {0}
-CoversEntry k d (Refused x) = Unit {0}
-CoversEntry k d (Failed f) = Unit {0}
+CoversEntry k d x = Unit {0}
 
 abbrev EntersBelow : Caps → Ask → Answer → Type 0
 EntersBelow k (ask.Enter l d r vs) x = CoversEntry k d x

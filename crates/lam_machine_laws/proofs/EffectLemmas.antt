@@ -29,7 +29,7 @@ use Rattle.lam_machine_effects.specs.Codes.{CodeTree}
 use Rattle.lam_machine_effects.specs.Threads.{Context, Thread}
 use Rattle.lam_machine_effects.specs.Next.{started, first_context}
 use Rattle.lam_machine_effects.specs.Worlds.{World}
-use Rattle.lam_machine_effects.specs.Serves.{Effect, nothing, takes_tag, sets_slot, adds_thing, adds_copy, takes_monitor, gives_back, drops, adds_file, adds_dir, removes, appends, cuts, adds_pipe, sends, receives, adds_thread, effect_of, Made, a_region, a_thing, a_file, a_dir, a_pipe, a_thread}
+use Rattle.lam_machine_effects.specs.Serves.{Effect, nothing, takes_tag, sets_slot, adds_thing, adds_copy, takes_monitor, gives_back, drops, adds_file, adds_dir, removes, appends, cuts, adds_pipe, sends, receives, adds_thread, effect_of, Made, a_thing}
 use Rattle.lam_machine_effects.specs.Views.{is_seen, shows}
 use Rattle.lam_machine_laws.proofs.FlowLemmas.{not_both}
 use Rattle.lam_machine_laws.proofs.PointLemmas.{IsPoint, insert_point, remove_point, same_point, point_kept, point_same, same_trans}
@@ -266,22 +266,12 @@ grown_both o xs ys c th e false s l a =
 
 -- what a release shows of the heap
 abbrev pub shown : Option Made → World → World
-shown None w = w
-shown (Some (a_region l k d r xs)) w = w
 shown (Some (a_thing n thing slots)) w = record w { heap = record w.heap { slots = insert w.heap.slots n slots } }
-shown (Some (a_file n)) w = w
-shown (Some (a_dir n)) w = w
-shown (Some (a_pipe n)) w = w
-shown (Some (a_thread t)) w = w
+shown m w = w
 
 abbrev pub IsNoThing : Option Made → Type 0
-IsNoThing None = Unit {0}
-IsNoThing (Some (a_region l k d r xs)) = Unit {0}
 IsNoThing (Some (a_thing n thing slots)) = ⊥
-IsNoThing (Some (a_file n)) = Unit {0}
-IsNoThing (Some (a_dir n)) = Unit {0}
-IsNoThing (Some (a_pipe n)) = Unit {0}
-IsNoThing (Some (a_thread t)) = Unit {0}
+IsNoThing m = Unit {0}
 
 abbrev next_thing : Things → Home → Name
 next_thing h home = name_of home (count_in h.counts home)
@@ -307,13 +297,8 @@ IsHidden o h (receives p k) m = (flows p.own o ≡ false) × IsNoThing m
 IsHidden o h (adds_thread unit args caps) m = (flows public_label o ≡ false) × IsNoThing m
 
 shown_none : (m : Option Made) (w : World) → IsNoThing m → w ≡ shown m w
-shown_none None w h = refl
-shown_none (Some (a_region l k d r xs)) w h = refl
 shown_none (Some (a_thing n thing slots)) w h = absurd h
-shown_none (Some (a_file n)) w h = refl
-shown_none (Some (a_dir n)) w h = refl
-shown_none (Some (a_pipe n)) w h = refl
-shown_none (Some (a_thread t)) w h = refl
+shown_none m w h = refl
 
 -- nothing in the heap is made, and nothing seen changes
 unshown : (o : Label) (w u : World) (m : Option Made) → IsNoThing m → Alike o w u → Alike o u (shown m w)
@@ -354,23 +339,13 @@ hidden_shown o code t (adds_thread unit args caps) w m h =
 
 -- what the same release shows is the same
 pub shown_same : (o : Label) (m : Option Made) (w u : World) → Alike o w u → Alike o (shown m w) (shown m u)
-shown_same o None w u a = a
-shown_same o (Some (a_region l k d r xs)) w u a = a
 shown_same o (Some (a_thing n thing slots)) w u a = with_heaps o w u _ _ a (record { slots = insert_same o w.heap.slots u.heap.slots n slots a.heap.slots; counts = a.heap.counts })
-shown_same o (Some (a_file n)) w u a = a
-shown_same o (Some (a_dir n)) w u a = a
-shown_same o (Some (a_pipe n)) w u a = a
-shown_same o (Some (a_thread t)) w u a = a
+shown_same o m w u a = a
 
 -- what is unseen shows nothing
 pub shown_kept : (o : Label) (m : Option Made) (w : World) → shows o m ≡ false → Alike o (shown m w) w
-shown_kept o None w h = alike_refl o w
-shown_kept o (Some (a_region l k d r xs)) w h = alike_refl o w
 shown_kept o (Some (a_thing n thing slots)) w h = alike_sym o w _ (with_heaps o w w w.heap _ (alike_refl o w) (record { slots = insert_kept o w.heap.slots n slots h; counts = λ q s. refl }))
-shown_kept o (Some (a_file n)) w h = alike_refl o w
-shown_kept o (Some (a_dir n)) w h = alike_refl o w
-shown_kept o (Some (a_pipe n)) w h = alike_refl o w
-shown_kept o (Some (a_thread t)) w h = alike_refl o w
+shown_kept o m w h = alike_refl o w
 
 -- what a seen actor may do: it makes things of its own, and copies what it sees
 abbrev pub IsOpen : Label → Effect → Type 0

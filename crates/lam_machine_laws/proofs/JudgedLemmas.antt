@@ -22,7 +22,6 @@ use Rattle.lam_machine_effects.specs.Serves.{Served, answers, unless_denied, und
 use Rattle.lam_machine_effects.specs.Serving.{opened, ended_with, served_by}
 use Rattle.lam_machine_laws.specs.Tests.{of_thing, tests_of}
 use Rattle.lam_machine_laws.specs.Judged.{at_thing, where_none, child_fault, fault_by, judged, name_in, found, value_of_end, deed_by, AsksAreJudged}
-use Rattle.lam_machine_laws.proofs.RowLemmas.{RefersTo}
 
 -- ---- each ask
 
@@ -77,6 +76,12 @@ pub judged_by : (P : Served → Type 0) (w : World) (c : Context) (a : Ask) → 
 judged_by P w c a r k h = subst P (sym (are_judged w c a)) (judged_as P (tests_of c a) (fault_by w c a) (deed_by w c a) r k h)
 
 -- ---- where a reference leads to a thing
+
+-- it is a reference to this thing
+abbrev pub RefersTo : Value → Name → Type 0
+RefersTo (Obj m) n = m ≡ n
+RefersTo (Arr m len) n = m ≡ n
+RefersTo v n = ⊥
 
 pub refers : (r : Value) (fault : Name → Option Fault) → at_thing r fault ≡ None → RefersTo r (name_in r)
 refers (Obj n) fault g = refl

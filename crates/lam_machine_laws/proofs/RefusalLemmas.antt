@@ -6,7 +6,7 @@ use Rattle.lam_machine_effects.specs.Fault.{Fault}
 use Rattle.lam_machine_effects.specs.Fault.TheVariants as fault
 use Rattle.lam_machine_effects.specs.Outcome.{Outcome}
 use Rattle.lam_machine_effects.specs.Answer.{Answer}
-use Rattle.lam_machine_effects.specs.Answer.TheVariants.{Done, Entered, Val, Refused, Failed}
+use Rattle.lam_machine_effects.specs.Answer.TheVariants.{Done, Refused, Failed}
 use Rattle.lam_machine_effects.specs.What.TheVariants.{Asked}
 use Rattle.lam_machine_effects.specs.Ask.{Ask}
 use Rattle.lam_machine_effects.specs.Ask.TheVariants.{Leave, End}
@@ -16,40 +16,31 @@ use Rattle.lam_machine_effects.specs.Next.{Next, goes, asks, stuck, next_of, wit
 use Rattle.lam_machine_effects.specs.Worlds.{World, thread_at, with_thread}
 use Rattle.lam_machine_effects.specs.Serves.{nothing, effect_of, Served}
 use Rattle.lam_machine_effects.specs.Serving.{served_by, publicly, serve}
-use Rattle.lam_machine_effects.specs.Turns.{is_ready, Moment, goes_on, served, turn_by}
+use Rattle.lam_machine_effects.specs.Turns.{is_ready, Moment, goes_on, served, turn_by, step}
 use Rattle.lam_machine_laws.proofs.ThreadLemmas.{some_inj}
 use Rattle.lam_machine_laws.proofs.TurnLemmas.{acts, only}
 use Rattle.lam_machine_laws.proofs.JudgedLemmas.{judged_by}
 use Rattle.lam_machine_laws.specs.Judged.{deed_by}
 use Rattle.lam_machine_laws.specs.Tests.{tests_of, RefusalsNameTheFirst, OnlyFaults, RefusalsChangeNothing}
 
--- a refusal and a failure have no effect and make nothing, and an outcome is not written by them
-abbrev Quiet : Answer → Served → Type 0
-Quiet Done d = Unit {0}
-Quiet Entered d = Unit {0}
-Quiet (Val v) d = Unit {0}
-Quiet (Refused x) d = (d.effect ≡ nothing) × (d.made ≡ None)
-Quiet (Failed f) d = (d.effect ≡ nothing) × (d.made ≡ None)
+-- a refusal or a failure, and the fault that it raises
+abbrev IsFault : Answer → Type 0
+IsFault (Refused x) = Unit {0}
+IsFault (Failed f) = Unit {0}
+IsFault x = ⊥
 
--- what is done is neither a refusal nor a failure
-abbrev IsDone : Answer → Type 0
-IsDone Done = Unit {0}
-IsDone Entered = Unit {0}
-IsDone (Val v) = Unit {0}
-IsDone (Refused x) = ⊥
-IsDone (Failed f) = ⊥
+abbrev fault_in : Answer → Fault
+fault_in (Failed f) = f
+fault_in x = fault.Denied
 
-done_done : (w : World) (c : Context) (a : Ask) → IsDone (deed_by w c a).answer
-done_done w c Leave = tt
-done_done w c a = tt
+-- it has no effect and makes nothing
+abbrev Quiet : Served → Type 0
+Quiet d = IsFault d.answer → (d.effect ≡ nothing) × (d.made ≡ None)
 
-done_quiet : (x : Answer) (d : Served) → IsDone x → Quiet x d
-done_quiet (Refused x) d h = absurd h
-done_quiet (Failed f) d h = absurd h
-done_quiet x d h = tt
-
-done_never : (y : Answer) (x : Denied) → IsDone y → y ≡ Refused x → ⊥
-done_never y x h e = subst IsDone e h
+-- what is done is neither
+done_done : (w : World) (c : Context) (a : Ask) → IsFault (deed_by w c a).answer → ⊥
+done_done w c Leave h = h
+done_done w c a h = h
 
 refused_inj : (x y : Denied) → Refused x ≡ Refused y → x ≡ y
 refused_inj x y e = cc
@@ -57,16 +48,14 @@ refused_inj x y e = cc
 none_some : {X : Type 0} (y : Option Denied) (x : Denied) → y ≡ None → y ≡ Some x → X
 none_some y x e q = let both : None ≡ Some x = sym e ∙ q in absurd cc
 
-quiet_row : (w : World) (c : Context) (a : Ask) → Quiet (served_by w c a).answer (served_by w c a)
-quiet_row w c a =
-    let d = deed_by w c a in
-    judged_by (λ (d : Served). Quiet d.answer d) w c a (λ x e. (refl, refl)) (λ f e g. (refl, refl)) (λ e g. done_quiet d.answer d (done_done w c a))
+quiet_row : (w : World) (c : Context) (a : Ask) → Quiet (served_by w c a)
+quiet_row w c a = judged_by Quiet w c a (λ x e h. (refl, refl)) (λ f e g h. (refl, refl)) (λ e g h. absurd (done_done w c a h))
 
 -- where an ask is refused, and where one of its tests fails
 to_rule : (w : World) (c : Context) (a : Ask) (x : Denied) → (served_by w c a).answer ≡ Refused x → first_failing (tests_of c a) ≡ Some x
 to_rule w c a x =
     judged_by (λ (d : Served). d.answer ≡ Refused x → first_failing (tests_of c a) ≡ Some x) w c a
-    (λ y e q. e ∙ ap Some (refused_inj y x q)) (λ f e g q. absurd cc) (λ e g q. absurd (done_never (deed_by w c a).answer x (done_done w c a) q))
+    (λ y e q. e ∙ ap Some (refused_inj y x q)) (λ f e g q. absurd cc) (λ e g q. absurd (done_done w c a (subst IsFault (sym q) tt)))
 
 by_rule : (w : World) (c : Context) (a : Ask) (x : Denied) → first_failing (tests_of c a) ≡ Some x → (served_by w c a).answer ≡ Refused x
 by_rule w c a x =
@@ -89,27 +78,10 @@ ends_well : (w : World) (c : Context) (a : Ask) → EndsWell a (serve w c a).ans
 ends_well w c (End out) = tt
 ends_well w c a = tt
 
-refused_result : (r : Option Outcome) (a : Ask) (x : Denied) → EndsWell a (Refused x) → result_after r a ≡ r
-refused_result r (End out) x h = absurd h
-refused_result r a x h = refl
-
-failed_result : (r : Option Outcome) (a : Ask) (f : Fault) → EndsWell a (Failed f) → result_after r a ≡ r
-failed_result r (End out) f h = absurd h
-failed_result r a f h = refl
-
-quiet_refused : (y : Answer) (d : Served) (x : Denied) → Quiet y d → y ≡ Refused x → (d.effect ≡ nothing) × (d.made ≡ None)
-quiet_refused Done d x h e = absurd cc
-quiet_refused Entered d x h e = absurd cc
-quiet_refused (Val v) d x h e = absurd cc
-quiet_refused (Refused z) d x h e = h
-quiet_refused (Failed f) d x h e = h
-
-quiet_failed : (y : Answer) (d : Served) (f : Fault) → Quiet y d → y ≡ Failed f → (d.effect ≡ nothing) × (d.made ≡ None)
-quiet_failed Done d f h e = absurd cc
-quiet_failed Entered d f h e = absurd cc
-quiet_failed (Val v) d f h e = absurd cc
-quiet_failed (Refused z) d f h e = h
-quiet_failed (Failed g) d f h e = h
+still_result : (r : Option Outcome) (a : Ask) (x : Answer) → IsFault x → EndsWell a x → result_after r a ≡ r
+still_result r (End out) Done is h = absurd is
+still_result r (End out) x is h = absurd h
+still_result r a x is h = refl
 
 asked_answer : (a b : Ask) (x y : Answer) → Asked b y ≡ Asked a x → y ≡ x
 asked_answer a b x y e = cc
@@ -119,11 +91,17 @@ faulty : World → ℕ → Thread → Context → List Context → Fault → Opt
 faulty w t th c rest f r = with_thread w t (record { contexts = with_inside c (faulted c.inside f) ∷ rest; result = r })
 
 module _ (code : CodeTree) (w : World) (t : ℕ) (th : Thread) (c : Context) (rest : List Context) (at : thread_at w t ≡ Some th) (list : th.contexts ≡ c ∷ rest) where
-  only_refused : (b : Ask) (i : Inside) (x : Denied) → (serve w c b).answer ≡ Refused x → OnlyFaults w t fault.Denied (served code w t th c rest b i (serve w c b))
+  faulty_by : (b : Ask) (i : Inside) (x : Answer) → IsFault x → EndsWell b x → with_thread w t (takes code th c rest i b x) ≡ faulty w t th c rest (fault_in x) th.result
   unfolding faulty
-  only_refused b i x e =
+  faulty_by b i (Refused d) is h = ap (faulty w t th c rest fault.Denied) (still_result th.result b (Refused d) tt h)
+  faulty_by b i (Failed f) is h = ap (faulty w t th c rest f) (still_result th.result b (Failed f) tt h)
+  faulty_by b i x is h = absurd is
+
+  only_faults : (b : Ask) (i : Inside) (x : Answer) → IsFault x → (serve w c b).answer ≡ x → OnlyFaults w t (fault_in x) (served code w t th c rest b i (serve w c b))
+  unfolding faulty
+  only_faults b i x is e =
       let d = serve w c b in
-      let q = quiet_refused d.answer d x (quiet_row w (publicly w.public c) b) e in
+      let q = quiet_row w (publicly w.public c) b (subst IsFault (sym e) is) in
       record {
         thread = th;
         top = c;
@@ -134,46 +112,19 @@ module _ (code : CodeTree) (w : World) (t : ℕ) (th : Thread) (c : Context) (re
         world =
             ap (λ k. effect_of code t k (with_thread w t (takes code th c rest i b d.answer))) q.0
             ∙ ap (λ y. with_thread w t (takes code th c rest i b y)) e
-            ∙ ap (faulty w t th c rest fault.Denied) (refused_result th.result b x (subst (EndsWell b) e (ends_well w c b)));
+            ∙ faulty_by b i x is (subst (EndsWell b) e (ends_well w c b));
       }
 
-  only_failed : (b : Ask) (i : Inside) (f : Fault) → (serve w c b).answer ≡ Failed f → OnlyFaults w t f (served code w t th c rest b i (serve w c b))
-  unfolding faulty
-  only_failed b i f e =
+  next_faults : (nx : Next) (m : Moment) (a : Ask) (x : Answer) → IsFault x → turn_by code w t th c rest nx ≡ Some m → m.event.what ≡ Asked a x → OnlyFaults w t (fault_in x) m
+  next_faults (goes i) m a x is h = subst (λ (n : Moment). n.event.what ≡ Asked a x → OnlyFaults w t (fault_in x) n) (some_inj (goes_on w t th c rest i) m h) (λ e. absurd cc)
+  next_faults (asks b i) m a x is h =
       let d = serve w c b in
-      let q = quiet_failed d.answer d f (quiet_row w (publicly w.public c) b) e in
-      record {
-        thread = th;
-        top = c;
-        rest = rest;
-        at = at;
-        list = list;
-        made = q.1;
-        world =
-            ap (λ k. effect_of code t k (with_thread w t (takes code th c rest i b d.answer))) q.0
-            ∙ ap (λ y. with_thread w t (takes code th c rest i b y)) e
-            ∙ ap (faulty w t th c rest f) (failed_result th.result b f (subst (EndsWell b) e (ends_well w c b)));
-      }
+      subst (λ (n : Moment). n.event.what ≡ Asked a x → OnlyFaults w t (fault_in x) n) (only (is_ready w t c b) (served code w t th c rest b i d) m h).1
+      (λ e. only_faults b i x is (asked_answer a b x d.answer e))
+  next_faults stuck m a x is h = absurd cc
 
-  refused_next : (nx : Next) (m : Moment) (a : Ask) (x : Denied) → turn_by code w t th c rest nx ≡ Some m → m.event.what ≡ Asked a (Refused x) → OnlyFaults w t fault.Denied m
-  refused_next (goes i) m a x h = subst (λ (n : Moment). n.event.what ≡ Asked a (Refused x) → OnlyFaults w t fault.Denied n) (some_inj (goes_on w t th c rest i) m h) (λ e. absurd cc)
-  refused_next (asks b i) m a x h =
-      let d = serve w c b in
-      subst (λ (n : Moment). n.event.what ≡ Asked a (Refused x) → OnlyFaults w t fault.Denied n) (only (is_ready w t c b) (served code w t th c rest b i d) m h).1
-      (λ e. only_refused b i x (asked_answer a b (Refused x) d.answer e))
-  refused_next stuck m a x h = absurd cc
-
-  failed_next : (nx : Next) (m : Moment) (a : Ask) (f : Fault) → turn_by code w t th c rest nx ≡ Some m → m.event.what ≡ Asked a (Failed f) → OnlyFaults w t f m
-  failed_next (goes i) m a f h = subst (λ (n : Moment). n.event.what ≡ Asked a (Failed f) → OnlyFaults w t f n) (some_inj (goes_on w t th c rest i) m h) (λ e. absurd cc)
-  failed_next (asks b i) m a f h =
-      let d = serve w c b in
-      subst (λ (n : Moment). n.event.what ≡ Asked a (Failed f) → OnlyFaults w t f n) (only (is_ready w t c b) (served code w t th c rest b i d) m h).1
-      (λ e. only_failed b i f (asked_answer a b (Failed f) d.answer e))
-  failed_next stuck m a f h = absurd cc
+turn_faults : (code : CodeTree) (w : World) (t : ℕ) (m : Moment) (a : Ask) (x : Answer) → IsFault x → step code w t ≡ Some m → m.event.what ≡ Asked a x → OnlyFaults w t (fault_in x) m
+turn_faults code w t m a x is h e = let s = acts code w t m h in next_faults code w t s.thread s.top s.rest s.at s.list (next_of code s.top) m a x is s.gives e
 
 pub change_nothing : (code : CodeTree) → RefusalsChangeNothing code
-change_nothing code =
-    record {
-      refused = λ w t m a x h e. let s = acts code w t m h in refused_next code w t s.thread s.top s.rest s.at s.list (next_of code s.top) m a x s.gives e;
-      failed = λ w t m a f h e. let s = acts code w t m h in failed_next code w t s.thread s.top s.rest s.at s.list (next_of code s.top) m a f s.gives e;
-    }
+change_nothing code = record { refused = λ w t m a x h e. turn_faults code w t m a (Refused x) tt h e; failed = λ w t m a f h e. turn_faults code w t m a (Failed f) tt h e }

@@ -1,6 +1,7 @@
 -- What the effect of each ask needs is what its tests and its fault have found.
 use Rattle.std.proofs.Common.{◌≡◌, ℕ, Bool, true, false, not, ◌&&◌, Option, Some, None, refl, sym, subst}
-use Rattle.std.specs.Prelude.{is_none}
+use Rattle.std.specs.Prelude.{IsTrue, is_none}
+use Rattle.std.specs.FinMap.{contains_key}
 use Rattle.flow_labels.specs.declared.Label.{Label}
 use Rattle.flow_labels.specs.declared.Denied.{Denied}
 use Rattle.flow_labels.specs.Failing.{first_failing, same_test}
@@ -19,11 +20,9 @@ use Rattle.lam_machine_effects.specs.Serves.{Served, full}
 use Rattle.lam_machine_effects.specs.Serving.{publicly, serve}
 use Rattle.lam_machine_effects.specs.Turns.{is_taken, is_ready}
 use Rattle.lam_machine_laws.proofs.Full.{not_full, no_fault}
-use Rattle.lam_machine_laws.proofs.JudgedLemmas.{judged_by, refers, followed, tested}
-use Rattle.lam_machine_laws.proofs.RowLemmas.{RefersTo}
-use Rattle.lam_machine_laws.proofs.SoundSteps.{living}
+use Rattle.lam_machine_laws.proofs.JudgedLemmas.{RefersTo, judged_by, refers, followed, tested}
 use Rattle.lam_machine_laws.specs.Judged.{fault_by, name_in, deed_by}
-use Rattle.lam_machine_laws.specs.Sound.{CopiesLiving}
+use Rattle.lam_machine_laws.specs.Sound.{ThingLives, CopiesLiving}
 use Rattle.lam_machine_laws.specs.Tests.{tests_of}
 use Rattle.lam_machine_effects.specs.Parts.{stores_of}
 use Rattle.lam_machine_effects.specs.Room.{HasRoom}
@@ -43,6 +42,12 @@ free : (w : World) (t : ℕ) (p : Label) (r : Value) (n : Name) → RefersTo r n
 free w t p (Obj k) n e h f = free_thing w.monitors t p k n e h f
 free w t p (Arr k len) n e h f = free_thing w.monitors t p k n e h f
 free w t p v n e h f = absurd e
+
+-- what is copied lives
+living : (w : World) (r : Value) (n : Name) → RefersTo r n → ThingLives w r → IsTrue (contains_key w.heap.slots n)
+living w (Obj m) n e h = subst (λ k. IsTrue (contains_key w.heap.slots k)) e h
+living w (Arr m len) n e h = subst (λ k. IsTrue (contains_key w.heap.slots k)) e h
+living w v n e h = absurd e
 
 abbrev Room : ℕ → World → Served → Type 0
 Room t w d = HasRoom t d.effect (stores_of w)

@@ -27,7 +27,7 @@ use Rattle.lam_machine_effects.specs.Queues.{most_pipes}
 use Rattle.lam_machine_effects.specs.Fault.TheVariants.{Deep, HomeFull}
 use Rattle.lam_machine_effects.specs.Answer.TheVariants.{Val}
 use Rattle.lam_machine_effects.specs.Ask.{Ask}
-use Rattle.lam_machine_effects.specs.Ask.TheVariants.{Read, Write, New, CopyTo, Mint, Enter, Leave, Barred, Caught, Suppressed, MonEnter, MonLeave, MakeFile, MakeDir, OpenFile, OpenDir, Remove, FileRead, FileLength, Append, Cut, MakePipe, Send, SendCaps, Receive, ReceiveCaps, Spawn, Join, Say, End}
+use Rattle.lam_machine_effects.specs.Ask.TheVariants.{Read, New, CopyTo, Mint, MonEnter, MakeFile, MakeDir, OpenFile, OpenDir, Remove, FileRead, FileLength, MakePipe, Receive, ReceiveCaps, Spawn, Join}
 use Rattle.lam_machine_effects.specs.Threads.{Context}
 use Rattle.lam_machine_effects.specs.Limits.{most_tags, most_threads}
 use Rattle.lam_machine_effects.specs.Worlds.{World}
@@ -74,7 +74,6 @@ rows_same : (o : Label) (w u : World) (c : Context) (a : Ask) → flows c.label 
 rows_same o w u c (Read r at) s l =
     on_thing_same r _ _ (λ n. under_same _ _ _ (λ t.
     ap (λ (x : Option (List Value)). answers (Val (unwrap_or (slice_get (unwrap_or x []) at) Nothing))) (l.heap.slots n (read_seen o c.label n.own s t))))
-rows_same o w u c (Write r at v) s l = refl
 rows_same o w u c (New shape) s l =
     let home = home_of c.label c.label in
     ap (λ k. created home (reference shape) (adds_thing home (sort_of shape) (slots_of shape)) k (slots_of shape)) (count_same o w.heap.counts u.heap.counts home l.heap.counts s)
@@ -86,16 +85,9 @@ rows_same o w u c (CopyTo r own) s l =
     λ j. created home (renamed r) (adds_copy n home) (k j) (unwrap_or (xs j) [])))
 rows_same o w u c Mint s l =
     under_same _ _ _ (λ t. ap (λ k. unless (full k most_tags HomeFull) (gives (Tag k) takes_tag)) (l.tags (ap (λ x. flows x o) (sym (mint_passes c.label t)) ∙ s)))
-rows_same o w u c (Enter label k region args) s l = refl
-rows_same o w u c Leave s l = refl
-rows_same o w u c (Barred denied) s l = refl
-rows_same o w u c (Caught f) s l = refl
-rows_same o w u c (Suppressed f) s l = refl
-rows_same o w u c (End out) s l = refl
 rows_same o w u c (MonEnter r) s l =
     on_thing_same r _ _ (λ n. under_same _ _ _ (λ t.
     ap (λ (x : Option Holder). unless (full (count_of x) most_takings Deep) (does (takes_monitor n))) (l.monitors n (same_seen o c.label n.own s t))))
-rows_same o w u c (MonLeave r) s l = refl
 rows_same o w u c (MakeFile d text own) s l =
     under_same _ _ _ (λ t.
     let home = home_of c.label own in
@@ -122,14 +114,10 @@ rows_same o w u c (FileRead f at n) s l =
     under_same _ _ _ (λ t. ap (λ (x : Option (List ℕ)). answers (Val (Bytes (take n (drop at (unwrap_or x [])))))) (l.files.files f (read_seen o c.label f.own s t)))
 rows_same o w u c (FileLength f) s l =
     under_same _ _ _ (λ t. ap (λ (x : Option (List ℕ)). answers (Val (Int (pos (length (unwrap_or x [])))))) (l.files.files f (read_seen o c.label f.own s t)))
-rows_same o w u c (Append f bytes) s l = refl
-rows_same o w u c (Cut f len) s l = refl
 rows_same o w u c (MakePipe own) s l =
     let home = home_of c.label own in
     under_same _ _ _ (λ t.
     ap (λ k. unless (full k most_pipes HomeFull) (makes (Pipe (name_of home k)) (adds_pipe home) (a_pipe (name_of home k)))) (count_same o w.pipes.counts u.pipes.counts home l.pipes.counts s))
-rows_same o w u c (Send p bytes) s l = refl
-rows_same o w u c (SendCaps p caps) s l = refl
 rows_same o w u c (Receive p) s l =
     under_same _ _ _ (λ t.
     ap (λ (x : Option (List Message)). gives (received (front_of sort_of_message.Bytes (unwrap_or x []))) (receives p sort_of_message.Bytes)) (l.pipes.waiting p (same_seen o c.label p.own s t)))
@@ -142,7 +130,7 @@ rows_same o w u c (Spawn unit args caps) s l =
     (l.threads.count (same_seen o c.label public_label s (each_passes (same_test c.label public_label) (covers_test c.caps caps) t).0)))
 rows_same o w u c (Join t) s l =
     under_same _ _ _ (λ e. ap (λ x. answers (ended_with x)) (l.threads.results (read_seen o c.label public_label s e) t))
-rows_same o w u c (Say bytes) s l = refl
+rows_same o w u c a s l = refl
 
 -- with the same public capabilities a context counts as holding the same
 pub serve_same : (o : Label) (w u : World) (c : Context) (a : Ask) → flows c.label o ≡ true → Alike o w u → serve w c a ≡ serve u c a

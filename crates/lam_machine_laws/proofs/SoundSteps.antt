@@ -4,77 +4,53 @@ use Rattle.std.specs.Prelude.{IsTrue, is_some, unwrap_or, slice_set}
 use Rattle.std.specs.FinMap.{get, insert, contains_key}
 use Rattle.lam_value.specs.declared.names.Name.{Name}
 use Rattle.lam_value.specs.declared.values.Value.{Value}
-use Rattle.lam_value.specs.declared.values.Value.TheVariants.{Obj, Arr}
-use Rattle.lam_value.specs.Homes.{Home, home_of, name_of, count_in, counted}
+use Rattle.lam_value.specs.Homes.{Home, name_of, count_in, counted}
 use Rattle.lam_machine_effects.specs.Sort.{Sort}
 use Rattle.lam_machine_effects.specs.Things as heap
 use Rattle.lam_machine_effects.specs.Things.{Things, most_things, sorted_as, with_copy}
 use Rattle.lam_machine_effects.proofs.ThingLemmas.{sound_thing, sound_slot}
 use Rattle.lam_machine_effects.specs.Held as monitors
-use Rattle.lam_machine_effects.specs.Held.{Held, most_takings, takings, left, dropped}
+use Rattle.lam_machine_effects.specs.Held.{Held, left, dropped}
 use Rattle.lam_machine_effects.proofs.HeldLemmas.{entered_sound, left_sound}
 use Rattle.labelled_files.specs.Trees as files
-use Rattle.labelled_files.specs.Trees.{Tree, first_fault, root_alone}
+use Rattle.labelled_files.specs.Trees.{Tree, root_alone}
 use Rattle.labelled_files.proofs.MakeLemmas.{fine, new, room, free}
 use Rattle.labelled_files.proofs.SoundLemmas.{sound_file, sound_dir, sound_bytes, sound_without}
 use Rattle.lam_machine_effects.specs.Queues as pipes
-use Rattle.lam_machine_effects.specs.Queues.{Queues, most_pipes}
+use Rattle.lam_machine_effects.specs.Queues.{Queues}
 use Rattle.lam_machine_effects.proofs.QueueLemmas.{sound_pipe, sound_changed}
-use Rattle.lam_machine_effects.specs.Fault.TheVariants.{Deep, HomeFull}
 use Rattle.lam_machine_effects.specs.Ask.{Ask}
 use Rattle.lam_machine_effects.specs.Ask.TheVariants as ask
 use Rattle.lam_machine_effects.specs.Codes.{CodeTree}
 use Rattle.lam_machine_effects.specs.Threads.{Context, Thread}
 use Rattle.lam_machine_effects.specs.Next.{Next, goes, asks, stuck, next_of, started, takes}
 use Rattle.lam_machine_effects.specs.Limits.{most_tags, most_threads}
+use Rattle.lam_machine_effects.specs.Parts.{stores_of}
+use Rattle.lam_machine_effects.specs.Room.{HasRoom}
 use Rattle.lam_machine_effects.specs.Worlds.{World, with_thread}
-use Rattle.lam_machine_effects.specs.Serves.{Effect, nothing, takes_tag, sets_slot, adds_thing, adds_copy, takes_monitor, gives_back, drops, adds_file, adds_dir, removes, appends, cuts, adds_pipe, sends, receives, adds_thread, effect_of, Served, full}
+use Rattle.lam_machine_effects.specs.Serves.{Effect, nothing, takes_tag, sets_slot, adds_thing, adds_copy, takes_monitor, gives_back, drops, adds_file, adds_dir, removes, appends, cuts, adds_pipe, sends, receives, adds_thread, effect_of, Served}
 use Rattle.lam_machine_effects.specs.Serving.{served_by, publicly, serve}
 use Rattle.lam_machine_effects.specs.Turns.{is_ready, Moment, goes_on, served, turn_by}
 use Rattle.lam_machine_laws.proofs.ThreadLemmas.{some_inj, length-set}
-use Rattle.lam_machine_laws.proofs.RowLemmas.{RefersTo}
+use Rattle.lam_machine_laws.proofs.RoomLemmas.{room_row}
 use Rattle.lam_machine_laws.proofs.TurnLemmas.{acts, only}
-use Rattle.lam_machine_laws.proofs.JudgedLemmas.{judged_by, refers, followed}
-pub use Rattle.lam_machine_laws.proofs.Full.{not_full, no_fault}
-use Rattle.lam_machine_laws.specs.Judged.{fault_by, name_in, deed_by}
-use Rattle.lam_machine_laws.specs.Sound.{IsSoundWorld, ThingLives, CopiesLiving, FindsLiving, StaysSound}
+use Rattle.lam_machine_laws.proofs.JudgedLemmas.{judged_by}
+use Rattle.lam_machine_laws.proofs.Full.{not_full}
+use Rattle.lam_machine_laws.specs.Judged.{fault_by, deed_by}
+use Rattle.lam_machine_laws.specs.Sound.{IsSoundWorld, FindsLiving, StaysSound}
 
--- ---- room
+-- ---- room for a thread
 
-abbrev HasRoom : World → Effect → Type 0
-HasRoom w takes_tag = w.next_tag < most_tags
-HasRoom w (adds_thing home sort xs) = count_in w.heap.counts home < most_things
-HasRoom w (adds_copy n home) = (count_in w.heap.counts home < most_things) × IsTrue (contains_key w.heap.slots n)
-HasRoom w (takes_monitor n) = takings w.monitors n < most_takings
-HasRoom w (adds_file d text home) = first_fault w.files d text home ≡ None
-HasRoom w (adds_dir d text home) = first_fault w.files d text home ≡ None
-HasRoom w (adds_pipe home) = count_in w.pipes.counts home < most_pipes
-HasRoom w (adds_thread unit args caps) = length w.threads < most_threads
-HasRoom w e = Unit {0}
+abbrev HasPlace : ℕ → Effect → Type 0
+HasPlace n (adds_thread unit args caps) = n < most_threads
+HasPlace n e = Unit {0}
 
-abbrev Room : World → Served → Type 0
-Room w d = HasRoom w d.effect
+done_place : (w : World) (c : Context) (a : Ask) → fault_by w c a ≡ None → HasPlace (length w.threads) (deed_by w c a).effect
+done_place w c (ask.Spawn unit args caps) g = not_full _ _ _ g
+done_place w c a g = tt
 
-pub living : (w : World) (r : Value) (n : Name) → RefersTo r n → ThingLives w r → IsTrue (contains_key w.heap.slots n)
-living w (Obj m) n e h = subst (λ k. IsTrue (contains_key w.heap.slots k)) e h
-living w (Arr m len) n e h = subst (λ k. IsTrue (contains_key w.heap.slots k)) e h
-living w v n e h = absurd e
-
-done_room : (w : World) (c : Context) (a : Ask) → CopiesLiving w a → fault_by w c a ≡ None → Room w (deed_by w c a)
-done_room w c (ask.New shape) h g = not_full _ _ _ g
-done_room w c (ask.CopyTo r l) h g =
-    let fault = λ (n : Name). full (count_in w.heap.counts (home_of c.label l)) most_things HomeFull in
-    (not_full _ _ _ (followed r fault g), living w r (name_in r) (refers r fault g) h)
-done_room w c ask.Mint h g = not_full _ _ _ g
-done_room w c (ask.MonEnter r) h g = not_full _ _ _ (followed r (λ n. full (takings w.monitors n) most_takings Deep) g)
-done_room w c (ask.MakeFile d text l) h g = no_fault _ g
-done_room w c (ask.MakeDir d text l) h g = no_fault _ g
-done_room w c (ask.MakePipe l) h g = not_full _ _ _ g
-done_room w c (ask.Spawn unit args caps) h g = not_full _ _ _ g
-done_room w c a h g = tt
-
-room_row : (w : World) (c : Context) (a : Ask) → CopiesLiving w a → Room w (served_by w c a)
-room_row w c a h = judged_by (Room w) w c a (λ x e. tt) (λ f e g. tt) (λ e g. done_room w c a h g)
+place_row : (w : World) (c : Context) (a : Ask) → HasPlace (length w.threads) (served_by w c a).effect
+place_row w c a = judged_by (λ (d : Served). HasPlace (length w.threads) d.effect) w c a (λ x e. tt) (λ f e g. tt) (λ e g. done_place w c a g)
 
 -- ---- stores
 
@@ -120,38 +96,33 @@ with_next w n s k = record { stores = record { heap = s.stores.heap; monitors = 
 one_longer : (ths : List Thread) (a : Thread) → length ths < most_threads → length (ths ++ a ∷ []) ≤ most_threads
 one_longer ths a h = let e : length (ths ++ a ∷ []) ≡ length ths + 1 = length-append ths (a ∷ []) in omega arith
 
-effect_sound : (code : CodeTree) (t : ℕ) (e : Effect) (w : World) → HasRoom w e → IsSoundWorld w → IsSoundWorld (effect_of code t e w)
-effect_sound code t nothing w h s = s
-effect_sound code t takes_tag w h s = with_next w (w.next_tag + 1) s (omega arith)
-effect_sound code t (sets_slot n at v) w h s = with_heap w _ s (sound_slot w.heap n at v s.stores.heap)
-effect_sound code t (adds_thing home sort xs) w h s = with_heap w _ s (sound_thing w.heap home sort xs s.stores.heap h)
-effect_sound code t (adds_copy n home) w h s = with_heap w _ s (sound_copy w.heap n home s.stores.heap h.0 h.1)
-effect_sound code t (takes_monitor n) w h s = with_held w _ s (entered_sound w.monitors n t s.stores.monitors h)
-effect_sound code t (gives_back n) w h s = with_held w _ s (left_sound w.monitors n t s.stores.monitors)
-effect_sound code t (drops ns) w h s = with_held w _ s (dropped_sound w.monitors ns t s.stores.monitors)
-effect_sound code t (adds_file d text home) w h s =
-    let f = s.stores.files in let k = count_in w.files.counts home in
-    with_tree w _ s (sound_file w.files f d text home (fine w.files d text k h) (new w.files d text k h) (room w.files d text k h f) (free w.files d text k h (f.within home))) s.stores.root
-effect_sound code t (adds_dir d text home) w h s =
-    let f = s.stores.files in let k = count_in w.files.counts home in
-    with_tree w _ s (sound_dir w.files f d text home (fine w.files d text k h) (new w.files d text k h) (room w.files d text k h f) (free w.files d text k h (f.within home))) s.stores.root
-effect_sound code t (removes d text) w h s = with_tree w _ s (sound_without w.files s.stores.files d text) s.stores.root
-effect_sound code t (appends f bytes) w h s = with_tree w _ s (sound_bytes w.files s.stores.files f _) s.stores.root
-effect_sound code t (cuts f len) w h s = with_tree w _ s (sound_bytes w.files s.stores.files f _) s.stores.root
-effect_sound code t (adds_pipe home) w h s = with_lines w _ s (sound_pipe w.pipes home s.stores.pipes h)
-effect_sound code t (sends p m) w h s = with_lines w _ s (sound_changed (get w.pipes.waiting p) w.pipes p _ refl s.stores.pipes)
-effect_sound code t (receives p k) w h s = with_lines w _ s (sound_changed (get w.pipes.waiting p) w.pipes p _ refl s.stores.pipes)
-effect_sound code t (adds_thread unit args caps) w h s = with_list w _ s (one_longer w.threads (started code unit args caps) h)
+effect_sound : (code : CodeTree) (t : ℕ) (e : Effect) (w : World) → HasRoom t e (stores_of w) → HasPlace (length w.threads) e → IsSoundWorld w → IsSoundWorld (effect_of code t e w)
+effect_sound code t nothing w h l s = s
+effect_sound code t takes_tag w h l s = with_next w (w.next_tag + 1) s (omega arith)
+effect_sound code t (sets_slot n at v) w h l s = with_heap w _ s (sound_slot w.heap n at v s.stores.heap)
+effect_sound code t (adds_thing home sort xs) w h l s = with_heap w _ s (sound_thing w.heap home sort xs s.stores.heap h)
+effect_sound code t (adds_copy n home) w h l s = with_heap w _ s (sound_copy w.heap n home s.stores.heap h.1 h.0)
+effect_sound code t (takes_monitor n) w h l s = with_held w _ s (entered_sound w.monitors n t s.stores.monitors h.1)
+effect_sound code t (gives_back n) w h l s = with_held w _ s (left_sound w.monitors n t s.stores.monitors)
+effect_sound code t (drops ns) w h l s = with_held w _ s (dropped_sound w.monitors ns t s.stores.monitors)
+effect_sound code t (adds_file d text home) w h l s =
+    let f = s.stores.files in let i = count_in w.files.counts home in
+    with_tree w _ s (sound_file w.files f d text home (fine w.files d text i h) (new w.files d text i h) (room w.files d text i h f) (free w.files d text i h (f.within home))) s.stores.root
+effect_sound code t (adds_dir d text home) w h l s =
+    let f = s.stores.files in let i = count_in w.files.counts home in
+    with_tree w _ s (sound_dir w.files f d text home (fine w.files d text i h) (new w.files d text i h) (room w.files d text i h f) (free w.files d text i h (f.within home))) s.stores.root
+effect_sound code t (removes d text) w h l s = with_tree w _ s (sound_without w.files s.stores.files d text) s.stores.root
+effect_sound code t (appends f bytes) w h l s = with_tree w _ s (sound_bytes w.files s.stores.files f _) s.stores.root
+effect_sound code t (cuts f len) w h l s = with_tree w _ s (sound_bytes w.files s.stores.files f _) s.stores.root
+effect_sound code t (adds_pipe home) w h l s = with_lines w _ s (sound_pipe w.pipes home s.stores.pipes h)
+effect_sound code t (sends p m) w h l s = with_lines w _ s (sound_changed (get w.pipes.waiting p) w.pipes p _ refl s.stores.pipes)
+effect_sound code t (receives p k) w h l s = with_lines w _ s (sound_changed (get w.pipes.waiting p) w.pipes p _ refl s.stores.pipes)
+effect_sound code t (adds_thread unit args caps) w h l s = with_list w _ s (one_longer w.threads (started code unit args caps) l)
 
 -- ---- turns
 
 thread_sound : (w : World) (t : ℕ) (to : Thread) → IsSoundWorld w → IsSoundWorld (with_thread w t to)
 thread_sound w t to s = with_list w (slice_set w.threads t to) s (subst (λ n. n ≤ most_threads) (sym (length-set t w.threads to)) s.threads)
-
--- there is as much room after the acting thread took its answer
-room_moved : (w : World) (t : ℕ) (to : Thread) (e : Effect) → HasRoom w e → HasRoom (with_thread w t to) e
-room_moved w t to (adds_thread unit args caps) h = subst (λ n. n < most_threads) (sym (length-set t w.threads to)) h
-room_moved w t to e h = h
 
 sound_next : (code : CodeTree) (w : World) (t : ℕ) (th : Thread) (c : Context) (rest : List Context) (nx : Next) (m : Moment) → IsSoundWorld w → turn_by code w t th c rest nx ≡ Some m → FindsLiving w m.event.what → IsSoundWorld m.world
 sound_next code w t th c rest (goes i) m s h =
@@ -159,8 +130,10 @@ sound_next code w t th c rest (goes i) m s h =
 sound_next code w t th c rest (asks a i) m s h =
     let d = serve w c a in
     let to = takes code th c rest i a d.answer in
-    subst (λ (n : Moment). FindsLiving w n.event.what → IsSoundWorld n.world) (only (is_ready w t c a) (served code w t th c rest a i d) m h).1
-    (λ f. effect_sound code t d.effect (with_thread w t to) (room_moved w t to d.effect (room_row w (publicly w.public c) a f)) (thread_sound w t to s))
+    let p = only (is_ready w t c a) (served code w t th c rest a i d) m h in
+    let place = subst (λ n. HasPlace n d.effect) (sym (length-set t w.threads to)) (place_row w (publicly w.public c) a) in
+    subst (λ (n : Moment). FindsLiving w n.event.what → IsSoundWorld n.world) p.1
+    (λ f. effect_sound code t d.effect (with_thread w t to) (room_row w t c a p.0 f) place (thread_sound w t to s))
 sound_next code w t th c rest stuck m s h = absurd cc
 
 pub stay_sound : (code : CodeTree) → StaysSound code

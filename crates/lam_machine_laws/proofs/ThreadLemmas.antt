@@ -24,7 +24,7 @@ use Rattle.lam_machine_effects.specs.Equal.{same_names}
 use Rattle.lam_machine_effects.specs.Threads.{Inside, Phase, Bottom, Body, Catch, Context, Thread}
 use Rattle.lam_machine_effects.specs.Ops.{is_held, region_in}
 use Rattle.lam_machine_effects.specs.Next.{entry, faulted, with_inside, with_held, given, without, held_by, catch_place, unit_number, catching, gains, done, entered, answered, result_after}
-use Rattle.lam_machine_effects.specs.Serves.{Made, a_region, a_thing, a_file, a_dir, a_pipe, a_thread}
+use Rattle.lam_machine_effects.specs.Serves.{Made, a_region}
 use Rattle.lam_machine_effects.specs.Turns.{is_bottom, may_ask}
 use Rattle.lam_machine_effects.specs.Views.{is_seen}
 use Rattle.lam_machine_laws.specs.Isolation.{IsWellLabelled}
@@ -143,12 +143,6 @@ front code c after a x = answered code c [] after a x
 
 done_front : (code : CodeTree) (c : Context) (rest : List Context) (after : Inside) (a : Ask) → done code c rest after a ≡ done code c [] after a ++ rest
 done_front code c rest after ask.Leave = refl
-done_front code c rest after (ask.Barred d) = refl
-done_front code c rest after (ask.Caught f) = refl
-done_front code c rest after (ask.Suppressed f) = refl
-done_front code c rest after (ask.End r) = refl
-done_front code c rest after (ask.MonEnter r) = refl
-done_front code c rest after (ask.MonLeave r) = refl
 done_front code c rest after a = refl
 
 entered_front : (code : CodeTree) (c : Context) (rest : List Context) (after : Inside) (a : Ask) → entered code c rest after a ≡ entered code c [] after a ++ rest
@@ -169,31 +163,20 @@ OwnDone l a = Unit {0}
 
 abbrev pub KeepsOwn : Label → Ask → Answer → Type 0
 KeepsOwn l a Done = OwnDone l a
-KeepsOwn l a Entered = Unit {0}
-KeepsOwn l a (Val v) = Unit {0}
-KeepsOwn l a (Refused d) = Unit {0}
-KeepsOwn l a (Failed f) = Unit {0}
+KeepsOwn l a x = Unit {0}
 
 -- a region is made where it is entered, and only there
 abbrev pub NoRegion : Option Made → Type 0
-NoRegion None = Unit {0}
 NoRegion (Some (a_region l k d r xs)) = ⊥
-NoRegion (Some (a_thing n thing slots)) = Unit {0}
-NoRegion (Some (a_file n)) = Unit {0}
-NoRegion (Some (a_dir n)) = Unit {0}
-NoRegion (Some (a_pipe n)) = Unit {0}
-NoRegion (Some (a_thread t)) = Unit {0}
+NoRegion m = Unit {0}
 
 abbrev pub FitsEntry : Context → Ask → Option Made → Type 0
 FitsEntry c (ask.Enter l k r vs) m = m ≡ Some (a_region l k (c.depth + 1) r vs)
 FitsEntry c a m = ⊥
 
 abbrev pub Fits : Context → Ask → Answer → Option Made → Type 0
-Fits c a Done m = NoRegion m
 Fits c a Entered m = FitsEntry c a m
-Fits c a (Val v) m = NoRegion m
-Fits c a (Refused d) m = NoRegion m
-Fits c a (Failed f) m = NoRegion m
+Fits c a x m = NoRegion m
 
 done_heirs : (code : CodeTree) (c : Context) (after : Inside) (a : Ask) → IsWellLabelled c → OwnDone c.label a → AllByRecursion (IsHeir c) (done code c [] after a)
 done_heirs code c after ask.Leave s own = tt
@@ -218,22 +201,12 @@ region_of code l k d r vs =
     }
 
 abbrev pub new_contexts : CodeTree → Option Made → List Context
-new_contexts code None = []
 new_contexts code (Some (a_region l k d r xs)) = region_of code l k d r xs ∷ []
-new_contexts code (Some (a_thing n thing slots)) = []
-new_contexts code (Some (a_file n)) = []
-new_contexts code (Some (a_dir n)) = []
-new_contexts code (Some (a_pipe n)) = []
-new_contexts code (Some (a_thread t)) = []
+new_contexts code m = []
 
 no_contexts : (code : CodeTree) (m : Option Made) → NoRegion m → [] ≡ new_contexts code m
-no_contexts code None h = refl
 no_contexts code (Some (a_region l k d r xs)) h = absurd h
-no_contexts code (Some (a_thing n thing slots)) h = refl
-no_contexts code (Some (a_file n)) h = refl
-no_contexts code (Some (a_dir n)) h = refl
-no_contexts code (Some (a_pipe n)) h = refl
-no_contexts code (Some (a_thread t)) h = refl
+no_contexts code m h = refl
 
 none_seen : (o : Label) (c : Context) (ds : List Context) → flows c.label o ≡ false → AllByRecursion (IsHeir c) ds → filter (is_seen o) ds ≡ []
 none_seen o c [] hid h = refl

@@ -9,8 +9,8 @@ use Rattle.lam_machine_effects.specs.Ask.{Ask}
 use Rattle.lam_machine_effects.specs.Codes.{CodeTree}
 use Rattle.lam_machine_effects.specs.Threads.{Inside, Bottom, Context, Thread}
 use Rattle.lam_machine_effects.specs.Next.{Next, goes, asks, stuck, next_of, with_inside, started, result_after, takes}
-use Rattle.lam_machine_effects.specs.Worlds.{World, thread_at, contexts_in, contexts_at, result_in, with_thread}
-use Rattle.lam_machine_effects.specs.Serves.{Effect, nothing, takes_tag, sets_slot, adds_thing, adds_copy, takes_monitor, gives_back, drops, adds_file, adds_dir, removes, appends, cuts, adds_pipe, sends, receives, adds_thread, effect_of, Made, a_region, a_thing, a_file, a_dir, a_pipe, a_thread}
+use Rattle.lam_machine_effects.specs.Worlds.{World, thread_at, contexts_in, result_in, with_thread}
+use Rattle.lam_machine_effects.specs.Serves.{Effect, nothing, adds_thread, effect_of, Made, a_region}
 use Rattle.lam_machine_effects.specs.Serving.{serve}
 use Rattle.lam_machine_effects.specs.Turns.{is_bottom, may_ask, waits, is_ready, Moment, goes_on, served, turn_by, turn_on, turn_in, step}
 use Rattle.lam_machine_effects.specs.Views.{is_seen, shows, is_noted}
@@ -151,22 +151,7 @@ grown_safe (x ∷ xs) a all here (suc j) = grown_safe xs a (λ k. all (suc k)) h
 effect_safe : (code : CodeTree) (t : ℕ) (e : Effect) (w : World) → AreWellLabelled w → AreWellLabelled (effect_of code t e w)
 effect_safe code t (adds_thread unit args caps) w s =
     record { contexts = grown_safe w.threads (started code unit args caps) s.contexts (record { bottom = λ e. refl; held = tt }, tt) }
-effect_safe code t nothing w s = s
-effect_safe code t takes_tag w s = record { contexts = s.contexts }
-effect_safe code t (sets_slot n at v) w s = record { contexts = s.contexts }
-effect_safe code t (adds_thing home sort xs) w s = record { contexts = s.contexts }
-effect_safe code t (adds_copy n home) w s = record { contexts = s.contexts }
-effect_safe code t (takes_monitor n) w s = record { contexts = s.contexts }
-effect_safe code t (gives_back n) w s = record { contexts = s.contexts }
-effect_safe code t (drops ns) w s = record { contexts = s.contexts }
-effect_safe code t (adds_file d text home) w s = record { contexts = s.contexts }
-effect_safe code t (adds_dir d text home) w s = record { contexts = s.contexts }
-effect_safe code t (removes d text) w s = record { contexts = s.contexts }
-effect_safe code t (appends f bytes) w s = record { contexts = s.contexts }
-effect_safe code t (cuts f len) w s = record { contexts = s.contexts }
-effect_safe code t (adds_pipe home) w s = record { contexts = s.contexts }
-effect_safe code t (sends p m) w s = record { contexts = s.contexts }
-effect_safe code t (receives p k) w s = record { contexts = s.contexts }
+effect_safe code t e w s = record { contexts = s.contexts }
 
 pub step_safe : (code : CodeTree) (w : World) (t : ℕ) (m : Moment) → AreWellLabelled w → step code w t ≡ Some m → AreWellLabelled m.world
 step_safe code w t m s h =
@@ -202,18 +187,13 @@ valid_safe w v = record { contexts = λ t. go t (thread_at w t) refl }
 
 -- ---- unseen turns
 
-unnoted : (a b : Bool) → (a || (not a && b)) ≡ false → (a ≡ false) × (b ≡ false)
+pub unnoted : (a b : Bool) → (a || (not a && b)) ≡ false → (a ≡ false) × (b ≡ false)
 unnoted true b e = absurd cc
 unnoted false b e = (refl, e)
 
 new_unseen : (o : Label) (code : CodeTree) (m : Option Made) → shows o m ≡ false → filter (is_seen o) (new_contexts code m) ≡ []
-new_unseen o code None h = refl
 new_unseen o code (Some (a_region l k d r xs)) h = ap (λ b. cond b (new_contexts code (Some (a_region l k d r xs))) []) h
-new_unseen o code (Some (a_thing n thing slots)) h = refl
-new_unseen o code (Some (a_file n)) h = refl
-new_unseen o code (Some (a_dir n)) h = refl
-new_unseen o code (Some (a_pipe n)) h = refl
-new_unseen o code (Some (a_thread t)) h = refl
+new_unseen o code m h = refl
 
 -- one thread is another one on one side
 one_thread : (o : Label) (w : World) (t : ℕ) (th to : Thread) → thread_at w t ≡ Some th → filter (is_seen o) th.contexts ≡ filter (is_seen o) to.contexts → (flows public_label o ≡ true → th.result ≡ to.result) → Alike o w (with_thread w t to)

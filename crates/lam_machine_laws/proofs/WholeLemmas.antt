@@ -27,13 +27,13 @@ data Skim (code : CodeTree) (o : Label) (ts : List ℕ) (w : World) : Type 0 whe
   No_more : noted o (moments code ts w) ≡ [] → Skim code o ts w
   One : First code o ts w → Skim code o ts w
 
-passed_over : (o : Label) (m : Moment) (ms : List Moment) → is_noted o m ≡ false → noted o (m ∷ ms) ≡ noted o ms
+pub passed_over : (o : Label) (m : Moment) (ms : List Moment) → is_noted o m ≡ false → noted o (m ∷ ms) ≡ noted o ms
 passed_over o m ms h = ap (λ b. cond b (m ∷ noted o ms) (noted o ms)) h
 
-taken_up : (o : Label) (m : Moment) (ms : List Moment) → is_noted o m ≡ true → noted o (m ∷ ms) ≡ m ∷ noted o ms
+pub taken_up : (o : Label) (m : Moment) (ms : List Moment) → is_noted o m ≡ true → noted o (m ∷ ms) ≡ m ∷ noted o ms
 taken_up o m ms h = ap (λ b. cond b (m ∷ noted o ms) (noted o ms)) h
 
-ahead : (code : CodeTree) (o : Label) (t : ℕ) (ts : List ℕ) (w : World) (m : Moment) → step code w t ≡ Some m → noted o (moments code (t ∷ ts) w) ≡ noted o (m ∷ moments code ts m.world)
+pub ahead : (code : CodeTree) (o : Label) (t : ℕ) (ts : List ℕ) (w : World) (m : Moment) → step code w t ≡ Some m → noted o (moments code (t ∷ ts) w) ≡ noted o (m ∷ moments code ts m.world)
 ahead code o t ts w m h = ap (λ x. noted o (and_then x (moments code ts))) h
 
 go_past : (code : CodeTree) (o : Label) (t : ℕ) (ts : List ℕ) (w : World) (m : Moment) → Alike o w m.world → noted o (moments code (t ∷ ts) w) ≡ noted o (moments code ts m.world) → Skim code o ts m.world → Skim code o (t ∷ ts) w
@@ -83,10 +83,10 @@ record Together (o : Label) (m m' : Moment) : Type 0 where
   entries : entry_of o m ≡ entry_of o m'
   alike : Alike o m.world m'.world
 
-item_turn : (o : Label) (m : Moment) → flows m.event.label o ≡ true → item_of o m ≡ turn m.event.thread
+pub item_turn : (o : Label) (m : Moment) → flows m.event.label o ≡ true → item_of o m ≡ turn m.event.thread
 item_turn o m h = ap (λ b. cond b (turn m.event.thread) (past (release_of m))) h
 
-item_past : (o : Label) (m : Moment) → flows m.event.label o ≡ false → item_of o m ≡ past (release_of m)
+pub item_past : (o : Label) (m : Moment) → flows m.event.label o ≡ false → item_of o m ≡ past (release_of m)
 item_past o m h = ap (λ b. cond b (turn m.event.thread) (past (release_of m))) h
 
 entry_seen : (o : Label) (m : Moment) → flows m.event.label o ≡ true → entry_of o m ≡ event m.event
@@ -98,10 +98,10 @@ entry_past o m h = ap (λ b. cond b (event m.event) (release (release_of m))) h
 turn_inj : (t u : ℕ) → turn t ≡ turn u → t ≡ u
 turn_inj t u e = cc
 
-past_inj : (r s : Release) → past r ≡ past s → r ≡ s
+pub past_inj : (r s : Release) → past r ≡ past s → r ≡ s
 past_inj r s e = cc
 
-one_or_other : (t : ℕ) (r : Release) {X : Type 0} → turn t ≡ past r → X
+pub one_or_other : (t : ℕ) (r : Release) {X : Type 0} → turn t ≡ past r → X
 one_or_other t r e = absurd cc
 
 -- two noted steps with equal items, from worlds that look alike

@@ -13,6 +13,9 @@
 //! - `turn_parts`: a turn that asks is its ask's service, with the answer's effect on the thread and its own on the
 //!   stores (`specs/Turned`). A service that is ready has room (`specs/Ready`).
 //! - `specs/Own`: a thread of a run is that thread with its own turns and the answers that it got.
+//!
+//! Public promises rest on most of its laws, first on [`runs_are_isolated`] (clauses `isolated`, `steady`) and
+//! [`refusals_name_the_first`]. Nothing here is a matter of speed.
 #![tactic(auto)]
 
 mod turn_parts;
