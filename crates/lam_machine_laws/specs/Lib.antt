@@ -7,6 +7,8 @@ pub mod Own
 pub mod Turned
 pub mod Ready
 pub use Rattle.lam_machine_effects.specs.Limits
+pub use Rattle.lam_machine_effects.specs.Parts
+pub use Rattle.lam_machine_effects.specs.Room
 pub use Rattle.lam_machine_effects.specs.Serves
 pub use Rattle.lam_machine_effects.specs.Serving
 pub use Rattle.lam_machine_effects.specs.Turns

@@ -16,7 +16,7 @@ use Rattle.thread_steps.specs.Threads.{Context}
 use Rattle.thread_steps.specs.Ops.{is_held}
 use Rattle.thread_steps.specs.Next.{without}
 use Rattle.lam_machine_laws.specs.Worlds.{World}
-use Rattle.lam_machine_laws.specs.Serves.{Effect, nothing, takes_tag, sets_slot, adds_thing, adds_copy, takes_monitor, gives_back, drops, adds_file, adds_dir, removes, appends, cuts, adds_pipe, sends, receives, adds_thread}
+use Rattle.lam_machine_laws.specs.Serves.{Effect, takes_monitor, gives_back, drops}
 use Rattle.lam_machine_laws.specs.Valid.{IsKnown, AreKnown, Lives, IsListed, ContextLives, all_listings}
 use Rattle.lam_machine_valid.specs.Living.{InsideLives}
 
@@ -142,23 +142,10 @@ dropped_other m (r ∷ rs) t j apart q = dropped_other (left m r t) rs t j apart
 -- ---- what an effect makes of them
 
 abbrev pub touched : Held → ℕ → Effect → Held
-touched m t nothing = m
-touched m t takes_tag = m
-touched m t (sets_slot n at v) = m
-touched m t (adds_thing home sort xs) = m
-touched m t (adds_copy n home) = m
 touched m t (takes_monitor n) = entered m n t
 touched m t (gives_back n) = left m n t
 touched m t (drops ns) = dropped m ns t
-touched m t (adds_file d text home) = m
-touched m t (adds_dir d text home) = m
-touched m t (removes d text) = m
-touched m t (appends f bytes) = m
-touched m t (cuts f len) = m
-touched m t (adds_pipe home) = m
-touched m t (sends p x) = m
-touched m t (receives p k) = m
-touched m t (adds_thread unit args caps) = m
+touched m t e = m
 
 -- a monitor that is taken was free
 abbrev pub IsFree : Held → ℕ → Effect → Type 0

@@ -39,6 +39,7 @@ use Rattle.thread_steps.specs.Limits.{frames_limit}
 use Rattle.thread_steps.specs.Next as next
 use Rattle.thread_steps.specs.Next.{next_of, next_by, next_in, next_op, entry, returned, ending, leaving, raised, around}
 use Rattle.lam_machine_laws.specs.Worlds.{World}
+use Rattle.lam_machine_laws.specs.Sound.{ThingLives, CopiesLiving}
 use Rattle.lam_machine_laws.specs.Valid.{IsKnown, AreKnown, Lives, AllLive, FrameLives, ContextLives, IsValid}
 use Rattle.lam_machine_valid.specs.Living.{InsideLives, AskLives, NextLives, NamesWhatLives}
 use Rattle.lam_machine_valid.proofs.TagLemmas.{below_empty, public_known, below_insert, below_list}
@@ -484,3 +485,14 @@ pub name_what_lives : (code : CodeTree) → NamesWhatLives code
 name_what_lives code is w t th c rest v at top =
     let all = subst (λ cs. AllByRecursion (ContextLives w t) cs) top (v.threads t th at).contexts in
     next_live w code is (root_live w v) c all.0.label all.0.caps (inside_live w t c all.0)
+
+-- ---- what an ask copies
+
+thing_lives : (w : World) (r : Value) → Lives w r → ThingLives w r
+thing_lives w (Obj n) h = h.1
+thing_lives w (Arr n len) h = h.1.0
+thing_lives w v h = tt
+
+pub copies_living : (w : World) (a : Ask) → AskLives w a → CopiesLiving w a
+copies_living w (ask.CopyTo r l) h = thing_lives w r h.0
+copies_living w a h = tt

@@ -164,12 +164,9 @@ EndsDone a x = Unit {0}
 module _ (code : CodeTree) (c : Context) (rest : List Context) (i : Inside) (h : AreStacked (c ∷ rest)) where
   done_stacked : (a : Ask) → FitsPhase c a → AreStacked (done code c rest i a)
   done_stacked ask.Leave f = below_stacked c rest h
-  done_stacked (ask.Barred d) f = instead c _ rest (record { phase = refl; label = refl; depth = refl }) h
   done_stacked (ask.Caught g) f = catch_stacked c (catching c g) rest refl f h
   done_stacked (ask.Suppressed g) f = below_stacked c rest h
   done_stacked (ask.End r) f = below_stacked c rest h
-  done_stacked (ask.MonEnter r) f = instead c _ rest (record { phase = refl; label = refl; depth = refl }) h
-  done_stacked (ask.MonLeave r) f = instead c _ rest (record { phase = refl; label = refl; depth = refl }) h
   done_stacked a f = instead c _ rest (record { phase = refl; label = refl; depth = refl }) h
 
   entered_stacked : (a : Ask) → AreStacked (entered code c rest i a)
@@ -187,12 +184,8 @@ module _ (code : CodeTree) (c : Context) (rest : List Context) (i : Inside) (h :
 
   done_ended : (old : Option Outcome) → is_none old ≡ true → (a : Ask) → FitsPhase c a → is_none (result_after old a) ≡ has_contexts (done code c rest i a)
   done_ended old e ask.Leave f = e ∙ sym (stands_on c rest f h)
-  done_ended old e (ask.Barred d) f = e
-  done_ended old e (ask.Caught g) f = e
   done_ended old e (ask.Suppressed g) f = e ∙ sym (stands_on c rest f h)
   done_ended old e (ask.End r) f = sym (stands_last c rest f h)
-  done_ended old e (ask.MonEnter r) f = e
-  done_ended old e (ask.MonLeave r) f = e
   done_ended old e a f = e
 
   goes_on : (old : Option Outcome) → is_none old ≡ true → (a : Ask) (x : Answer) → EndsDone a x → (x ≡ Done → ⊥) → is_none (result_after old a) ≡ true

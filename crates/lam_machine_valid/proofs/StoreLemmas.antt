@@ -269,23 +269,6 @@ effect_on w u g (sends p m) h = message_on w u g m h
 effect_on w u g (adds_thread unit args caps) h = (all_lives_on w u g args h.0, (below_on w u g caps.plus h.1.0, below_on w u g caps.minus h.1.1))
 effect_on w u g e h = tt
 
-module _ (w u : World) (g : Grows w u) (s : StoresLive w) where
-  with_heap : u.monitors ≡ w.monitors → u.files ≡ w.files → u.pipes ≡ w.pipes → HeapLives u u.heap → StoresLive u
-  with_heap m t q h =
-      together u h (subst (λ (k : Held). AreKnownNames u k) (sym m) (held_on w u g s)) (subst (TreeLives u) (sym t) (tree_on w u g s)) (subst (LinesLive u) (sym q) (lines_on w u g s))
-
-  with_held : u.heap ≡ w.heap → u.files ≡ w.files → u.pipes ≡ w.pipes → AreKnownNames u u.monitors → StoresLive u
-  with_held h t q m =
-      together u (subst (HeapLives u) (sym h) (heap_on w u g s)) m (subst (TreeLives u) (sym t) (tree_on w u g s)) (subst (LinesLive u) (sym q) (lines_on w u g s))
-
-  with_tree : u.heap ≡ w.heap → u.monitors ≡ w.monitors → u.pipes ≡ w.pipes → TreeLives u u.files → StoresLive u
-  with_tree h m q t =
-      together u (subst (HeapLives u) (sym h) (heap_on w u g s)) (subst (λ (k : Held). AreKnownNames u k) (sym m) (held_on w u g s)) t (subst (LinesLive u) (sym q) (lines_on w u g s))
-
-  with_lines : u.heap ≡ w.heap → u.monitors ≡ w.monitors → u.files ≡ w.files → LinesLive u u.pipes → StoresLive u
-  with_lines h m t q =
-      together u (subst (HeapLives u) (sym h) (heap_on w u g s)) (subst (λ (k : Held). AreKnownNames u k) (sym m) (held_on w u g s)) (subst (TreeLives u) (sym t) (tree_on w u g s)) q
-
 abbrev entries_live : World → Entries → Type 0
 entries_live u es = AllByRecursion (EntryLives u) es
 
@@ -340,67 +323,24 @@ pipe_live w u home g s known =
     }
 
 module _ (code : CodeTree) (t : ℕ) (w : World) (sound : AreSoundStores w) (s : StoresLive w) where
-  abbrev grown : (e : Effect) → Grows w (effect_of code t e w)
-  grown e = effect_grows code t e w sound
+  effect_put : (e : Effect) → Grows w (effect_of code t e w) → EffectLives (effect_of code t e w) e → StoresLive (effect_of code t e w)
+  effect_put nothing g h = s
+  effect_put takes_tag g h = moved_live w _ g s refl refl refl refl
+  effect_put (sets_slot n at v) g h = together _ (put_slot _ w.heap n at v (heap_on w _ g s) h (get w.heap.slots n) refl) (held_on w _ g s) (tree_on w _ g s) (lines_on w _ g s)
+  effect_put (adds_thing home sort xs) g h = together _ (put_thing _ w.heap _ home xs (heap_on w _ g s) h.0 h.1 refl refl) (held_on w _ g s) (tree_on w _ g s) (lines_on w _ g s)
+  effect_put (adds_copy n home) g h = together _ (put_thing _ w.heap _ home (slots_at w.heap n) (heap_on w _ g s) h (all_lives_on w _ g _ (slots_live w s n)) refl refl) (held_on w _ g s) (tree_on w _ g s) (lines_on w _ g s)
+  effect_put (takes_monitor n) g h = together _ (heap_on w _ g s) (put_known (effect_of code t (takes_monitor n) w) w.monitors n (once_more (get w.monitors n) t) (held_on w _ g s) h) (tree_on w _ g s) (lines_on w _ g s)
+  effect_put (gives_back n) g h = together _ (heap_on w _ g s) (left_known (effect_of code t (gives_back n) w) w.monitors n t (held_on w _ g s)) (tree_on w _ g s) (lines_on w _ g s)
+  effect_put (drops ns) g h = together _ (heap_on w _ g s) (dropped_known (effect_of code t (drops ns) w) w.monitors ns t (held_on w _ g s)) (tree_on w _ g s) (lines_on w _ g s)
+  effect_put (adds_file d text home) g h = together _ (heap_on w _ g s) (held_on w _ g s) (file_live w _ d text home g s h refl) (lines_on w _ g s)
+  effect_put (adds_dir d text home) g h = together _ (heap_on w _ g s) (held_on w _ g s) (dir_live w _ d text home g s h refl) (lines_on w _ g s)
+  effect_put (removes d text) g h = together _ (heap_on w _ g s) (held_on w _ g s) (removed_live w _ d text g s) (lines_on w _ g s)
+  effect_put (appends f bytes) g h = together _ (heap_on w _ g s) (held_on w _ g s) (bytes_live w _ f (tree.appended bytes) g s) (lines_on w _ g s)
+  effect_put (cuts f len) g h = together _ (heap_on w _ g s) (held_on w _ g s) (bytes_live w _ f _ g s) (lines_on w _ g s)
+  effect_put (adds_pipe home) g h = together _ (heap_on w _ g s) (held_on w _ g s) (tree_on w _ g s) (pipe_live w _ home g s h)
+  effect_put (sends p m) g h = together _ (heap_on w _ g s) (held_on w _ g s) (tree_on w _ g s) (change_line _ w.pipes p (line.joined m) (lines_on w _ g s) (sent_live (effect_of code t (sends p m) w) m h) (get w.pipes.waiting p) refl)
+  effect_put (receives p k) g h = together _ (heap_on w _ g s) (held_on w _ g s) (tree_on w _ g s) (change_line _ w.pipes p (rest_of k) (lines_on w _ g s) (rest_live (effect_of code t (receives p k) w) k) (get w.pipes.waiting p) refl)
+  effect_put (adds_thread unit args caps) g h = moved_live w _ g s refl refl refl refl
 
   pub effect_live : (e : Effect) → EffectLives w e → StoresLive (effect_of code t e w)
-  effect_live nothing h = s
-  effect_live takes_tag h = moved_live w (effect_of code t takes_tag w) (grown takes_tag) s refl refl refl refl
-  effect_live (sets_slot n at v) h =
-      let u = effect_of code t (sets_slot n at v) w in
-      let g = grown (sets_slot n at v) in
-      with_heap w u g s refl refl refl (put_slot u w.heap n at v (heap_on w u g s) (lives_on w u g v h) (get w.heap.slots n) refl)
-  effect_live (adds_thing home sort xs) h =
-      let u = effect_of code t (adds_thing home sort xs) w in
-      let g = grown (adds_thing home sort xs) in
-      with_heap w u g s refl refl refl (put_thing u w.heap u.heap home xs (heap_on w u g s) (known_on w u g home.maker h.0.0, known_on w u g home.own h.0.1) (all_lives_on w u g xs h.1) refl refl)
-  effect_live (adds_copy n home) h =
-      let u = effect_of code t (adds_copy n home) w in
-      let g = grown (adds_copy n home) in
-      let xs = slots_at w.heap n in
-      with_heap w u g s refl refl refl (put_thing u w.heap u.heap home xs (heap_on w u g s) (known_on w u g home.maker h.0, known_on w u g home.own h.1) (all_lives_on w u g xs (slots_live w s n)) refl refl)
-  effect_live (takes_monitor n) h =
-      let u = effect_of code t (takes_monitor n) w in
-      let g = grown (takes_monitor n) in
-      with_held w u g s refl refl refl (put_known u w.monitors n (once_more (get w.monitors n) t) (held_on w u g s) (name_on w u g n h))
-  effect_live (gives_back n) h =
-      let u = effect_of code t (gives_back n) w in
-      let g = grown (gives_back n) in
-      with_held w u g s refl refl refl (left_known u w.monitors n t (held_on w u g s))
-  effect_live (drops ns) h =
-      let u = effect_of code t (drops ns) w in
-      let g = grown (drops ns) in
-      with_held w u g s refl refl refl (dropped_known u w.monitors ns t (held_on w u g s))
-  effect_live (adds_file d text home) h =
-      let u = effect_of code t (adds_file d text home) w in
-      let g = grown (adds_file d text home) in
-      with_tree w u g s refl refl refl (file_live w u d text home g s (known_on w u g home.maker h.0, known_on w u g home.own h.1) refl)
-  effect_live (adds_dir d text home) h =
-      let u = effect_of code t (adds_dir d text home) w in
-      let g = grown (adds_dir d text home) in
-      with_tree w u g s refl refl refl (dir_live w u d text home g s (known_on w u g home.maker h.0, known_on w u g home.own h.1) refl)
-  effect_live (removes d text) h =
-      let u = effect_of code t (removes d text) w in
-      let g = grown (removes d text) in
-      with_tree w u g s refl refl refl (removed_live w u d text g s)
-  effect_live (appends f bytes) h =
-      let u = effect_of code t (appends f bytes) w in
-      let g = grown (appends f bytes) in
-      with_tree w u g s refl refl refl (bytes_live w u f (tree.appended bytes) g s)
-  effect_live (cuts f len) h =
-      let u = effect_of code t (cuts f len) w in
-      let g = grown (cuts f len) in
-      with_tree w u g s refl refl refl (bytes_live w u f _ g s)
-  effect_live (adds_pipe home) h =
-      let u = effect_of code t (adds_pipe home) w in
-      let g = grown (adds_pipe home) in
-      with_lines w u g s refl refl refl (pipe_live w u home g s (known_on w u g home.maker h.0, known_on w u g home.own h.1))
-  effect_live (sends p m) h =
-      let u = effect_of code t (sends p m) w in
-      let g = grown (sends p m) in
-      with_lines w u g s refl refl refl (change_line u w.pipes p (line.joined m) (lines_on w u g s) (sent_live u m (message_on w u g m h)) (get w.pipes.waiting p) refl)
-  effect_live (receives p k) h =
-      let u = effect_of code t (receives p k) w in
-      let g = grown (receives p k) in
-      with_lines w u g s refl refl refl (change_line u w.pipes p (rest_of k) (lines_on w u g s) (rest_live u k) (get w.pipes.waiting p) refl)
-  effect_live (adds_thread unit args caps) h = moved_live w (effect_of code t (adds_thread unit args caps) w) (grown (adds_thread unit args caps)) s refl refl refl refl
+  effect_live e h = let g = effect_grows code t e w sound in effect_put e g (effect_on w (effect_of code t e w) g e h)

@@ -1,10 +1,10 @@
 -- A turn keeps validity: the threads beside the acting one, the acting one, a new one, the stores, and so whole runs.
-use Rattle.std.proofs.Common.{◌≡◌, ℕ, zero, suc, ◌+◌, ◌≤◌, ◌⊎◌, inl, inr, Bool, true, false, List, [], ◌∷◌, ◌++◌, Option, Some, None, length, refl, sym, ap, subst, ◌∙◌, arith, length-append}
+use Rattle.std.proofs.Common.{◌≡◌, ℕ, zero, suc, ◌+◌, ◌≤◌, ◌⊎◌, inl, inr, true, List, [], ◌∷◌, ◌++◌, Option, Some, None, length, refl, sym, ap, subst, ◌∙◌, arith, length-append}
 use Rattle.std.specs.Prelude.{is_none, not, slice_get, slice_set}
 use Rattle.std.specs.List.{AllByRecursion}
 use Rattle.lam_value.specs.declared.names.Name.{Name}
 use Rattle.lam_value.specs.declared.values.Value.{Value}
-use Rattle.lam_value.specs.declared.values.Value.TheVariants.{Obj, Arr, File, Dir, Pipe, Thread}
+use Rattle.lam_value.specs.declared.values.Value.TheVariants.{Obj, File, Dir, Pipe, Thread}
 use Rattle.lam_value.specs.Shapes.{slots_of}
 use Rattle.capabilities.specs.declared.Caps.{Caps}
 use Rattle.monitor_core.specs.Held.{takings}
@@ -19,21 +19,21 @@ use Rattle.thread_steps.specs.Threads.{Frame, Inside, Context}
 use Rattle.thread_steps.specs.Threads as threads
 use Rattle.thread_steps.specs.Next.{Next, goes, asks, stuck, next_of, with_inside, takes, started}
 use Rattle.lam_machine_laws.specs.Worlds.{World, thread_at, with_thread}
-use Rattle.lam_machine_laws.specs.Serves.{Effect, nothing, takes_tag, sets_slot, adds_thing, adds_copy, takes_monitor, gives_back, drops, adds_file, adds_dir, removes, appends, cuts, adds_pipe, sends, receives, adds_thread, effect_of, Served}
+use Rattle.lam_machine_laws.specs.Serves.{Effect, nothing, takes_monitor, gives_back, drops, adds_thread, effect_of, Served}
 use Rattle.lam_machine_laws.specs.Serving.{serve}
 use Rattle.lam_machine_laws.specs.Turns.{may_ask, waits, is_ready, Moment, goes_on, served, turn_by, step, and_then, moments, left_by}
-use Rattle.lam_machine_laws.specs.Valid.{AreKnown, Lives, AllLive, OutcomeLives, FrameLives, ContextLives, AreStacked, has_contexts, all_listings, StoresLive, IsValidThread, IsValid}
+use Rattle.lam_machine_laws.specs.Valid.{AreKnown, AllLive, OutcomeLives, FrameLives, ContextLives, AreStacked, has_contexts, all_listings, StoresLive, IsValidThread, IsValid}
 use Rattle.lam_machine_laws.proofs.FlowLemmas.{both_true}
 use Rattle.lam_machine_laws.proofs.ThreadLemmas.{some_inj, length-set, front, answered_front}
 use Rattle.lam_machine_laws.proofs.RowLemmas.{served_proper}
 use Rattle.lam_machine_laws.proofs.TurnLemmas.{acts, only}
 use Rattle.lam_machine_valid.proofs.NextLemmas.{AskIs, NextIs, next_is}
-use Rattle.lam_machine_laws.specs.Sound.{IsSoundWorld, ThingLives, CopiesLiving, FindsLiving}
+use Rattle.lam_machine_laws.specs.Sound.{IsSoundWorld, FindsLiving}
 use Rattle.lam_machine_laws.proofs.SoundSteps.{stay_sound}
 use Rattle.lam_machine_valid.specs.Living.{InsideLives, AskLives, NextLives}
 use Rattle.lam_machine_valid.proofs.TagLemmas.{public_known}
 use Rattle.lam_machine_valid.proofs.GrowLemmas.{Grows, known_on, below_on, lives_on, effect_grows, thread_grows, same_stores, with_list}
-use Rattle.lam_machine_valid.proofs.PrivateLemmas.{entered_live, name_what_lives}
+use Rattle.lam_machine_valid.proofs.PrivateLemmas.{entered_live, name_what_lives, copies_living}
 use Rattle.lam_machine_valid.specs.Steps.{StaysValid, RunsStayValid}
 use Rattle.lam_machine_valid.proofs.HoldLemmas.{hold, touched, touched_other, IsPlaced, HoldsAll, placed, holds_all, takings_all, lived}
 use Rattle.lam_machine_valid.proofs.StoreLemmas.{all_on, all_append, all_lives_on, moved_live, EffectLives, effect_on, effect_live}
@@ -187,22 +187,7 @@ as_many t xs to new =
 beside : (code : CodeTree) (t : ℕ) (w : World) (to : threads.Thread) (e : Effect) → Grows (effect_of code t e w) (effect_of code t e (with_thread w t to))
 beside code t w to (adds_thread unit args caps) =
     with_list (effect_of code t (adds_thread unit args caps) w) (slice_set w.threads t to ++ started code unit args caps ∷ []) (as_many t w.threads to (started code unit args caps))
-beside code t w to nothing = thread_grows w t to
-beside code t w to takes_tag = thread_grows (effect_of code t takes_tag w) t to
-beside code t w to (sets_slot n at v) = thread_grows (effect_of code t (sets_slot n at v) w) t to
-beside code t w to (adds_thing home sort xs) = thread_grows (effect_of code t (adds_thing home sort xs) w) t to
-beside code t w to (adds_copy n home) = thread_grows (effect_of code t (adds_copy n home) w) t to
-beside code t w to (takes_monitor n) = thread_grows (effect_of code t (takes_monitor n) w) t to
-beside code t w to (gives_back n) = thread_grows (effect_of code t (gives_back n) w) t to
-beside code t w to (drops ns) = thread_grows (effect_of code t (drops ns) w) t to
-beside code t w to (adds_file d text home) = thread_grows (effect_of code t (adds_file d text home) w) t to
-beside code t w to (adds_dir d text home) = thread_grows (effect_of code t (adds_dir d text home) w) t to
-beside code t w to (removes d text) = thread_grows (effect_of code t (removes d text) w) t to
-beside code t w to (appends f bytes) = thread_grows (effect_of code t (appends f bytes) w) t to
-beside code t w to (cuts f len) = thread_grows (effect_of code t (cuts f len) w) t to
-beside code t w to (adds_pipe home) = thread_grows (effect_of code t (adds_pipe home) w) t to
-beside code t w to (sends p m) = thread_grows (effect_of code t (sends p m) w) t to
-beside code t w to (receives p k) = thread_grows (effect_of code t (receives p k) w) t to
+beside code t w to e = thread_grows (effect_of code t e w) t to
 
 -- what is public stays
 public_after : (code : CodeTree) (t : ℕ) (w : World) (e : Effect) → (effect_of code t e w).public ≡ w.public
@@ -225,19 +210,6 @@ fits_phase code c (ask.Caught f) h = h
 fits_phase code c (ask.Suppressed f) h = h
 fits_phase code c (ask.End r) h = h
 fits_phase code c a h = tt
-
-not_true : (b : Bool) → not b ≡ true → b ≡ false
-not_true true e = sym e
-not_true false e = refl
-
-thing_lives : (w : World) (r : Value) → Lives w r → ThingLives w r
-thing_lives w (Obj n) h = h.1
-thing_lives w (Arr n len) h = h.1.0
-thing_lives w v h = tt
-
-copies_living : (w : World) (a : Ask) → AskLives w a → CopiesLiving w a
-copies_living w (ask.CopyTo r l) h = thing_lives w r h.0
-copies_living w a h = tt
 
 module _ (code : CodeTree) (w : World) (valid : IsValid w) (t : ℕ) (th : threads.Thread) (c : Context) (rest : List Context) (at : thread_at w t ≡ Some th) (list : th.contexts ≡ c ∷ rest) where
   here : IsValidThread w t th
@@ -293,7 +265,7 @@ module _ (code : CodeTree) (w : World) (valid : IsValid w) (t : ℕ) (th : threa
 
   -- ---- an ask
 
-  module _ (a : Ask) (i : Inside) (la : AskLives w a) (li : InsideLives w i) (fits : FitsPhase c a) (may : may_ask c a ≡ true) (waits_not : waits w t c a ≡ false) where
+  module _ (a : Ask) (i : Inside) (la : AskLives w a) (li : InsideLives w i) (fits : FitsPhase c a) (can : is_ready w t c a ≡ true) where
     service : Served
     service = serve w c a
 
@@ -328,7 +300,7 @@ module _ (code : CodeTree) (w : World) (valid : IsValid w) (t : ℕ) (th : threa
     monitors_now = monitors_after code t between (serve w c a).effect
 
     same_monitors : (j : ℕ) → (j ≡ t → ⊥) → (n : Name) → hold after.monitors j n ≡ hold w.monitors j n
-    same_monitors j apart n = ap (λ m. hold m j n) monitors_now ∙ touched_other w.monitors t j apart (serve w c a).effect (free_row w t c a waits_not) n
+    same_monitors j apart n = ap (λ m. hold m j n) monitors_now ∙ touched_other w.monitors t j apart (serve w c a).effect (free_row w t c a can la) n
 
     contexts_now : to.contexts ≡ front code c i a (serve w c a).answer ++ rest
     contexts_now = answered_front code c rest i a (serve w c a).answer
@@ -336,7 +308,7 @@ module _ (code : CodeTree) (w : World) (valid : IsValid w) (t : ℕ) (th : threa
     holds_now : HoldsAll after.monitors t to.contexts
     holds_now n =
         let before = holds n in
-        let change = holds_row code t w c i a may n in
+        let change = holds_row code t w c i a (both_true (may_ask c a) (not (waits w t c a)) can).0 n in
         let split = ap (all_listings n) contexts_now ∙ listings_append n (front code c i a (serve w c a).answer) rest in
         let now_held : hold after.monitors t n ≡ hold (touched w.monitors t (serve w c a).effect) t n = ap (λ m. hold m t n) monitors_now in
         omega arith
@@ -374,9 +346,8 @@ module _ (code : CodeTree) (w : World) (valid : IsValid w) (t : ℕ) (th : threa
       subst (λ (n : Moment). (FindsLiving w n.event.what → IsSoundWorld n.world) → IsValid n.world) (some_inj (goes_on w t th c rest i) m h) (λ s. private_valid i l (s tt))
   turn_valid (asks a i) m l is h =
       let r = only (is_ready w t c a) (served code w t th c rest a i (serve w c a)) m h in
-      let b = both_true (may_ask c a) (not (waits w t c a)) r.0 in
       subst (λ (n : Moment). (FindsLiving w n.event.what → IsSoundWorld n.world) → IsValid n.world) r.1
-      (λ s. served_valid a i l.0 l.1 (fits_phase code c a is) b.0 (not_true (waits w t c a) b.1) (s (copies_living w a l.0)))
+      (λ s. served_valid a i l.0 l.1 (fits_phase code c a is) r.0 (s (copies_living w a l.0)))
   turn_valid stuck m l is h = absurd cc
 
 pub stay_valid : (code : CodeTree) → StaysValid code

@@ -6,6 +6,9 @@
 //! - `specs/Suiting`, `specs/Faults`, `specs/Events`, `specs/Ready`: each answer suits its ask, which fault it may be,
 //!   that failing tests are events, and which threads are ready.
 //! - `specs/Threads`: the threads of a valid world are threads as the machine's code has them.
+//!
+//! Public promises rest on most of its laws, first on [`turns_keep_validity`] and [`answers_follow_the_rows`]. Nothing
+//! here is a matter of speed.
 #![tactic(auto)]
 
 ghost use Rattle.lam_bytecode.specs.Codes.{CodeTree};
