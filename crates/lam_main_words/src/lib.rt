@@ -14,13 +14,11 @@ use decimal_text::{NumberFault, read_number};
 use flow_labels::{Form as TwoLists, bad_place};
 use lam_make::MADE_THREADS_LIMIT;
 use std::alloc::{AllocError, AllocFailed, Global};
-use turn_book::TURN_LIMIT;
+use turn_book::{TURN_LIMIT, WORKER_LIMIT};
 use want_of_memory::NoMemory;
 
-/// How many workers `run` has where the words do not say, and the most that it may have.
+/// How many workers `run` has where the words do not say.
 const USUAL_WORKERS: u64 = 4;
-
-const MOST_WORKERS: u64 = 16;
 
 /// How many turns `run` takes at most where the words do not say.
 const USUAL_TURNS: u64 = 100_000;
@@ -153,7 +151,7 @@ impl Options {
                 Kind::Observer,
                 Kind::File,
                 Kind::WorkersOption,
-                Kind::Number(1, MOST_WORKERS),
+                Kind::Number(1, WORKER_LIMIT),
             ],
             Options::Turns => &[
                 RUN,
@@ -171,7 +169,7 @@ impl Options {
                 Kind::Observer,
                 Kind::File,
                 Kind::WorkersOption,
-                Kind::Number(1, MOST_WORKERS),
+                Kind::Number(1, WORKER_LIMIT),
                 Kind::TurnsOption,
                 Kind::Number(1, TURN_LIMIT),
             ],
@@ -484,7 +482,7 @@ fn workers_in(words: &[String], options: Options) -> u64
     ensures most { result ≤ most_workers }
 {
     match options {
-        Options::Workers | Options::Both => number_at(words, 6, 1, MOST_WORKERS),
+        Options::Workers | Options::Both => number_at(words, 6, 1, WORKER_LIMIT),
         Options::Neither | Options::Turns => USUAL_WORKERS,
     }
 }
