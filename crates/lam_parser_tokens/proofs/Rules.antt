@@ -1,7 +1,9 @@
 -- The lemmas by which a function that reads a rule is proved.
 -- A rule is begun with the body that the next token chooses, its symbols are taken one after another, and it is read.
 -- At each place on the way, what stops at the next symbol stops the rule.
-use Rattle.std.proofs.Common.{◌≡◌, ℕ, ◌+◌, ◌<◌, ◌≤◌, ◌⊎◌, inl, inr, Bool, true, false, cond, Option, Some, None, List, [], ◌∷◌, slice_get, refl, sym, ap, ◌∙◌, subst, arith, add-zero}
+use Rattle.std.proofs.Common.{◌≡◌, ℕ, ◌+◌, ◌<◌, ◌≤◌, ◌⊎◌, inl, inr, Bool, true, false, cond, Option, Some, None, Result, Err, List, [], ◌∷◌, slice_get, refl, sym, ap, ◌∙◌, subst, arith, add-zero}
+use Rattle.std.specs.Result.{IsErrAnd}
+use Rattle.std.proofs.lemmas.Result.{err_from_is_err_and}
 use Rattle.lam_grammar_laws.specs.Grammar.{mark, rule, pick, is_empty, production, enters, leaves}
 use Rattle.lam_grammar_laws.specs.Texts.{limited}
 use Rattle.lam_grammar_laws.specs.Stopping.{Stop, unexpected, too_deep, could, Stops, fits_next, begins_next, wrong, deep, sample, opens, inside}
@@ -67,6 +69,17 @@ mark_wrong look s i m rest h = (
 
 pub mark_deep : (look : ℕ → Option Token) (s i : ℕ) (m : Mark) (w : Token) (rest : List Sym) → look i ≡ Some w → (class_of m).fits w.kind ≡ true → 128 < s → Fails look (mark (class_of m) ∷ rest) s i (TooDeep i)
 mark_deep look s i m w rest l f d before = deep l f d
+
+-- ---- the exit of a `?`
+
+-- it returns the break that the call before it gave
+pub broke : {T : Type 0} {b : Break} (r : Result T Break) → IsErrAnd r (λ e. e ≡ b) → r ≡ Err b
+broke r h = let p = err_from_is_err_and r h in rw (p.1, p.2)
+
+-- what was read, and what is read then
+infixl 1 ◌▹◌
+pub ◌▹◌ : {A B : Type 0} → A → (A → B) → B
+a ▹ read = read a
 
 -- ---- a rule that is read in part
 

@@ -6,6 +6,9 @@
 //!
 //! `proofs/Rules.antt` has the lemmas for the proof of each such function. A rule is begun, its symbols are taken one
 //! after another, and it is finished; or what stops at the next symbol stops the rule.
+//!
+//! The promise of `parse` (`lam_parser`) rests on `take` and `take_if` (clause `takes`). Free to change for speed: how
+//! the class of a token is tested.
 #![tactic(auto)]
 
 mod breaks;
