@@ -8,6 +8,7 @@ use Rattle.lam_lexer.specs.declared.token.TokenKind.TheVariants as kind
 use Rattle.lam_grammar.specs.Table.{Sym, prim, parens, typ, call_part, new_part, args, cap_items, cap_item, arguments, ID, literal, new_word, label_word, caps_word, spawn_word, brace_open, brace_close, paren_open, paren_close, bracket_open, bracket_close, semicolon}
 use Rattle.lam_grammar.specs.Meaning.{Value}
 use Rattle.lam_grammar.specs.Program.{lam}
+use Rattle.lam_grammar.specs.Examples.{examples}
 use Rattle.lam_parser_tokens.specs.declared.marks.Mark.TheVariants as m
 use Rattle.lam_parser_tokens.specs.Classes.{class_of, fits_at, begins_at}
 use Rattle.lam_parser_parts.specs.declared.primary.Form.{Form}
@@ -16,8 +17,8 @@ use Rattle.lam_parser_parts.specs.Forms.{form_of}
 use Rattle.lam_parser_parts.proofs.Steps.{front_at, next_fails}
 use Rattle.lam_parser_tokens.specs.declared.breaks.Break.{Break}
 use Rattle.lam_parser_tokens.specs.declared.tokens.Read.{Read}
-use Rattle.lam_parser_tokens.specs.Reading.{ReadsExpr}
-use Rattle.lam_parser_tokens.proofs.Rules.{begun, rule_taken, rule_read}
+use Rattle.lam_parser_tokens.specs.Reading.{Fails, ReadsExpr}
+use Rattle.lam_parser_tokens.proofs.Rules.{Part, ◌▹◌, begun, rule_taken, rule_read}
 
 abbrev pub form_body : Form → List Sym
 form_body form.Literal = literal ∷ []
@@ -40,6 +41,9 @@ any_body before (Some w) = kind_body before w.at w.kind
 -- the body of a form
 pub prim_body : (o : Option Token) (f : Form) → form_of o ≡ f → (before : Value) → production lam prim before o ≡ Some (form_body f)
 prim_body o f e before = any_body before o ∙ ap (λ (x : Form). Some (form_body x)) e
+
+pub prim_begun : (tokens : List Token) (s i : ℕ) (f : Form) → form_of (slice_get tokens i) ≡ f → Part (slice_get tokens) prim s i (form_body f) (λ b. b) (λ vs. vs) i s (λ w. w ≡ examples.first prim)
+prim_begun tokens s i f e = begun (slice_get tokens) prim s i refl (prim_body (slice_get tokens i) f e)
 
 abbrev is_other : Form → Bool
 is_other form.Other = true
@@ -64,8 +68,12 @@ any_front None e = cc
 any_front (Some w) e = kind_front w.at w.kind e
 
 -- its first token is the next
-pub prim_front : (o : Option Token) (f : Form) → form_of o ≡ f → is_other f ≡ false → front_at (form_body f) o ≡ true
+prim_front : (o : Option Token) (f : Form) → form_of o ≡ f → is_other f ≡ false → front_at (form_body f) o ≡ true
 prim_front o f e n = ap (λ (x : Form). front_at (form_body x) o) (sym e) ∙ any_front o (ap is_other e ∙ n)
+
+-- What stops at the symbols of the form stops the expression.
+pub prim_unread : (tokens : List Token) (s i : ℕ) (f : Form) → form_of (slice_get tokens i) ≡ f → is_other f ≡ false → (b : Break) → Fails (slice_get tokens) (form_body f) s i b → Fails (slice_get tokens) (rule prim ∷ []) s i b
+prim_unread tokens s i f e n b h = next_fails (prim_begun tokens s i f e) (prim_front (slice_get tokens i) f e n) b h
 
 kind_other : (at : ℕ) (k : TokenKind) → is_other (form_of (Some (record { at = at; kind = k }))) ≡ true → fits_at m.Spawn (Some (record { at = at; kind = k })) ≡ false
 kind_other at kind.Spawn e = cc
@@ -103,5 +111,5 @@ arguments_begin (Some w) b h = h
 
 -- what is read in parentheses is a primary expression
 pub prim_of_parens : (tokens : List Token) (s i : ℕ) (r : Result Read Break) → form_of (slice_get tokens i) ≡ form.Parens → IfOk r (λ x. (i < x.next) × (x.next ≤ length tokens)) → ReadsExpr tokens parens s i r → ReadsExpr tokens prim s i r
-prim_of_parens tokens s i (Ok x) f on h = rule_read (rule_taken h on.0 (begun (slice_get tokens) prim s i refl (prim_body (slice_get tokens i) form.Parens f)))
-prim_of_parens tokens s i (Err b) f on h = next_fails (begun (slice_get tokens) prim s i refl (prim_body (slice_get tokens i) form.Parens f)) (prim_front (slice_get tokens i) form.Parens f refl) b h
+prim_of_parens tokens s i (Ok x) f on h = prim_begun tokens s i form.Parens f ▹ rule_taken h on.0 ▹ rule_read
+prim_of_parens tokens s i (Err b) f on h = prim_unread tokens s i form.Parens f refl b h

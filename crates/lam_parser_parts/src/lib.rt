@@ -2,6 +2,9 @@
 //!
 //! A function that reads a rule of the grammar does so from a token on with a depth sum, and says so in its contract.
 //! The others make a node of the tree from what was read.
+//!
+//! The promise of `parse` (`lam_parser`) rests on the clauses `reads`. Free to change for speed: whether arguments give
+//! back spare room (`fitted`).
 #![tactic(auto)]
 
 mod nodes;

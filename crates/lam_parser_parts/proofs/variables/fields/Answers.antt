@@ -1,9 +1,8 @@
 use Rattle.std.proofs.Common.{sym, ap, ◌∙◌, subst, slice_get, refl, [], arith}
-use Rattle.std.proofs.lemmas.Result.{err_from_is_err_and}
 use Rattle.lam_grammar.specs.Table.{variable, fields}
 use Rattle.lam_grammar.specs.Meaning.{variables_value}
 use Rattle.lam_parser_tokens.specs.Reading.{Gives}
-use Rattle.lam_parser_tokens.proofs.Rules.{part_begun, mark_taken, rule_taken, rule_body_of, no_rule_body_of, loop_goes_on, loop_ends, loop_mark_fails}
+use Rattle.lam_parser_tokens.proofs.Rules.{◌▹◌, broke, part_begun, mark_taken, rule_taken, rule_body_of, no_rule_body_of, loop_goes_on, loop_ends, loop_mark_fails}
 use Rattle.lam_parser_parts.proofs.Steps.{begun_fails, loop_begun_fails, loop_as}
 use Rattle.lam_parser_parts.proofs.NameLists.{vars_more, vars_whole}
 use Rattle.lam_parser_parts.proofs.NameLists.{variable_begins, fields_begin}
@@ -11,23 +10,18 @@ use Rattle.lam_parser_parts.proofs.variables.fields.Goals as goal
 
 pub returns-in_err-field-clause-reads : goal.returns-in_err-field-clause-reads
 returns-in_err-field-clause-reads c =
-    let p = err_from_is_err_and c.from_residual.result c.from_residual.ensures.1 in
     let tokens = c.args.tokens.now in
     let k = c.loop-alloc.next in
     let name = sym c.next_is.ensures.is ∙ c.loop-alloc-test.true in
     let begins = variable_begins (slice_get tokens k) ∙ name in
-    let part = part_begun (slice_get tokens) fields c.args.depth k (rule_body_of tokens k fields variable begins refl (λ b. refl)) in
-    rw (p.1, p.2) (loop_begun_fails c.loop-alloc.invariant.loop (fields_begin (slice_get tokens k) ∙ name) c.in_err-field.field-0.0 (begun_fails part begins c.in_err-field.field-0.0 c.in_err-field.ensures.reads))
+    rw (broke _ c.from_residual.ensures.1) (loop_begun_fails c.loop-alloc.invariant.loop (fields_begin (slice_get tokens k) ∙ name) _ (begun_fails (part_begun (slice_get tokens) fields c.args.depth k (rule_body_of tokens k fields variable begins refl (λ b. refl))) begins _ c.in_err-field.ensures.reads))
 
 pub returns-in_err-take-clause-reads : goal.returns-in_err-take-clause-reads
 returns-in_err-take-clause-reads c =
-    let p = err_from_is_err_and c.from_residual-in_err-take.result c.from_residual-in_err-take.ensures.1 in
     let tokens = c.args.tokens.now in
     let k = c.loop-alloc.next in
     let begins = variable_begins (slice_get tokens k) ∙ sym c.next_is.ensures.is ∙ c.loop-alloc-test.true in
-    let part = part_begun (slice_get tokens) fields c.args.depth k (rule_body_of tokens k fields variable begins refl (λ b. refl)) in
-    let named = rule_taken c.in_ok-field.ensures.reads c.in_ok-field.ensures.goes_on.0 part in
-    rw (p.1, p.2) (loop_mark_fails c.loop-alloc.invariant.loop c.in_ok-field.ensures.goes_on.0 named refl c.in_err-take.field-0.0 c.in_err-take.ensures.takes)
+    rw (broke _ c.from_residual-in_err-take.ensures.1) (loop_mark_fails c.loop-alloc.invariant.loop c.in_ok-field.ensures.goes_on.0 (part_begun (slice_get tokens) fields c.args.depth k (rule_body_of tokens k fields variable begins refl (λ b. refl)) ▹ rule_taken c.in_ok-field.ensures.reads c.in_ok-field.ensures.goes_on.0) refl _ c.in_err-take.ensures.takes)
 
 pub loop-alloc-preserved : goal.loop-alloc-preserved
 loop-alloc-preserved c =

@@ -1,10 +1,9 @@
 use Rattle.std.proofs.Common.{sym, ap, ◌∙◌, subst, slice_get, refl, [], arith}
-use Rattle.std.proofs.lemmas.Result.{err_from_is_err_and}
 use Rattle.lam_syntax.specs.Tree.{vars_tree}
 use Rattle.lam_grammar.specs.Table.{variable, params, params_tail}
 use Rattle.lam_grammar.specs.Meaning.{variables_value}
 use Rattle.lam_parser_tokens.specs.Reading.{Gives}
-use Rattle.lam_parser_tokens.proofs.Rules.{part_begun, rule_taken, present, body_of, no_body_of, rule_body_of, no_rule_body_of, opened, left_out, loop_begins, loop_goes_on, loop_ends, loop_rule_fails}
+use Rattle.lam_parser_tokens.proofs.Rules.{broke, part_begun, rule_taken, present, body_of, no_body_of, rule_body_of, no_rule_body_of, opened, left_out, loop_begins, loop_goes_on, loop_ends, loop_rule_fails}
 use Rattle.lam_parser_parts.proofs.Steps.{begun_fails, loop_as}
 use Rattle.lam_parser_parts.proofs.NameLists.{vars_first, vars_more, vars_whole}
 use Rattle.lam_parser_parts.proofs.NameLists.{variable_begins}
@@ -18,11 +17,9 @@ returns-then-not-next_is-clause-reads c =
 
 pub returns-in_err-first-clause-reads : goal.returns-in_err-first-clause-reads
 returns-in_err-first-clause-reads c =
-    let p = err_from_is_err_and c.from_residual.result c.from_residual.ensures.1 in
     let tokens = c.args.tokens.now in
     let begins = variable_begins (slice_get tokens c.args.at) ∙ sym c.next_is.ensures.is ∙ c.if-not-next_is.false in
-    let part = part_begun (slice_get tokens) params c.args.depth c.args.at (rule_body_of tokens c.args.at params variable begins refl (λ b. refl)) in
-    rw (p.1, p.2) (begun_fails part begins c.in_err-first.field-0.0 c.in_err-first.ensures.reads)
+    rw (broke _ c.from_residual.ensures.1) (begun_fails (part_begun (slice_get tokens) params c.args.depth c.args.at (rule_body_of tokens c.args.at params variable begins refl (λ b. refl))) begins _ c.in_err-first.ensures.reads)
 
 pub loop-all-init : goal.loop-all-init
 loop-all-init c =
@@ -38,10 +35,8 @@ loop-all-init c =
 
 pub returns-in_err-param-clause-reads : goal.returns-in_err-param-clause-reads
 returns-in_err-param-clause-reads c =
-    let p = err_from_is_err_and c.from_residual-in_err-param.result c.from_residual-in_err-param.ensures.1 in
     let t = rw c.in-Some.is at c.in_ok-take_if.ensures.takes in
-    let part = opened params_tail t refl refl (body_of params_tail (present t) refl (λ b. refl)) in
-    rw (p.1, p.2) (loop_rule_fails c.loop-all.invariant.loop (omega arith) part tt c.in_err-param.field-0.0 c.in_err-param.ensures.reads)
+    rw (broke _ c.from_residual-in_err-param.ensures.1) (loop_rule_fails c.loop-all.invariant.loop (omega arith) (opened params_tail t refl refl (body_of params_tail (present t) refl (λ b. refl))) tt _ c.in_err-param.ensures.reads)
 
 pub loop-all-preserved : goal.loop-all-preserved
 loop-all-preserved c =
@@ -56,6 +51,5 @@ loop-all-preserved c =
 
 pub returns-clause-reads : goal.returns-clause-reads
 returns-clause-reads c =
-    let look = slice_get c.args.tokens.now in
     let none = rw c.in_default.is at c.in_ok-take_if.ensures.takes in
-    subst (λ xs. Gives look params c.args.depth c.args.at (variables_value xs) c.loop-all.next c.args.depth) (vars_whole c.loop-all.all.items) (loop_ends [] refl c.loop-all.invariant.loop refl (no_body_of params_tail none refl (λ b. refl)))
+    subst (λ xs. Gives (slice_get c.args.tokens.now) params c.args.depth c.args.at (variables_value xs) c.loop-all.next c.args.depth) (vars_whole c.loop-all.all.items) (loop_ends [] refl c.loop-all.invariant.loop refl (no_body_of params_tail none refl (λ b. refl)))
