@@ -1,6 +1,6 @@
 -- By which body a statement is read.
-use Rattle.std.proofs.Common.{◌≡◌, ℕ, true, Some, List, [], ◌∷◌, slice_get, refl, ap, ◌∙◌}
-use Rattle.lam_grammar_laws.specs.Grammar.{rule, production}
+use Rattle.std.proofs.Common.{◌≡◌, ℕ, ◌+◌, true, Some, List, [], ◌∷◌, slice_get, refl, ap, ◌∙◌}
+use Rattle.lam_grammar_laws.specs.Grammar.{mark, rule, production}
 use Rattle.lam_grammar_laws.proofs.Bodies.{chosen, picks_past_mark}
 use Rattle.lam_lexer.specs.declared.token.Token.{Token}
 use Rattle.lam_lexer.specs.declared.token.TokenKind.{TokenKind}
@@ -9,10 +9,16 @@ use Rattle.lam_grammar.specs.Table.{Sym, stmt, variable, expr, parens, block, el
 use Rattle.lam_syntax.specs.Tree.{ExprTree, StmtList, stmt_node, throw_stmt, return_stmt, while_stmt, sync_stmt}
 use Rattle.lam_grammar.specs.Meaning.{Value, word, expr_value, stmt_value, stmts_value, act}
 use Rattle.lam_grammar.specs.Program.{lam}
+use Rattle.lam_parser_tokens.specs.declared.marks.Mark.{Mark}
 use Rattle.lam_parser_tokens.specs.declared.marks.Mark.TheVariants as m
 use Rattle.lam_parser_tokens.specs.Classes.{class_of}
 use Rattle.lam_parser_tokens.specs.Reading.{Taken}
+use Rattle.lam_parser_tokens.proofs.Rules.{Part, ◌▹◌, begun, mark_taken}
 use Rattle.lam_parser_stmts.specs.Parts.{NoWord}
+
+-- a statement that its word begins
+pub stmt_begun : {tokens : List Token} {s i : ℕ} {k : Mark} {w : Token} {rest : List Sym} → Taken tokens s i k w → (class_of k).adds ≡ 0 → ((before : Value) → production lam stmt before (slice_get tokens i) ≡ Some (mark (class_of k) ∷ rest)) → Part (slice_get tokens) stmt s i rest (λ before. word w) (λ vs. word w ∷ vs) (i + 1) s (λ v. Unit {0})
+stmt_begun {tokens} {s} {i} t z p = begun (slice_get tokens) stmt s i refl p ▹ mark_taken t z
 
 let_kind : (before : Value) (at : ℕ) (k : TokenKind) → (class_of m.Let).fits k ≡ true → production lam stmt before (Some (record { at = at; kind = k })) ≡ Some (let_word ∷ rule variable ∷ equals ∷ rule expr ∷ semicolon ∷ [])
 let_kind before at kind.Let h = refl

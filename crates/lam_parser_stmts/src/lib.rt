@@ -2,6 +2,8 @@
 //!
 //! Each function reads one form, from the token behind its word on and with a depth sum, and says so in its contract.
 //! `lam_parser` reads statements with blocks, which contain one another.
+//!
+//! The promise of `parse` (`lam_parser`) rests on the clauses `reads`. Nothing here is a matter of speed.
 #![tactic(auto)]
 
 mod nodes;
