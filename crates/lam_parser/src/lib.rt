@@ -12,6 +12,9 @@
 //! - the token named as unexpected is the first that continues no program, and something of the wanted kind could stand
 //!   in its place,
 //! - the token named as too deep is the first at which the depth sum passes 128.
+//!
+//! A public promise rests on `parse`: the tree or the first fault, as above. Free to change for speed: when tokens are
+//! let go of (`let_go`), and whether blocks give back spare room (`fitted`).
 #![tactic(auto)]
 
 ghost use Rattle.std.specs.Prelude.{◌≡◌, ℕ, List, slice_get};
