@@ -1,5 +1,5 @@
 -- What is added for a statement, and the slots of the open `sync`s.
-use Rattle.std.proofs.Common.{◌≡◌, ℕ, suc, ◌+◌, ◌-◌, ◌<◌, ◌≤◌, List, [], ◌∷◌, ◌++◌, length, drop, take, reverse, get_or, subst, sym, ap, ◌∙◌, add-one, drop-cons, drop_of_length-le, take_all, arith}
+use Rattle.std.proofs.Common.{◌≡◌, ℕ, ◌+◌, ◌-◌, ◌<◌, ◌≤◌, List, [], ◌∷◌, ◌++◌, length, drop, take, reverse, get_or, subst, sym, ap, ◌∙◌, add-one, drop-cons, drop_of_length-le, take_all, arith}
 use Rattle.std.proofs.lemmas.List.{reverse-append}
 use Rattle.std.proofs.Math.Seq.{take-suc}
 use Rattle.lam_resolve_tree.specs.declared.Stmt.{Stmt}
@@ -8,6 +8,7 @@ use Rattle.lam_bytecode.specs.declared.op.Op.TheVariants.{Load, Store, EnterMoni
 use Rattle.lam_meaning.specs.Pieces.{Pieces, joined, op, one, either}
 use Rattle.lam_meaning.specs.Scheme.{expression, loads, gives_back, statement, block}
 use Rattle.barrier_compiler_ops.specs.Emits.{State, Emits, Goes}
+use Rattle.barrier_compiler_ops.proofs.ExprArms.{item_first}
 use Rattle.barrier_compiler_ops.proofs.Joins.{joins, starts, joined-assoc, as_pieces, goes_on, all_done}
 
 -- a statement of this form
@@ -36,18 +37,11 @@ sync_emits os n e body h g k =
 
 -- ---- items of a list
 
-item_first : {A : Type 0} (xs : List A) (i : ℕ) (x : A) → i < length xs → x ≡ get_or xs i x → drop i xs ≡ x ∷ drop (i + 1) xs
-item_first xs i x h e = rw (add-one) (drop-cons xs i x h ∙ ap (λ y. y ∷ drop (suc i) xs) (sym e))
-
 pub stmt_added : {a b c : State} (os : List ℕ) (all : Pieces) (xs : List Stmt) (i : ℕ) (x : Stmt) → i < length xs → x ≡ get_or xs i x → Goes a b all (block os (stmts_tree (drop i xs))) → Emits b c (statement os (stmt_tree x)) → Goes a c all (block os (stmts_tree (drop (i + 1) xs)))
 stmt_added os all xs i x h e g m = goes_on g (ap (λ l. block os (stmts_tree l)) (item_first xs i x h e)) m
 
 pub stmts_done : {a b : State} (os : List ℕ) (all : Pieces) (xs : List Stmt) (i : ℕ) → length xs ≤ i → Goes a b all (block os (stmts_tree (drop i xs))) → Emits a b all
 stmts_done os all xs i h g = all_done g (ap (λ l. block os (stmts_tree l)) (drop_of_length-le xs h))
-
--- an item of a list, read from another that is equal
-pub at_item : {A : Type 0} (xs ys : List A) (i : ℕ) (x : A) → xs ≡ ys → x ≡ get_or xs i x → x ≡ get_or ys i x
-at_item xs ys i x e h = h ∙ ap (λ l. get_or l i x) e
 
 pub load_added : {a b c : State} (all : Pieces) (xs : List ℕ) (i d : ℕ) → i < length xs → Goes a b all (loads (drop i xs)) → Emits b c (op (Load (get_or xs i d))) → Goes a c all (loads (drop (i + 1) xs))
 load_added all xs i d h g m = let e : drop i xs ≡ get_or xs i d ∷ drop (i + 1) xs = rw (add-one) (drop-cons xs i d h) in goes_on g (ap loads e) m

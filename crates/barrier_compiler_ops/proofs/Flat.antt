@@ -1,5 +1,6 @@
 -- How many operations pieces take, and how joined pieces are laid out.
-use Rattle.std.proofs.Common.{◌≡◌, ℕ, ◌+◌, Bool, true, false, ◌&&◌, [], ◌∷◌, ◌++◌, length, refl, sym, ap, ◌∙◌, arith, append_assoc, length-append, zero-add}
+use Rattle.std.proofs.Common.{◌≡◌, ℕ, ◌+◌, ◌&&◌, [], ◌∷◌, ◌++◌, length, refl, sym, ap, ◌∙◌, arith, append_assoc, length-append, zero-add}
+use Rattle.std.proofs.Math.Bool.{and_assoc}
 use Rattle.lam_bytecode.specs.declared.op.Op.TheVariants.{Jump, JumpIfFalse}
 use Rattle.lam_meaning.specs.Pieces.{Piece, does, puts, when, either, loops, Pieces, no_pieces, pieces, joined, size_of, size, an_op, flat_of, flat}
 use Rattle.barrier_compiler_ops.specs.Emits.{is_narrow, are_narrow}
@@ -35,10 +36,6 @@ flat-joined at (pieces p ps) qs =
     ∙ sym (append_assoc (flat_of at p) (flat (at + size_of p) ps) (flat (at + size_of p + size ps) qs))
     ∙ ap (λ n. (flat_of at p ++ flat (at + size_of p) ps) ++ flat n qs) e
 
-and_assoc : (a b c : Bool) → (a && (b && c)) ≡ ((a && b) && c)
-and_assoc true b c = refl
-and_assoc false b c = refl
-
 pub narrow-joined : (ps qs : Pieces) → are_narrow (joined ps qs) ≡ (are_narrow ps && are_narrow qs)
 narrow-joined no_pieces qs = refl
-narrow-joined (pieces p ps) qs = ap (λ b. is_narrow p && b) (narrow-joined ps qs) ∙ and_assoc (is_narrow p) (are_narrow ps) (are_narrow qs)
+narrow-joined (pieces p ps) qs = ap (λ b. is_narrow p && b) (narrow-joined ps qs) ∙ sym (and_assoc (is_narrow p) (are_narrow ps) (are_narrow qs))

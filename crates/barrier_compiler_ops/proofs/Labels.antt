@@ -1,7 +1,7 @@
 -- A label's tags are not more than the operations that put them.
 use Rattle.std.proofs.Common.{◌≡◌, ℕ, ◌+◌, ◌<◌, ◌≤◌, ◌&&◌, List, [], ◌∷◌, length, Ok, Err, refl, sym, ap, ◌∙◌, subst, arith, length-append}
 use Rattle.lam_resolve_tree.specs.declared.Expr.{Expr}
-use Rattle.lam_resolve_tree.specs.Tree.{Expression, number_value, text_value, bool_value, null_value, local_value, unary_of, binary_of, field_of, element_of, call_of, builtin_of, new_object, new_array, label_of, caps_of, spawn_of, Expressions, args_end, args_more, exprs_tree}
+use Rattle.lam_resolve_tree.specs.Tree.{Expression, unary_of, binary_of, field_of, element_of, call_of, builtin_of, new_array, label_of, spawn_of, Expressions, args_end, args_more, exprs_tree}
 use Rattle.lam_bytecode.specs.declared.op.Op.{Op}
 use Rattle.lam_bytecode.specs.declared.op.Op.TheVariants.{MakeLabel}
 use Rattle.lam_meaning.specs.Pieces.{Pieces, joined, op, size, Flat, flat}
@@ -21,22 +21,16 @@ last_part ps qs h = omega (arith, h, size-joined ps qs)
 
 -- an expression takes an operation at least
 takes_some : (e : Expression) → 0 < size (expression e)
-takes_some (number_value z) = omega arith
-takes_some (text_value bs) = omega arith
-takes_some (bool_value b) = omega arith
-takes_some null_value = omega arith
-takes_some (local_value x) = omega arith
 takes_some (unary_of o e) = first_part (expression e) _ (takes_some e)
 takes_some (binary_of o a b) = first_part (expression a) _ (takes_some a)
 takes_some (field_of e c f t) = first_part (expression e) _ (takes_some e)
 takes_some (element_of e i t) = first_part (expression e) _ (takes_some e)
 takes_some (call_of f args) = last_part (expressions args) _ (omega arith)
 takes_some (builtin_of b args t) = last_part (expressions args) _ (omega arith)
-takes_some (new_object c) = omega arith
 takes_some (new_array t n) = first_part (expression n) _ (takes_some n)
 takes_some (label_of s i) = last_part (expressions s) _ (last_part (expressions i) _ (omega arith))
-takes_some (caps_of items) = omega arith
 takes_some (spawn_of c f args) = first_part (expression c) _ (takes_some c)
+takes_some e = omega arith
 
 at_most : (es : Expressions) → count es ≤ size (expressions es)
 at_most args_end = omega arith

@@ -10,6 +10,10 @@
 //! out behind it, or it gave up. Each reason but want of memory comes only where it is true of these pieces. The laws
 //! in `proofs/Joins.antt` and `proofs/Jumps.antt` put such calls together. `specs/Forks` says how a branch is
 //! completed.
+//!
+//! The promise of `compile` (`barrier_compiler`, clause `ok`) rests on `emit_block` (clause `emits`): a block's
+//! operations are the scheme's. Free to change for speed: how `Buffer` keeps its instructions, so far as its view
+//! stays.
 #![tactic(auto)]
 
 mod blocks;

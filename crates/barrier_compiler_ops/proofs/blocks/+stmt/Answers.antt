@@ -5,7 +5,8 @@ use Rattle.lam_resolve_tree.proofs.Rows.{while_row, sync_row, if_row}
 use Rattle.lam_meaning.specs.Scheme.{block}
 use Rattle.barrier_compiler_ops.proofs.Joins.{joins}
 use Rattle.barrier_compiler_ops.proofs.Jumps.{either_emits, loop_emits}
-use Rattle.barrier_compiler_ops.proofs.Arms.{of_form, sync_emits, at_item, stmt_held, either_held, stmt_added}
+use Rattle.barrier_compiler_ops.proofs.ExprArms.{at_item}
+use Rattle.barrier_compiler_ops.proofs.Arms.{of_form, sync_emits, stmt_held, either_held, stmt_added}
 use Rattle.barrier_compiler_ops.proofs.blocks.+stmt.Goals as goal
 
 pub emit_block-loop-s-preserved : goal.emit_block-loop-s-preserved
