@@ -1,6 +1,6 @@
 -- Units behind units.
 use Rattle.std.proofs.Common.{◌≡◌, ℕ, ◌+◌, Bool, true, false, ◌&&◌, List, [], ◌∷◌, ◌++◌, length, map, if◌then◌else◌, Some, None, Ok, Err, inl, inr, refl, sym, ap, ◌∙◌, subst, append_assoc, append-nil, arith, length-append}
-use Rattle.std.proofs.Math.Bool.{and-false}
+use Rattle.std.proofs.Math.Bool.{and-false, and_assoc}
 use Rattle.std.proofs.lemmas.List.{map-append, length-map}
 use Rattle.lam_value.specs.declared.values.Value.{Value}
 use Rattle.lam_meaning.specs.Pieces.{constants_in}
@@ -34,13 +34,9 @@ long_in n unit (d ∷ ds) es h = by (is_long d) h (long_in (n + 1) unit ds es)
 
 -- ---- numbers
 
-and_assoc : (a b c : Bool) → (a && (b && c)) ≡ ((a && b) && c)
-and_assoc true b c = refl
-and_assoc false b c = refl
-
 pub narrow-append : (ds es : List Draft) → drafts_narrow (ds ++ es) ≡ (drafts_narrow ds && drafts_narrow es)
 narrow-append [] es = refl
-narrow-append (d ∷ ds) es = ap (λ b. draft_narrow d && b) (narrow-append ds es) ∙ and_assoc (draft_narrow d) (drafts_narrow ds) (drafts_narrow es)
+narrow-append (d ∷ ds) es = ap (λ b. draft_narrow d && b) (narrow-append ds es) ∙ sym (and_assoc (draft_narrow d) (drafts_narrow ds) (drafts_narrow es))
 
 -- ---- constants
 

@@ -19,36 +19,22 @@ use Rattle.barrier_compiler_ops.specs.Views.{constant_value}
 
 itself : (k : Constant) → same_values (constant_value k) (constant_value k) ≡ true
 itself (Int n) = int_eq_equiv.refl n
-itself (Truth true) = refl
-itself (Truth false) = refl
 itself (Bytes v) = (bytes_eq-Decides v.items v.items).1 refl
-itself Nothing = refl
+itself (Truth true) = refl
+itself k = refl
 
 -- when the set takes two constants for one
 abbrev pub own_eq : Constant → Constant → Bool
 own_eq = derived.eq-value.it
 
 pub same : (a b : Constant) → same_values (constant_value a) (constant_value b) ≡ own_eq a b
-same (Int m) (Int n) = refl
-same (Int m) (Truth b) = refl
-same (Int m) (Bytes v) = refl
-same (Int m) Nothing = refl
-same (Truth a) (Int n) = refl
-same (Truth true) (Truth true) = refl
-same (Truth true) (Truth false) = refl
-same (Truth false) (Truth true) = refl
-same (Truth false) (Truth false) = refl
-same (Truth a) (Bytes v) = refl
-same (Truth a) Nothing = refl
-same (Bytes v) (Int n) = refl
-same (Bytes v) (Truth b) = refl
 same (Bytes v) (Bytes w) =
     same_from_decides (bytes_eq v.items w.items) (pointwise eqb v.items w.items) (bytes_eq-Decides v.items w.items) (slice_eq-Decides Decides-eqb v.items w.items (pointwise eqb v.items w.items) refl)
-same (Bytes v) Nothing = refl
-same Nothing (Int n) = refl
-same Nothing (Truth b) = refl
-same Nothing (Bytes v) = refl
+same (Int m) (Int n) = refl
+same (Truth true) (Truth true) = refl
+same (Truth false) (Truth true) = refl
 same Nothing Nothing = refl
+same a b = refl
 
 module _ (eq : Constant → Constant → Bool) (same : (a b : Constant) → same_values (constant_value a) (constant_value b) ≡ eq a b) where
   in_view : (k : Constant) (ks : List Constant) → is_in (constant_value k) (map constant_value ks) ≡ list_any (eq k) ks

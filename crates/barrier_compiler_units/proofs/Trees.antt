@@ -1,9 +1,10 @@
 -- The regions and functions of a program, item by item.
-use Rattle.std.proofs.Common.{◌≡◌, ℕ, suc, ◌+◌, ◌<◌, ◌≤◌, List, [], ◌∷◌, length, map, drop, get_or, subst, sym, ap, ◌∙◌, add-one, drop-cons, drop_of_length-le}
+use Rattle.std.proofs.Common.{◌≡◌, ℕ, ◌+◌, ◌<◌, ◌≤◌, List, [], ◌∷◌, length, map, drop, get_or, subst, sym, ap, ◌∙◌, drop_of_length-le}
 use Rattle.lam_resolve_tree.specs.declared.Stmt.{Stmt}
 use Rattle.lam_resolve_tree.specs.declared.Function.{Function}
 use Rattle.lam_resolve_tree.specs.Tree.{Statement, stmt_tree, stmts_tree, function_tree, functions_tree}
 use Rattle.lam_meaning.specs.Scheme.{Draft, function_draft, regions_of, regions_in, all_regions}
+use Rattle.barrier_compiler_ops.proofs.ExprArms.{item_first}
 use Rattle.barrier_compiler_units.specs.Adds.{Stage, Adds, Goes}
 use Rattle.barrier_compiler_units.proofs.Joins.{goes_on, all_done}
 
@@ -13,13 +14,6 @@ of_form {a = a} {b = b} e h = subst (λ (x : Statement). Adds a b (regions_of x)
 
 pub as_drafts : {a b : Stage} {ds es : List Draft} → ds ≡ es → Adds a b ds → Adds a b es
 as_drafts {a = a} {b = b} e h = subst (λ (x : List Draft). Adds a b x) e h
-
--- an item of a list, read from another that is equal
-pub at_item : {A : Type 0} (xs ys : List A) (i : ℕ) (x : A) → xs ≡ ys → x ≡ get_or xs i x → x ≡ get_or ys i x
-at_item xs ys i x e h = h ∙ ap (λ l. get_or l i x) e
-
-item_first : {A : Type 0} (xs : List A) (i : ℕ) (x : A) → i < length xs → x ≡ get_or xs i x → drop i xs ≡ x ∷ drop (i + 1) xs
-item_first xs i x h e = rw (add-one) (drop-cons xs i x h ∙ ap (λ y. y ∷ drop (suc i) xs) (sym e))
 
 pub stmt_added : {a b c : Stage} (all : List Draft) (xs : List Stmt) (i : ℕ) (x : Stmt) → i < length xs → x ≡ get_or xs i x → Goes a b all (regions_in (stmts_tree (drop i xs))) → Adds b c (regions_of (stmt_tree x)) → Goes a c all (regions_in (stmts_tree (drop (i + 1) xs)))
 stmt_added all xs i x h e g m = goes_on g (ap (λ l. regions_in (stmts_tree l)) (item_first xs i x h e)) m

@@ -1,6 +1,6 @@
 -- The code of a unit is its draft's.
-use Rattle.std.proofs.Common.{◌≡◌, ℕ, ◌+◌, ◌^◌, ◌≤◌, Bool, true, false, ◌&&◌, nat_lt, List, [], ◌∷◌, ◌++◌, length, reverse, Ok, Err, refl, sym, ap, ◌∙◌, subst, arith, length-append}
-use Rattle.std.proofs.Math.Bool.{and-false, and-true}
+use Rattle.std.proofs.Common.{◌≡◌, ℕ, ◌+◌, ◌^◌, ◌≤◌, false, ◌&&◌, nat_lt, List, [], ◌∷◌, ◌++◌, length, reverse, Ok, Err, refl, sym, ap, ◌∙◌, subst, arith, length-append}
+use Rattle.std.proofs.Math.Bool.{and-false, and-true, and_assoc}
 use Rattle.lam_resolve_tree.specs.declared.ValueType.{ValueType}
 use Rattle.lam_resolve_tree.specs.Tree.{ResolvedType, Block, ResolvedFunction, types_tree}
 use Rattle.lam_value.specs.declared.values.Value.TheVariants.{Nothing}
@@ -25,13 +25,9 @@ at_start {a = a} {b = b} xs body e h = subst (λ (l : List ℕ). Emits a b (bloc
 
 -- ---- numbers of flat code are those of its pieces
 
-and_assoc : (a b c : Bool) → (a && (b && c)) ≡ ((a && b) && c)
-and_assoc true b c = refl
-and_assoc false b c = refl
-
 narrow-append : (fs gs : List Flat) → code_narrow (fs ++ gs) ≡ (code_narrow fs && code_narrow gs)
 narrow-append [] gs = refl
-narrow-append (f ∷ fs) gs = ap (λ b. flat_narrow f && b) (narrow-append fs gs) ∙ and_assoc (flat_narrow f) (code_narrow fs) (code_narrow gs)
+narrow-append (f ∷ fs) gs = ap (λ b. flat_narrow f && b) (narrow-append fs gs) ∙ sym (and_assoc (flat_narrow f) (code_narrow fs) (code_narrow gs))
 
 mutual
   narrow-flat_of : (at : ℕ) (p : Piece) → code_narrow (flat_of at p) ≡ is_narrow p
@@ -111,16 +107,16 @@ module _ (d : Draft) (l r k place number captures : ℕ) (ps qs : Pieces) where
   -- where it has code, so had it after each number
   region_of : (a b c e m : State) (code : List Flat) → a ≡ Ok [] → IsOperandBy a b l d.locals → IsOperandBy b c r number → IsOperandBy c e k captures → EmitsBy e m ps → IsAt m place → EmitsBy m (Ok code) qs → EmitsBy e (Ok code) (joined ps qs) →
       d.kind ≡ Region number captures (size ps) → d.code ≡ flat 0 (joined ps qs) → IsDraftBy (Ok code) (Region r k place) l d
-  region_of (Err f) b c e m code z o1 o2 o3 g at h w dk dc = let no : ⊥ = cc in absurd no
-  region_of (Ok x) (Err f) (Ok u) e m code z o1 o2 o3 g at h w dk dc = let no : ⊥ = cc in absurd no
-  region_of (Ok x) b (Err f) (Ok v) m code z o1 o2 o3 g at h w dk dc = let no : ⊥ = cc in absurd no
-  region_of (Ok x) b c (Err f) m code z o1 o2 o3 g at h w dk dc = let no : ⊥ = cc in absurd no
-  region_of (Ok x) b c e (Err f) code z o1 o2 o3 g at h w dk dc = let no : ⊥ = cc in absurd no
   region_of (Ok x) (Ok y) (Ok u) (Ok v) (Ok t) code z o1 o2 o3 g at h w dk dc =
       let i : x ≡ [] = cc in
       let empty : v ≡ [] = o3.0 ∙ o2.0 ∙ o1.0 ∙ i in
       let end : place ≡ size ps = omega (arith, at.by, ap length g, length-append v (flat (length v) ps), length-flat (length v) ps, ap length empty) in
       (ap (λ n. Region n k place) o2.1 ∙ ap (λ n. Region number n place) o3.1 ∙ ap (Region number captures) end ∙ sym dk, o1.1, ready_code v code (joined ps qs) empty w ∙ sym dc)
+  region_of (Err f) b c e m code z o1 o2 o3 g at h w dk dc = let no : ⊥ = cc in absurd no
+  region_of (Ok x) (Err f) (Ok u) e m code z o1 o2 o3 g at h w dk dc = let no : ⊥ = cc in absurd no
+  region_of (Ok x) b (Err f) (Ok v) m code z o1 o2 o3 g at h w dk dc = let no : ⊥ = cc in absurd no
+  region_of (Ok x) b c (Err f) m code z o1 o2 o3 g at h w dk dc = let no : ⊥ = cc in absurd no
+  region_of (Ok x) b c e (Err f) code z o1 o2 o3 g at h w dk dc = let no : ⊥ = cc in absurd no
 
   region_by : (a b c e m s : State) → a ≡ Ok [] → IsOperandBy a b l d.locals → IsOperandBy b c r number → IsOperandBy c e k captures → EmitsBy e m ps → IsAt m place → EmitsBy m s qs → EmitsBy e s (joined ps qs) →
       d.kind ≡ Region number captures (size ps) → d.code ≡ flat 0 (joined ps qs) → IsDraftBy s (Region r k place) l d

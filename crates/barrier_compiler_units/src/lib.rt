@@ -6,6 +6,9 @@
 //!
 //! As with a unit's buffer, what gave up keeps its first reason and takes nothing more. `specs/Adds.antt` says what a
 //! call adds.
+//!
+//! The promise of `compile` (`barrier_compiler`, clause `ok`) rests on `add_function_units` and `add_region_units`:
+//! the units are the scheme's, in order. Free to change for speed: how `Pool` finds a constant's number.
 #![tactic(auto)]
 
 mod drafts;

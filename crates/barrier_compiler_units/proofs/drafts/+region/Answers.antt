@@ -3,7 +3,8 @@ use Rattle.lam_resolve_tree.specs.declared.Stmt.{Stmt}
 use Rattle.lam_resolve_tree.specs.Tree.{expr_tree, stmt_tree, stmts_tree, else_tree, if_block}
 use Rattle.lam_resolve_tree.proofs.Rows.{while_row, sync_row, if_row, region_row}
 use Rattle.barrier_compiler_units.proofs.Joins.{joins}
-use Rattle.barrier_compiler_units.proofs.Trees.{of_form, as_drafts, at_item, stmt_added}
+use Rattle.barrier_compiler_ops.proofs.ExprArms.{at_item}
+use Rattle.barrier_compiler_units.proofs.Trees.{of_form, as_drafts, stmt_added}
 use Rattle.barrier_compiler_units.proofs.drafts.+region.Goals as goal
 
 pub add_regions_in-loop-s-preserved : goal.add_regions_in-loop-s-preserved

@@ -1,5 +1,6 @@
 use Rattle.std.proofs.Common.{arith}
-use Rattle.barrier_compiler_units.proofs.Trees.{at_item, function_added, functions_done}
+use Rattle.barrier_compiler_ops.proofs.ExprArms.{at_item}
+use Rattle.barrier_compiler_units.proofs.Trees.{function_added, functions_done}
 use Rattle.barrier_compiler_units.proofs.drafts.add_function_units.Goals as goal
 
 pub loop-f-preserved : goal.loop-f-preserved

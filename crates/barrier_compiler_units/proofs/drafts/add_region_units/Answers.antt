@@ -1,5 +1,6 @@
 use Rattle.std.proofs.Common.{arith}
-use Rattle.barrier_compiler_units.proofs.Trees.{at_item, regions_added, regions_done}
+use Rattle.barrier_compiler_ops.proofs.ExprArms.{at_item}
+use Rattle.barrier_compiler_units.proofs.Trees.{regions_added, regions_done}
 use Rattle.barrier_compiler_units.proofs.drafts.add_region_units.Goals as goal
 
 pub loop-f-preserved : goal.loop-f-preserved
