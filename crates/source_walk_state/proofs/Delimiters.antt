@@ -47,10 +47,7 @@ module _ (r : ResolvedTree) (d : ℕ) (fs : List Frame) where
   caught_by : (x : Region) (out : Outside) (f : Fault) (p : At) (n : ℕ) (o : Own) (y : Answer) → on_end (valued (and_then (done_reply {A = Unit {0}} tt n o y) (λ _ n o. on_end (region_handler r d x p n (with_local o x.catch_slot (value.Int (fault_number f)))) (caught_end (own_of out))))) (after r fs (place_of out)) ≡ on_end (done_reply Nothing n o y) (after r (frame.Region d x (part.Caught f out) ∷ fs) p)
   unfolding on_end
   caught_by x out f p n o (Val v) = refl
-  caught_by x out f p n o (Refused e) = refl
-  caught_by x out f p n o (Failed g) = refl
-  caught_by x out f p n o Done = refl
-  caught_by x out f p n o Entered = refl
+  caught_by x out f p n o y = refl
 
   pub catches : (x : Region) (out : Outside) (f : Fault) (p : At) (n : ℕ) (o : Own) → after r (frame.Region d x (part.Body out) ∷ fs) p (raises f n o) ≡ on_end (asks (asked numbers (ask.Caught f)) (λ y. done_reply Nothing n o y)) (after r (frame.Region d x (part.Caught f out) ∷ fs) p)
   unfolding on_end
@@ -74,10 +71,7 @@ module _ (r : ResolvedTree) (fs : List Frame) (p : At) (n : ℕ) (o : Own) where
   bars_value : (y : Answer) → on_end (and_then (done_reply {A = Unit {0}} tt n o y) (λ _ n o. fails {A = Value} Denied n o)) (after r fs p) ≡ on_end (done_reply Nothing n o y) (after r (frame.Bar ∷ fs) p)
   unfolding on_end
   bars_value (Val v) = refl
-  bars_value (Refused e) = refl
-  bars_value (Failed g) = refl
-  bars_value Done = refl
-  bars_value Entered = refl
+  bars_value y = refl
 
   -- an access that a rule forbids
   pub bars : (e : Denial) (t : Tree Value) → on_end (unless_denied (Some e) n o t) (after r fs p) ≡ on_end (asks (asked numbers (ask.Barred e)) (λ y. done_reply Nothing n o y)) (after r (frame.Bar ∷ fs) p)

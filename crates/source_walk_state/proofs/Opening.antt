@@ -12,7 +12,7 @@ use Rattle.lam_value.specs.declared.values.Value.TheVariants.{Nothing}
 use Rattle.lam_value.specs.declared.shapes.Kind.{Kind}
 use Rattle.lam_value.specs.declared.shapes.Shape.TheVariants.{Class}
 use Rattle.lam_asks.specs.declared.answer.Answer.{Answer}
-use Rattle.lam_asks.specs.declared.answer.Answer.TheVariants.{Done, Entered, Val, Refused, Failed}
+use Rattle.lam_asks.specs.declared.answer.Answer.TheVariants.{Val}
 use Rattle.lam_asks.specs.declared.ask.Ask.{Ask}
 use Rattle.lam_asks.specs.declared.ask.Ask.TheVariants as ask
 use Rattle.lam_asks.specs.Suits.{Sort, numbers}
@@ -36,10 +36,7 @@ use Rattle.source_walk_state.proofs.Chains.{chain, chain_next}
 
 value_replies : (a : Ask) (n : ℕ) (o : Own) → ((v : Value) → gained a v o ≡ o) → (x : Answer) → value_reply nothing_gained n o x ≡ value_reply (gained a) n o x
 value_replies a n o h (Val v) = ap (gives v n) (sym (h v))
-value_replies a n o h (Refused d) = refl
-value_replies a n o h (Failed f) = refl
-value_replies a n o h Done = refl
-value_replies a n o h Entered = refl
+value_replies a n o h x = refl
 
 -- an ask whose value brings nothing
 pub asks_value : (s : Sort) (a : Ask) (n : ℕ) (o : Own) → ((v : Value) → gained a v o ≡ o) → ask_value (asked s a) n o ≡ asks (asked s a) (λ x. value_reply (gained a) n o x)
@@ -48,10 +45,7 @@ asks_value s a n o h = ap (asks (asked s a)) (fun_ext (value_replies a n o h))
 done_replies : (n : ℕ) (o : Own) (x : Answer) → on_end (done_reply tt n o x) (next nulls) ≡ done_reply Nothing n o x
 unfolding on_end
 done_replies n o (Val v) = refl
-done_replies n o (Refused d) = refl
-done_replies n o (Failed f) = refl
-done_replies n o Done = refl
-done_replies n o Entered = refl
+done_replies n o x = refl
 
 -- an ask of a statement
 pub asks_done : (a : Ask) (n : ℕ) (o : Own) → valued (ask_unit a n o) ≡ asks (asked numbers a) (λ x. done_reply Nothing n o x)
@@ -93,11 +87,8 @@ module _ (r : ResolvedTree) (d : ℕ) (fs : List Frame) (p : At) (n : ℕ) (o : 
       chain_next (value_of r d c p n o) (λ c n o. and_then (values_of r d (exprs_tree args.now) p n o) (λ vs n o. spawns f c vs n o)) (after r fs p) (after r (frame.Spawn d f args ∷ fs) p) (λ v n o. refl) (λ f n o. refl) (λ v n o. refl)
 
   same_calls : (t : Option ResolvedType) (s : Written) → sort_seen s ≡ result_sort t → (n : ℕ) (o : Own) (c : Calls) → called_in t n o c ≡ called_as (sort_seen s) n o c
-  same_calls t s h n o (calls.now v) = refl
-  same_calls t s h n o (calls.faults f) = refl
   same_calls t s h n o (calls.asks a) = ap (λ q. asks (asked q a) (λ x. value_reply (gained a) n o x)) (sym h)
-  same_calls t s h n o (calls.acts a) = refl
-  same_calls t s h n o calls.wrong = refl
+  same_calls t s h n o c = refl
 
   pub opens_builtin : (b : Builtin) (es : Expressions) (t : Option ResolvedType) (s : Written) → sort_seen s ≡ result_sort t → value_of r d (builtin_of b es t) p n o ≡ gathered r d es [] (using.Builtin b s) p n o
   opens_builtin b es t s h = ap (and_then (values_of r d es p n o)) (fun_ext (λ vs. fun_ext (λ n. fun_ext (λ o. same_calls t s h n o (builtin p.label o.caps b vs)))))

@@ -12,6 +12,9 @@
 //!
 //! `walk_laws` says that a walk begins as the thread's meaning, and that delimiters keep what stood around them. A meaning
 //! bounds how deep loops and calls nest. Pending work has that bound, its *depth*, beside it.
+//!
+//! The promise of `walk` (`source_walk`) rests on `walks_begin` and `delimiters_keep`: what a walk has left is what
+//! its source means. Nothing here is a matter of speed.
 #![tactic(auto)]
 
 mod walk_laws;
