@@ -2,6 +2,9 @@
 //!
 //! It resolves names first (`lam_resolve`), and then gives each function and each region its operations by the scheme
 //! of `lam_meaning` (`emitting`). [`compile`] does both; that the code acts as the program is a clause of it.
+//!
+//! A public promise rests on `compile` (clauses `ok`, `long`, `acts`): the code is the scheme's and acts as the
+//! program. What may be made faster stands in `barrier_compiler_ops` and `barrier_compiler_units`.
 #![tactic(auto)]
 
 mod emitting;

@@ -1,4 +1,4 @@
-//! The operations that stay, found from the redundant barriers of each unit.
+//! The operations of each unit that stay: all but its redundant barriers.
 
 ghost use Rattle.std.specs.Prelude.{◌≡◌, ◌<◌, ◌^◌, map, not, length, IfOk};
 ghost use Rattle.lam_bytecode.specs.Codes.{IsCode};

@@ -8,6 +8,10 @@
 //! the new code, where `staying` says which operations stay and `ops` where jumps go. `thinned_code_acts` has the laws
 //! that thinned code acts as the code, and as the code's program. That a program's code has no break is a law of
 //! `compiled_code_guarded`.
+//!
+//! A public promise rests on `thin` and `thin_verified` (clauses `thinned`, `acts`): the code that runs is the
+//! program's without its redundant barriers, and acts as the program. Free to change for speed: how `Staying` finds
+//! the new address of an operation.
 #![tactic(auto)]
 
 mod again;

@@ -12,6 +12,9 @@
 //!
 //! `specs/Walking` says which thread the answer names. `source_walk_meets` has the laws that a walk has one answer,
 //! and which it is where the code of a run means its source.
+//!
+//! A public promise rests on `walk_turns` (clause `ok`) and `walk`: whether the asks of a run are those of its source,
+//! and else the first thread and place. What may be made faster stands in `source_walk_run`.
 #![tactic(auto)]
 
 mod runs;

@@ -1,4 +1,4 @@
-//! The beginning of a walk.
+//! The first state of a walk: a function with its arguments, and no frames.
 
 ghost use Rattle.std.specs.Prelude.{◌≡◌, ℕ, Some, slice_get, IfOk};
 ghost use Rattle.lam_resolve_tree.specs.Tree.{function_tree, resolved_tree, ResolvedTree};

@@ -7,6 +7,9 @@
 //!
 //! A [`Follower`] is how far a thread came: the state of its walk, or the place where it departed (`followers`). It
 //! keeps nothing of the turns before. [`follow`] takes one along a whole history (`follows`).
+//!
+//! The promise of `walk` (`source_walk`) rests on `follow_turn`: a turn's ask is compared with the next one of its
+//! source. Free to change for speed: how many steps go between two asks (`steps`).
 #![tactic(auto)]
 
 mod answers;

@@ -1,4 +1,4 @@
-//! The steps of a walk that ask nothing.
+//! The way of a walk to where it stands: its steps that ask nothing.
 
 ghost use Rattle.std.specs.Prelude.{◌≡◌, ◌<◌, ◌⊎◌, true, false, IfOk};
 ghost use Rattle.lam_resolve_tree.specs.Tree.{resolved_tree, exprs_tree};

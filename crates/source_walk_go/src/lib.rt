@@ -3,6 +3,9 @@
 //! A frame that has its value becomes a control again (`values`, `blocks`). A fault and a `return` drop frames down to
 //! the next delimiter, the end of a call or of a region (`delimiters`). `uses` calls functions and built-in calls with the values
 //! of their arguments.
+//!
+//! The promise of `walk` (`source_walk`) rests on `give`, `raise`, `leave` and `use_all`: such a step leaves what is
+//! asked as it is.
 #![tactic(auto)]
 
 mod blocks;

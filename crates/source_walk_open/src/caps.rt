@@ -1,4 +1,4 @@
-//! The capabilities of `caps`.
+//! The control of `caps`: its tags, taken from the slots one after another.
 
 ghost use Rattle.std.specs.Prelude.{◌≡◌, IfOk};
 ghost use Rattle.lam_value.specs.declared.values.Value.TheVariants as value;

@@ -1,4 +1,4 @@
-//! Expressions and arguments.
+//! The first steps at expressions, arguments and lists of tags.
 
 ghost use Rattle.std.specs.Prelude.{◌≡◌, ℕ, IfOk};
 ghost use Rattle.lam_value.specs.declared.values.Value.TheVariants as value;

@@ -1,4 +1,4 @@
-//! Statements and blocks.
+//! The first steps at statements and blocks.
 
 ghost use Rattle.std.specs.Prelude.{◌≡◌, ℕ, List, length, IfOk};
 ghost use Rattle.lam_resolve_tree.specs.Tree.{let_slot, set_local, do_value, return_value, throw_value, if_block, while_block, sync_block, region_block, set_field, set_element, expr_tree, option_expr_tree, stmts_tree, stmt_tree, else_tree, ResolvedType};

@@ -1,4 +1,4 @@
-//! Sorts and kinds of types.
+//! The sort of a type's values, and the first value of its fields.
 
 ghost use Rattle.std.specs.Prelude.{◌≡◌};
 ghost use Rattle.lam_resolve_tree.specs.Tree.{type_tree, option_type_tree};

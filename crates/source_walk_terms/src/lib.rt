@@ -6,6 +6,8 @@
 //!
 //! `specs/Departs` says where one list of asks leaves another. `specs/Walks` says what the answer of a walk tells of a
 //! run, and `proofs/Examples` has a worked example.
+//!
+//! Nothing here is a matter of speed. The promise of `walk` (`source_walk`) is made in these definitions.
 #![tactic(auto)]
 
 /// How the asks of a run stand to those of its source.
