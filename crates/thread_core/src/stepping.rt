@@ -469,7 +469,8 @@ fn end_of(p: &Label, thread: u32) -> Waits<'static>
     }
 }
 
-fn awaited_by_sketch<'a>(p: &Label, ask_ref: &AskRef<'a>) -> Waits<'a>
+/// What an ask waits for, where that is not free or lives: a monitor, or a thread's end.
+fn waits_of<'a>(p: &Label, ask_ref: &AskRef<'a>) -> Waits<'a>
     ensures { awaited_by result ≡ awaited p.now (Some (ask_of ask_ref.now)) }
 {
     match ask_ref {
@@ -488,7 +489,7 @@ pub fn context_waits<'a>(c: &'a Context, code: &'a Code) -> Waits<'a>
         Coming::Nothing => Waits::Nobody,
         Coming::Handles(_) => Waits::Nobody,
         Coming::Sees(op_effect) => match op_effect {
-            OpEffect::Asks { ask, .. } => awaited_by_sketch(&c.label, &ask),
+            OpEffect::Asks { ask, .. } => waits_of(&c.label, &ask),
             OpEffect::Drops { .. } => Waits::Nobody,
             OpEffect::Puts { .. } => Waits::Nobody,
             OpEffect::Sets { .. } => Waits::Nobody,
@@ -532,7 +533,7 @@ pub fn context_outlook<'a>(c: &'a Context, code: &'a Code) -> Outlook<'a>
             OpEffect::Fails(_) => alone(Standing::Private),
             OpEffect::Asks { ask, .. } => Outlook {
                 standing: Standing::Shared,
-                waits: awaited_by_sketch(&c.label, &ask),
+                waits: waits_of(&c.label, &ask),
             },
             OpEffect::Leaves => alone(leaves(c.phase)),
             OpEffect::Breaks => alone(Standing::Stuck),
