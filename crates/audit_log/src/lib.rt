@@ -14,6 +14,9 @@
 //! moments of a run themselves. [`views_are_read`] and [`audits_are_read`] say that these are the same. A moment's line
 //! speaks of what is public in the moment's world. No turn changes that (`lam_machine_laws`), so the text is written
 //! with what is public at the start.
+//!
+//! A public promise rests on [`view_text`], [`audit_text`] and the laws [`views_are_read`], [`audits_are_read`] and
+//! [`marks_are_exact`]: both texts, byte for byte. Free to change for speed: how a text is put together.
 #![tactic(auto)]
 
 mod audit;

@@ -8,6 +8,9 @@
 //!
 //! [`Sums`] are how often something was said, released and refused in a run. `specs/Sums` says what is counted in its
 //! moments, and `summary` writes the lines.
+//!
+//! A public promise rests on [`summary_text`]: the lines of a run's counts, byte for byte. Free to change for speed:
+//! how the text is put together.
 #![tactic(auto)]
 
 mod summary;

@@ -6,13 +6,18 @@
 //! is one look at the schedule, for programs that take the turns themselves.
 //!
 //! A turn costs a step of its thread and a look at that thread alone. The list of all threads is looked at once in 64
-//! open turns, where a thread waits, and where one ended. Private turns of the slot's thread go in rows: inside as long as
-//! they go, outside up to what is left of the slot.
+//! open turns, where a thread waits, and where one ended. In a run, private turns of the slot's thread go in rows:
+//! inside as long as they go, outside up to what is left of the slot. [`first_departure`] takes turns one by one, since
+//! each is compared with the given one.
 //!
 //! - `next`: who is next.
 //! - `places`: where a closed run stands between two turns.
 //! - `going`: whether the run goes on, private turns in a row, and one turn.
 //! - `ending`: a closed run to its end; `departing`: the first departure.
+//!
+//! A public promise rests on [`closed_kept`] (clauses `start`, `ended`, `kept`), [`closed_on`], [`first_departure`]
+//! (`ok`, `run`, `stops`) and [`next_of`]: the run is the closed one, and ends as it says. Free to change for speed:
+//! when the list of threads is looked at, and how many private turns go in a row.
 #![tactic(auto)]
 
 mod departing;

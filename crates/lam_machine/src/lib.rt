@@ -5,6 +5,10 @@
 //! the answer, and the effect on the stores is applied last. So a refusal of memory leaves the world as it was. Neither
 //! the thread nor the world is copied. [`step_privately`] takes a turn only where it is private, and makes no event of
 //! it. [`step_privately_for`] takes such turns in a row.
+//!
+//! A public promise rests on [`step`] (clauses `ok`, `err`), [`step_privately`] and [`step_privately_for`]: a turn is
+//! exactly the definition's, or nothing has changed. Free to change for speed: how a turn is prepared, and how many
+//! private turns go in a row.
 #![tactic(auto)]
 
 mod asking;

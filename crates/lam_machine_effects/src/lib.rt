@@ -11,6 +11,9 @@
 //!
 //! A world is its stores and its threads (`specs/Parts`). `specs/Meaning` says what services mean: an effect is one of
 //! the definitions', and `effect_of` there says what it does.
+//!
+//! A public promise rests on [`apply`] (clauses `ok`, `err`): the stores change by exactly the effect, or not at all.
+//! Free to change for speed: how an effect is held and applied.
 #![tactic(auto)]
 
 mod applying;

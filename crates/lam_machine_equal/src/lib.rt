@@ -11,6 +11,9 @@
 //! Each comparison goes over both sides once, place by place, and takes no memory. A program's code is given once and
 //! kept where it is needed. This crate copies it for callers that keep it beside a run. It compares codes, part by
 //! part, for callers that must see that two runs are of one program.
+//!
+//! A public promise rests on [`same_code`], [`same_world`] and [`copy_code`]: the answer is equality, and a copy is
+//! equal. Free to change for speed: the order in which parts are compared and copied.
 #![tactic(auto)]
 
 mod comparing;

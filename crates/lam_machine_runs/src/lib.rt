@@ -4,6 +4,9 @@
 //! over turns (`lam_machine_replay`) both use it. A run ends ([`How`], `specs/Ends`) because every thread has ended,
 //! all that live wait, or the budget of turns is used up. The workers that take the turns (`thread_host`) and the plan
 //! of a call use that.
+//!
+//! A public promise rests on [`runs_join`], [`runs_stop`] and [`runs_end_in_one_way`]: how runs join, stop and end.
+//! Nothing here is a matter of speed.
 #![tactic(auto)]
 
 ghost use Rattle.lam_machine_terms.specs.Codes.{CodeTree};

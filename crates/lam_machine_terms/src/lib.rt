@@ -7,6 +7,9 @@
 //! are valid.
 //!
 //! By definition, an answer does to the acting thread what `thread_steps` says.
+//!
+//! No public promise rests on this crate directly: those of `lam_machine_rows`, `lam_machine` and `lam_machine_laws`
+//! are stated in its terms. Nothing here is a matter of speed.
 #![tactic(auto)]
 
 pub use labelled_files::{FileFault, Files};

@@ -5,6 +5,9 @@
 //! `lam_machine_rows`. It takes the parts of a world, so that a turn can go on to change them.
 //!
 //! `letting_go` drops worlds, stores and codes.
+//!
+//! A public promise rests on [`served_of`] and on [`is_ready`]: an ask in a world is served by its row, and waits where
+//! the definition says. Free to change for speed: how the parts of a world are held, and how they are dropped.
 #![tactic(auto)]
 
 mod letting_go;

@@ -8,6 +8,9 @@
 //! - `specs/Parts`: an observer's view of a world, part by part, and the first part in which two worlds differ.
 //! - `specs/Pairs`: when each answer is given.
 //! - `specs/Laws`: two runs have one answer, and up to its number they look the same.
+//!
+//! A public promise rests on [`parts_make_agreement`], [`pairs_have_one_answer`] and [`pairs_look_same`]: two runs have
+//! one answer, and look the same up to its number. Nothing here is a matter of speed.
 #![tactic(auto)]
 
 mod answer;

@@ -17,6 +17,9 @@
 //!
 //! The answer is the world that the definition `start_of` of `world_doc_terms` reads, or the document's first break, in
 //! a [`WorldFault`]. Only want of memory is left open.
+//!
+//! A public promise rests on [`start`]: the world that the definition reads, or the document's first break. Free to
+//! change for speed: how the document, and the names of its pipes, are kept while it is read.
 #![tactic(auto)]
 
 mod args;

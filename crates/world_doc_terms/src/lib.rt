@@ -14,6 +14,9 @@
 //!
 //! In code there are the two types that readers of documents share with printers of their breaks: [`Version`] and
 //! [`WorldBreak`].
+//!
+//! No public promise rests on this crate directly: that of `start` of `world_doc` is stated in its terms. Nothing here
+//! is a matter of speed.
 #![tactic(auto)]
 
 mod breaks;

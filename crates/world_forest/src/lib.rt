@@ -4,6 +4,9 @@
 //! Each living name stands in one entry at most, and the root in none (`specs/Forest`). Names are fresh where something
 //! is made, and removing only takes entries away (`specs/Laws`). So a walk from the root down by entries comes to each
 //! file and directory once at most.
+//!
+//! A public promise rests on [`calls_keep_forests`]: each call on files keeps a forest. Nothing here is a matter of
+//! speed.
 #![tactic(auto)]
 
 ghost use Rattle.world_forest.specs.Laws.{CallsKeepForests};

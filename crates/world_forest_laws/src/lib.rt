@@ -3,6 +3,9 @@
 //! `world_forest` defines a forest of files, and says that each call on files keeps it. `first_worlds` says that every
 //! world that a document gives begins with one (`specs/FirstWorlds`). The laws below say that each turn of the machine
 //! keeps it, by its effect, and so every run. All of it is in proofs alone.
+//!
+//! A public promise rests on [`runs_keep_forests`] and on [`texts_begin_as_forests`]: files are a forest in every world
+//! of every run from a document. Nothing here is a matter of speed.
 #![tactic(auto)]
 
 mod first_worlds;
