@@ -2,4 +2,9 @@ pub mod Members
 pub mod Bounding
 pub mod Wording
 pub mod WholeLemmas
+pub mod FloatLemmas
 pub mod HeldBytes
+pub mod MembersInOrder
+pub mod NumbersTold
+pub mod CompactLengths
+pub mod DocumentLengths

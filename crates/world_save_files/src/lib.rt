@@ -9,12 +9,15 @@
 //! - `kept`: the texts that are taken from the older document.
 //! - `holding`: the fact that files hold bytes.
 //! - `saving`: the refusals and the document.
+//! - `lengths`: the law that all texts of the same files have one length.
 #![tactic(auto)]
 
 mod holding;
 mod kept;
+mod lengths;
 mod numbers;
 mod saving;
 mod values;
 
+pub use lengths::saved_lengths_are_one;
 pub use saving::{DOCUMENT_LIMIT, SaveFault, Saved, save_files};

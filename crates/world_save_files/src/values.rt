@@ -43,12 +43,12 @@ fn bytes_are_laid_out(alloc: Global, bytes: &[u8]) -> Result<bool, AllocError>
 
 /// The text of a value in the compact form, as the writer of `serde_json` gives it.
 ///
-/// No clause of that writer bounds the length of a number, or says where it has an exponent. So each number of the text is
-/// written once more by the library that it comes from, and compared.
+/// No clause of that writer bounds the length of a number, says where it has an exponent, or that it has the fewest digits. So each
+/// number of the text is written once more by the library that it comes from, and compared, and its digits are tested.
 ///
 /// # Errors
 ///
-/// `AllocError` where memory is refused, and where a number were written otherwise.
+/// `AllocError` where memory is refused, and where a number were written otherwise or with more digits.
 pub fn value_text(alloc: Global, value: &Value) -> Result<Vec<u8>, AllocError>
     ensures { IfOk result (λ text. IsCompact (view value.now) text.items) }
 {
