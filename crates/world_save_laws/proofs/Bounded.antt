@@ -1,40 +1,27 @@
 -- A text of a value in the compact form has no more bytes than are counted of the value.
-use Rattle.std.proofs.Common.{◌≡◌, ◌≤◌, ◌+◌, ℕ, suc, max, Bool, true, false, cond, List, [], ◌∷◌, ◌++◌, length, Option, Some, None, option_map, unwrap_or, Float, refl, sym, ap, ◌∙◌, subst, arith, append_assoc, append-nil}
-use Rattle.std.specs.Prelude.{if◌then◌else◌, codes}
+use Rattle.std.proofs.Common.{◌≡◌, ◌≤◌, ◌+◌, ℕ, max, Bool, true, false, List, [], ◌∷◌, ◌++◌, length, Option, Some, None, option_map, unwrap_or, refl, sym, ap, ◌∙◌, subst, arith, append_assoc, append-nil}
+use Rattle.std.specs.Prelude.{if◌then◌else◌}
 use Rattle.std.specs.List.{All, AllByRecursion}
 use Rattle.std.proofs.lemmas.List.{length-append}
 use Rattle.std.proofs.lemmas.List.Elements.{recursion_from_All}
 use Rattle.json.specs.Token.{Token}
 use Rattle.json.specs.Token as token
-use Rattle.json.specs.Print.{print, print_from, token_text, separator, begins, ends, quoted}
+use Rattle.json.specs.Print.{print, print_from, quoted}
 use Rattle.json.specs.Json as json
 use Rattle.json.specs.Tree.{json_tokens, items_tokens, members_tokens}
 use Rattle.serde_json.specs.Data.{Num, unsigned, negative, float}
 use Rattle.serde_json.specs.Find.{is_float}
 use Rattle.serde_json.specs.Read.{number_of}
-use Rattle.serde_json.specs.Written.{blank, blank_items, blank_members, unless_float, comma_if, compact_text}
-use Rattle.world_save_terms.specs.Compact.{most_number, IsLaidOut, IsCompact}
-use Rattle.flow_labels.specs.TwoLists.{Text}
-use Rattle.world_save_terms.specs.Document.{Parts, list_text, version_data, member_text, text_of, Spells}
-use Rattle.world_save_laws.specs.Longest.{most_json, most_items, most_members, TextsAreBounded, longest, SpelledTextsAreBounded}
-
--- ---- one token
-
-step : (later : Bool) (t : Token) (ts : List Token) → length (print_from later (t ∷ ts)) ≡ length (separator later t) + (length (token_text t) + length (print_from (ends t) ts))
-unfolding print_from
-step later t ts = length-append (separator later t) _ ∙ ap (λ n. length (separator later t) + n) (length-append (token_text t) _)
-
-comma : (later : Bool) (t : Token) → begins t ≡ true → length (separator later t) ≡ length (comma_if later)
-comma true t e = ap (λ (b : Bool). length {A = ℕ} (cond b (44 ∷ []) [])) e
-comma false t e = refl
-
-no_comma : (later : Bool) (t : Token) → begins t ≡ false → length (separator later t) ≡ 0
-no_comma true t e = ap (λ (b : Bool). length {A = ℕ} (cond b (44 ∷ []) [])) e
-no_comma false t e = refl
+use Rattle.serde_json.specs.Written.{blank, blank_items, blank_members, unless_float, comma_if}
+use Rattle.world_save_terms.specs.Compact.{most_number, IsNumeralOf, IsLaidOut}
+use Rattle.world_save_files.proofs.CompactLengths.{step, comma, no_comma, left, right}
+use Rattle.world_save_files.proofs.DocumentLengths.{text_length}
+use Rattle.world_save_laws.specs.Longest.{most_json, most_items, most_members, TextsAreBounded, SpelledTextsAreBounded}
 
 -- ---- numbers
 
 number_bound : (s : List ℕ) (o : Option Num) → number_of s ≡ o → IsLaidOut (token.number s) → length s ≤ max most_number (length (if unwrap_or (option_map is_float o) false then [] else s))
+unfolding IsNumeralOf
 number_bound s None e laid = omega arith
 number_bound s (Some (unsigned n)) e laid = omega arith
 number_bound s (Some (negative z)) e laid = omega arith
@@ -42,16 +29,6 @@ number_bound s (Some (float x)) e laid = let short = (laid x e).1 in omega (arit
 
 number_short : (s : List ℕ) → IsLaidOut (token.number s) → length s ≤ max most_number (length (unless_float s))
 number_short s laid = number_bound s (number_of s) refl laid
-
--- ---- parts of tokens
-
-left : (ts us : List Token) → AllByRecursion IsLaidOut (ts ++ us) → AllByRecursion IsLaidOut ts
-left [] us h = tt
-left (t ∷ ts) us h = (h.0, left ts us h.1)
-
-right : (ts us : List Token) → AllByRecursion IsLaidOut (ts ++ us) → AllByRecursion IsLaidOut us
-right [] us h = h
-right (t ∷ ts) us h = right ts us h.1
 
 -- ---- values
 
@@ -95,41 +72,6 @@ texts_bounded d text c =
     omega (arith, v, e, m)
 
 -- ---- documents
-
-member_length : (later : Bool) (name value rest : Text) → length (member_text later name value rest) ≡ length (comma_if later) + (length (quoted name) + suc (length value + length rest))
-member_length later name value rest =
-    let a = length-append (comma_if later) (quoted name ++ 58 ∷ (value ++ rest)) in
-    let b = length-append (quoted name) (58 ∷ (value ++ rest)) in
-    let c = length-append value rest in
-    omega (arith, a, b, c)
-
-module _ (p : Parts) where
-  abbrev after_tree : Text
-  after_tree = member_text true (codes "version") (compact_text version_data) (125 ∷ [])
-
-  abbrev after_threads : Text
-  after_threads = member_text true (codes "tree") (list_text p.tree) after_tree
-
-  abbrev after_tags : Text → Text
-  after_tags threads = member_text true (codes "threads") threads after_threads
-
-  abbrev after_pipes : Text → Text
-  after_pipes threads = member_text true (codes "tags") (list_text p.tags) (after_tags threads)
-
-  abbrev after_counts : Text → Text → Text
-  after_counts pipes threads = member_text true (codes "pipes") pipes (after_pipes threads)
-
-  text_length : (pipes threads : Text) → length (text_of p pipes threads) ≡ length (text_of p [] []) + (length pipes + length threads)
-  text_length pipes threads =
-      let a = member_length false (codes "counts") (list_text p.counts) (after_counts pipes threads) in
-      let b = member_length true (codes "pipes") pipes (after_pipes threads) in
-      let c = member_length true (codes "tags") (list_text p.tags) (after_tags threads) in
-      let d = member_length true (codes "threads") threads after_threads in
-      let e = member_length false (codes "counts") (list_text p.counts) (after_counts [] []) in
-      let f = member_length true (codes "pipes") [] (after_pipes []) in
-      let g = member_length true (codes "tags") (list_text p.tags) (after_tags []) in
-      let h = member_length true (codes "threads") [] after_threads in
-      omega (arith, a, b, c, d, e, f, g, h)
 
 pub spelled_bounded : SpelledTextsAreBounded
 spelled_bounded p text s =

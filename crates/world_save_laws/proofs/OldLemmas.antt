@@ -1,11 +1,7 @@
 -- What was read of the older document.
-use Rattle.std.proofs.Common.{◌≡◌, ◌≤◌, ℕ, suc, true, List, [], ◌∷◌, ◌++◌, max, Option, Some, None, Ok, Err, is_some, refl, ap, subst, arith}
+use Rattle.std.proofs.Common.{◌≡◌, ℕ, suc, true, List, [], ◌∷◌, ◌++◌, Option, Some, None, Ok, Err, is_some, refl, ap, subst}
 use Rattle.std.specs.Prelude.{IfOk, not, codes}
-use Rattle.std.specs.Ordering.{nat_cmp, match_ordering}
-use Rattle.std.specs.declared.cmp.Ordering.{Ordering}
-use Rattle.std.specs.declared.cmp.Ordering.TheVariants.{Less, Equal, Greater}
-use Rattle.std.specs.Cmp.Lexicographic.{slice_cmp}
-use Rattle.serde_json.specs.Data.{Data, null, boolean, number, string, array, object, Items, no_items, item, Members, no_members, member, depth, members_depth}
+use Rattle.serde_json.specs.Data.{Data, null, boolean, number, string, array, object, Items, no_items, item, Members, depth, members_depth}
 use Rattle.serde_json.specs.Find.{get, get_member, as_str, as_object}
 use Rattle.flow_labels.specs.Names.{AreNames, is_name, place_of}
 use Rattle.flow_labels.specs.TwoLists.{Text}
@@ -153,12 +149,3 @@ object_deep (number n) ms e = absurd cc
 object_deep (string s) ms e = absurd cc
 object_deep (array ds) ms e = absurd cc
 object_deep (object xs) ms e = let is : xs ≡ ms = cc in ap (λ (ms : Members). suc (members_depth ms)) is
-
-pub member_deep : (k : Text) (ms : Members) (d : Data) → get_member k ms ≡ Some d → depth d ≤ members_depth ms
-member_deep k no_members d e = absurd cc
-member_deep k (member l x ms) d e = by (slice_cmp nat_cmp k l) e (member_deep k ms d)
-  where
-    by : (o : Ordering) → match_ordering o (get_member k ms) (Some x) (get_member k ms) ≡ Some d → (get_member k ms ≡ Some d → depth d ≤ members_depth ms) → depth d ≤ max (depth x) (members_depth ms)
-    by Less h more = let r = more h in omega arith
-    by Equal h more = let is : x ≡ d = cc in let n = ap depth is in omega arith
-    by Greater h more = let r = more h in omega arith

@@ -55,7 +55,8 @@ use Rattle.world_save_files.specs.Saved.{HaveText}
 use Rattle.world_save_laws.proofs.EndLemmas.{ends_whole}
 use Rattle.world_save_laws.proofs.StartLemmas.{text_small}
 use Rattle.world_save_laws.specs.Saved.{AreSavable, SavedTextsAreRead, NextWorldsAreRead}
-use Rattle.world_save_laws.proofs.OldLemmas.{IsRead, read_of, member_of, object_deep, member_deep}
+use Rattle.world_save_files.proofs.DocumentLengths.{member_deep}
+use Rattle.world_save_laws.proofs.OldLemmas.{IsRead, read_of, member_of, object_deep}
 use Rattle.world_save_laws.proofs.LiveLemmas.{item_lives}
 use Rattle.world_save_laws.proofs.Utf8Lemmas.{text_utf8}
 

@@ -1,63 +1,26 @@
 -- A text of a document is read as the document.
-use Rattle.std.proofs.Common.{◌≡◌, ◌≤◌, suc, Bool, true, false, List, [], ◌∷◌, ◌++◌, max, Option, Some, option_map, option_and_then, refl, sym, ap, ap₂, subst, ◌∙◌, arith, append_assoc, append-nil}
+use Rattle.std.proofs.Common.{◌≡◌, ◌≤◌, suc, Bool, true, false, List, [], ◌∷◌, ◌++◌, max, Some, option_map, option_and_then, refl, sym, ap, ap₂, subst, ◌∙◌, arith, append_assoc, append-nil}
 use Rattle.std.specs.Prelude.{codes, fold}
 use Rattle.json.specs.Token.{Token}
 use Rattle.json.specs.Lex.{tokens}
 use Rattle.json.specs.Print.{print, print_from, quoted, ends, ArePrintableOrBad}
 use Rattle.json.specs.Json as json
-use Rattle.json.specs.Json.{if_last}
 use Rattle.json.specs.Tree as tree
 use Rattle.json.specs.Tree.{json_tokens, items_tokens, members_tokens, HasNumbers, ItemsHaveNumbers, MembersHaveNumbers}
 use Rattle.json.proofs.Numbered.{ArePrintableOrBad-tokens}
 use Rattle.json.proofs.Printed.Tokens.{tokens-print, print_from-append}
-use Rattle.json.proofs.Printed.Trees.{value-json_tokens, ArePrintable-json_tokens}
+use Rattle.json.proofs.Printed.Trees.{ArePrintable-json_tokens}
 use Rattle.json.proofs.Printed.Decimals.{IsNumber-decimal}
-use Rattle.serde_json.specs.Data.{Data, number, Members, no_members, member, object, put, depth, items_depth, members_depth}
-use Rattle.serde_json.specs.Data as data_of
+use Rattle.serde_json.specs.Data.{Data, number, Members, no_members, member, object, put, depth}
 use Rattle.serde_json.specs.Read.{read, max_depth, of_json, of_members}
-use Rattle.serde_json.specs.Written.{outline, items_outline, members_outline, blank, blank_items, blank_members, compact_text}
+use Rattle.serde_json.specs.Written.{outline, compact_text}
 use Rattle.serde_json.proofs.Numbers.{number_of-decimal}
 use Rattle.serde_json.proofs.Texts.{print-outline}
 use Rattle.flow_labels.specs.TwoLists.{Text}
 use Rattle.world_save_terms.specs.Compact.{IsCompact}
 use Rattle.world_save_terms.specs.Document.{Parts, document, list_data, version_data, member_text, text_of}
+use Rattle.world_save_files.proofs.CompactLengths.{blank_deep, outline_deep, json_whole}
 use Rattle.world_save_laws.specs.Plain.{IsPlain, SpelledDocumentsAreRead}
-
--- ---- depths
-
-mutual
-  blank_deep : (j : json.Json) → tree.depth (blank j) ≡ tree.depth j
-  blank_deep json.null = refl
-  blank_deep (json.boolean b) = refl
-  blank_deep (json.number s) = refl
-  blank_deep (json.string s) = refl
-  blank_deep (json.array js) = let e = blank_items_deep js in omega arith
-  blank_deep (json.object ms) = let e = blank_members_deep ms in omega arith
-
-  blank_items_deep : (js : json.Items) → tree.items_depth (blank_items js) ≡ tree.items_depth js
-  blank_items_deep json.no_items = refl
-  blank_items_deep (json.item j js) = ap₂ max (blank_deep j) (blank_items_deep js)
-
-  blank_members_deep : (ms : json.Members) → tree.members_depth (blank_members ms) ≡ tree.members_depth ms
-  blank_members_deep json.no_members = refl
-  blank_members_deep (json.member k j ms) = ap₂ max (blank_deep j) (blank_members_deep ms)
-
-mutual
-  outline_deep : (d : Data) → tree.depth (outline d) ≡ depth d
-  outline_deep data_of.null = refl
-  outline_deep (data_of.boolean b) = refl
-  outline_deep (data_of.number n) = refl
-  outline_deep (data_of.string s) = refl
-  outline_deep (data_of.array ds) = let e = outline_items_deep ds in omega arith
-  outline_deep (data_of.object ms) = let e = outline_members_deep ms in omega arith
-
-  outline_items_deep : (ds : data_of.Items) → tree.items_depth (items_outline ds) ≡ items_depth ds
-  outline_items_deep data_of.no_items = refl
-  outline_items_deep (data_of.item d ds) = ap₂ max (outline_deep d) (outline_items_deep ds)
-
-  outline_members_deep : (ms : Members) → tree.members_depth (members_outline ms) ≡ members_depth ms
-  outline_members_deep no_members = refl
-  outline_members_deep (member k d ms) = ap₂ max (outline_deep d) (outline_members_deep ms)
 
 -- ---- what tokens of a text say of numbers
 
@@ -98,13 +61,6 @@ record IsPrinted (d : Data) (text : Text) : Type 0 where
 
 plain_printed : (d : Data) → IsPlain d → IsPrinted d (compact_text d)
 plain_printed d p = record { j = outline d; text_is = print-outline d; reads = p.reads; numbers = p.numbers; deep = outline_deep d }
-
-abbrev whole : Option (json.Json × List Token) → Option Data
-whole o = option_and_then of_json (option_and_then (λ p. if_last p.0 p.1) o)
-
--- tokens of JSON are read as what the JSON is
-json_whole : (text : Text) (j : json.Json) → tokens text ≡ json_tokens j → tree.depth j ≤ max_depth → read text ≡ of_json j
-json_whole text j same shallow = ap whole (ap (json.value max_depth) (same ∙ sym (append-nil (json_tokens j))) ∙ value-json_tokens j max_depth [] shallow)
 
 compact_printed : (d : Data) (text : Text) → IsCompact d text → depth d ≤ max_depth → IsPrinted d text
 compact_printed d text c shallow =
