@@ -15,7 +15,7 @@ use Rattle.lam_main_plan.specs.declared.Status.TheVariants.{Done, NoMemory, Word
 use Rattle.lam_main_plan.specs.Refusals.{Plan, prints}
 use Rattle.lam_main_plan.specs.Reading.{HasFile, IsCompiled, program_limit}
 use Rattle.lam_main_plan.specs.Threads.{IsOfThreads, made_budget}
-use Rattle.lam_main_plan.specs.Plan.{IsPlan, IsPlanOf, TellAll, PlansAreOne, IsRefused, IsTold, RefusalsAreOne}
+use Rattle.lam_main_plan.specs.Plan.{IsPlan, IsPlanOf, TellAll, PlansAreOne, IsRefused, RefusalsAreOne}
 use Rattle.lam_main_plan.specs.Answer.{Outside, IsPrinted, whole, front, IsPlanned}
 use Rattle.lam_main_plan.proofs.PlayLemmas.{printed_of}
 use Rattle.lam_main_plan.proofs.FormatLemmas.{planned}
@@ -139,14 +139,14 @@ module _ (one : RefusalsAreOne) (ws : List Text) (status : Status) (old new : Ou
       let d = unfailed_did status (IsPlan ws old.files) old new quiet given in
       (d.plan, record { is = d.is; ends = ended_as status d.plan.status d.plan.text old.taken new.taken quiet d.does.printed; does = d.does })
 
-  comes_so : (plan : Plan) → IsPlan ws old.files plan → IsRefused plan.status → IsTold (request_of ws) old.files plan → IsUnfailed status → IsRefusedAs ws status old new plan
-  comes_so plan is refused told quiet =
+  comes_so : (plan : Plan) → IsPlan ws old.files plan → IsRefused plan.status → IsUnfailed status → IsRefusedAs ws status old new plan
+  comes_so plan is refused quiet =
       let d = did_planned quiet in
-      subst (IsRefusedAs ws status old new) (sym (one ws old.files plan d.0 refused told is d.1.is)) d.1
+      subst (IsRefusedAs ws status old new) (sym (one ws old.files plan d.0 refused is d.1.is)) d.1
 
   pub refused_exactly : RefusalsAreExact ws status old new
   refused_exactly = record {
     planned = λ refused. did_planned (refused_quiet status refused);
     comes = comes_so;
-    alone = λ plan other refused told is it. one ws old.files plan other refused told is it;
+    alone = λ plan other refused is it. one ws old.files plan other refused is it;
   }

@@ -11,7 +11,7 @@ use Rattle.lam_main_plan.specs.declared.Status.{Status}
 use Rattle.lam_main_plan.specs.declared.Status.TheVariants.{Done, NoMemory, ShelfFault, SinkFault}
 use Rattle.lam_main_plan.specs.Refusals.{Plan}
 use Rattle.lam_main_plan.specs.Reading.{HasFile, IsCompiled, program_limit}
-use Rattle.lam_main_plan.specs.Plan.{IsPlan, IsRefused, IsTold, PlaysScript, IsFormatted}
+use Rattle.lam_main_plan.specs.Plan.{IsPlan, IsRefused, PlaysScript, IsFormatted}
 use Rattle.lam_main_plan.specs.Answer.{Outside, AsPlanned}
 use Rattle.lam_main_laws.specs.Headline.{AsksRun, IsRunEnd}
 use Rattle.lam_main_laws.specs.Calls.{ReplaysRun, AuditsRun}
@@ -30,7 +30,7 @@ IsUnfailed status = Unit {0}
 
 -- the words ask for a command that starts no thread, and its files are there within their limits: the script is read and its
 -- tags have the observer's; the program is spelt, and but for `format` has code; the world's document gives a start, whose
--- tags are the observer's; and the book is that of a run. Of `pair` that is said of both worlds and both books
+-- tags are the observer's; and the book is that of a run. Of `pair` that is said of both worlds and both books.
 pub data IsOrderly (ws : List Text) (files : Files) : Type 0 where
   plays : (script : Play) (o : Label) → PlaysScript ws files script o → IsOrderly ws files
   checks : (program : Text) (tree : CodeTree) → request_of ws ≡ Ok (check program) → HasFile (files program) program_limit (λ bytes. IsCompiled bytes (Ok tree)) → IsOrderly ws files
@@ -65,9 +65,9 @@ pub record IsRefusedAs (ws : List Text) (status : Status) (old new : Outside) (p
   pub ends : status ≡ plan.status
   pub does : AsPlanned status plan old new
 
--- a call ends with the status of a refusal exactly where one of that status is planned, whatever the command; and where one
--- is of which words and files tell, nothing else is planned
+-- a call ends with the status of a refusal exactly where one of that status is planned, whatever the command; and where one is,
+-- nothing else is planned
 pub record RefusalsAreExact (ws : List Text) (status : Status) (old new : Outside) : Type 0 where
   pub planned : IsRefused status → (plan : Plan) × IsRefusedAs ws status old new plan
-  pub comes : (plan : Plan) → IsPlan ws old.files plan → IsRefused plan.status → IsTold (request_of ws) old.files plan → IsUnfailed status → IsRefusedAs ws status old new plan
-  pub alone : (plan other : Plan) → IsRefused plan.status → IsTold (request_of ws) old.files plan → IsPlan ws old.files plan → IsPlan ws old.files other → plan ≡ other
+  pub comes : (plan : Plan) → IsPlan ws old.files plan → IsRefused plan.status → IsUnfailed status → IsRefusedAs ws status old new plan
+  pub alone : (plan other : Plan) → IsRefused plan.status → IsPlan ws old.files plan → IsPlan ws old.files other → plan ≡ other

@@ -1,5 +1,5 @@
 -- Words and files have at most one plan.
-use Rattle.std.proofs.Common.{◌≡◌, ◌<◌, ◌≤◌, ℕ, Bool, true, false, inl, inr, List, length, Option, Some, None, Result, Ok, Err, codes, refl, sym, ap, subst, ◌∙◌, arith}
+use Rattle.std.proofs.Common.{◌≡◌, ◌<◌, ◌≤◌, ℕ, Bool, true, false, List, length, Option, Some, None, Result, Ok, Err, codes, refl, sym, ap, subst, ◌∙◌, arith}
 use Rattle.lam_io.specs.Outside.{Files}
 use Rattle.lam_print.specs.Canon.{canon}
 use Rattle.lam_front.proofs.Once.{one_spelt, spelt_or_misspelt, one_misspelt, fine_or_broken, one_broken}
@@ -19,7 +19,7 @@ use Rattle.world_doc_terms.specs.Breaks.{Reading}
 use Rattle.world_doc_terms.specs.Start.{start_of}
 use Rattle.lam_front.specs.Programs.{IsFine}
 use Rattle.lam_main_words.specs.Words.{Text, Request, play, check, format, code, replay, run, audit, make, help, next, pair, walk, request_of}
-use Rattle.lam_main_plan.specs.Refusals.{Plan, prints, no_program, unnamed_tag, bad_text, too_big}
+use Rattle.lam_main_plan.specs.Refusals.{Plan, prints, no_program}
 use Rattle.lam_main_plan.specs.Reading.{IsUnread, HasFile, WithFile, unread, of_file, script_limit, program_limit, world_limit, book_limit, IsCompiled, ByCode, Compiles, fine, broken, Thins}
 use Rattle.lam_main_plan.specs.Replays.{Reader, an_observer, an_auditor, RunFiles, read_by, IsOfBook, ByReader, ByWorld, Replays, Starts, Runs}
 use Rattle.lam_main_plan.specs.Threads.{status_of, IsOfThreads, ThreadFiles, TakesTurns, StartsThreads, RunsThreads, made_budget, Makes}
@@ -36,12 +36,10 @@ use Rattle.lam_main_plan.specs.Books.{WithStart, WithRun, ByLabel, ByTurns, Wher
 use Rattle.lam_main_plan.specs.Pairs.{pair_line, IsOfPair, PairsWith, PairsRuns, Pairs}
 use Rattle.capabilities.specs.declared.Caps.{Caps}
 use Rattle.labelled_files.specs.Trees.{Tree}
-use Rattle.world_save_terms.specs.Refusals.{bad_path}
-use Rattle.lam_main_plan.specs.Saves.{IsOfFiles, saved, unnamed, untold, too_long, IsOfEnd, SavesRun, Saves}
-use Rattle.source_walk_terms.specs.declared.Walked.TheVariants.{Same}
+use Rattle.lam_main_plan.specs.Saves.{IsOfFiles, IsOfEnd, SavesRun, Saves}
 use Rattle.lam_main_plan.specs.Walks.{same_line, IsOfWalk, WalksRun, Walks}
-use Rattle.lam_main_plan.specs.Plan.{Plays, Formats, canonical, misspelt, Checks, Lists, IsPlanOf, starts_threads, LeavesNoDigits, TellAll, PlansAreOne, IsRefused, IsTold, RefusalsAreOne}
-use Rattle.lam_main_plan.proofs.SaveOnce.{least_is_one, one_item, some_item, one_saved}
+use Rattle.lam_main_plan.specs.Plan.{Plays, Formats, canonical, misspelt, Checks, Lists, IsPlanOf, starts_threads, LeavesNoDigits, PlansAreOne, IsRefused, RefusalsAreOne}
+use Rattle.lam_main_plan.proofs.SaveOnce.{refused_once, one_saved}
 
 pub one_bytes : {bs cs : Text} → Some bs ≡ Some cs → bs ≡ cs
 one_bytes e = cc
@@ -285,40 +283,22 @@ no_end how.Budget refused = refused
 no_run : (tree : CodeTree) (start : World) (out : Text) (budget : ℕ) (shown : List Moment → Text) (p : Plan) → IsRefused p.status → IsOfThreads tree start out budget shown p → ⊥
 no_run tree start out budget shown p refused h = no_end h.ended (subst (λ (it : Plan). IsRefused it.status) h.is refused)
 
--- files of which a refusal is planned, but for one of too many bytes, have no other plan
-no_other_save : (p q : Plan) → IsRefused p.status → ((bytes : ℕ) → p ≡ too_big bytes → ⊥) → (out old : Text) (names : List Text) (public : Caps) (t : Tree) → IsOfFiles out old names public t p → IsOfFiles out old names public t q → p ≡ q
-no_other_save p q refused told out old names public t (saved text items h e) k = absurd (subst (λ (it : Plan). IsRefused it.status) e refused)
-no_other_save p q refused told out old names public t (unnamed tag h e) (saved text items k d) = absurd (k.text_is.have.0 tag h.is)
-no_other_save p q refused told out old names public t (unnamed tag h e) (unnamed other k d) = e ∙ ap unnamed_tag (least_is_one tag other (h.least other k.is) (k.least tag h.is)) ∙ sym d
-no_other_save p q refused told out old names public t (unnamed tag h e) (untold item k d) = absurd (k.0 tag h.is)
-no_other_save p q refused told out old names public t (unnamed tag h e) (too_long bytes k d) = absurd (k.text_is.have.0 tag h.is)
-no_other_save p q refused told out old names public t (untold item h e) (saved text items k d) = absurd (some_item (sym h.1 ∙ k.text_is.have.1))
-no_other_save p q refused told out old names public t (untold item h e) (unnamed tag k d) = absurd (h.0 tag k.is)
-no_other_save p q refused told out old names public t (untold item h e) (untold other k d) = e ∙ ap bad_text (one_item (sym h.1 ∙ k.1)) ∙ sym d
-no_other_save p q refused told out old names public t (untold item h e) (too_long bytes k d) = absurd (some_item (sym h.1 ∙ k.text_is.have.1))
-no_other_save p q refused told out old names public t (too_long bytes h e) k = absurd (told bytes e)
-
--- a refusal that is not told by the number of bytes
-refused_saved : (p q : Plan) → IsRefused p.status → ((bytes : ℕ) → p ≡ too_big bytes → ⊥) → (r : Result Request ℕ) (files : Files) → WhereSaved p q r files
-refused_saved p q refused told (Ok (next program world book out)) files = λ old there out names public t. no_other_save p q refused told out old names public t
-refused_saved p q refused told (Err index) files = tt
-refused_saved p q refused told (Ok (play file observer)) files = tt
-refused_saved p q refused told (Ok (check file)) files = tt
-refused_saved p q refused told (Ok (format file)) files = tt
-refused_saved p q refused told (Ok (code file)) files = tt
-refused_saved p q refused told (Ok (replay program world book label)) files = tt
-refused_saved p q refused told (Ok (run program world label out workers budget)) files = tt
-refused_saved p q refused told (Ok (audit program world book)) files = tt
-refused_saved p q refused told (Ok (make seed threads out)) files = tt
-refused_saved p q refused told (Ok help) files = tt
-refused_saved p q refused told (Ok (pair program first_world first_book second_world second_book label)) files = tt
-refused_saved p q refused told (Ok (walk program world book)) files = tt
-
-where_saved : (p q : Plan) → IsRefused p.status → (r : Result Request ℕ) (files : Files) → IsTold r files p → WhereSaved p q r files
-where_saved p q refused r files (inl digits) = told_saved p q r files digits
-where_saved p q refused r files (inr told) = refused_saved p q refused told r files
+refused_saved : (p q : Plan) → IsRefused p.status → (r : Result Request ℕ) (files : Files) → WhereSaved p q r files
+refused_saved p q refused (Ok (next program world book out)) files = λ old there out names public t. refused_once p q out old names public t refused
+refused_saved p q refused (Err index) files = tt
+refused_saved p q refused (Ok (play file observer)) files = tt
+refused_saved p q refused (Ok (check file)) files = tt
+refused_saved p q refused (Ok (format file)) files = tt
+refused_saved p q refused (Ok (code file)) files = tt
+refused_saved p q refused (Ok (replay program world book label)) files = tt
+refused_saved p q refused (Ok (run program world label out workers budget)) files = tt
+refused_saved p q refused (Ok (audit program world book)) files = tt
+refused_saved p q refused (Ok (make seed threads out)) files = tt
+refused_saved p q refused (Ok help) files = tt
+refused_saved p q refused (Ok (pair program first_world first_book second_world second_book label)) files = tt
+refused_saved p q refused (Ok (walk program world book)) files = tt
 
 pub refusals_are_one : RefusalsAreOne
-refusals_are_one ws files p q refused told h k =
+refusals_are_one ws files p q refused h k =
     one_plan_of p q (request_of ws) files (λ some tree start out budget shown l m. absurd (no_run tree start out budget shown p refused l))
-    (where_saved p q refused (request_of ws) files told) h k
+    (refused_saved p q refused (request_of ws) files) h k

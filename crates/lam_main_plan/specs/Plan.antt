@@ -1,5 +1,5 @@
 -- What a call of given words does with given files, and how it ends, where nothing fails.
-use Rattle.std.specs.Prelude.{◌≡◌, ◌≤◌, ◌⊎◌, ℕ, Bool, true, false, List, [], ◌∷◌, length, Option, Some, None, Result, Ok, Err, chars, codes, refl}
+use Rattle.std.specs.Prelude.{◌≡◌, ◌≤◌, ℕ, Bool, true, false, List, [], ◌∷◌, length, Option, Some, None, Result, Ok, Err, chars, codes, refl}
 use Rattle.flow_labels.specs.LabelText.{label_of}
 use Rattle.flow_labels.specs.declared.Label.{Label}
 use Rattle.flow_labels.specs.declared.texts.LabelFault.{LabelFault}
@@ -20,7 +20,7 @@ use Rattle.lam_bytecode.specs.Listing.{listing_text}
 use Rattle.lam_main_words.specs.Words.{Text, Request, play, check, format, code, replay, run, audit, make, help, next, pair, walk, request_of, commands, help_lines}
 use Rattle.lam_main_plan.specs.declared.Status.{Status}
 use Rattle.lam_main_plan.specs.declared.Status.TheVariants.{Words, Program, World, Book, Missing}
-use Rattle.lam_main_plan.specs.Refusals.{Plan, prints, no_word, no_script, no_program, absent, too_big}
+use Rattle.lam_main_plan.specs.Refusals.{Plan, prints, no_word, no_script, no_program, absent}
 use Rattle.lam_main_plan.specs.Reading.{WithFile, unread, script_limit, program_limit, Compiles}
 use Rattle.lam_main_plan.specs.Replays.{an_observer, an_auditor, Runs}
 use Rattle.lam_main_plan.specs.Threads.{RunsThreads, Makes}
@@ -117,14 +117,9 @@ IsRefused Book = Unit {0}
 IsRefused Missing = Unit {0}
 IsRefused status = ⊥
 
--- words and files tell of it: no digits are left to the writer of a world; or it is not how many bytes too many a world would
--- have, which depends on such digits
-abbrev pub IsTold : Result Request ℕ → Files → Plan → Type 0
-IsTold request files plan = LeavesNoDigits request files ⊎ ((bytes : ℕ) → plan ≡ too_big bytes → ⊥)
-
--- where a refusal is planned nothing else is, also where threads would be started
+-- where a refusal is planned nothing else is, also where threads would be started or digits are left to the writer of a world
 abbrev pub RefusalsAreOne : Type 0
-RefusalsAreOne = (ws : List Text) (files : Files) (p q : Plan) → IsRefused p.status → IsTold (request_of ws) files p → IsPlan ws files p → IsPlan ws files q → p ≡ q
+RefusalsAreOne = (ws : List Text) (files : Files) (p q : Plan) → IsRefused p.status → IsPlan ws files p → IsPlan ws files q → p ≡ q
 
 -- the words and the files name this script and this observer
 pub record PlaysScript (ws : List Text) (files : Files) (script : Play) (observer : Label) : Type 0 where

@@ -27,7 +27,8 @@ abbrev pub saves_text : Text → Text → ℕ → Plan
 saves_text out text items = record { status = Done; text = saved_line items; writes = Some (out, text) }
 
 -- The plan of files and directories, with the tags of a run's start and the document that it began with. The digits of a
--- number that is no whole one are those that the writer gives it, so of such a document there can be several texts.
+-- number that is no whole one are those that the writer gives it, so of such a document there can be several texts. All have one
+-- length.
 pub data IsOfFiles (out : Text) (old : Text) (names : List Text) (public : Caps) (t : Tree) (plan : Plan) : Type 0 where
   saved : (text : Text) (items : ℕ) → IsSavedText names public t old text items → plan ≡ saves_text out text items → IsOfFiles out old names public t plan
   unnamed : (tag : ℕ) → IsSaveFault names public t old (fault.Unnamed tag) → plan ≡ unnamed_tag tag → IsOfFiles out old names public t plan

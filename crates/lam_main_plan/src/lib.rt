@@ -66,8 +66,8 @@ pub fn plans_are_one()
     ensures { PlansAreOne }
 {}
 
-/// Where a refusal is planned of words and files, it is their one plan, also where threads would be started; but for that of a
-/// world of too many bytes where digits are left to its writer.
+/// Where a refusal is planned of words and files, it is their one plan, also where threads would be started, or digits are left to the
+/// writer of a world.
 pub fn refusals_are_one()
     ensures { RefusalsAreOne }
 {}
