@@ -22,12 +22,13 @@ use Rattle.lam_main_plan.proofs.FormatLemmas.{planned}
 use Rattle.lam_main_plan.proofs.ReadLemmas.{program_then}
 use Rattle.lam_main_laws.specs.Headline.{IsRunEnd, MakesBreakOff, RunsAreComplete}
 use Rattle.lam_main_laws.specs.Complete.{MakesAreComplete}
-use Rattle.lam_main_laws.specs.Orderly.{IsUnfailed, IsOrderly, plays, checks, formats, lists, replays, audits, helps, pairs, walks, saves, OrderlyCallsAreDone, OrderlyRunsEnd, MakesEnd, IsRefusedAs, RefusalsAreExact}
+use Rattle.world_save_laws.specs.Longest.{SpelledTextsAreBounded}
+use Rattle.lam_main_laws.specs.Orderly.{IsUnfailed, IsOrderly, plays, checks, formats, lists, replays, audits, helps, pairs, walks, saves, saves_few, OrderlyCallsAreDone, OrderlyRunsEnd, MakesEnd, IsRefusedAs, RefusalsAreExact}
 use Rattle.lam_main_laws.proofs.CallLemmas.{Did, did, broken_did, broken_front, does_run, keeps_run}
 use Rattle.lam_main_laws.proofs.ReplayLemmas.{view_printed, audit_printed}
 use Rattle.lam_main_laws.proofs.PairLemmas.{pair_planned}
 use Rattle.lam_main_laws.proofs.WalkLemmas.{walk_planned}
-use Rattle.lam_main_laws.proofs.SaveLemmas.{save_planned, save_done}
+use Rattle.lam_main_laws.proofs.SaveLemmas.{save_planned, save_done, few_saved}
 
 -- ---- what the call did
 
@@ -64,7 +65,7 @@ module _ (files : Files) (program : Text) (tree : CodeTree) (h : HasFile (files 
   listed : IsPlanOf (Ok (code program)) files (prints (listing_text tree))
   listed = program_then (files program) program (λ tree p. p ≡ prints (listing_text tree)) (prints (listing_text tree)) tree h refl
 
-module _ (stops : (tree : CodeTree) → RunsStop tree) where
+module _ (stops : (tree : CodeTree) → RunsStop tree) (bounded : SpelledTextsAreBounded) where
   -- the plan of a call in order is that of a text
   orderly_text : PlansAreOne → (ws : List Text) (files : Files) (plan : Plan) → Prints ws files → IsPlan ws files plan → plan.status ≡ Done
   orderly_text one ws files plan p is = ap (λ (it : Plan). it.status) (one ws files plan (prints p.text) p.alone is p.is)
@@ -80,6 +81,8 @@ module _ (stops : (tree : CodeTree) → RunsStop tree) where
   orderly_plan one ws files plan (pairs tree o s turns s' turns' a) is = ap (λ (it : Plan). it.status) (pair_planned ws files tree o s turns s' turns' plan (stops tree) a is).is
   orderly_plan one ws files plan (walks tree start turns a) is = ap (λ (it : Plan). it.status) (walk_planned ws files tree start turns plan (stops tree) a is).tells.is
   orderly_plan one ws files plan (saves tree start turns a can) is = save_done a.out a.holds.starts.bytes tree start turns plan can (save_planned ws files tree start turns plan (stops tree) a is)
+  orderly_plan one ws files plan (saves_few tree start turns a few) is =
+      save_done a.out a.holds.starts.bytes tree start turns plan (few_saved bounded a.holds.starts.bytes tree start turns few) (save_planned ws files tree start turns plan (stops tree) a is)
 
   pub orderly_done : PlansAreOne → (ws : List Text) (status : Status) (old new : Outside) → IsPlanned status (IsPlan ws old.files) old new → OrderlyCallsAreDone ws status old
   orderly_done one ws status old new given orderly quiet =

@@ -16,11 +16,14 @@ use Rattle.lam_main_plan.specs.Books.{WithRun}
 use Rattle.lam_main_plan.specs.Saves.{saved, unnamed, untold, too_long, IsOfEnd, SavesRun, Saves}
 use Rattle.lam_main_plan.specs.Plan.{IsPlan, IsPlanOf}
 use Rattle.lam_main_plan.specs.Saved.{IsSavedText}
+use Rattle.world_save_terms.specs.Document.{Spells}
+use Rattle.world_save_files.proofs.DocumentLengths.{parts_once}
+use Rattle.world_save_laws.specs.Longest.{longest, SpelledTextsAreBounded}
 use Rattle.world_save_laws.specs.Runs.{IsSavedRun}
 use Rattle.world_save_laws.proofs.ReadLemmas.{next_read}
 use Rattle.world_save_laws.proofs.RunLemmas.{starts_agree}
 use Rattle.lam_main_laws.specs.Calls.{HoldRun}
-use Rattle.lam_main_laws.specs.Saves.{AsksNext, CanBeSaved, SavesAreTold, NextWorldsAreRead, WritesNext, NextStartsAgree}
+use Rattle.lam_main_laws.specs.Saves.{AsksNext, CanBeSaved, HasFewBytes, SavesAreTold, NextWorldsAreRead, WritesNext, NextStartsAgree}
 use Rattle.lam_main_laws.proofs.PlanLemmas.{of_bytes, of_code, of_world}
 use Rattle.lam_main_laws.proofs.PairLemmas.{of_run}
 use Rattle.lam_main_laws.proofs.ReplayLemmas.{never_stops}
@@ -54,6 +57,19 @@ save_done out old code start turns plan can (saved text items h e) = ap (λ (it 
 save_done out old code start turns plan can (unnamed tag h e) = absurd (can.have.0 tag h.is)
 save_done out old code start turns plan can (untold item h e) = absurd (some_item (sym h.1 ∙ can.have.1))
 save_done out old code start turns plan can (too_long bytes h e) = absurd (too_many 16777216 (length h.text) h.long (can.fits h.text h.text_is))
+
+at_most : (bytes few most : ℕ) → bytes ≤ few → few ≤ most → bytes ≤ most
+at_most bytes few most h k = omega (arith, h, k)
+
+-- a document of few bytes is not too long
+pub few_saved : SpelledTextsAreBounded → (old : Text) (code : CodeTree) (start : World) (turns : List ℕ) → HasFewBytes old code start turns → CanBeSaved old code start turns
+few_saved bounded old code start turns f =
+    record {
+      have = f.have;
+      fits = λ text x.
+          let same = parts_once start.names start.public (replay code turns start).files old x.parts f.parts x.parts_are f.parts_are in
+          at_most (length text) (longest f.parts) 16777216 (bounded f.parts text (subst (λ p. Spells p text) same x.spells)) f.few;
+    }
 
 -- ---- what is written is read
 

@@ -17,7 +17,7 @@ use Rattle.lam_main_laws.specs.Headline.{AsksRun, IsRunEnd}
 use Rattle.lam_main_laws.specs.Calls.{ReplaysRun, AuditsRun}
 use Rattle.lam_main_laws.specs.Pairs.{AsksPair}
 use Rattle.lam_main_laws.specs.Walks.{AsksWalk}
-use Rattle.lam_main_laws.specs.Saves.{AsksNext, CanBeSaved}
+use Rattle.lam_main_laws.specs.Saves.{AsksNext, CanBeSaved, HasFewBytes}
 
 -- memory did not run out, and neither the file store nor the output failed
 abbrev pub IsUnfailed : Status → Type 0
@@ -30,7 +30,8 @@ IsUnfailed status = Unit {0}
 
 -- the words ask for a command that starts no thread, and its files are there within their limits: the script is read and its
 -- tags have the observer's; the program is spelt, and but for `format` has code; the world's document gives a start, whose
--- tags are the observer's; and the book is that of a run. Of `pair` that is said of both worlds and both books.
+-- tags are the observer's; and the book is that of a run. Of `pair` that is said of both worlds and both books. Of `next`
+-- nothing keeps the files at the end from being saved, or their document has few bytes
 pub data IsOrderly (ws : List Text) (files : Files) : Type 0 where
   plays : (script : Play) (o : Label) → PlaysScript ws files script o → IsOrderly ws files
   checks : (program : Text) (tree : CodeTree) → request_of ws ≡ Ok (check program) → HasFile (files program) program_limit (λ bytes. IsCompiled bytes (Ok tree)) → IsOrderly ws files
@@ -42,6 +43,7 @@ pub data IsOrderly (ws : List Text) (files : Files) : Type 0 where
   pairs : (tree : CodeTree) (o : Label) (s : World) (turns : List ℕ) (s' : World) (turns' : List ℕ) → AsksPair ws files tree o s turns s' turns' → IsOrderly ws files
   walks : (tree : CodeTree) (start : World) (turns : List ℕ) → AsksWalk ws files tree start turns → IsOrderly ws files
   saves : (tree : CodeTree) (start : World) (turns : List ℕ) (a : AsksNext ws files tree start turns) → CanBeSaved a.holds.starts.bytes tree start turns → IsOrderly ws files
+  saves_few : (tree : CodeTree) (start : World) (turns : List ℕ) (a : AsksNext ws files tree start turns) → HasFewBytes a.holds.starts.bytes tree start turns → IsOrderly ws files
 
 -- such a call is done
 abbrev pub OrderlyCallsAreDone : List Text → Status → Outside → Type 0

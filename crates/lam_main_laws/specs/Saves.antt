@@ -7,8 +7,9 @@ use Rattle.lam_machine_terms.specs.Worlds.{World}
 use Rattle.lam_machine_terms.specs.Turns.{moments, replay}
 use Rattle.lam_machine_terms.specs.Views.{Agree, agenda}
 use Rattle.world_doc_terms.specs.Start.{start_of}
-use Rattle.world_save_terms.specs.Document.{most_document}
-use Rattle.lam_main_plan.specs.Saved.{HaveText, IsTextOf}
+use Rattle.world_save_terms.specs.Document.{Parts, most_document}
+use Rattle.lam_main_plan.specs.Saved.{HaveText, ArePartsOf, IsTextOf}
+use Rattle.world_save_laws.specs.Longest.{longest}
 use Rattle.world_save_laws.specs.Next.{GoesOn}
 use Rattle.world_save_laws.specs.Agreeing.{AreNamedInSeen}
 use Rattle.lam_main_words.specs.Words.{Text, next, request_of}
@@ -31,6 +32,14 @@ pub record AsksNext (ws : List Text) (files : Files) (code : CodeTree) (start : 
 pub record CanBeSaved (old : Text) (code : CodeTree) (start : World) (turns : List ℕ) : Type 0 where
   pub have : HaveText start.names (replay code turns start).files
   pub fits : (text : Text) → IsTextOf start.names start.public (replay code turns start).files old text → length text ≤ most_document
+
+-- Each label and each path has a text, and the document has no more bytes than it may, with 25 counted of each number in what it takes
+-- from the older one.
+pub record HasFewBytes (old : Text) (code : CodeTree) (start : World) (turns : List ℕ) : Type 0 where
+  pub have : HaveText start.names (replay code turns start).files
+  pub parts : Parts
+  pub parts_are : ArePartsOf start.names start.public (replay code turns start).files old parts
+  pub few : longest parts ≤ most_document
 
 -- its plan is that of these files: the document of them and of the one that the run began with, or why there is none
 abbrev pub SavesAreTold : List Text → Files → Type 0

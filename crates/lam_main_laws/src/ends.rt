@@ -13,6 +13,7 @@ ghost use Rattle.lam_main_laws.specs.Orderly.{OrderlyCallsAreDone, RefusalsAreEx
 
 use lam_machine_runs::runs_stop;
 use lam_main_plan::{plans_are_one, refusals_are_one};
+use world_save_laws::spelled_texts_are_bounded;
 
 /// A law: a call of a command that starts no thread, whose words and files are in order, is done, unless memory runs out, or
 /// the file store or the output fails.
@@ -21,6 +22,7 @@ pub fn orderly_calls_are_done()
 {
     plans_are_one();
     runs_stop();
+    spelled_texts_are_bounded();
 }
 
 /// A law: a call of any command ends with the status of a refusal exactly where a refusal of that status is planned of its
