@@ -21,9 +21,8 @@ use Rattle.lam_operators.specs.declared.BinaryOp.TheVariants as binary
 use Rattle.lam_operators.specs.declared.UnaryOp.{UnaryOp}
 use Rattle.lam_operators.specs.declared.UnaryOp.TheVariants as unary
 use Rattle.thread_steps.specs.Limits.{frames_limit, length_limit}
-use Rattle.thread_steps.specs.Operators as operators
 use Rattle.thread_steps.specs.Operators.{Pure, fine, operator, prefix, label_from, with_sign}
-use Rattle.thread_steps.specs.Builtins.{Calls, now, faults, asks, acts, wrong, builtin}
+use Rattle.thread_steps.specs.Builtins.{Calls, now, builtin}
 use Rattle.thread_steps.specs.Ops.{Did, gives, jumps, calls, returns, fails, wants, breaks, on_any, on_int, on_truth, on_many, on_thing, on_caps, on_label, operated, between, before, unless_denied, barrier, tested, may_read, may_write, within, gets_field, puts_field, gets_element, puts_element, new_object, new_array, function_takes, region_in, region_takes, on_known, called, is_held, monitor_of, on_constant, at_address, Around, effect}
 use Rattle.guarded_code.specs.Changes.{goes}
 use Rattle.guarded_code.specs.Breaks.{all_within}
@@ -77,8 +76,7 @@ module _ (ks : List Bool) where
 
   still_operated : (s : List Value) (x : Pure) → Still (operated s x)
   still_operated s (fine v) = refl
-  still_operated s (operators.faults f) = refl
-  still_operated s operators.wrong = refl
+  still_operated s x = refl
 
   still_between : (op : BinaryOp) (s : List Value) → Still (between op s)
   still_between op s = still_any s _ (λ w r. still_any r _ (λ v t. still_operated t (operator op v w)))
@@ -129,10 +127,7 @@ module _ (ks : List Bool) where
 
   still_called : (s : List Value) (x : Calls) → Still (called s x)
   still_called s (now v) = refl
-  still_called s (faults f) = refl
-  still_called s (asks a) = refl
-  still_called s (acts a) = refl
-  still_called s wrong = refl
+  still_called s x = refl
 
   still_monitor : (a : Value → Ask) (may : Name → Bool) (s : List Value) → Still (monitor_of a may s)
   still_monitor a may (Obj n ∷ s) = still_if (may n) (wants (a (Obj n)) s) breaks refl refl
@@ -158,7 +153,6 @@ module _ (ks : List Bool) where
   -- a test of a truth value
   branch : (to : ℕ) (s : List Value) → on_truth s (λ b s. if b then gives s else jumps (moved ks to) s) ≡ moved_did ks (on_truth s (λ b s. if b then gives s else jumps to s))
   branch to (Truth true ∷ s) = refl
-  branch to (Truth false ∷ s) = refl
   branch to s = refl
 
 -- the same but for the code and the number of operations

@@ -4,7 +4,7 @@ use Rattle.std.specs.List.{AllByRecursion}
 use Rattle.std.proofs.lemmas.Option.{slice_get-map}
 use Rattle.lam_asks.specs.declared.answer.Outcome.{Outcome}
 use Rattle.lam_asks.specs.declared.answer.Answer.{Answer}
-use Rattle.lam_asks.specs.declared.answer.Answer.TheVariants.{Done, Entered, Val, Refused, Failed}
+use Rattle.lam_asks.specs.declared.answer.Answer.TheVariants.{Done, Entered}
 use Rattle.lam_asks.specs.declared.ask.Ask.{Ask}
 use Rattle.lam_asks.specs.declared.ask.Ask.TheVariants as ask
 use Rattle.lam_asks.specs.Suits.{Sort, numbers, is_value, want_of, fits}
@@ -29,9 +29,7 @@ use Rattle.thinned_code_acts.proofs.Lone.{IsDescribedAlone}
 read_form : (s : Sort) (x : Answer) → IsOfForm (is_value s) x → IsOfForm (is_value numbers) x
 read_form s Done h = h
 read_form s Entered h = h
-read_form s (Val v) h = tt
-read_form s (Refused d) h = tt
-read_form s (Failed f) h = tt
+read_form s x h = tt
 
 -- only a read hangs on the sort that its place wants
 form_of : (s : Sort) (a : Ask) (x : Answer) → IsOfForm (want_of s a).gives x → Answers a x

@@ -241,8 +241,7 @@ module _ (code : CodeTree) (guarded : IsGuarded code) where
     -- it is stuck there where it is stuck here
     stands_moved : (nx : Next) → stands (moved_next code nx) ≡ stands nx
     stands_moved (goes i) = refl
-    stands_moved (asks a after) = refl
-    stands_moved stuck = refl
+    stands_moved nx = refl
 
     standing_moved : (cs : List Context) → AllStay code cs → standing_in (thinned code) (moved_all cs) ≡ standing_in code cs
     standing_moved [] stays = refl

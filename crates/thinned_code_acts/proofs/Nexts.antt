@@ -9,7 +9,7 @@ use Rattle.lam_bytecode.specs.Codes.{CodeTree}
 use Rattle.lam_bytecode.specs.declared.unit.CodeUnit.{CodeUnit}
 use Rattle.lam_bytecode.specs.declared.op.Op.{Op}
 use Rattle.thread_steps.specs.Threads.{Frame, Inside, Phase, Bottom, Body, Catch, Context}
-use Rattle.thread_steps.specs.Ops.{Did, gives, sets, jumps, calls, returns, fails, wants, leaves, breaks, Around, effect}
+use Rattle.thread_steps.specs.Ops.{Did, gives, sets, calls, returns, fails, wants, leaves, breaks, Around, effect}
 use Rattle.thread_steps.specs.Next.{Next, goes, asks, frame_at, outermost, locals_in, filled, entry, next_by, returned, ending, leaving, raised, ops_in, ops_of, around, next_op, next_in, next_of}
 use Rattle.guarded_code.specs.Changes as changes
 use Rattle.guarded_code.specs.Breaks.{all_within, IsGuarded}
@@ -50,8 +50,7 @@ module _ (code : CodeTree) where
 
   ending_moved : (ks : List Bool) (ph : Phase) (i : Inside) (v : Value) → ending (moved_phase ks ph) (moved_inside code i) v ≡ moved_next code (ending ph i v)
   ending_moved ks Bottom i v = refl
-  ending_moved ks (Body to) i v = refl
-  ending_moved ks Catch i v = refl
+  ending_moved ks ph i v = refl
 
   returned_moved : (ks : List Bool) (ph : Phase) (i : Inside) (v : Value) (fs : List Frame) → returned (moved_phase ks ph) (moved_inside code i) v (map (moved_frame code) fs) ≡ moved_next code (returned ph i v fs)
   returned_moved ks ph i v [] = ending_moved ks ph i v
@@ -59,24 +58,20 @@ module _ (code : CodeTree) where
 
   leaving_moved : (ks : List Bool) (ph : Phase) (i : Inside) → leaving (moved_phase ks ph) (moved_inside code i) ≡ moved_next code (leaving ph i)
   leaving_moved ks Bottom i = refl
-  leaving_moved ks (Body to) i = refl
-  leaving_moved ks Catch i = refl
+  leaving_moved ks ph i = refl
 
   raised_moved : (ks : List Bool) (ph : Phase) (i : Inside) (f : Fault) → raised (moved_phase ks ph) (moved_inside code i) f ≡ moved_next code (raised ph i f)
   raised_moved ks Bottom i f = refl
-  raised_moved ks (Body to) i f = refl
-  raised_moved ks Catch i f = refl
+  raised_moved ks ph i f = refl
 
   did_moved : (ks : List Bool) (ph : Phase) (i : Inside) (d : Did) → moved (staying_at code i.frame.unit) (i.frame.at + 1) ≡ moved (staying_at code i.frame.unit) i.frame.at + 1 → next_by (thin_code code) (moved_phase ks ph) (moved_inside code i) (moved_did (staying_at code i.frame.unit) d) ≡ moved_next code (next_by code ph i d)
   did_moved ks ph i (gives s) e = ap (λ at. goes (going i i.frame.locals s at)) (sym e)
   did_moved ks ph i (sets ls s) e = ap (λ at. goes (going i ls s at)) (sym e)
-  did_moved ks ph i (jumps to s) e = refl
   did_moved ks ph i (calls u vs s) e = ap₂ (calling i s) (entry_moved u vs) (sym e)
   did_moved ks ph i (returns v) e = returned_moved ks ph i v i.callers
-  did_moved ks ph i (fails f) e = refl
   did_moved ks ph i (wants a s) e = ap (λ at. asks a (going i i.frame.locals s at)) (sym e)
   did_moved ks ph i leaves e = leaving_moved ks ph i
-  did_moved ks ph i breaks e = refl
+  did_moved ks ph i d e = refl
 
   -- ---- the next turn
 
@@ -134,15 +129,12 @@ module _ (code : CodeTree) where
   kept_leaving c Catch = refl
 
   kept_did : (c : Context) (d : Did) → IsKept c (next_by code c.phase c.inside d)
-  kept_did c (gives s) = outer_same _ c.inside.frame c.inside.callers refl
-  kept_did c (sets ls s) = outer_same _ c.inside.frame c.inside.callers refl
-  kept_did c (jumps to s) = outer_same _ c.inside.frame c.inside.callers refl
   kept_did c (calls u vs s) = outer_same (frame_at c.inside.frame (c.inside.frame.at + 1) c.inside.frame.locals s) c.inside.frame c.inside.callers refl
   kept_did c (returns v) = kept_returned c v c.inside.callers refl
   kept_did c (fails f) = refl
-  kept_did c (wants a s) = outer_same _ c.inside.frame c.inside.callers refl
   kept_did c leaves = kept_leaving c c.phase
   kept_did c breaks = tt
+  kept_did c d = outer_same _ c.inside.frame c.inside.callers refl
 
   kept_op : (c : Context) (o : Option Op) → IsKept c (next_op code c o)
   kept_op c None = tt
@@ -150,8 +142,7 @@ module _ (code : CodeTree) where
 
   kept_raised : (c : Context) (ph : Phase) (f : Fault) → IsKept c (raised ph c.inside f)
   kept_raised c Bottom f = refl
-  kept_raised c (Body to) f = refl
-  kept_raised c Catch f = refl
+  kept_raised c ph f = refl
 
   kept_in : (c : Context) (o : Option Fault) → IsKept c (next_in code c o)
   kept_in c (Some f) = kept_raised c c.phase f

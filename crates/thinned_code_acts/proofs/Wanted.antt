@@ -16,16 +16,15 @@ use Rattle.lam_asks.specs.declared.fault.Fault.TheVariants.{Long, Index}
 use Rattle.lam_asks.specs.Faults.{fault_number}
 use Rattle.lam_asks.specs.declared.answer.Outcome.TheVariants as outcome
 use Rattle.lam_asks.specs.declared.answer.Answer.{Answer}
-use Rattle.lam_asks.specs.declared.answer.Answer.TheVariants.{Done, Entered, Val, Refused, Failed}
+use Rattle.lam_asks.specs.declared.answer.Answer.TheVariants.{Done, Entered, Val, Failed}
 use Rattle.lam_asks.specs.declared.ask.Ask.{Ask}
 use Rattle.lam_asks.specs.declared.ask.Ask.TheVariants as ask
 use Rattle.lam_asks.specs.Suits.{Sort, numbers, want_of, fits}
 use Rattle.thread_steps.specs.Limits.{length_limit}
-use Rattle.thread_steps.specs.Operators as operators
 use Rattle.thread_steps.specs.Operators.{Pure, fine, operator, prefix, label_from, with_sign}
 use Rattle.thread_steps.specs.Builtins as calls
 use Rattle.thread_steps.specs.Builtins.{Calls, builtin}
-use Rattle.lam_resolve_tree.specs.Tree.{ResolvedType, CapSlot, Expression, number_value, text_value, bool_value, null_value, local_value, unary_of, binary_of, field_of, element_of, call_of, builtin_of, new_object, new_array, label_of, caps_of, spawn_of, Expressions, args_end, args_more, Statement, let_slot, if_block, while_block, return_value, throw_value, sync_block, region_block, do_value, set_local, set_field, set_element, Block, block_end, block_more, OtherBlock, no_other, other_block, ResolvedFunction, ResolvedTree}
+use Rattle.lam_resolve_tree.specs.Tree.{ResolvedType, CapSlot, Expression, unary_of, binary_of, field_of, element_of, call_of, builtin_of, new_object, new_array, label_of, caps_of, spawn_of, Expressions, args_end, args_more, Statement, let_slot, if_block, while_block, return_value, throw_value, sync_block, region_block, do_value, set_local, set_field, set_element, Block, block_end, block_more, OtherBlock, no_other, other_block, ResolvedFunction, ResolvedTree}
 use Rattle.lam_meaning.specs.Trees.{Own, with_local, local, Asked, asked, End, goes, raises, leaves, Tree, ends, spent, broken, asks, on_end, next, and_then, fails, spend, purely, value_reply, nothing_gained, ask_value, done_reply, ask_done, ask_unit, unless_denied, on_object, on_array, on_thing, on_truth, on_caps, on_region, gained}
 use Rattle.lam_meaning.specs.Means.{sort_of, kind_of, class_fields, At, may_read, may_write, Caller, within, on_number, makes_array, result_sort, called_in, signed, two, eval, eval_all, Open, Does, take, give_back, returns, captured, caught_end, body_end, enter_reply, inside, region, throws, eval_option, exec, exec_block, exec_other, calls_limit, call_end, body_of, deeper, calls_to, runs, block_runs, last_ask, means}
 use Rattle.lam_meaning.specs.Plays.{asks_of}
@@ -59,25 +58,18 @@ then_on {A} {B} t go h k = ended t (next go) h each
 
 pure_one : (n : ℕ) (o : Own) (x : Pure) → AllWanted (purely n o x)
 pure_one n o (fine v) = tt
-pure_one n o (operators.faults f) = tt
-pure_one n o operators.wrong = tt
+pure_one n o x = tt
 
 value_one : (gains : Value → Own → Own) (n : ℕ) (o : Own) (x : Answer) → AllWanted (value_reply gains n o x)
 value_one gains n o (Val v) = tt
-value_one gains n o (Refused d) = tt
-value_one gains n o (Failed f) = tt
-value_one gains n o Done = tt
-value_one gains n o Entered = tt
+value_one gains n o x = tt
 
 asks_value : (s : Sort) (a : Ask) (n : ℕ) (o : Own) → AllWanted (ask_value (asked s a) n o)
 asks_value s a n o = ((s, refl), λ x. value_one nothing_gained n o x)
 
 done_one : {A : Type 0} (a : A) (n : ℕ) (o : Own) (x : Answer) → AllWanted (done_reply a n o x)
 done_one a n o Done = tt
-done_one a n o (Refused d) = tt
-done_one a n o (Failed f) = tt
-done_one a n o (Val v) = tt
-done_one a n o Entered = tt
+done_one a n o x = tt
 
 asks_done : {A : Type 0} (a : Ask) (it : A) (n : ℕ) (o : Own) → AllWanted (ask_done a it n o)
 asks_done a it n o = ((numbers, refl), λ x. done_one it n o x)
@@ -119,7 +111,6 @@ caps_one v n o go h = tt
 region_one : {A : Type 0} (l c : Value) (n : ℕ) (o : Own) (go : Label → Caps → Tree A) → ((l : Label) (k : Caps) → AllWanted (go l k)) → AllWanted (on_region l c n o go)
 region_one (Lab l) c n o go h = caps_one c n o (λ k. go l k) (λ k. h l k)
 region_one Nothing (CapV p m) n o go h = tt
-region_one Nothing Nothing n o go h = tt
 region_one l c n o go h = tt
 
 number_one : {A : Type 0} (v : Value) (go : ℤ → Tree A) → ((z : ℤ) → AllWanted (go z)) → AllWanted (on_number v go)
@@ -135,11 +126,9 @@ array_made k (pos m) n o = if_one (nat_le m length_limit) (ask_value (asked numb
 array_made k (negsuc m) n o = tt
 
 called_one : (t : Option ResolvedType) (n : ℕ) (o : Own) (x : Calls) → AllWanted (called_in t n o x)
-called_one t n o (calls.now v) = tt
-called_one t n o (calls.faults f) = tt
 called_one t n o (calls.asks a) = ((result_sort t, refl), λ x. value_one (gained a) n o x)
 called_one t n o (calls.acts a) = asks_done a Nothing n o
-called_one t n o calls.wrong = tt
+called_one t n o x = tt
 
 signed_one : (xs : List CapSlot) (c : Value) (n : ℕ) (o : Own) → AllWanted (signed xs c n o)
 signed_one [] c n o = tt
@@ -161,11 +150,6 @@ CallsWanted call = (f : ℕ) (vs : List Value) (p : At) (n : ℕ) (o : Own) → 
 module _ (r : ResolvedTree) (call : Caller) (called : CallsWanted call) where
   mutual
     eval_one : (e : Expression) (p : At) (n : ℕ) (o : Own) → AllWanted (eval r call e p n o)
-    eval_one (number_value z) p n o = tt
-    eval_one (text_value bs) p n o = tt
-    eval_one (bool_value b) p n o = tt
-    eval_one null_value p n o = tt
-    eval_one (local_value x) p n o = tt
     eval_one (unary_of op e) p n o = then_on (eval r call e p n o) _ (eval_one e p n o) (λ v n o. pure_one n o (prefix op v))
     eval_one (binary_of op a b) p n o =
         then_on (eval r call a p n o) _ (eval_one a p n o) (λ v n o. two_one op v (λ n o. eval r call b p n o) n o (λ n o. eval_one b p n o))
@@ -187,6 +171,7 @@ module _ (r : ResolvedTree) (call : Caller) (called : CallsWanted call) where
     eval_one (spawn_of c f args) p n o =
         then_on (eval r call c p n o) _ (eval_one c p n o)
         (λ c n o. then_on (eval_all r call args p n o) _ (all_one args p n o) (λ vs n o. caps_one c n o _ (λ k. asks_value numbers (ask.Spawn f vs k) n o)))
+    eval_one e p n o = tt
 
     all_one : (es : Expressions) (p : At) (n : ℕ) (o : Own) → AllWanted (eval_all r call es p n o)
     all_one args_end p n o = tt
@@ -226,10 +211,7 @@ body_one outer slot handler h (leaves v n o) = tt
 
 enter_one : (t : Tree (Unit {0})) (n : ℕ) (o : Own) → AllWanted t → (x : Answer) → AllWanted (enter_reply t n o x)
 enter_one t n o h Entered = h
-enter_one t n o h (Refused d) = tt
-enter_one t n o h (Failed f) = tt
-enter_one t n o h Done = tt
-enter_one t n o h (Val v) = tt
+enter_one t n o h x = tt
 
 abbrev DoesWanted : Does → Type 0
 DoesWanted does = (p : At) (n : ℕ) (o : Own) → AllWanted (does p n o)
@@ -281,8 +263,7 @@ module _ (r : ResolvedTree) (call : Caller) (called : CallsWanted call) (again :
 -- ---- calls and threads
 call_one : (ls : List Value) (e : End (Unit {0})) → AllWanted (call_end ls e)
 call_one ls (goes a n o) = tt
-call_one ls (raises f n o) = tt
-call_one ls (leaves v n o) = tt
+call_one ls e = tt
 
 unit_one : (run : Block → Does) → ((b : Block) → DoesWanted (run b)) → (f : Option ResolvedFunction) (vs : List Value) (p : At) (n : ℕ) (o : Own) → AllWanted (body_of run f vs p n o)
 unit_one run h None vs p n o = tt

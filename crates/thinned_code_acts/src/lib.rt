@@ -11,6 +11,9 @@
 //!
 //! `turns` has one turn of both threads beside each other (`specs/Matches`). `specs/Laws` has the statement,
 //! `proofs/Lone` single turns, and `proofs/Acting` whole runs.
+//!
+//! A public promise rests on `thinned_scheme_acts` (clause `acts`): a program's thinned code acts as the program
+//! (clause `acts` of `thin`, `barrier_thin`). Nothing here is a matter of speed.
 #![tactic(auto)]
 
 mod turns;
