@@ -12,6 +12,9 @@
 //! - `counts`: how many files and directories each home has made.
 //! - `numbered`: the items of the tree of version 3, each of which says its name.
 //! - `files`: all files and directories of a document of any version ([`read_files`]).
+//!
+//! No public promise rests on this crate directly: `start` of `world_doc` is made of its readers. Free to change for
+//! speed: how a reader finds and keeps what it reads. Which break comes first is fixed.
 #![tactic(auto)]
 
 mod counts;

@@ -15,10 +15,10 @@ ghost use Rattle.world_doc_terms.specs.Stores.{as_dir, unless_full};
 ghost use Rattle.world_doc_terms.specs.Numbered.{is_capital, bytes_of_hex, as_hex, hex_content_of, is_open, name_in, with_named, with_numbered_items};
 ghost use Rattle.world_doc_stores.specs.Meaning.{Gives, GivesOnto};
 ghost use Rattle.world_doc_stores.specs.Seen.{members};
-ghost use Rattle.world_doc_stores.specs.Contents.{spot, saved_seen, numbered_at, numbered_placed, numbered_item_in, numbered_onto};
+ghost use Rattle.world_doc_stores.specs.Contents.{spot, saved_seen, numbered_placed, numbered_item_in, numbered_onto};
 
 use crate::counts::read_counts;
-use crate::path::{find_spot, is_taken};
+use crate::path::open_spot;
 use crate::tree::path_fault;
 use crate::{
     WorldFault, array_member, bad_member, member, no_member, object, read_label, read_label_as,
@@ -30,7 +30,6 @@ use labelled_files::{EntryKind, FILE_LIMIT, FileFault, Files};
 use lam_value::Name;
 use serde_json::Value;
 use std::alloc::Global;
-use world_doc_terms::WorldBreak;
 
 /// The number of digits that the bytes of a file may have.
 const DIGIT_LIMIT: usize = 2 * FILE_LIMIT;
@@ -183,25 +182,7 @@ fn put_named(
     }
 }
 
-// The labels, the number and the content of an item, at its place.
-fn fill_named(
-    alloc: Global,
-    names: &TagNames,
-    files: &mut Files,
-    index: u64,
-    dir: &Name,
-    text: &[u8],
-    item: &Value,
-) -> Result<(), WorldFault>
-    ensures { GivesOnto result files.new (numbered_at names.now index files.old (members (view item.now)) (spot dir.now text.now)) }
-{
-    let own = read_label(alloc, item, names)?;
-    let maker = read_label_as(alloc, item, "maker", names)?;
-    let name = read_name(alloc, files, &maker, &own, item)?;
-    let content = read_saved(alloc, item)?;
-    put_named(files, index, dir, text, &name, &content)
-}
-
+// Puts an item, with its labels, its number and its content, at its path.
 fn place_named(
     alloc: Global,
     names: &TagNames,
@@ -212,14 +193,12 @@ fn place_named(
 ) -> Result<(), WorldFault>
     ensures { GivesOnto result files.new (numbered_placed names.now index files.old (members (view item.now)) path.now) }
 {
-    let Some((dir, text)) = find_spot(files, path) else {
-        return Err(WorldFault::Broken(WorldBreak::BadPath(index)));
-    };
-    if is_taken(files, dir, text) {
-        return Err(WorldFault::Broken(WorldBreak::PathTwice(index)));
-    }
-    let dir = dir.copy()?;
-    fill_named(alloc, names, files, index, &dir, text, item)
+    let (dir, text) = open_spot(files, index, path)?;
+    let own = read_label(alloc, item, names)?;
+    let maker = read_label_as(alloc, item, "maker", names)?;
+    let name = read_name(alloc, files, &maker, &own, item)?;
+    let content = read_saved(alloc, item)?;
+    put_named(files, index, &dir, text, &name, &content)
 }
 
 fn place_numbered(

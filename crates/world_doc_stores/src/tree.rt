@@ -10,9 +10,9 @@ ghost use Rattle.world_doc_terms.specs.Breaks.{formed};
 ghost use Rattle.world_doc_terms.specs.Stores.{as_dir, as_text, content_of, with_content, unless_full, with_items};
 ghost use Rattle.world_doc_stores.specs.Meaning.{Gives, GivesOnto};
 ghost use Rattle.world_doc_stores.specs.Seen.{members};
-ghost use Rattle.world_doc_stores.specs.Contents.{spot, content_seen, path_fault, filled, placed, item_in, tree_onto};
+ghost use Rattle.world_doc_stores.specs.Contents.{spot, content_seen, path_fault, placed, item_in, tree_onto};
 
-use crate::path::{find_spot, is_taken};
+use crate::path::open_spot;
 use crate::{WorldFault, array_member, bad_member, no_member, object, read_label, str_member};
 use flow_labels::{Label, TagNames};
 use labelled_files::{FILE_LIMIT, FileFault, Files};
@@ -107,23 +107,7 @@ fn put(
     }
 }
 
-// The label and the content of an item, at its place.
-fn fill(
-    alloc: Global,
-    names: &TagNames,
-    files: &mut Files,
-    index: u64,
-    dir: &Name,
-    text: &[u8],
-    item: &Value,
-) -> Result<(), WorldFault>
-    ensures { GivesOnto result files.new (filled names.now index files.old (members (view item.now)) (spot dir.now text.now)) }
-{
-    let label = read_label(alloc, item, names)?;
-    let content = read_content(alloc, item)?;
-    put(files, index, dir, text, &label, content)
-}
-
+// Puts an item, with its label and its content, at its path.
 fn place(
     alloc: Global,
     names: &TagNames,
@@ -134,14 +118,10 @@ fn place(
 ) -> Result<(), WorldFault>
     ensures { GivesOnto result files.new (placed names.now index files.old (members (view item.now)) path.now) }
 {
-    let Some((dir, text)) = find_spot(files, path) else {
-        return Err(WorldFault::Broken(WorldBreak::BadPath(index)));
-    };
-    if is_taken(files, dir, text) {
-        return Err(WorldFault::Broken(WorldBreak::PathTwice(index)));
-    }
-    let dir = dir.copy()?;
-    fill(alloc, names, files, index, &dir, text, item)
+    let (dir, text) = open_spot(files, index, path)?;
+    let label = read_label(alloc, item, names)?;
+    let content = read_content(alloc, item)?;
+    put(files, index, &dir, text, &label, content)
 }
 
 fn place_item(
