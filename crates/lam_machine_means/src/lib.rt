@@ -25,6 +25,9 @@
 //! That threads make typed asks is the proof of `lam_meaning_typed`, with values of types under a typing in place of
 //! values of their types' sorts. `proofs/Sorts` has what it takes of them, `proofs/Steps` one turn, and `proofs/Whole`
 //! the run.
+//!
+//! A public promise rests on [`runs_mean_what_the_source_means`] and on [`no_run_sticks`]: threads ask what their
+//! source asks, and none is stuck. Nothing here is a matter of speed.
 #![tactic(auto)]
 
 ghost use Rattle.lam_bytecode.specs.Codes.{CodeTree};

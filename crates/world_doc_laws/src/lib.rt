@@ -10,6 +10,9 @@
 //! - `saved`: the reading of a document of version 3, by its counters and items (`specs/Saved`).
 //! - `runs`: every run from there of a code that acts as a typed program means what its source means
 //!   (`specs/Documents`, `specs/Entries`).
+//!
+//! A public promise rests on [`texts_start`], [`starts_are_entered`] and [`runs_of_documents_mean`]: a document gives a
+//! valid start, from which runs are sound and mean what their source means. Nothing here is a matter of speed.
 #![tactic(auto)]
 
 mod entered_starts;
