@@ -3,7 +3,6 @@ pub mod Bounding
 pub mod Wording
 pub mod WholeLemmas
 pub mod FloatLemmas
-pub mod HeldBytes
 pub mod MembersInOrder
 pub mod NumbersTold
 pub mod CompactLengths

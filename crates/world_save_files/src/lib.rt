@@ -7,12 +7,10 @@
 //!
 //! - `numbers` and `values`: the text of a JSON value.
 //! - `kept`: the texts that are taken from the older document.
-//! - `holding`: the fact that files hold bytes.
 //! - `saving`: the refusals and the document.
 //! - `lengths`: the law that all texts of the same files have one length.
 #![tactic(auto)]
 
-mod holding;
 mod kept;
 mod lengths;
 mod numbers;

@@ -11,7 +11,6 @@ ghost use Rattle.world_save_terms.specs.Document.{most_document};
 ghost use Rattle.world_save_files.specs.Saved.{CanBeKept, HaveText, IsTextOf, IsSavedText, IsSaveFault};
 ghost use Rattle.world_save_files.specs.Bounds.{IsBounded, IsUnbounded};
 
-use crate::holding::hold_bytes;
 use crate::kept::{KeptTexts, kept_texts};
 use capabilities::Caps;
 use flow_labels::{NoMemory, TagId, TagNames};
@@ -137,7 +136,7 @@ fn saved_document(
     ensures ok { IfOk result (λ s. IsSavedText names.now public.now files.now old.now s.text.items s.items) }
     ensures err { IfErr result (IsSaveFault names.now public.now files.now old.now) }
 {
-    hold_bytes(files, steps);
+    files.hold_bytes();
     let text = saved_text(alloc, names, public, files, homes, steps, old)?;
     Ok(Saved {
         text,
