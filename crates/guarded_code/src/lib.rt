@@ -12,6 +12,9 @@
 //! - `specs/Facts`: what is proved of the rounds here; `specs/Samples`: codes by hand and their breaks.
 //!
 //! The rounds say nothing of a run; `guarded_code_runs` proves what a run of guarded code never meets.
+//!
+//! A public promise rests on `Verified` (its invariant): the machine runs guarded code alone. Nothing here is a matter
+//! of speed.
 #![tactic(auto)]
 
 mod known;
