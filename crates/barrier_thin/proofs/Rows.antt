@@ -7,18 +7,14 @@ use Rattle.lam_bytecode.specs.declared.op.Op.{Op}
 use Rattle.guarded_code.specs.Rounds.{Table, Found, Holds, Broke}
 use Rattle.guarded_code.specs.Descriptions.{Description}
 use Rattle.guarded_code.specs.Changes.{descriptions}
-use Rattle.thinned_code.specs.Thinned.{tests_again, stays, staying, staying_by, staying_in}
+use Rattle.thinned_code.specs.Thinned.{stays, staying, staying_by, staying_in}
 use Rattle.thinned_code.proofs.Thinning.{staying_long}
-use Rattle.code_verify_tables.specs.Again as tables
 use Rattle.code_verify.specs.Redundant.{is_redundant, redundant, redundant_by, redundant_in}
 
 -- ---- an operation stays exactly where it is no redundant barrier
-same_test : (op : Op) (d : Description) → tables.tests_again op d ≡ tests_again op d
-same_test op d = refl
-
 stays_one : (op : Op) (o : Option Description) → not (is_redundant op o) ≡ stays op o
 stays_one op None = refl
-stays_one op (Some d) = ap not (same_test op d)
+stays_one op (Some d) = refl
 
 stays_each : (ops : List Op) (t : Table Description) → map not (redundant ops t) ≡ staying ops t
 stays_each [] t = refl

@@ -2,6 +2,7 @@
 use Rattle.std.proofs.Common.{◌≡◌, ℕ, zero, suc, ◌+◌, ◌<◌, ◌≤◌, List, [], ◌∷◌, ◌++◌, Bool, true, false, Option, Some, None, length, get_or, slice_get, take, drop, refl, sym, ap, ◌∙◌, arith}
 use Rattle.std.specs.Prelude.{◌||◌, replicate}
 use Rattle.std.specs.List.{list_any}
+use Rattle.std.proofs.lemmas.Bool.{or_parts}
 use Rattle.std.proofs.lemmas.List.{drop_more, drop_all, take_more}
 use Rattle.std.proofs.Math.Seq.{take-length}
 use Rattle.lam_bytecode.specs.Codes.{CodeTree}
@@ -11,7 +12,7 @@ use Rattle.lam_bytecode.specs.declared.op.Op.TheVariants.{ReadBarrier, WriteBarr
 use Rattle.guarded_code.specs.Rounds.{Table, Found, Holds, Broke}
 use Rattle.guarded_code.specs.Descriptions.{Description}
 use Rattle.guarded_code.specs.Changes.{descriptions}
-use Rattle.code_verify_tables.specs.Again.{tests_again}
+use Rattle.guarded_code.specs.Breaks.{tests_again}
 use Rattle.code_verify.specs.Tables.{again_by}
 use Rattle.code_verify.specs.Redundant.{is_barrier, is_redundant, redundant, redundant_by, redundant_in}
 
@@ -49,15 +50,11 @@ never_redundant : (op : Op) (o : Option Description) → is_barrier op ≡ false
 never_redundant op None never = refl
 never_redundant op (Some d) never = never_again op d never
 
-pub neither : (a b : Bool) → a || b ≡ false → (a ≡ false) × (b ≡ false)
-neither true b e = absurd (cc e)
-neither false b e = (refl, e)
-
 no_barrier : (ops : List Op) (t : Table Description) → list_any is_barrier ops ≡ false → redundant ops t ≡ replicate (length ops) false
 no_barrier [] t never = refl
 no_barrier (op ∷ ops) [] never = none_by (op ∷ ops)
 no_barrier (op ∷ ops) (o ∷ t) never =
-    let each = neither (is_barrier op) (list_any is_barrier ops) never in
+    let each = or_parts (is_barrier op) (list_any is_barrier ops) never in
     ap (λ b. b ∷ redundant ops t) (never_redundant op o each.0) ∙ ap (λ r. false ∷ r) (no_barrier ops t each.1)
 
 pub without_barrier : (code : CodeTree) (u : CodeUnit) (flags : List Bool) (n : ℕ) → list_any is_barrier u.ops ≡ false → n ≡ length u.ops → flags ≡ replicate n false → flags ≡ redundant_in code u

@@ -39,8 +39,6 @@ give_second t t1 n a b d f e h i p =
     (stops_second (into Description meet p (slice_get t a) t a d) t1 (λ t. give Description meet p t ((b, d) ∷ [])) f (h p)
     (stops_first (into Description meet p (slice_get t1 b) t1 b d) (λ t. give Description meet p t []) f (i p)))
 
--- ---- one address
-
 -- ---- one round
 
 sweep_open : (code : CodeTree) (ops : List Op) (n i : ℕ) (t : Table Description) → i < n → sweep Description meet (passes code ops) (n - i) i t ≡ and_then (visit Description meet (passes code ops) i t (slice_get t i)) (λ t. sweep Description meet (passes code ops) (n - (i + 1)) (i + 1) t)

@@ -1,25 +1,22 @@
 -- What the sweeps of a unit end with is what stands after its last round.
-use Rattle.std.proofs.Common.{IsTrue, ◌≡◌, ℕ, zero, suc, ◌+◌, ◌<◌, ◌≤◌, ◌⊎◌, inl, inr, List, [], ◌∷◌, ◌++◌, Bool, true, false, if◌then◌else◌, Option, Some, None, length, get_or, slice_get, slice_set, drop, refl, sym, ap, ap₂, ◌∙◌, subst, arith, append_assoc, ⊎_elim, length-set}
+use Rattle.std.proofs.Common.{IsTrue, ◌≡◌, ℕ, zero, suc, ◌+◌, ◌<◌, ◌≤◌, ◌⊎◌, inl, inr, List, [], ◌∷◌, ◌++◌, Bool, true, false, if◌then◌else◌, Option, Some, None, length, get_or, slice_get, slice_set, drop, refl, sym, ap, ap₂, ◌∙◌, subst, arith, append_assoc, ⊎_elim, length-set, length-append}
 use Rattle.std.specs.Prelude.{option_map}
-use Rattle.std.proofs.lemmas.Bool.{cases_eq, cases_lt, false≢true}
+use Rattle.std.proofs.lemmas.Bool.{cases_eq, cases_lt}
 use Rattle.std.proofs.lemmas.List.{drop_more, drop_all, append-nil}
+use Rattle.std.proofs.lemmas.Option.{slice_get_within, slice_get-get_or}
 use Rattle.lam_bytecode.specs.Codes.{CodeTree}
 use Rattle.lam_bytecode.specs.declared.unit.CodeUnit.{CodeUnit}
 use Rattle.lam_bytecode.specs.declared.op.Op.{Op}
-use Rattle.lam_bytecode.specs.declared.op.Op.TheVariants.{Jump, JumpIfFalse, Return, Throw, LeaveRegion, ReadBarrier, WriteBarrier}
+use Rattle.lam_bytecode.specs.declared.op.Op.TheVariants.{Jump, JumpIfFalse, Return, Throw, LeaveRegion}
 use Rattle.guarded_code.specs.Rounds.{Table, Found, Holds, Broke, OnFound, and_then, Sent, blank, placed, into, give, first, Stands, AllStand, AllSay}
-use Rattle.guarded_code.specs.declared.known.Access.{Access}
-use Rattle.guarded_code.specs.declared.known.Access.TheVariants.{Reading, Writing}
-use Rattle.guarded_code.specs.declared.known.Operand.{Operand}
 use Rattle.guarded_code.specs.Descriptions.{Description, meet, starts}
 use Rattle.guarded_code.specs.Changes.{change, changed, goes, sent, passed, passes, descriptions}
-use Rattle.guarded_code.specs.Breaks.{is_tested_at}
-use Rattle.guarded_code.specs.Says.{Pairwise, OperandSays, Says, Describes}
+use Rattle.guarded_code.specs.Says.{Says, Describes}
 use Rattle.guarded_code.proofs.Tables.{none_some, some_inj, get_set_same, get_set_other, blank_none, blank_long}
 use Rattle.guarded_code.proofs.Order.{says_same, says_trans, meet_first, meet_second, meet_best}
-use Rattle.guarded_code.proofs.Passing.{laws}
+use Rattle.guarded_code.proofs.Passing.{laws, map_some, again_more}
 use Rattle.guarded_code.proofs.RoundFacts.{meets_rules, says_most}
-use Rattle.code_verify_tables.specs.Again.{tests_again}
+use Rattle.guarded_code.specs.Breaks.{tests_again}
 use Rattle.code_verify.specs.Redundant.{is_redundant, redundant, redundant_by, redundant_in}
 use Rattle.code_verify.specs.Sweeps.{falls, jumps, arrived, acted, onward, Brought, MeetsAll, SaysMore, Lowers, Rests, Ends}
 use Rattle.code_verify.proofs.Entries.{Passing}
@@ -139,10 +136,6 @@ abbrev away : Op → Option Description → Sent Description
 away op None = []
 away op (Some e) = sent_to (jumps op) e
 
-mapped : {A B : Type 0} (f : A → B) (o : Option A) (y : B) → option_map f o ≡ Some y → (x : A) × (o ≡ Some x) × (f x ≡ y)
-mapped f None y e = none_some e
-mapped f (Some x) y e = (x, refl, some_inj e)
-
 goes_apart : (op : Op) (t : Table Description) (a : ℕ) (e : Description) → AllStand Description Says t (sent (goes a op) e) → AllStand Description Says t (sent_to (jumps op) e) × RowStands t (a + 1) (onward op (Some e))
 goes_apart (Jump to) t a e h = (h, tt)
 goes_apart (JumpIfFalse to) t a e h = (h.1, h.0)
@@ -155,8 +148,7 @@ passes_left : (code : CodeTree) (ops : List Op) (a : ℕ) (op : Op) (d e : Descr
 passes_left code ops a op d e at h = ap (λ o. passed code o a d) at ∙ ap (option_map (sent (goes a op))) h
 
 stand_more : (t : Table Description) (ps qs : Sent Description) → AllSay Description Says ps qs → AllStand Description Says t qs → AllStand Description Says t ps
-stand_more t [] [] say stand = tt
-stand_more t [] (q ∷ qs) say stand = tt
+stand_more t [] qs say stand = tt
 stand_more t (p ∷ ps) [] say stand = absurd say
 stand_more t (p ∷ ps) (q ∷ qs) say stand =
     ((stand.0.0, ap (slice_get t) say.0 ∙ stand.0.1, says_trans p.1 q.1 stand.0.0 say.1 stand.0.2), stand_more t ps qs say.2 stand.1)
@@ -167,7 +159,7 @@ row_sound s t a None None row f at h e = subst (RowStands t a) (some_inj e) tt
 row_sound s t a (Some d) None row f at h e = subst (RowStands t a) (some_inj e) (f.says a d at)
 row_sound s t a None (Some r) row f at h e = subst (RowStands t a) (some_inj e) h
 row_sound s t a (Some d) (Some r) row f at h e =
-    let m = mapped (λ x. Some x) (meet r d) row e in
+    let m = map_some (λ x. Some x) (meet r d) row e in
     let old = f.says a d at in
     let eq : old.0 ≡ h.0 = some_inj (some_inj (sym old.1 ∙ h.1)) in
     let best = meet_best r d h.0 h.2 (subst (λ y. Says d y) eq old.2) in
@@ -176,7 +168,7 @@ row_sound s t a (Some d) (Some r) row f at h e =
 left_sound : (code : CodeTree) (ops : List Op) (t : Table Description) (a : ℕ) (op : Op) (row left : Option Description) → MeetsAll code ops t → slice_get ops a ≡ Some op → RowStands t a row → acted code op row ≡ Some left → AllStand Description Says t (away op left) × RowStands t (a + 1) (onward op left)
 left_sound code ops t a op None left settled at h e = subst (λ l. AllStand Description Says t (away op l) × RowStands t (a + 1) (onward op l)) (some_inj e) (tt, tt)
 left_sound code ops t a op (Some d) left settled at h e =
-    let is = mapped (λ x. Some x) (changed (change code op) d) left e in
+    let is = map_some (λ x. Some x) (changed (change code op) d) left e in
     let rule = settled a h.0 h.1 in
     let more = (laws code ops).passes_more a d h.0 rule.0 h.2 rule.1 in
     let same : more.0 ≡ sent (goes a op) is.0 = some_inj (sym more.1 ∙ passes_left code ops a op d is.0 at is.1) in
@@ -240,18 +232,8 @@ away_stands t op left all e el b eb =
     (subst (λ o. AllStand Description Says t (sent_to o e)) eb (subst (λ l. AllStand Description Says t (away op l)) el all)).0
 
 -- ---- rows, one after another
-got : {A : Type 0} (xs : List A) (n : ℕ) (x d : A) → n < length xs → x ≡ get_or xs n d → slice_get xs n ≡ Some x
-got [] n x d lt e = absurd (omega (arith, lt))
-got (y ∷ xs) zero x d lt e = ap (λ z. Some z) (sym e)
-got (y ∷ xs) (suc n) x d lt e = got xs n x d (omega (arith, lt)) e
-
 opened : {A : Type 0} (xs : List A) (n : ℕ) (x d : A) → n < length xs → x ≡ get_or xs n d → drop n xs ≡ x ∷ drop (n + 1) xs
 opened xs n x d lt e = drop_more xs n d lt ∙ ap (λ y. y ∷ drop (n + 1) xs) (sym e)
-
-inside : {A : Type 0} (xs : List A) (n : ℕ) (x : A) → slice_get xs n ≡ Some x → n < length xs
-inside [] n x e = none_some e
-inside (y ∷ xs) zero x e = omega arith
-inside (y ∷ xs) (suc n) x e = let lt = inside xs n x e in omega (arith, lt)
 
 before_last : {A : Type 0} (xs : List A) (y : A) (n : ℕ) (x : A) → slice_get xs n ≡ Some x → slice_get (xs ++ y ∷ []) n ≡ Some x
 before_last [] y n x e = none_some e
@@ -267,10 +249,6 @@ last_or [] y zero x e = inr (refl, some_inj e)
 last_or [] y (suc n) x e = none_some e
 last_or (z ∷ xs) y zero x e = inl e
 last_or (z ∷ xs) y (suc n) x e = ⊎_elim (λ old. inl old) (λ new. inr (ap suc new.0, new.1)) (last_or xs y n x e)
-
-one_longer : {A : Type 0} (xs : List A) (y : A) → length (xs ++ y ∷ []) ≡ length xs + 1
-one_longer [] y = refl
-one_longer (z ∷ xs) y = let e = one_longer xs y in omega (arith, e)
 
 -- ---- what has come to an address
 -- what falls says no more than e
@@ -307,17 +285,17 @@ first_fell : (o r row : Option Description) (d : Description) → r ≡ Some d �
 first_fell o None row d er e = none_some er
 first_fell None (Some b) row d er e = (b, sym (some_inj e), subst (λ y. Says y b) (some_inj er) (says_same b))
 first_fell (Some s) (Some b) row d er e =
-    let m = mapped (λ x. Some x) (meet b s) row e in (m.0, sym m.2, subst (λ y. Says y m.0) (some_inj er) (meet_first b s m.0 m.1))
+    let m = map_some (λ x. Some x) (meet b s) row e in (m.0, sym m.2, subst (λ y. Says y m.0) (some_inj er) (meet_first b s m.0 m.1))
 
 first_brought : (o r row : Option Description) (d : Description) → o ≡ Some d → arrived r o ≡ Some row → (x : Description) × (row ≡ Some x) × Says d x
 first_brought None r row d eo e = none_some eo
 first_brought (Some b) None row d eo e = (b, sym (some_inj e), subst (λ y. Says y b) (some_inj eo) (says_same b))
 first_brought (Some b) (Some r) row d eo e =
-    let m = mapped (λ x. Some x) (meet r b) row e in (m.0, sym m.2, subst (λ y. Says y m.0) (some_inj eo) (meet_second r b m.0 m.1))
+    let m = map_some (λ x. Some x) (meet r b) row e in (m.0, sym m.2, subst (λ y. Says y m.0) (some_inj eo) (meet_second r b m.0 m.1))
 
 left_some : (code : CodeTree) (op : Op) (d : Description) (row left : Option Description) → row ≡ Some d → acted code op row ≡ Some left → (e : Description) × (changed (change code op) d ≡ Some e) × (left ≡ Some e)
 left_some code op d row left er h =
-    let m = mapped (λ x. Some x) (changed (change code op) d) left (sym (ap (acted code op) er) ∙ h) in (m.0, m.1, sym m.2)
+    let m = map_some (λ x. Some x) (changed (change code op) d) left (sym (ap (acted code op) er) ∙ h) in (m.0, m.1, sym m.2)
 
 -- ---- a sweep, as far as it went
 -- the rows before the address `at`, where nothing was brought back anew
@@ -366,7 +344,7 @@ module _ (code : CodeTree) (ops : List Op) (s0 s s' h h1 h' : Table Description)
     (moved : (p : Passing) → Brought p at left (jumps op) s h1 s' h') (len : length s' ≡ length s) (wide : length h' ≡ length h1) (same : anew ≡ false → s' ≡ s)
     (either : changed' ≡ false → (changed ≡ false) × (anew ≡ false)) (er : r' ≡ onward op left) where
   op_at : slice_get ops at ≡ Some op
-  op_at = got ops at op p lt eop
+  op_at = slice_get-get_or ops at p lt ∙ ap (λ x. Some x) (sym eop)
 
   jump : Jumped at left (jumps op) s h1 s' h'
   jump = jumped (passes code ops) at left (jumps op) s h1 s' h' (moved (passes code ops))
@@ -506,7 +484,7 @@ module _ (code : CodeTree) (ops : List Op) (s0 s s' h h1 h' : Table Description)
         ∙ ap (λ x. x ++ redundant (drop (at + 1) ops) v) (sym ef)
 
     rows_on : Rows code ops s0 h' (at + 1) r' flags' next
-    rows_on = record { long = one_longer w row ∙ ap (λ n. n + 1) old.long; flagged = flagged_on; goes_on = goes_all; under = under_on; most = most_on }
+    rows_on = record { long = length-append w (row ∷ []) ∙ ap (λ n. n + 1) old.long; flagged = flagged_on; goes_on = goes_all; under = under_on; most = most_on }
 
   pub so_on : SoFar code ops s0 s' h' (at + 1) r' flags' changed'
   so_on =
@@ -526,13 +504,13 @@ so_lowers code ops s0 s h at r flags changed so = record { below = so.below; kee
 module _ (code : CodeTree) (ops : List Op) (s h : Table Description) (at : ℕ) (flags : List Bool) (w : Table Description) (rows : Rows code ops s h at None flags w) (size : length s ≡ length ops) (wide : length h ≡ length ops) (end : at ≡ length ops) where
   ended : (b : ℕ) (e : Description) → Reached w h at None b e → Stands Description Says w b e
   ended b e (inl x) = x
-  ended b e (inr (inl x)) = let lt = inside h b (Some x.1.0) x.1.1 in let le = x.0 in absurd (omega (arith, lt, le, wide, end))
+  ended b e (inr (inl x)) = let lt = slice_get_within h b (Some x.1.0) x.1.1 in let le = x.0 in absurd (omega (arith, lt, le, wide, end))
   ended b e (inr (inr x)) = absurd x.1
 
   rests : Rests code ops s w
   rests =
       record {
-        below = record { size = size ∙ sym end ∙ sym rows.long; says = λ a d e. let lt = inside s a (Some d) e in rows.under a d (omega (arith, lt, size, end)) e };
+        below = record { size = size ∙ sym end ∙ sym rows.long; says = λ a d e. let lt = slice_get_within s a (Some d) e in rows.under a d (omega (arith, lt, size, end)) e };
         meets = λ a d e. let x = rows.goes_on a d e in (x.0, x.1, all_stand w x.0 (all_reached (Reached w h at None) (λ b e. Stands Description Says w b e) x.0 ended x.2));
         most = λ t m f. record { size = rows.long ∙ end ∙ sym size ∙ f.size; says = rows.most t m f };
       }
@@ -551,18 +529,6 @@ so_ends code ops s0 s h at r flags changed so le none quiet =
     (old.1, rests code ops s h at flags old.1 rows so.size so.wide end, flags_are code ops s h at flags old.1 rows so.size so.wide end)
 
 -- ---- the same barriers are redundant by two tables that say as much
-tested_more : (access : Access) (os ps : List Operand) (i : ℕ) → Pairwise OperandSays os ps → IsTrue (is_tested_at access (slice_get ps i)) → IsTrue (is_tested_at access (slice_get os i))
-tested_more access [] [] i h g = g
-tested_more access [] (p ∷ ps) i h g = absurd h
-tested_more access (o ∷ os) [] i h g = absurd h
-tested_more access (o ∷ os) (p ∷ ps) zero h g = h.0.0.tests access g
-tested_more access (o ∷ os) (p ∷ ps) (suc i) h g = tested_more access os ps i h.1 g
-
-again_more : (op : Op) (d x : Description) → Says d x → IsTrue (tests_again op x) → IsTrue (tests_again op d)
-again_more (ReadBarrier depth) d x h e = tested_more Reading d.stack x.stack depth h.stack e
-again_more (WriteBarrier depth) d x h e = tested_more Writing d.stack x.stack depth h.stack e
-again_more op d x h e = absurd (false≢true e)
-
 both_ways : (a b : Bool) → (IsTrue a → IsTrue b) → (IsTrue b → IsTrue a) → a ≡ b
 both_ways true b f g = sym (f refl)
 both_ways false true f g = g refl
@@ -586,12 +552,11 @@ rows_later : (o p : Option Description) (os ps : Table Description) → SaysMore
 rows_later o p os ps f = record { size = (let e = f.size in omega (arith, e)); says = λ a d e. f.says (suc a) d e }
 
 same_flags : (ops : List Op) (w t : Table Description) → SaysMore w t → SaysMore t w → redundant ops w ≡ redundant ops t
-same_flags [] w t f g = refl
-same_flags (op ∷ ops) [] [] f g = refl
 same_flags (op ∷ ops) [] (p ∷ t) f g = let e = f.size in absurd (omega (arith, e))
 same_flags (op ∷ ops) (o ∷ w) [] f g = let e = f.size in absurd (omega (arith, e))
 same_flags (op ∷ ops) (o ∷ w) (p ∷ t) f g =
     ap₂ (λ b r. b ∷ r) (same_row op o p (row_first o w t p f) (row_first p t w o g)) (same_flags ops w t (rows_later o p w t f) (rows_later p o t w g))
+same_flags ops w t f g = refl
 
 -- ---- a unit
 pub record Swung (code : CodeTree) (u : CodeUnit) (s : Table Description) : Type 0 where

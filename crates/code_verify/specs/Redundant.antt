@@ -7,7 +7,7 @@ use Rattle.lam_bytecode.specs.declared.op.Op.TheVariants.{ReadBarrier, WriteBarr
 use Rattle.guarded_code.specs.Rounds.{Table, Found, Holds, Broke}
 use Rattle.guarded_code.specs.Descriptions.{Description}
 use Rattle.guarded_code.specs.Changes.{descriptions}
-use Rattle.code_verify_tables.specs.Again.{tests_again}
+use Rattle.guarded_code.specs.Breaks.{tests_again}
 
 abbrev pub is_barrier : Op → Bool
 is_barrier (ReadBarrier depth) = true

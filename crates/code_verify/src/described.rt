@@ -2,7 +2,7 @@
 
 ghost use Rattle.std.specs.Prelude.{◌≡◌, ◌<◌, ◌^◌, length, option_map, slice_get, IfOk, OnOk, IfErr, IsTrue, Some};
 ghost use Rattle.lam_bytecode.specs.Codes.{IsCode};
-ghost use Rattle.code_verify_tables.specs.Again.{tests_again};
+ghost use Rattle.guarded_code.specs.Breaks.{tests_again};
 ghost use Rattle.code_verify.specs.Faults.{break_seen, is_describable, TellsOf};
 ghost use Rattle.code_verify.specs.Tables.{table_of, tables_of, tests_again_at, again_by, op_in, row_in};
 

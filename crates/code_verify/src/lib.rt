@@ -13,6 +13,9 @@
 //! `targets` has the rule that is tested first, and `rounds` the rounds. `breaks` finds the first break of a unit and
 //! of a code, and `described` has what `describe` gives. `redundant` has the redundant barriers, and `sweep` how they
 //! are found without a description for each address.
+//!
+//! A public promise rests on `verify` and `is_guarded` (guarded code alone passes), and on `redundant_barriers` (which
+//! barriers go). Free to change for speed: `sweep`, and how the rounds keep their tables.
 #![tactic(auto)]
 
 mod breaks;

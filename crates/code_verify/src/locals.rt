@@ -1,4 +1,4 @@
-//! The description at a unit's entry.
+//! The descriptions at a unit's entry and at a region's catch place.
 
 ghost use Rattle.std.specs.Prelude.{◌≡◌, if◌then◌else◌, nat_lt, IfOk};
 ghost use Rattle.lam_bytecode.specs.Codes.{given};

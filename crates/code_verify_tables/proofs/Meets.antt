@@ -1,16 +1,14 @@
 -- Two lists met in place.
 use Rattle.std.proofs.Common.{◌≡◌, suc, Bool, true, false, List, [], ◌∷◌, Option, Some, None, length, refl, sym, ap, ap₂, ◌∙◌}
 use Rattle.guarded_code.specs.declared.known.ValueKind.{ValueKind}
-use Rattle.guarded_code.specs.declared.known.ValueKind.TheVariants.{Number, Truth, Other, Unknown}
+use Rattle.guarded_code.specs.declared.known.ValueKind.TheVariants.{Number}
 use Rattle.guarded_code.specs.declared.known.Known.{Known}
 use Rattle.guarded_code.specs.declared.known.Operand.{Operand}
 use Rattle.guarded_code.specs.Descriptions.{Description, met_kind, met_known, met_operand, put_before, met_lists, described, meet}
 
 kind_same : (k : ValueKind) → met_kind k k ≡ k
 kind_same Number = refl
-kind_same Truth = refl
-kind_same Other = refl
-kind_same Unknown = refl
+kind_same k = refl
 
 known_flat : (kind : ValueKind) (read write : Bool) → met_known (record { kind = kind; read = read; write = write }) (record { kind = kind; read = read; write = write }) ≡ record { kind = kind; read = read; write = write }
 known_flat kind true true = ap (λ (k : ValueKind). let x : Known = record { kind = k; read = true; write = true } in x) (kind_same kind)
@@ -26,9 +24,8 @@ known_same k l e = sym (known_flat k.kind k.read k.write) ∙ ap (met_known k) e
 
 met_apart : {A : Type 0} (f : A → A → A) (xs ys : List A) → (length xs ≡ length ys → ⊥) → met_lists f xs ys ≡ None
 met_apart f [] [] ne = absurd (ne refl)
-met_apart f [] (y ∷ ys) ne = refl
-met_apart f (x ∷ xs) [] ne = refl
 met_apart f (x ∷ xs) (y ∷ ys) ne = ap (put_before (f x y)) (met_apart f xs ys (λ e. ne (ap suc e)))
+met_apart f xs ys ne = refl
 
 described_none : (o : Option (List Operand)) → described o None ≡ None
 described_none None = refl

@@ -2,4 +2,3 @@ pub mod Packed
 pub mod Seen
 pub mod Leaves
 pub mod Joined
-pub mod Again

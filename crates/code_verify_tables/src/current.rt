@@ -6,7 +6,7 @@
 ghost use Rattle.std.specs.Prelude.{◌≡◌, ◌<◌, ◌≤◌, ◌∷◌, length, map, drop, slice_get, Some, IfOk, OnOk, IsFalse};
 ghost use Rattle.guarded_code.specs.Breaks.{is_tested_at};
 ghost use Rattle.guarded_code.specs.Changes.{Loads, Stores, Tests, Trades, known_at, forgotten, tested_operand, tested_copy, at_place, put};
-ghost use Rattle.code_verify_tables.specs.Again.{tests_again};
+ghost use Rattle.guarded_code.specs.Breaks.{tests_again};
 ghost use Rattle.code_verify_tables.specs.Leaves.{Leaves};
 ghost use Rattle.code_verify_tables.specs.Seen.{change_seen, places_seen};
 

@@ -4,7 +4,7 @@ ghost use Rattle.std.specs.Prelude.{◌≡◌, slice_get, Some, None};
 ghost use Rattle.guarded_code.specs.Descriptions.{is_tested};
 ghost use Rattle.guarded_code.specs.Breaks.{may_agree, fits, all_fit, two_agree, compares, takes_kinds, is_tested_at, is_guarded};
 ghost use Rattle.code_verify_tables.specs.Seen.{place_seen, places_seen};
-ghost use Rattle.code_verify_tables.specs.Again.{tests_again};
+ghost use Rattle.guarded_code.specs.Breaks.{tests_again};
 
 use crate::changes::change_of;
 use crate::description::Description;

@@ -10,6 +10,9 @@
 //! - `kinds`: whether an operation finds operands that it takes, and an access a tested reference.
 //!
 //! `guarded_code` defines all of it; this crate computes it.
+//!
+//! No public promise rests on it directly: `code_verify`'s does. Free to change for speed: how knowledge is packed, and
+//! how a description is changed in place.
 #![tactic(auto)]
 
 mod changes;

@@ -1,4 +1,4 @@
-//! Changes of a description by an operation: rows of a table, as values.
+//! An operation's row of the table: the operands that it takes, and what it leaves.
 
 ghost use Rattle.std.specs.Prelude.{◌≡◌, ◌≤◌, ◌<◌, ◌+◌, length, slice_get, MatchOption};
 ghost use Rattle.guarded_code.specs.Changes.{wanted};

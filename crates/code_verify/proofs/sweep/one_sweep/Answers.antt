@@ -1,5 +1,5 @@
 use Rattle.std.proofs.Common.{slice_get, refl, sym, ap, ◌∙◌, arith}
-use Rattle.code_verify.proofs.Flags.{neither}
+use Rattle.std.proofs.lemmas.Bool.{or_parts}
 use Rattle.code_verify.proofs.Sweeps.{so_begins, so_on, so_lowers, so_ends}
 use Rattle.code_verify.proofs.sweep.one_sweep.Goals as goal
 
@@ -12,7 +12,7 @@ loop-at-preserved c =
     c.loop-at.invariant c.loop-at-test.true refl c.taken.ensures.is c.taken.ensures.left c.in_ok-landed.ensures
     (ap (λ x. slice_get x c.loop-at.at) (sym c.deref.ensures.value) ∙ c.in_ok-copied.ensures) c.in_ok-row.ensures
     c.is_redundant.ensures c.in_ok-note.ensures c.in_ok-left.ensures
-    c.in_ok-anew.ensures.brought c.in_ok-anew.ensures.kept_len c.in_ok-anew.ensures.ahead_len c.in_ok-anew.ensures.same (λ f. neither _ _ (sym c.either-changed.ensures ∙ f)) c.onward-fallen.ensures
+    c.in_ok-anew.ensures.brought c.in_ok-anew.ensures.kept_len c.in_ok-anew.ensures.ahead_len c.in_ok-anew.ensures.same (λ f. or_parts _ _ (sym c.either-changed.ensures ∙ f)) c.onward-fallen.ensures
 
 pub returns-clause-lowers : goal.returns-clause-lowers
 returns-clause-lowers c = so_lowers _ _ _ _ _ _ _ _ _ c.loop-at.invariant
