@@ -21,6 +21,7 @@ from lam_source import closed, faults, last_catch, pairs, places, printable, run
 
 DONE, NO_MEMORY, WORDS, PROGRAM, WORLD, BOOK, MISSING, SHELF, OUTPUT, BUDGET, WAITING, STALLED, OVER = range(13)
 MANY = 200_000      # turns; of a longer book nothing is said where the program has refused nothing
+SHOWN = 10          # faults of a program beside the one that `check` names
 
 # What the words of the forms stand for.
 FILES = {'FILE': 'the script', 'P': 'the program', 'W': 'the world', 'BOOK': 'the book', 'BOOKOUT': 'the book to be written',
@@ -220,7 +221,7 @@ def of_program(call, line):
         data = file.read()
     at = re.fullmatch(r'lam: 3 (\w+) at (\d+)', line)
     if at:
-        return of_place(name, data, at[1], int(at[2]))
+        return of_place(name, data, at[1], int(at[2]), call.words[:1] == ['check'])
     script = re.fullmatch(r'lam: 3 Script line (\d+)', line)
     if script:
         lines = data.split(b'\n')
@@ -240,14 +241,29 @@ def of_program(call, line):
     return []
 
 
-def of_place(name, data, kind, at):
+def of_place(name, data, kind, at, tells_all=False):
+    """Explains the fault at a place of a program and, where that is asked, the other faults of the program."""
     text, start = places.characters(data, min(at, len(data)))
-    word = re.match(r'\w+', text[start:])
-    width = len(word[0]) if word else 2 if text[start:start + 2] in ('==', '!=', '<=', '>=', '&&', '||') else 1
-    shown = [places.Place(text, start).shown(name, width)]
     if kind == 'NotUtf8':
-        return shown + ['a program is UTF-8, and this byte is not']
-    return shown + faults.sentences(kind, text, start)
+        return [places.Place(text, start).shown(name), 'a program is UTF-8, and this byte is not']
+    found = faults.faults_of(text)
+    named = next((it for it in found if (it.kind, it.at) == (kind, start)), None)
+    if not named:
+        return [places.Place(text, start).shown(name, faults.end_of(text, start) - start)]
+    others = by_lines(text, named, found) if tells_all else []
+    return [*of_fault(name, text, named), *(line for it in others[:SHOWN] for line in ('', *of_fault(name, text, it))),
+            *([f'\nand {len(others) - SHOWN} more'] if len(others) > SHOWN else [])]
+
+
+def by_lines(text, named, found):
+    """The first fault of each line, but for the line of the one that the program names: what follows it there often comes of it."""
+    firsts = {text.count('\n', 0, it.at): it for it in reversed(found)}
+    firsts.pop(text.count('\n', 0, named.at), None)
+    return [firsts[line] for line in sorted(firsts)]
+
+
+def of_fault(name, text, found):
+    return [places.Place(text, found.at).shown(name, found.end - found.at), *found.said]
 
 
 def of_script_line(lines, is_ended):

@@ -106,7 +106,7 @@ class World:
 def like(name, names):
     """A name that may have been meant."""
     found = difflib.get_close_matches(name, names, 1)
-    return f'; is `{found[0]}` meant?' if found else ''
+    return f'; did you mean `{found[0]}`?' if found else ''
 
 
 def tag_list(text):

@@ -263,6 +263,15 @@ class Explained(InFolder):
         said = self.explained(3, 'lam: 3 Unexpected at 2', 'check', 'no\udcff.lam')
         self.assertTrue(said.startswith('no\\xff.lam: line 1, column 3\n'), said)
 
+    def test_check_tells_one_fault_of_each_line(self):
+        lines = ['fn main(): int {', '    let x: int = "a" + "b";', *('    y = 1;' for _ in range(12)), '    return x + ;', '}', '']
+        self.file('p.lam', '\n'.join(lines))
+        line = f'lam: 3 Unexpected at {len(chr(10).join(lines[:14])) + 16}'
+        said = self.explained(3, line, 'check', 'p.lam')
+        self.assertEqual(re.findall('line ([0-9]+), column', said), ['15', *map(str, range(2, 12))])
+        self.assertTrue(said.endswith('\nand 3 more\n'), said)
+        self.assertEqual(re.findall('line ([0-9]+), column', self.explained(3, line, 'replay', 'p.lam', 'w', 'b', '{}/{}')), ['15'])
+
     def test_a_pipe_is_read_once(self):
         os.mkfifo(self.path('pipe'))
         self.assertEqual(self.explained(3, 'lam: 3 Unexpected at 2', 'check', 'pipe'),
