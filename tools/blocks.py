@@ -29,7 +29,7 @@ import tempfile
 from lam_source import last_catch
 
 HERE = os.path.dirname(os.path.dirname(os.path.realpath(__file__)))
-PAGES = ['README.md'] + [f'docs/{name}.md' for name in ('TUTORIAL', 'RECIPES', 'EMBEDDING', 'COMPARED', 'SECURITY')]
+PAGES = ['README.md'] + [f'docs/{name}.md' for name in ('TUTORIAL', 'RECIPES', 'EMBEDDING', 'CALLING', 'COMPARED', 'SECURITY')]
 WHOLE = {'docs/TUTORIAL.md', 'docs/RECIPES.md'}    # each fenced block of these stands in a session
 COMMENT = re.compile(r'<!-- (in|of) (\S+) -->')
 CUT = '..'
