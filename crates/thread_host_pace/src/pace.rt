@@ -30,12 +30,12 @@ const LEAST: u64 = 32;
 /// The most private turns of a thread that is away for the first time, and of one that takes them in place.
 const FIRST: u64 = 64;
 
-/// How many turns for each worker are taken at most while a thread is away: twice the longest that one is away for.
-const AHEAD: u64 = 8_192;
+/// How far a thread that is away may be overtaken: so many times the longest that one is away for, for each worker.
+const AHEAD: u64 = 2;
 
 /// A thread of which a worker takes private turns outside the lock, how many it may take, and how many turns the run had when it
 /// went away.
-#[derive(Clone, Copy)]
+#[derive(Clone, Copy, Debug, PartialEq, Eq, Hash)]
 struct Away {
     thread: u32,
     most: u64,
@@ -43,7 +43,7 @@ struct Away {
 }
 
 /// How many of those that sleep are to be woken.
-#[derive(Clone, Copy, Debug, PartialEq, Eq)]
+#[derive(Clone, Copy, Debug, PartialEq, Eq, Hash)]
 pub enum Wakes {
     Nobody,
     One,
@@ -51,7 +51,7 @@ pub enum Wakes {
 }
 
 /// Who is away, who sleeps, and how many private turns each thread took when it last took some.
-#[derive(Drop)]
+#[derive(Clone, Debug, PartialEq, Eq, Hash, Drop)]
 pub struct Pace {
     workers: u64,
     /// The most private turns of a thread that is away.
@@ -217,7 +217,7 @@ impl Pace {
 
     /// Whether a thread has been away for so long that the others wait for it. The run has so many turns.
     pub fn is_overtaken(&self, turn: u64) -> bool {
-        let ahead = AHEAD.saturating_mul(self.workers);
+        let ahead = self.longest.saturating_mul(AHEAD).saturating_mul(self.workers);
         self.away
             .iter()
             .any(|away| turn.saturating_sub(away.since) > ahead)
@@ -266,6 +266,16 @@ impl Pace {
     /// What is known of the leader's hook.
     pub fn hears(&mut self, beyond: u64) {
         self.beyond = beyond;
+    }
+
+    /// How many workers sleep and were not woken. Some of them may have woken up by themselves, and not have looked since.
+    pub fn asleep(&self) -> u64 {
+        self.asleep
+    }
+
+    /// How many workers were woken and have not looked since.
+    pub fn coming(&self) -> u64 {
+        self.coming
     }
 
     /// A worker sleeps.
