@@ -8,9 +8,14 @@
 //! 3. A thread that goes away has a number of turns for it, twice what it took the last time; all that are away have no more
 //!    than the budget leaves. Where they have all of it, a worker sleeps until one is back.
 //! 4. A thread that is away is not overtaken without bound: the system may hold up the worker that has it, and the others, which
-//!    may only poll for what that thread is to do, would use up the budget meanwhile. So past [`AHEAD`] turns for each worker
-//!    they sleep, though there is something to take. Who comes back then wakes all of them. A thread that is away comes back
-//!    whatever the others do, so none of them sleeps for good.
+//!    may only poll for what that thread is to do, would use up the budget meanwhile. So past [`AHEAD`] times the longest
+//!    stretch for each worker they sleep, though there is something to take. Who comes back then wakes all of them. A thread
+//!    that is away comes back whatever the others do, so none of them sleeps for good.
+//!
+//! So a worker is at the lock, away with a thread, in the hook, asleep, woken, or has stopped. A sleeper waits until there is
+//! something to take: a thread that is ready, not away, and not left to the leader, while those that are away leave a part of
+//! the budget and none of them is overtaken too far. No contract says that it is woken then. The tests of `examples_ground`
+//! (`pace`) look at all states of small runs for one in which it is not.
 
 ghost use Rattle.std.specs.Prelude.{◌<◌, length};
 
@@ -217,7 +222,10 @@ impl Pace {
 
     /// Whether a thread has been away for so long that the others wait for it. The run has so many turns.
     pub fn is_overtaken(&self, turn: u64) -> bool {
-        let ahead = self.longest.saturating_mul(AHEAD).saturating_mul(self.workers);
+        let ahead = self
+            .longest
+            .saturating_mul(AHEAD)
+            .saturating_mul(self.workers);
         self.away
             .iter()
             .any(|away| turn.saturating_sub(away.since) > ahead)
