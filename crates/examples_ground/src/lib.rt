@@ -2,6 +2,8 @@
 //!
 //! A contract leaves want of memory free; these tests run each call once with ample memory. The expected values come
 //! from the descriptions of the formats, never from the code. Each is short, since it is proved before it runs.
+//!
+//! `pace` is a search: it tries all interleavings of workers over small runs, and no wake-up is lost.
 #![tactic(auto)]
 
 #[cfg(test)]
@@ -14,6 +16,8 @@ mod io;
 mod labels;
 #[cfg(test)]
 mod numbers;
+#[cfg(test)]
+mod pace;
 #[cfg(test)]
 mod scripts;
 #[cfg(test)]
