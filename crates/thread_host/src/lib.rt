@@ -15,6 +15,12 @@
 //! parameter, [`Origin`] (`origins`), that fixes the code, the start, the budget and what is kept. So what comes back
 //! is known to be a course of them, and nothing is copied or compared to find that out.
 //!
+//! Public promises rest on [`run_on`] and [`run_kept`] (clauses `start`, `budget`, `how`, `only`, and `kept` of the second):
+//! what workers leave is a run of the code from the start, within the budget, which ended as it says, and what was kept is of
+//! its moments. They rest on `Shared::begin` and `Shared::end` too (`ok`, `err`): what is taken is of a ready thread and within
+//! the budget, and what is checked in is a stretch that fits. Free to change for speed: which threads are copied (`lightness`),
+//! how long a stretch is (`LONGEST` of `sharing`), and all that `thread_host_pace` decides.
+//!
 //! - `visits`: one visit of the shared course.
 //! - `stretching`: private turns in place, and how those of a copy begin and come back.
 //! - `workers`: the workers; `running`: the runs.

@@ -42,10 +42,18 @@ pub struct FinishedKept<Kept: Drop> {
 /// The hook is asked under the lock, with the number of turns so far and the ready threads in increasing order; its answer is
 /// taken modulo their number. It is asked once for each turn that is served, and once for a number of private turns of one
 /// thread: up to 64 of them with one worker, up to 4,096 with more. After each check-in it is called outside the lock, and may
-/// wait there for other workers. If the chosen thread is on loan to another worker, the next ready one that is not is taken. A
-/// worker that finds nothing to take sleeps until another one leaves something. Private turns that would pass `turns`, or whose
-/// thread has changed, are not taken; the hook is asked anew for one turn. Once the workers have stopped, the caller goes on as
-/// worker 0, where something is left. A turn takes no memory for its list of ready threads.
+/// wait there for other workers.
+///
+/// A thread may be away with another worker, or be left to the worker that takes turns in place. If the hook chooses such a
+/// thread, the next ready one that is neither is taken. The hook is asked and no turn follows
+///
+/// * where the worker finds no such thread,
+/// * where the threads that are away have all turns that the budget leaves, or
+/// * where one has been away for long.
+///
+/// The worker then sleeps, and asks again once it is woken. Private turns that would pass `turns`, or whose thread has changed,
+/// are not taken; the hook is asked anew for one turn. Once the workers have stopped, the caller goes on as worker 0, where
+/// something is left. A turn takes no memory for its list of ready threads.
 ///
 /// # Errors
 ///
