@@ -90,7 +90,7 @@ def take():
     browser = shutil.which('chromium') or shutil.which('chromium-browser')
     if not browser:
         raise NoPicture('there is no chromium; on Debian: apt-get install chromium')
-    with tempfile.TemporaryDirectory() as room:
+    with tempfile.TemporaryDirectory(ignore_cleanup_errors=True) as room:
         page, taken = os.path.join(room, 'timeline.html'), os.path.join(room, 'timeline.png')
         make_page(page)
         turn = release_of(data_of(page))['turn']
