@@ -7,7 +7,8 @@
 //! `lam_resolve_laws` defines the tree that an expression resolves to. Each function here requires that there is such a
 //! tree, as in a checked program, and returns it or `NoMemory`.
 //!
-//! The promise of `resolve` of `lam_resolve` rests on it.
+//! The promise of `resolve` (`lam_resolve`) rests on `resolve_expr` (its one clause). Free to change for speed: how
+//! names are looked up, and how trees are put together.
 #![tactic(auto)]
 
 pub mod exprs;

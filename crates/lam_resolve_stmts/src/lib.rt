@@ -6,7 +6,8 @@
 //!
 //! Each function requires that its part of the program resolves, and answers what `lam_resolve_laws` says of it.
 //!
-//! The promise of `resolve` of `lam_resolve` rests on it.
+//! The promise of `resolve` (`lam_resolve`) rests on `resolve_block` (clauses `meets`, `keeps`). Free to change for
+//! speed: how statements are put together.
 #![tactic(auto)]
 
 mod regions;

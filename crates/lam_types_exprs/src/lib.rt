@@ -7,7 +7,8 @@
 //! Every function here takes the tables of the program's classes and functions, and the names in scope. It answers what
 //! the expression gives. Only a refusal that names types allocates.
 //!
-//! The promise of `check` of `lam_types` rests on `check_one`.
+//! The promise of `check` (`lam_types`) rests on `check_one` (clauses `exact`, `typed`, `only`): what an expression
+//! gives, or its first break. Free to change for speed: how names are looked up.
 #![tactic(auto)]
 
 ghost use Rattle.std.specs.Prelude.{◌≡◌, IfOk, OnOk, length, is_some, Some};
