@@ -5,6 +5,9 @@
 //! one of the two asks. Nothing allocates.
 //!
 //! `outcomes` compares faults, outcomes and answers; the other modules have the forms of asks.
+//!
+//! The promises of `pair` and `walk` rest on the three calls (the one clause of each): they answer whether two are
+//! equal. Free to change for speed: in which order parts are compared.
 #![tactic(auto)]
 
 mod contexts;

@@ -4,6 +4,9 @@
 //! its event and the world after it, and only the text is kept. [`push_view`] does so for an observer, and
 //! [`push_audit`] for an auditor. `specs/Kept` says what is kept of the moments of a run, in the form of `Keeps`
 //! (`lam_machine_replay`). A private turn has no line ([`views_leave_private`], [`audits_leave_private`]).
+//!
+//! The promises about views and audits rest on [`push_view`] and [`push_audit`] (the one clause of each), and on the
+//! two laws. Free to change for speed: how a line is put together.
 #![tactic(auto)]
 
 ghost use Rattle.std.specs.Prelude.{◌≡◌, ◌++◌, ℕ, List, OnOk, string_bytes};

@@ -14,8 +14,9 @@
 //! of a code, and `described` has what `describe` gives. `redundant` has the redundant barriers, and `sweep` how they
 //! are found without a description for each address.
 //!
-//! A public promise rests on `verify` and `is_guarded` (guarded code alone passes), and on `redundant_barriers` (which
-//! barriers go). Free to change for speed: `sweep`, and how the rounds keep their tables.
+//! Public promises rest on `verify` (clauses `same`, `guarded`, `err`) and `is_guarded` (guarded code alone passes, and
+//! other code is refused for its first break), and on `redundant_barriers` (which barriers go). Free to change for
+//! speed: `sweep`, and how the rounds keep their tables.
 #![tactic(auto)]
 
 mod breaks;

@@ -11,7 +11,8 @@
 //!   sound.
 //! - `specs/Laws`: the laws.
 //!
-//! Nothing here is a matter of speed.
+//! A public promise rests on `runs_stay_sound`: in a run of guarded code each access finds a reference that its rule
+//! allows. Nothing here is a matter of speed.
 #![tactic(auto)]
 
 ghost use Rattle.lam_bytecode.specs.Codes.{CodeTree};

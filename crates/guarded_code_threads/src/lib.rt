@@ -9,7 +9,7 @@
 //! - `specs/Accesses`: what accesses find, and what they do without a second test.
 //! - `specs/Laws`: the laws; `specs/Samples`: what is known at some addresses.
 //!
-//! Nothing here is a matter of speed.
+//! The promise of `runs_stay_sound` (`guarded_code_runs`) rests on both laws. Nothing here is a matter of speed.
 #![tactic(auto)]
 
 ghost use Rattle.lam_bytecode.specs.Codes.{CodeTree};

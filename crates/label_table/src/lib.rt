@@ -6,8 +6,8 @@
 //! `intern` and `remember` allocate, and no other function does. `remember` makes the room in which `flows` keeps its
 //! answers. Where that is full, `flows` answers as before and keeps nothing.
 //!
-//! No public promise rests on this crate alone: an answer of `flows` is the one of `flow_labels` (clause `answer`).
-//! Free to change for speed: how labels are found, and how answers are kept.
+//! No public promise rests on this crate alone: no crate of the tool uses it. An answer of `flows` is the one of
+//! `flow_labels` (clause `answer`). Free to change for speed: how labels are found, and how answers are kept.
 #![tactic(auto)]
 
 ghost use Rattle.std.specs.Prelude.{◌≡◌, ◌+◌, ◌<◌, ◌≤◌, ◌↔◌, length, cond, slice_get, Some, None, IsNone, IfSome, IfOk, OnOk, OnErr};

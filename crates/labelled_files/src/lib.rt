@@ -16,8 +16,9 @@
 //! - `contents`: the bytes of one file.
 //! - `files`: all of them by name.
 //!
-//! The promises about runs and saved worlds rest on the calls of `Files` (clauses `fault`, `ok`, `err` and their
-//! like) and on `facts`. Free to change for speed: the maps, and how they are copied and compared.
+//! The promises about runs and saved worlds rest on the calls of `Files` (clauses `fault`, `name`, `ok`, `err`, and
+//! what each reader gives), on `facts` and on `hold_bytes`. Free to change for speed: the maps, and how they are copied
+//! and compared.
 
 #![tactic(auto)]
 

@@ -10,6 +10,8 @@
 //!   for byte, where nothing is released past the label and both runs end publicly.
 //! - `check` says exactly where a run departs from the schedule (`specs/Checked`).
 //! - What is in order ends in order, and refusals come exactly where they are planned (`specs/Orderly`).
+//!
+//! All laws here are public promises. Nothing here is a matter of speed.
 #![tactic(auto)]
 
 ghost use Rattle.std.specs.Prelude.{List};

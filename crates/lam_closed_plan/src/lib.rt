@@ -4,6 +4,8 @@
 //! is written, if any. Refusals are those of `lam` (`lam_main_plan`), in the same order and with the same lines, and
 //! files are read by the same definitions. Since a start has one closed run that ends, words and files have one plan
 //! ([`plans_are_one`]). What a call may make of its plan is one relation for all commands (`specs/Answer.antt`).
+//!
+//! Public promises rest on the definitions and on [`plans_are_one`]. Nothing here is a matter of speed.
 #![tactic(auto)]
 
 ghost use Rattle.std.specs.Prelude.{◌≡◌, ◌≤◌};

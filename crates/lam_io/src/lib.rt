@@ -6,11 +6,11 @@
 //! - [`MemShelf`] and [`MemSink`] hold their contents in memory and fail at the calls that a test lists.
 //! - [`DirShelf`] and [`StdSink`] are the current folder and standard output, the trusted edge. Their contracts say
 //!   nothing of contents.
-//! - A [`Gate`] is a scheduler hook, which picks the thread that goes on. [`OpenGate`] is the program's own, and a
-//!   [`TableGate`] picks what a test lists.
+//! - A [`Gate`] is a scheduler hook, which picks the thread that goes on. [`OpenGate`] picks by the number of the turn,
+//!   and a [`TableGate`] what a test lists. `lam` has a gate of its own (`thread_host_pace`).
 //!
-//! The promises about printed text and written files rest on `Shelf`, `Sink` and `write_all` (clauses `set`,
-//! `others`, `failed`, `refused`, `all` and `front`).
+//! The promises about printed text and written files rest on `Shelf`, `Sink` and `write_all` (clauses `set`, `others`,
+//! `failed`, `refused`, `all` and `front`). Nothing here is a matter of speed.
 #![tactic(auto)]
 
 mod device;

@@ -13,7 +13,7 @@
 //! the definitions', and `effect_of` there says what it does.
 //!
 //! A public promise rests on [`apply`] (clauses `ok`, `err`): the stores change by exactly the effect, or not at all.
-//! Free to change for speed: how an effect is held and applied.
+//! Free to change for speed: how an effect is applied.
 #![tactic(auto)]
 
 mod applying;

@@ -14,7 +14,7 @@
 //! `specs/Serves` says what is read, and `lam_machine_terms` what is served.
 //!
 //! A public promise rests on [`serve`] and on [`is_ready`]: each ask is served exactly by its row, and waits exactly
-//! where the definition says. Free to change for speed: what is read, and when, as long as the answer is that.
+//! where the definition says. Free to change for speed: the order in which a row reads and tests.
 #![tactic(auto)]
 
 mod acting;

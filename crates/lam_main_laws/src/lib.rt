@@ -20,6 +20,8 @@
 //! - `walks`: what `walk` tells of a run (`specs/Walks`).
 //! - `audits`: what is kept of a run for observers and auditors is whole (`specs/Whole`).
 //! - `meant`: the runs of all these calls mean what their source means (`specs/Meant`).
+//!
+//! All laws here are public promises. Nothing here is a matter of speed.
 #![tactic(auto)]
 
 mod audits;

@@ -4,6 +4,9 @@
 //! that is written, if any. It is defined command by command, in the order in which files are read, and a new command
 //! adds a case. What a call may make of its plan is one relation for all commands (`specs/Answer.antt`). The output or
 //! the file store may fail, and memory may run out.
+//!
+//! Public promises rest on the definitions, on [`plans_are_one`] and on [`refusals_are_one`]: words and files have one
+//! plan. Nothing here is a matter of speed.
 #![tactic(auto)]
 
 ghost use Rattle.std.specs.Prelude.{◌≡◌, ◌≤◌};

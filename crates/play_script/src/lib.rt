@@ -21,8 +21,9 @@
 //! contract cites follow the order of the code. The laws below it relate them to the format in the format's own words.
 //! `play_run` defines what a script does.
 //!
-//! Public promises of `play` rest on `read_script` (its one clause) and the three laws below it: a script is read
-//! exactly where lines spell it. Free to change for speed: how lines and words are cut, as long as each is read once.
+//! Public promises of `play` rest on `read_script` (clauses `gives`, `whole`) and the three laws below it: a script is
+//! read exactly where lines spell it. Free to change for speed: how lines and words are cut, as long as each is read
+//! once.
 #![tactic(auto)]
 
 mod declarations;

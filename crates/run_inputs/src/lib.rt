@@ -5,6 +5,9 @@
 //! A program that embeds lam reads by them as the tool does. Each says why it refuses what it reads: the first fault,
 //! with its place. Compiled code is guarded (`compiled_code_guarded`), and so is what is run, so nothing verifies it at
 //! run time.
+//!
+//! Public promises rest on every reader here (clauses `run`, `sound`, `refused` and their like): bytes are read as the
+//! definitions say, or refused for their first fault. Nothing here is a matter of speed: the crates below do the work.
 #![tactic(auto)]
 
 mod code;

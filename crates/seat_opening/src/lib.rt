@@ -3,6 +3,9 @@
 //! It is the first call of a program that embeds such a run. `run_inputs` reads the bytes as it does for the tool, and
 //! the code that is run has no redundant barrier. So they are refused for the same faults, and the tool replays the book
 //! of the run. `seat_host` has what comes then.
+//!
+//! A public promise rests on `open_run` (clauses `opened`, `seat`, `refused`): an embedded run starts as the tool's
+//! does. Nothing here is a matter of speed.
 #![tactic(auto)]
 
 ghost use Rattle.std.specs.Prelude.{◌≡◌, IfOk, IfErr};

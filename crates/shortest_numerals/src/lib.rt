@@ -4,6 +4,9 @@
 //! float, and neither of the two beside it that have one digit fewer is ([`is_shortest`]). Reading keeps the order of
 //! numbers, so no other numeral of fewer digits is read as the float either, and all such texts of a float have one length
 //! ([`shortest_texts_are_one`]).
+//!
+//! The length of a saved number rests on [`is_shortest`] and on [`shortest_texts_are_one`]. Free to change for speed:
+//! `digits_of`, since what it finds is tested.
 #![tactic(auto)]
 
 mod counting;

@@ -9,7 +9,7 @@
 //! keeps nothing of the turns before. [`follow`] takes one along a whole history (`follows`).
 //!
 //! The promise of `walk` (`source_walk`) rests on `follow_turn`: a turn's ask is compared with the next one of its
-//! source. Free to change for speed: how many steps go between two asks (`steps`).
+//! source. Free to change for speed: how many steps `steps` takes at once.
 #![tactic(auto)]
 
 mod answers;

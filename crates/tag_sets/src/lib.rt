@@ -5,8 +5,9 @@
 //! walk over both. Contracts see it as the finite set of its tags: two sets with the same tags are
 //! equal, however they were made.
 //!
-//! The promises about rules and labels in `flow_labels` and `capabilities` rest on what the calls of `TagSet` give
-//! (clause `value`). Free to change for speed: how the tags are kept and shared, and each walk and search.
+//! The promises about rules and labels in `flow_labels` and `capabilities` rest on what each call of `TagSet` gives
+//! (its first clause). Free to change for speed: how a set is shared, and each walk and search. `tags` lends all tags
+//! in increasing order, so a set keeps them in one slice.
 
 #![tactic(auto)]
 

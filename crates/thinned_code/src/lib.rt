@@ -15,7 +15,8 @@
 //!
 //! `thinned_code_acts` says what thinned code does in a run.
 //!
-//! Nothing here is a matter of speed.
+//! A public promise rests on `thinned_code_has_no_break` and `thinned_code_tests_once`: thinned code is guarded, and
+//! has no redundant barrier. Nothing here is a matter of speed.
 #![tactic(auto)]
 
 ghost use Rattle.thinned_code.specs.Facts.{StaysGuarded, StaysCode, KeepsUnits, KeepsNames, ThinnedOnce};

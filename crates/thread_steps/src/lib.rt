@@ -13,7 +13,7 @@
 //!
 //! The compiler's proof and the machine both stand on these definitions, and neither on the other.
 //!
-//! Nothing here is a matter of speed.
+//! All promises about threads are stated in these definitions. Nothing here is a matter of speed.
 #![tactic(auto)]
 
 pub use lam_asks::{

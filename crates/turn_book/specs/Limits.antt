@@ -1,5 +1,5 @@
 -- How long a schedule may be, and who may stand in it.
-use Rattle.std.specs.Prelude.{ℕ}
+use Rattle.std.specs.Prelude.{◌≡◌, ℕ, refl}
 use Rattle.turn_book.specs.declared.limits.TheConstants.{TURN_LIMIT, LAST_THREAD, WORKER_LIMIT}
 
 -- the most turns of a run, and of its book
@@ -13,3 +13,13 @@ last_thread = LAST_THREAD
 -- the most workers that take the turns of a run
 abbrev pub most_workers : ℕ
 most_workers = WORKER_LIMIT
+
+--- ---- worked examples
+a_million_turns : most_turns ≡ 1000000
+a_million_turns = refl
+
+threads_from_zero : last_thread ≡ 4095
+threads_from_zero = refl
+
+sixteen_workers : most_workers ≡ 16
+sixteen_workers = refl

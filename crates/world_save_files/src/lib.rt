@@ -9,6 +9,9 @@
 //! - `kept`: the texts that are taken from the older document.
 //! - `saving`: the refusals and the document.
 //! - `lengths`: the law that all texts of the same files have one length.
+//!
+//! A public promise rests on `save_files` (clauses `ok`, `err`): the document is written whole, or its first refusal is
+//! told. Free to change for speed: how values of the older document are copied.
 #![tactic(auto)]
 
 mod kept;

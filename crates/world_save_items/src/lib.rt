@@ -7,6 +7,9 @@
 //! - `finding`: the list. It ends because the files are a forest (`proofs/Chains`): the directories on the way down
 //!   differ.
 //! - `measure`: the number of bytes that a text takes between quotes.
+//!
+//! The promise of `save_files` (`world_save_files`) rests on [`walk`] and `escaped_len` (the one clause of each). Free
+//! to change for speed: how the way down is kept.
 #![tactic(auto)]
 
 mod finding;

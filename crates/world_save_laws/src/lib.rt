@@ -7,6 +7,9 @@
 //! - `read_laws`: these four as one law (`specs/Saved`), and the same of two runs (`specs/Runs`).
 //! - `run_laws`: runs that look the same to an observer leave starts that do. Each visible file and directory must be
 //!   named in a visible directory (`specs/Agreeing`).
+//!
+//! A public promise rests on `next_worlds_are_read` and `next_starts_agree`: what `next` writes is read as the start of
+//! the next run, and does not tell more than the run did. Nothing here is a matter of speed.
 #![tactic(auto)]
 
 mod end_laws;

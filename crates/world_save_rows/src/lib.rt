@@ -7,6 +7,9 @@
 //! - `unnamed`: the least tag of a label that would be written and has no name. All labels of files and directories are
 //!   labels of homes that are counted, so only the list of these is looked at.
 //! - `ordering`: the rows, in the byte order of the texts.
+//!
+//! The promise of `save_files` (`world_save_files`) rests on `homes`, `rows` and `least_unnamed`: each home once, in
+//! order, or the least tag without a name. Free to change for speed: how homes are found and sorted.
 #![tactic(auto)]
 
 mod listing;

@@ -14,7 +14,7 @@ use Rattle.shortest_numerals.specs.Shortest.{IsShortestText}
 abbrev pub most_number : ℕ
 most_number = 25
 
--- The plain numeral of a float, as `1.5`, `1e+30` or `1e-7`, with the fewest digits that read back as it. An exponent has a sign, and
+-- The plain numeral of a float, as `1.5`, `1e+30` or `1e-7`, as long as the shortest that reads back as it. An exponent has a sign, and
 -- stands just where more than 16 digits would stand before the point, or more than 4 zeros after it.
 unfoldable pub IsNumeralOf : Float → List ℕ → Type 0
 IsNumeralOf x s = IsPlusNumber 16 4 s × (length s ≤ most_number) × IsShortestText x s
@@ -32,7 +32,7 @@ IsLaidOut (boolean b) = ⊤
 IsLaidOut null = ⊤
 IsLaidOut bad = ⊤
 
--- Where the value has a number that is no whole one, which of the fewest digits that read back as it stand there is left open.
+-- Where the value has a number that is no whole one, which of the shortest numerals that read back as it stands there is left open.
 pub record IsCompact (d : Data) (text : List ℕ) : Type 0 where
   pub plain : has_float d ≡ false → text ≡ compact_text d
   pub compact : text ≡ print (tokens text)

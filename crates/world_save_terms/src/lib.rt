@@ -8,4 +8,6 @@
 //! - `specs/Refusals`: what cannot be saved.
 //!
 //! `world_doc_terms` defines what such a document gives when it is read.
+//!
+//! Nothing here is a matter of speed.
 #![tactic(auto)]

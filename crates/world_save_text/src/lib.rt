@@ -11,6 +11,9 @@
 //! - `rows`, `tags`, `tree`: the lists of counters, of tags, and of files and directories. The path of each is made
 //!   from the path before it, and counted by the length that its step says.
 //! - `document`: all of them together.
+//!
+//! The promise of `save_files` (`world_save_files`) rests on `count_document`, `write_document` and `first_bad_path`
+//! (the one clause of each). Free to change for speed: how the parts of a text are put together.
 #![tactic(auto)]
 
 mod document;

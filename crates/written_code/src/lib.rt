@@ -3,6 +3,8 @@
 //! Both take code that no compiler made. A code is written down as a constant of Rust's plain slices and texts.
 //! `code_of` makes it into what runs and is verified, where it is what every code is. No program is parsed or compiled
 //! here, and the tool does not depend on it.
+//!
+//! No public promise rests on this crate: examples and tests use it.
 #![tactic(auto)]
 
 ghost use Rattle.std.specs.Prelude.{◌≡◌, ◌<◌, ◌^◌, true, map, IfOk};
