@@ -20,7 +20,7 @@ use Rattle.lam_bytecode.specs.declared.op.Op.{Op}
 use Rattle.lam_bytecode.specs.declared.op.Op.TheVariants.{Load, Store, Call, Return, ReadBarrier, WriteBarrier, GetField, PutField, NewObject, NoCaps, System, EnterMonitor, LeaveMonitor, EnterRegion, LeaveRegion, Spawn}
 use Rattle.lam_value.specs.declared.values.Value.TheVariants.{Nothing}
 use Rattle.lam_meaning.specs.Pieces.{Pieces, puts, joined, one, op, flat}
-use Rattle.lam_meaning.specs.Scheme.{between, prefix_op, sign_op, expression, expressions, signs, loads, gives_back, value_or_null, branches, statement, block, other_block_of, Draft, function_draft, region_draft, regions_of, regions_in, regions_in_other, all_regions, drafts}
+use Rattle.lam_meaning.specs.Scheme.{between, prefix_op, sign_op, expression, expressions, signs, loads, gives_back, value_or_null, branches, statement, block, Draft, function_draft, region_draft, regions_of, regions_in, regions_in_other, all_regions, drafts}
 use Rattle.lam_resolve_laws.proofs.Finding.{get_below}
 use Rattle.barrier_compiler_ops.specs.Emits.{named_by, are_narrow}
 use Rattle.barrier_compiler_ops.proofs.Flat.{narrow-joined}
@@ -106,20 +106,20 @@ operands : (o : Option ResolvedType) (L R : ResolvedGiven → Type 0) → Operat
 operands None L R (g, h, l, r, e) = ((g, l), (h, r))
 operands (Some t) L R (l, r) = ((l.0, l.1), (r.0, r.1))
 
-between_narrow : (o : BinaryOp) (right : Pieces) → are_narrow right ≡ true → are_narrow (between o right) ≡ true
-between_narrow And right e = and_true (are_narrow right && true) true (and_true (are_narrow right) true e refl) refl
-between_narrow Or right e = and_true (are_narrow right) true e refl
-between_narrow Eq right e = both right _ e refl
-between_narrow Ne right e = both right _ e refl
-between_narrow Lt right e = both right _ e refl
-between_narrow Le right e = both right _ e refl
-between_narrow Gt right e = both right _ e refl
-between_narrow Ge right e = both right _ e refl
-between_narrow Add right e = both right _ e refl
-between_narrow Sub right e = both right _ e refl
-between_narrow Mul right e = both right _ e refl
-between_narrow Div right e = both right _ e refl
-between_narrow Rem right e = both right _ e refl
+between_narrow : (o : BinaryOp) (right : Expression) → are_narrow (expression right) ≡ true → are_narrow (between o right) ≡ true
+between_narrow And right e = and_true (are_narrow (expression right) && true) true (and_true (are_narrow (expression right)) true e refl) refl
+between_narrow Or right e = and_true (are_narrow (expression right)) true e refl
+between_narrow Eq right e = both (expression right) _ e refl
+between_narrow Ne right e = both (expression right) _ e refl
+between_narrow Lt right e = both (expression right) _ e refl
+between_narrow Le right e = both (expression right) _ e refl
+between_narrow Gt right e = both (expression right) _ e refl
+between_narrow Ge right e = both (expression right) _ e refl
+between_narrow Add right e = both (expression right) _ e refl
+between_narrow Sub right e = both (expression right) _ e refl
+between_narrow Mul right e = both (expression right) _ e refl
+between_narrow Div right e = both (expression right) _ e refl
+between_narrow Rem right e = both (expression right) _ e refl
 
 prefix_narrow : (o : UnaryOp) (e : Pieces) → are_narrow e ≡ true → are_narrow (joined e (op (prefix_op o))) ≡ true
 prefix_narrow Not e h = both e _ h refl
@@ -163,7 +163,7 @@ module _ (p : ResolvedSignatures) (classes : length p.classes ≤ most_classes) 
       narrow (unary_of o e) g ((g2, k, fits), is) = prefix_narrow o (expression e) (narrow e g2 k)
       narrow (binary_of o a b) g (k, is) =
           let q = operands (operand o) (λ h. Gives p env a h) (λ h. Gives p env b h) k in
-          both (expression a) (between o (expression b)) (narrow a q.0.0 q.0.1) (between_narrow o (expression b) (narrow b q.1.0 q.1.1))
+          both (expression a) (between o b) (narrow a q.0.0 q.0.1) (between_narrow o b (narrow b q.1.0 q.1.1))
       narrow (field_of e c f t) g (k, field, is) =
           both (expression e) _ (narrow e _ k) (both (op (ReadBarrier 0)) (op (GetField f)) refl (named (GetField f) (field_below c f t field)))
       narrow (element_of e i t) g (k, (g2, m, fits), is) =
@@ -271,7 +271,7 @@ module _ (p : ResolvedSignatures) (classes : length p.classes ≤ most_classes) 
 
     -- both branches of an `if`
     other_narrow : (o : OtherBlock) (body : Block) (slots : List ResolvedType) (ret : Returning) (env : Scope) (os : List ℕ) → length slots ≤ most_slots → Below (length slots) env → AllBelow most_slots os → OtherFits o → AllBelow most_regions (tree.regions_or o) → IsOther p slots ret env o → are_narrow (block os body) ≡ true →
-        Both (branches (block os body) (other_block_of os o)) (regions_in_other o)
+        Both (branches os body o) (regions_in_other o)
     other_narrow no_other body slots ret env os few h held rf rb k first = (and_true (are_narrow (block os body)) true first refl, refl)
     other_narrow (other_block other) body slots ret env os few h held rf rb k first =
         let b = block_narrow other slots ret env os few h held rf rb k in

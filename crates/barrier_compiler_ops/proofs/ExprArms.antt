@@ -19,8 +19,8 @@ pub child : {a b : State} {x y : Expr} → x ≡ y → Emits a b (expression (ex
 child {a = a} {b = b} e h = subst (λ (x : Expr). Emits a b (expression (expr_tree x))) e h
 
 -- the right child of an operator
-pub right_child : {a b : State} (o : BinaryOp) {x y : Expr} → x ≡ y → Emits a b (between o (expression (expr_tree x))) → Emits a b (between o (expression (expr_tree y)))
-right_child {a = a} {b = b} o e h = subst (λ (x : Expr). Emits a b (between o (expression (expr_tree x)))) e h
+pub right_child : {a b : State} (o : BinaryOp) {x y : Expr} → x ≡ y → Emits a b (between o (expr_tree x)) → Emits a b (between o (expr_tree y))
+right_child {a = a} {b = b} o e h = subst (λ (x : Expr). Emits a b (between o (expr_tree x))) e h
 
 -- the object whose field is read
 pub field_child : {a b : State} (n : ℕ) {x y : Expr} → x ≡ y → Emits a b (joined (expression (expr_tree x)) (joined (op (ReadBarrier 0)) (op (GetField n)))) → Emits a b (joined (expression (expr_tree y)) (joined (op (ReadBarrier 0)) (op (GetField n))))

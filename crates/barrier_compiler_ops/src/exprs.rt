@@ -187,7 +187,7 @@ fn emit_builtin(out: &mut Buffer, args: &Vec<Expr>, call: Builtin)
 /// The right operand of an operator and the operator, where the left operand's value is there.
 #[cycle(expr)]
 fn emit_right(out: &mut Buffer, right: &Expr, operator: BinaryOp)
-    ensures { Emits out.old out.new (between operator (expression (expr_tree right.now))) }
+    ensures { Emits out.old out.new (between operator (expr_tree right.now)) }
 {
     match operator {
         BinaryOp::And => emit_and(out, right),

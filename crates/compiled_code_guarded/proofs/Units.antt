@@ -13,8 +13,7 @@ use Rattle.thread_steps.specs.Ops.{UnitAt}
 use Rattle.lam_resolve_tree.specs.Tree.{ResolvedType, Statement, let_slot, if_block, while_block, return_value, throw_value, sync_block, region_block, do_value, set_local, set_field, set_element, Block, block_end, block_more, OtherBlock, no_other, other_block, ResolvedFunction, ResolvedTree}
 use Rattle.lam_resolve_tree.specs.Typing.{heads_of, a_local, a_monitor, Scope, with_use, local_if, locals_of, Returning, in_region, in_function, after, IsStatement, IsBlock, IsOther, IsFunction, AreFunctions, IsTypedTree}
 use Rattle.lam_resolve_tree.specs.Regions.{AreNumbered}
-use Rattle.lam_meaning.specs.Pieces as laid
-use Rattle.lam_meaning.specs.Pieces.{Pieces, joined, one, op, size, flat, numbered}
+use Rattle.lam_meaning.specs.Pieces.{size}
 use Rattle.lam_meaning.specs.Scheme.{Draft, arg_kind, block, function_draft, region_draft, regions_of, regions_in, regions_in_other, all_regions, drafts, unit_of, scheme}
 use Rattle.lam_meaning.specs.Long.{first_long_unit, unless_long}
 use Rattle.lam_meaning_laws.specs.Nested.{Nested, does, puts, both, statement_code, block_code, branches_code}
@@ -22,8 +21,8 @@ use Rattle.lam_meaning_laws.specs.Lone.{bound}
 use Rattle.lam_meaning_laws.proofs.Scopes.{captured_long}
 use Rattle.lam_meaning_laws.proofs.Placed.{constants_of, IsPlaced, BlockPlaced, OtherPlaced, function_unit, functions_placed}
 use Rattle.lam_meaning_laws.proofs.Stands.{width, op_here, Stands, FunctionStands}
-use Rattle.lam_meaning_laws.proofs.Laid.{size_joined, flat_length, numbered_length}
-use Rattle.lam_meaning_laws.proofs.Places.{block_width, all_stand}
+use Rattle.lam_meaning_laws.proofs.Laid.{width_size, numbered_length}
+use Rattle.lam_meaning_laws.proofs.Places.{region_length, function_length, all_stand}
 use Rattle.guarded_code.specs.declared.known.ValueKind.TheVariants.{Number, Other, Unknown}
 use Rattle.guarded_code.specs.Descriptions.{Description, untested, entry_locals, entry, catching}
 use Rattle.guarded_code.specs.Changes.{known_at}
@@ -94,21 +93,12 @@ caught locals env = record {
 -- ---- how long a unit is
 
 function_long : (vs : List Value) (fn : ResolvedFunction) → length (unit_of vs (function_draft fn)).ops ≡ width (block_code [] fn.body) + 2
-function_long vs fn =
-    let end = joined (one (laid.puts Nothing)) (op Return) in
-    let all = numbered_length vs (function_draft fn).code ∙ flat_length 0 (joined (block [] fn.body) end) in
-    let sum : size (joined (block [] fn.body) end) ≡ size (block [] fn.body) + 2 = size_joined (block [] fn.body) end in
-    omega (arith, all, sum, block_width fn.body)
+function_long vs fn = numbered_length vs (function_draft fn).code ∙ function_length fn
 
 region_long : (vs : List Value) (number : ℕ) (from : List ℕ) (own : List ResolvedType) (body : Block) (slot : ℕ) (handler : Block) →
     length (unit_of vs (region_draft number from own body slot handler)).ops ≡ width (block_code [] body) + 1 + (1 + width (block_code [] handler)) + 1
 region_long vs number from own body slot handler =
-    let last = joined (block [] handler) (op LeaveRegion) in
-    let rest = joined (op LeaveRegion) (joined (op (Store slot)) last) in
-    let all = numbered_length vs (region_draft number from own body slot handler).code ∙ flat_length 0 (joined (block [] body) rest) in
-    let sum : size (joined (block [] body) rest) ≡ size (block [] body) + (1 + (1 + size last)) = size_joined (block [] body) rest in
-    let tail : size last ≡ size (block [] handler) + 1 = size_joined (block [] handler) (op LeaveRegion) in
-    omega (arith, all, sum, tail, block_width body, block_width handler)
+    numbered_length vs (region_draft number from own body slot handler).code ∙ region_length number from own body slot handler
 
 -- ---- the units of a program
 
@@ -172,7 +162,7 @@ module _ (r : ResolvedTree) where
       let place = 0 + width (both b (does LeaveRegion)) in
       let all_x = all_back ss 0 place (shapes (scheme r) u.locals (both b (does LeaveRegion)) (at env []) (at env (Number ∷ [])) front) (shapes (scheme r) u.locals x (at env (Number ∷ [])) (at later' []) back) (omega (arith, shapes_long (scheme r) u.locals (both b (does LeaveRegion)) (at env []) (at env (Number ∷ [])) front)) all in
       let exit_x = at_same (scheme r) v u ss (0 + width c) (place + width x) (at later' []) (omega arith) exit in
-      let catch_place : place ≡ size (block [] body) + 1 = omega (arith, block_width body) in
+      let catch_place : place ≡ size (block [] body) + 1 = omega (arith, width_size (block_code [] body)) in
       let catch_entry = at_same (scheme r) v u ss place (size (block [] body) + 1) (at env (Number ∷ [])) catch_place (entry_at (scheme r) v u ss x place (at env (Number ∷ [])) (at later' []) back all_x exit_x) in
       laid_out (scheme r) u ss
       (unit_laid_out (scheme r) v u there c LeaveRegion (at env []) (at later' []) h

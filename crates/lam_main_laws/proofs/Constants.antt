@@ -8,7 +8,7 @@ use Rattle.lam_bytecode.specs.declared.op.Op.TheVariants.{Jump, JumpIfFalse}
 use Rattle.lam_bytecode.specs.Codes.{IsConstant}
 use Rattle.lam_resolve_tree.specs.Tree.{CapSlot, Expression, number_value, text_value, bool_value, null_value, local_value, unary_of, binary_of, field_of, element_of, call_of, builtin_of, new_object, new_array, label_of, caps_of, spawn_of, Expressions, args_end, args_more, Statement, let_slot, if_block, while_block, return_value, throw_value, sync_block, region_block, do_value, set_local, set_field, set_element, Block, block_end, block_more, OtherBlock, no_other, other_block, ResolvedFunction, ResolvedTree}
 use Rattle.lam_meaning.specs.Pieces.{Piece, does, puts, when, either, loops, Pieces, no_pieces, pieces, joined, size, Flat, an_op, a_constant, flat_of, flat, is_in, with_constant, constants_in}
-use Rattle.lam_meaning.specs.Scheme.{between, signs, expression, expressions, loads, gives_back, value_or_null, branches, statement, block, other_block_of, Draft, function_draft, regions_of, regions_in, regions_in_other, all_regions, drafts, all_constants}
+use Rattle.lam_meaning.specs.Scheme.{between, signs, expression, expressions, loads, gives_back, value_or_null, branches, statement, block, Draft, function_draft, regions_of, regions_in, regions_in_other, all_regions, drafts, all_constants}
 use Rattle.lam_meaning.specs.Long.{long_from}
 use Rattle.barrier_compiler.proofs.Whole.{short_first}
 
@@ -30,20 +30,20 @@ both : (ps qs : Pieces) → ArePlain ps → ArePlain qs → ArePlain (joined ps 
 both no_pieces qs h k = k
 both (pieces p ps) qs h k = (h.0, both ps qs h.1 k)
 
-right_side : (o : BinaryOp) (ps : Pieces) → ArePlain ps → ArePlain (between o ps)
-right_side binary.And ps h = ((h, (tt, tt)), tt)
-right_side binary.Or ps h = (((tt, tt), h), tt)
-right_side binary.Eq ps h = both ps _ h (tt, tt)
-right_side binary.Ne ps h = both ps _ h (tt, tt)
-right_side binary.Lt ps h = both ps _ h (tt, tt)
-right_side binary.Le ps h = both ps _ h (tt, tt)
-right_side binary.Gt ps h = both ps _ h (tt, tt)
-right_side binary.Ge ps h = both ps _ h (tt, tt)
-right_side binary.Add ps h = both ps _ h (tt, tt)
-right_side binary.Sub ps h = both ps _ h (tt, tt)
-right_side binary.Mul ps h = both ps _ h (tt, tt)
-right_side binary.Div ps h = both ps _ h (tt, tt)
-right_side binary.Rem ps h = both ps _ h (tt, tt)
+right_side : (o : BinaryOp) (e : Expression) → ArePlain (expression e) → ArePlain (between o e)
+right_side binary.And e h = ((h, (tt, tt)), tt)
+right_side binary.Or e h = (((tt, tt), h), tt)
+right_side binary.Eq e h = both (expression e) _ h (tt, tt)
+right_side binary.Ne e h = both (expression e) _ h (tt, tt)
+right_side binary.Lt e h = both (expression e) _ h (tt, tt)
+right_side binary.Le e h = both (expression e) _ h (tt, tt)
+right_side binary.Gt e h = both (expression e) _ h (tt, tt)
+right_side binary.Ge e h = both (expression e) _ h (tt, tt)
+right_side binary.Add e h = both (expression e) _ h (tt, tt)
+right_side binary.Sub e h = both (expression e) _ h (tt, tt)
+right_side binary.Mul e h = both (expression e) _ h (tt, tt)
+right_side binary.Div e h = both (expression e) _ h (tt, tt)
+right_side binary.Rem e h = both (expression e) _ h (tt, tt)
 
 of_signs : (xs : List CapSlot) → ArePlain (signs xs)
 of_signs [] = tt
@@ -57,7 +57,7 @@ mutual
   of_expression null_value = (tt, tt)
   of_expression (local_value x) = (tt, tt)
   of_expression (unary_of o e) = both (expression e) _ (of_expression e) (tt, tt)
-  of_expression (binary_of o a b) = both (expression a) _ (of_expression a) (right_side o (expression b) (of_expression b))
+  of_expression (binary_of o a b) = both (expression a) _ (of_expression a) (right_side o b (of_expression b))
   of_expression (field_of e c f t) = both (expression e) _ (of_expression e) (tt, (tt, tt))
   of_expression (element_of e i t) = both (expression e) _ (of_expression e) (both (expression i) _ (of_expression i) (tt, (tt, tt)))
   of_expression (call_of f args) = both (expressions args) _ (of_expressions args) (tt, tt)
@@ -104,7 +104,7 @@ mutual
   of_block os block_end = tt
   of_block os (block_more s rest) = both (statement os s) _ (of_statement os s) (of_block os rest)
 
-  of_branches : (os : List ℕ) (body : Block) → ArePlain (block os body) → (other : OtherBlock) → ArePlain (branches (block os body) (other_block_of os other))
+  of_branches : (os : List ℕ) (body : Block) → ArePlain (block os body) → (other : OtherBlock) → ArePlain (branches os body other)
   of_branches os body h no_other = (h, tt)
   of_branches os body h (other_block handler) = ((h, of_block os handler), tt)
 

@@ -4,6 +4,7 @@ pub mod Plays
 pub mod Examples
 pub use Rattle.thread_steps.specs.Equal
 pub mod Pieces
+pub mod Nested
 pub mod Scheme
 pub mod Long
 pub mod SchemeExamples

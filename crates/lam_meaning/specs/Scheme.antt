@@ -1,15 +1,11 @@
--- The scheme: the operations of each construct, and the units of a program.
-use Rattle.std.specs.Prelude.{ℕ, ◌+◌, Bool, true, false, List, [], ◌∷◌, ◌++◌, length, map, Option, Some, None}
+-- The scheme: the pieces of each construct, the units of a program, and its code.
+use Rattle.std.specs.Prelude.{ℕ, ◌+◌, Bool, true, false, List, [], ◌∷◌, ◌++◌, length, map, Option, Some}
 use Rattle.thread_steps.specs.Value.{Value}
-use Rattle.thread_steps.specs.Value.TheVariants.{Int, Bool as Truth, Bytes, Nothing}
+use Rattle.thread_steps.specs.Value.TheVariants.{Nothing}
 use Rattle.thread_steps.specs.Kind.{Kind}
 use Rattle.lam_operators.specs.declared.BinaryOp.{BinaryOp}
-use Rattle.lam_operators.specs.declared.BinaryOp.TheVariants as binary
-use Rattle.lam_operators.specs.declared.UnaryOp.{UnaryOp}
-use Rattle.lam_operators.specs.declared.UnaryOp.TheVariants as unary
 use Rattle.lam_builtins.specs.Types.{int, bool, bytes, tag, pipe}
-use Rattle.thread_steps.specs.Op.{Op}
-use Rattle.thread_steps.specs.Op.TheVariants.{Load, Store, Pop, Add, Sub, Mul, Div, Rem, Neg, Not, Eq, Ne, Lt, Le, Gt, Ge, Call, Return, Throw, ReadBarrier, WriteBarrier, GetField, PutField, GetElement, PutElement, NewObject, NewArray, MakeLabel, NoCaps, WithPlus, WithMinus, System, EnterMonitor, LeaveMonitor, EnterRegion, LeaveRegion, Spawn}
+use Rattle.thread_steps.specs.Op.TheVariants.{Store, Return, LeaveRegion}
 use Rattle.thread_steps.specs.ArgKind.{ArgKind}
 use Rattle.thread_steps.specs.ArgKind.TheVariants as arg
 use Rattle.thread_steps.specs.UnitKind.{UnitKind}
@@ -17,109 +13,45 @@ use Rattle.thread_steps.specs.UnitKind.TheVariants.{Function, Region}
 use Rattle.thread_steps.specs.CodeUnit.{CodeUnit}
 use Rattle.thread_steps.specs.Codes.{CodeTree, code_of}
 use Rattle.lam_meaning.specs.Means.{kind_of}
-use Rattle.lam_resolve_tree.specs.Tree.{ResolvedType, CapSlot, Expression, number_value, text_value, bool_value, null_value, local_value, unary_of, binary_of, field_of, element_of, call_of, builtin_of, new_object, new_array, label_of, caps_of, spawn_of, Expressions, args_end, args_more, Statement, let_slot, if_block, while_block, return_value, throw_value, sync_block, region_block, do_value, set_local, set_field, set_element, Block, block_end, block_more, OtherBlock, no_other, other_block, ResolvedFunction, ResolvedTree}
-use Rattle.lam_meaning.specs.Pieces.{Pieces, no_pieces, puts, when, either, loops, joined, one, op, size, Flat, flat, constants_in, numbered}
+use Rattle.lam_resolve_tree.specs.Tree.{ResolvedType, CapSlot, Expression, Expressions, Statement, if_block, while_block, sync_block, region_block, Block, block_end, block_more, OtherBlock, no_other, other_block, ResolvedFunction, ResolvedTree}
+use Rattle.lam_meaning.specs.Pieces.{Pieces, puts, joined, one, op, size, Flat, flat, constants_in, numbered}
+use Rattle.lam_meaning.specs.Nested.{pieces_of, operator_code, signs_code, expression_code, expressions_code, loads_code, gives_back_code, value_code, branches_code, statement_code, block_code}
+pub use Rattle.lam_meaning.specs.Nested.{prefix_op, sign_op, count}
 
--- ---- expressions
-
--- `a && b` leaves false where a is false, and `a || b` true where a is true
-abbrev pub between : BinaryOp → Pieces → Pieces
-between binary.And right = one (either right (one (puts (Truth false))))
-between binary.Or right = one (either (one (puts (Truth true))) right)
-between binary.Eq right = joined right (op Eq)
-between binary.Ne right = joined right (op Ne)
-between binary.Lt right = joined right (op Lt)
-between binary.Le right = joined right (op Le)
-between binary.Gt right = joined right (op Gt)
-between binary.Ge right = joined right (op Ge)
-between binary.Add right = joined right (op Add)
-between binary.Sub right = joined right (op Sub)
-between binary.Mul right = joined right (op Mul)
-between binary.Div right = joined right (op Div)
-between binary.Rem right = joined right (op Rem)
-
-abbrev pub prefix_op : UnaryOp → Op
-prefix_op unary.Not = Not
-prefix_op unary.Neg = Neg
-
-abbrev pub sign_op : Bool → Op
-sign_op true = WithPlus
-sign_op false = WithMinus
+-- ---- constructs: the pieces of their nested code
 
 abbrev pub signs : List CapSlot → Pieces
-signs [] = no_pieces
-signs (x ∷ xs) = joined (op (Load x.slot)) (joined (op (sign_op x.plus)) (signs xs))
+signs xs = pieces_of (signs_code xs)
 
-abbrev pub count : Expressions → ℕ
-count args_end = 0
-count (args_more e rest) = count rest + 1
+abbrev pub expression : Expression → Pieces
+expression e = pieces_of (expression_code e)
 
-abbrev mutual
-  pub expression : Expression → Pieces
-  expression (number_value z) = one (puts (Int z))
-  expression (text_value bs) = one (puts (Bytes bs))
-  expression (bool_value b) = one (puts (Truth b))
-  expression null_value = one (puts Nothing)
-  expression (local_value x) = op (Load x)
-  expression (unary_of o e) = joined (expression e) (op (prefix_op o))
-  expression (binary_of o a b) = joined (expression a) (between o (expression b))
-  expression (field_of e c f t) = joined (expression e) (joined (op (ReadBarrier 0)) (op (GetField f)))
-  expression (element_of e i t) = joined (expression e) (joined (expression i) (joined (op (ReadBarrier 1)) (op GetElement)))
-  expression (call_of f args) = joined (expressions args) (op (Call f))
-  expression (builtin_of b args t) = joined (expressions args) (op (System b))
-  expression (new_object c) = op (NewObject c)
-  expression (new_array t n) = joined (expression n) (op (NewArray (kind_of t)))
-  expression (label_of s i) = joined (expressions s) (joined (expressions i) (op (MakeLabel (count s) (count i))))
-  expression (caps_of items) = joined (op NoCaps) (signs items)
-  expression (spawn_of c f args) = joined (expression c) (joined (expressions args) (op (Spawn f)))
+abbrev pub expressions : Expressions → Pieces
+expressions es = pieces_of (expressions_code es)
 
-  pub expressions : Expressions → Pieces
-  expressions args_end = no_pieces
-  expressions (args_more e rest) = joined (expression e) (expressions rest)
-
--- ---- statements
+-- the right operand and the operator
+abbrev pub between : BinaryOp → Expression → Pieces
+between o right = pieces_of (operator_code o (expression_code right))
 
 abbrev pub loads : List ℕ → Pieces
-loads [] = no_pieces
-loads (x ∷ xs) = joined (op (Load x)) (loads xs)
+loads xs = pieces_of (loads_code xs)
 
--- the monitors of the open `sync`s are given back, the inmost first
 abbrev pub gives_back : List ℕ → Pieces
-gives_back [] = no_pieces
-gives_back (x ∷ xs) = joined (op (Load x)) (joined (op LeaveMonitor) (gives_back xs))
+gives_back xs = pieces_of (gives_back_code xs)
 
 abbrev pub value_or_null : Option Expression → Pieces
-value_or_null None = one (puts Nothing)
-value_or_null (Some e) = expression e
+value_or_null e = pieces_of (value_code e)
 
-abbrev pub branches : Pieces → Option Pieces → Pieces
-branches first_part None = one (when first_part)
-branches first_part (Some other_part) = one (either first_part other_part)
+-- the parts of an `if`
+abbrev pub branches : List ℕ → Block → OtherBlock → Pieces
+branches os body other = pieces_of (branches_code os (block_code os body) other)
 
-abbrev mutual
-  -- with the slots of the open `sync`s, the inmost first
-  pub statement : List ℕ → Statement → Pieces
-  statement os (let_slot x e) = joined (expression e) (op (Store x))
-  statement os (set_local x e) = joined (expression e) (op (Store x))
-  statement os (set_field e c f t v) = joined (expression e) (joined (expression v) (joined (op (WriteBarrier 1)) (op (PutField f))))
-  statement os (set_element e i t v) = joined (expression e) (joined (expression i) (joined (expression v) (joined (op (WriteBarrier 2)) (op PutElement))))
-  statement os (do_value e) = joined (expression e) (op Pop)
-  statement os (if_block e body other) = joined (expression e) (branches (block os body) (other_block_of os other))
-  statement os (while_block e body) = one (loops (expression e) (block os body))
-  statement os (return_value e) = joined (value_or_null e) (joined (gives_back os) (op Return))
-  statement os (throw_value e) = joined (expression e) (op Throw)
-  statement os (sync_block x e body) =
-      joined (expression e) (joined (op (Store x)) (joined (op (Load x)) (joined (op EnterMonitor) (joined (block (x ∷ os) body) (joined (op (Load x)) (op LeaveMonitor))))))
-  statement os (region_block number l c from slots body slot handler) =
-      joined (expression l) (joined (expression c) (joined (loads from) (op (EnterRegion number))))
+-- with the slots of the open `sync`s, the inmost first
+abbrev pub statement : List ℕ → Statement → Pieces
+statement os s = pieces_of (statement_code os s)
 
-  pub block : List ℕ → Block → Pieces
-  block os block_end = no_pieces
-  block os (block_more s rest) = joined (statement os s) (block os rest)
-
-  pub other_block_of : List ℕ → OtherBlock → Option Pieces
-  other_block_of os no_other = None
-  other_block_of os (other_block body) = Some (block os body)
+abbrev pub block : List ℕ → Block → Pieces
+block os b = pieces_of (block_code os b)
 
 -- ---- units
 

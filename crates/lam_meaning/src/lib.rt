@@ -12,11 +12,13 @@
 //! - `specs/Plays`: what a list of answers makes of a tree.
 //!
 //! By the scheme each construct has its operations, with read and write barriers before the accesses (Laminar, PLDI
-//! 2009). They are defined in two steps. *Pieces* are code whose branches are nested and whose constants stand by
-//! value. They are then laid out flat, with addresses and with each constant once.
+//! 2009). They are defined in three steps. *Nested code* has them with their structure: branches are nested, constants
+//! stand by value, and a region has its body and its catch block inside. Its *pieces* leave the region's code to a unit
+//! of its own. They are then laid out flat, with addresses and with each constant once.
 //!
 //! - `specs/Pieces`: the pieces and their layout.
-//! - `specs/Scheme`: the scheme, construct by construct.
+//! - `specs/Nested`: nested code, construct by construct, and its pieces.
+//! - `specs/Scheme`: the pieces of each construct, the units of a program, and its code.
 //! - `specs/SchemeExamples`: listings of small programs.
 //!
 //! The compiler's contract is that its code is this one. `lam_meaning_laws` proves of this scheme that the code acts as

@@ -28,7 +28,7 @@ use Rattle.lam_meaning_typed.specs.Plays.{How, has_ended, waits, is_spent, is_br
 use Rattle.lam_meaning_typed.proofs.Locals.{length_are}
 use Rattle.lam_meaning_typed.proofs.Threads.{typed_never_broken}
 use Rattle.lam_meaning_typed.specs.Scheme.{scheme}
-use Rattle.lam_meaning_laws.specs.Nested.{block_code}
+use Rattle.lam_meaning_typed.specs.Nested.{block_code}
 use Rattle.lam_meaning_laws.specs.Gathers.{Along, with_locals, Out, gone, raised, returned, stops, ends_by, acts_to, body_does, closing, final_of, first_along, thread_acts}
 use Rattle.lam_meaning_laws.proofs.Threads.{nested_means}
 use Rattle.lam_meaning_laws.specs.Lone as lone_thread

@@ -29,7 +29,7 @@ use Rattle.lam_meaning_typed.specs.Trees.{Own, local, asked, Tree, ask_value, no
 use Rattle.lam_meaning_typed.specs.Means as means
 use Rattle.lam_meaning_typed.specs.Means.{At, sort_of, kind_of, class_fields, signed, two, eval, eval_all}
 use Rattle.lam_meaning_typed.specs.Scheme.{scheme, count, sign_op}
-use Rattle.lam_meaning_laws.specs.Nested.{Nested, operator_code, signs_code, expression_code, expressions_code}
+use Rattle.lam_meaning_typed.specs.Nested.{Nested, operator_code, signs_code, expression_code, expressions_code}
 use Rattle.lam_meaning_laws.specs.Gathers.{Along, Out, gone, raised, and_on, Does, Caller, never_enters, did, around, op_does, picks, acts}
 use Rattle.lam_meaning_typed.proofs.Expressions.{head_at}
 use Rattle.lam_meaning_laws.proofs.Plays.{Keep, Held, MatchesAt, All, all_any, all_then, binds_where, binds, maps, onto_same}

@@ -9,7 +9,7 @@ use Rattle.lam_bytecode.specs.declared.op.Op.{Op}
 use Rattle.lam_bytecode.specs.declared.op.Op.TheVariants.{Const, Jump, JumpIfFalse}
 use Rattle.lam_meaning_typed.specs.Pieces as laid
 use Rattle.lam_meaning_typed.specs.Pieces.{Piece, Pieces, no_pieces, pieces, joined, size_of, size, Flat, an_op, a_constant, flat_of, flat, is_in, place_of, numbered}
-use Rattle.lam_meaning_laws.specs.Nested.{Nested, does, puts, both, when, either, loops, pieces_of}
+use Rattle.lam_meaning_typed.specs.Nested.{Nested, does, puts, both, when, either, loops, pieces_of}
 use Rattle.lam_meaning_laws.proofs.Stands.{width, op_here}
 use Rattle.lam_meaning_laws.proofs.Constants.{AllIn}
 

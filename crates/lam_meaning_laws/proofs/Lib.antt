@@ -2,7 +2,6 @@ pub use Rattle.lam_meaning_typed.proofs.Locals
 pub use Rattle.lam_meaning_typed.proofs.Expressions as TypedExpressions
 pub mod Grows
 pub mod Acting
-pub mod Pieces
 pub mod Placed
 pub mod Plays
 pub mod Lists

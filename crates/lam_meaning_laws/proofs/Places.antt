@@ -1,5 +1,5 @@
 -- The scheme's code stands in its units.
-use Rattle.std.proofs.Common.{◌≡◌, ℕ, zero, suc, ◌+◌, ◌<◌, ◌≤◌, List, [], ◌∷◌, ◌++◌, length, map, Option, Some, None, refl, sym, ap, ◌∙◌, subst, arith, length-append}
+use Rattle.std.proofs.Common.{◌≡◌, ℕ, zero, suc, ◌+◌, ◌<◌, ◌≤◌, List, [], ◌∷◌, ◌++◌, length, map, Option, Some, None, refl, ap, ◌∙◌, subst, arith, length-append}
 use Rattle.std.proofs.lemmas.Option.{same_Some}
 use Rattle.std.specs.Prelude.{slice_get}
 use Rattle.lam_value.specs.declared.values.Value.{Value}
@@ -18,14 +18,13 @@ use Rattle.lam_resolve_tree.specs.Regions.{AreNumbered}
 use Rattle.lam_meaning_typed.specs.Pieces as laid
 use Rattle.lam_meaning_typed.specs.Pieces.{Pieces, joined, one, op, size, an_op, a_constant, flat, place_of, numbered}
 use Rattle.lam_meaning_typed.specs.Scheme as scheme_of
-use Rattle.lam_meaning_typed.specs.Scheme.{Draft, block, function_draft, region_draft, regions_of, regions_in, regions_in_other, all_regions, drafts, unit_of, scheme}
-use Rattle.lam_meaning_laws.specs.Nested.{Nested, no_code, does, puts, both, when, either, loops, enters, pieces_of, operator_code, signs_code, expression_code, expressions_code, loads_code, gives_back_code, value_code, statement_code, block_code, branches_code}
-use Rattle.lam_meaning_laws.proofs.Pieces.{block_pieces}
+use Rattle.lam_meaning_typed.specs.Scheme.{Draft, function_draft, region_draft, regions_of, regions_in, regions_in_other, all_regions, drafts, unit_of, scheme}
+use Rattle.lam_meaning_typed.specs.Nested.{Nested, no_code, does, puts, both, when, either, loops, enters, pieces_of, operator_code, signs_code, expression_code, expressions_code, loads_code, gives_back_code, value_code, statement_code, block_code, branches_code}
 use Rattle.lam_meaning_laws.proofs.Placed.{constants_of, Placed, IsPlaced, BlockPlaced, OtherPlaced, function_drafted, function_unit, functions_placed}
 use Rattle.lam_meaning_laws.specs.Lone.{bound}
 use Rattle.lam_meaning_laws.proofs.Stands.{width, cost, op_here, PutsAt, Stands, AllStand}
 use Rattle.lam_meaning_laws.proofs.Constants.{place_there, draft_constants}
-use Rattle.lam_meaning_laws.proofs.Laid.{size_joined, flat_length, width_size, numbered_length, FlatAt, AllFlat, unit_at, flat_front, flat_back, joined_at}
+use Rattle.lam_meaning_laws.proofs.Laid.{flat_length, width_size, numbered_length, FlatAt, AllFlat, unit_at, flat_front, flat_back, joined_at}
 
 -- the pieces of a region's unit
 abbrev region_pieces : Nested → Nested → Pieces
@@ -151,8 +150,13 @@ module _ (code : CodeTree) where
   value_laid None = tt
   value_laid (Some e) = expression_laid e
 
-pub block_width : (b : Block) → size (block [] b) ≡ width (block_code [] b)
-block_width b = ap size (sym (block_pieces [] b)) ∙ width_size (block_code [] b)
+-- a region's unit has its body, its catch block and two leaves
+pub region_length : (number : ℕ) (from : List ℕ) (slots : List _) (body : Block) (slot : ℕ) (handler : Block) → length (region_draft number from slots body slot handler).code ≡ width (block_code [] body) + 1 + (1 + width (block_code [] handler)) + 1
+region_length number from slots body slot handler =
+    let b = block_code [] body in
+    let x = block_code [] handler in
+    let whole = both b (both (does LeaveRegion) (both (does (Store slot)) (both x (does LeaveRegion)))) in
+    omega (arith, flat_length 0 (pieces_of whole), width_size whole)
 
 -- the operations of a unit that is in the code
 module _ (r : ResolvedTree) where
@@ -166,17 +170,9 @@ module _ (r : ResolvedTree) where
   region_laid number from slots body slot handler p hb hh =
       let d = region_draft number from slots body slot handler in
       let h = unit_laid p.unit d p.there p.drafted in
-      let b = pieces_of (block_code [] body) in
-      let x = pieces_of (block_code [] handler) in
-      let build : Pieces → Pieces → Pieces = λ b x. joined b (joined (op LeaveRegion) (joined (op (Store slot)) (joined x (op LeaveRegion)))) in
-      let same : build (block [] body) (block [] handler) ≡ build b x = ap (λ y. build y (block [] handler)) (sym (block_pieces [] body)) ∙ ap (build b) (sym (block_pieces [] handler)) in
-      let all = ap (λ ps. length (flat 0 ps)) same ∙ flat_length 0 (build b x) in
-      let tail : size (joined x (op LeaveRegion)) ≡ size x + 1 = size_joined x (op LeaveRegion) in
-      let whole : size (build b x) ≡ size b + (1 + (1 + size (joined x (op LeaveRegion)))) = size_joined b (joined (op LeaveRegion) (joined (op (Store slot)) (joined x (op LeaveRegion)))) in
+      let long = h.1 ∙ region_length number from slots body slot handler in
       let wb = width_size (block_code [] body) in
-      let wx = width_size (block_code [] handler) in
-      let long = h.1 ∙ all in
-      (p.unit, unit_of (constants_of r) d, p.found, p.there, ap (λ k. Region number (length from) (k + 1)) (block_width body), refl, subst (λ ps. AllFlat (scheme r) p.unit 0 (flat 0 ps)) same h.0, omega (arith, long, whole, tail, wb, wx), hb, (tt, hh))
+      (p.unit, unit_of (constants_of r) d, p.found, p.there, ap (λ k. Region number (length from) (k + 1)) wb, refl, h.0, omega (arith, long), hb, (tt, hh))
 
   mutual
     statement_laid : (os : List ℕ) (s : Statement) → IsPlaced r s → IsLaid (scheme r) (statement_code os s)
@@ -264,18 +260,6 @@ value_inner : (e : Option Expression) → inner (value_code e) ≡ 0
 value_inner None = refl
 value_inner (Some e) = expression_inner e
 
--- a region's unit has its body, its catch block and two leaves
-region_length : (number : ℕ) (from : List ℕ) (slots : List _) (body : Block) (slot : ℕ) (handler : Block) → length (region_draft number from slots body slot handler).code ≡ width (block_code [] body) + 1 + (1 + width (block_code [] handler)) + 1
-region_length number from slots body slot handler =
-    let x = block [] handler in
-    let b = block [] body in
-    let all = flat_length 0 (joined b (joined (op LeaveRegion) (joined (op (Store slot)) (joined x (op LeaveRegion))))) in
-    let whole : size (joined b (joined (op LeaveRegion) (joined (op (Store slot)) (joined x (op LeaveRegion))))) ≡ size b + (1 + (1 + size (joined x (op LeaveRegion)))) = size_joined b (joined (op LeaveRegion) (joined (op (Store slot)) (joined x (op LeaveRegion)))) in
-    let tail : size (joined x (op LeaveRegion)) ≡ size x + 1 = size_joined x (op LeaveRegion) in
-    let wb : size b ≡ width (block_code [] body) = ap size (sym (block_pieces [] body)) ∙ width_size (block_code [] body) in
-    let wx : size x ≡ width (block_code [] handler) = ap size (sym (block_pieces [] handler)) ∙ width_size (block_code [] handler) in
-    omega (arith, all, whole, tail, wb, wx)
-
 mutual
   statement_inner : (os : List ℕ) (s : Statement) → inner (statement_code os s) ≡ scheme_of.ops_in (regions_of s)
   statement_inner os (let_slot x e) = omega (arith, expression_inner e)
@@ -302,12 +286,10 @@ mutual
 
 -- ---- functions
 
-function_length : (fn : ResolvedFunction) → length (function_draft fn).code ≡ width (block_code [] fn.body) + 2
+pub function_length : (fn : ResolvedFunction) → length (function_draft fn).code ≡ width (block_code [] fn.body) + 2
 function_length fn =
-    let b = block [] fn.body in
-    let all = flat_length 0 (joined b (joined (one (laid.puts Nothing)) (op Return))) in
-    let whole : size (joined b (joined (one (laid.puts Nothing)) (op Return))) ≡ size b + 2 = size_joined b (joined (one (laid.puts Nothing)) (op Return)) in
-    omega (arith, all, whole, block_width fn.body)
+    let whole = both (block_code [] fn.body) (both (puts Nothing) (does Return)) in
+    omega (arith, flat_length 0 (pieces_of whole), width_size whole)
 
 -- no more than all operations
 cost_within : (fs : List ResolvedFunction) (f : ℕ) (fn : ResolvedFunction) → slice_get fs f ≡ Some fn → cost (block_code [] fn.body) + 2 ≤ scheme_of.ops_in (map function_draft fs) + scheme_of.ops_in (all_regions fs)
@@ -325,8 +307,7 @@ all_stand r numbered f fn e =
     let h = unit_laid r f d there (function_drafted r f fn e) in
     let c = block_code [] fn.body in
     let end = joined (one (laid.puts Nothing)) (op Return) in
-    let flats = subst (λ ps. AllFlat (scheme r) f 0 (flat 0 (joined ps end))) (sym (block_pieces [] fn.body)) h.0 in
-    let both_at = joined_at (scheme r) f 0 (width c) (pieces_of c) end (width_size c) flats in
+    let both_at = joined_at (scheme r) f 0 (width c) (pieces_of c) end (width_size c) h.0 in
     let long = h.1 ∙ function_length fn in
     let few = cost_within r.functions f fn e in
     let sum = total-append (map function_draft r.functions) (all_regions r.functions) in

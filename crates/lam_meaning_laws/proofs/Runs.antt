@@ -24,7 +24,7 @@ use Rattle.lam_resolve_tree.specs.Tree.{ResolvedFunction, ResolvedTree}
 use Rattle.lam_meaning_typed.specs.Means.{At, deeper, first_locals}
 use Rattle.lam_meaning_typed.specs.Plays.{has_ended, waits, is_spent, is_broken}
 use Rattle.lam_meaning_typed.specs.Scheme.{scheme}
-use Rattle.lam_meaning_laws.specs.Nested.{Nested, no_code, does, puts, both, when, either, loops, enters, block_code}
+use Rattle.lam_meaning_typed.specs.Nested.{Nested, no_code, does, puts, both, when, either, loops, enters, block_code}
 use Rattle.lam_meaning_laws.specs.Gathers as nested
 use Rattle.lam_meaning_laws.specs.Gathers.{Along, with_locals, Out, gone, raised, returned, stops, and_on, Caller, Enters, did, region_by, picks, use_unit, acts, call_result, body_does, called, acts_to}
 use Rattle.lam_meaning_laws.specs.Lone.{Lone, runs, op_work, done, turns, asks_in, work_done}

@@ -11,7 +11,7 @@ use Rattle.lam_bytecode.specs.declared.unit.UnitKind.TheVariants.{Region}
 use Rattle.thread_steps.specs.Ops.{region_in}
 use Rattle.thread_steps.specs.Next.{ops_of}
 use Rattle.lam_resolve_tree.specs.Tree.{ResolvedFunction, ResolvedTree}
-use Rattle.lam_meaning_laws.specs.Nested.{Nested, no_code, does, puts, both, when, either, loops, enters, block_code}
+use Rattle.lam_meaning_typed.specs.Nested.{Nested, no_code, does, puts, both, when, either, loops, enters, block_code}
 
 -- the number of its operations in its own unit
 abbrev pub width : Nested → ℕ

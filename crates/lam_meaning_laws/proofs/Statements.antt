@@ -17,7 +17,7 @@ use Rattle.lam_meaning_typed.specs.Trees.{Own, with_local, local, Tree, and_then
 use Rattle.lam_meaning_typed.specs.Means as means
 use Rattle.lam_meaning_typed.specs.Means.{At, Open, take, give_back, returns, captured, inside, eval_option, exec, exec_block, exec_other}
 use Rattle.lam_meaning_typed.specs.Scheme.{scheme}
-use Rattle.lam_meaning_laws.specs.Nested.{Nested, loads_code, gives_back_code, value_code, statement_code, block_code, branches_code}
+use Rattle.lam_meaning_typed.specs.Nested.{Nested, loads_code, gives_back_code, value_code, statement_code, block_code, branches_code}
 use Rattle.lam_meaning_laws.specs.Gathers.{Along, with_locals, Out, gone, and_on, Does, Caller, never_enters, around, did, op_does, region_by, picks, use_unit, acts}
 use Rattle.lam_meaning_laws.proofs.Plays.{Keep, Held, MatchesAt, binds, and_assoc}
 use Rattle.lam_meaning_typed.proofs.Locals.{length-set_slot, set_here, slot_here}

@@ -18,7 +18,7 @@ use Rattle.lam_meaning_typed.specs.Trees.{End, goes, raises, leaves, Tree, on_en
 use Rattle.lam_meaning_typed.specs.Means.{At, Does, means, calls_limit, call_end, first_locals, body_of, deeper, calls_to, runs, block_runs, last_ask}
 use Rattle.lam_meaning_typed.specs.Scheme.{scheme}
 use Rattle.lam_meaning_typed.proofs.Threads.{function_at}
-use Rattle.lam_meaning_laws.specs.Nested.{Nested, block_code}
+use Rattle.lam_meaning_typed.specs.Nested.{Nested, block_code}
 use Rattle.lam_meaning_laws.specs.Gathers.{Along, with_locals, Out, call_result, body_does, called, acts, acts_to, closing, Final, final_of, first_along}
 use Rattle.lam_meaning_laws.specs.Gathers as nested
 use Rattle.lam_meaning_laws.proofs.Placed.{IsPlaced, BlockPlaced, OtherPlaced, functions_placed}

@@ -26,7 +26,7 @@ use Rattle.lam_meaning_typed.specs.Trees.{Own, gained}
 use Rattle.lam_meaning_typed.specs.Means.{At, inside, deeper, first_locals}
 use Rattle.lam_meaning_typed.specs.Plays.{How, has_ended, waits, is_spent, is_broken}
 use Rattle.lam_meaning_typed.specs.Scheme.{scheme}
-use Rattle.lam_meaning_laws.specs.Nested.{Nested, no_code, does, puts, both, when, either, loops, enters, block_code}
+use Rattle.lam_meaning_typed.specs.Nested.{Nested, no_code, does, puts, both, when, either, loops, enters, block_code}
 
 -- what goes along: what the context owns, the answers to come and the asks so far
 pub record Along : Type 0 where

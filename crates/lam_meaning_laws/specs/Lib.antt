@@ -1,6 +1,6 @@
 pub mod Acts
 pub mod Examples
-pub mod Nested
 pub mod Gathers
 pub mod Joined
 pub mod Lone
+pub use Rattle.lam_meaning_typed.specs.Nested

@@ -9,11 +9,11 @@
 //! The bound is the number of the code's operations, plus twice the number of its regions, plus one. `specs/Acts` has
 //! the statement.
 //!
-//! *Nested code* stands between the tree of asks and the flat code. It is the operations of each construct with their
-//! structure, a region with its body and its catch block inside. Under a list of answers it changes the operands,
-//! gathers the asks, and lists monitors as they are taken. `specs/Nested` has nested code, the code of each construct,
-//! and the pieces of the scheme that it stands for. `specs/Gathers` has what it does. `proofs/Pieces` says that the
-//! pieces are those of the scheme, and `proofs/Placed` where the units of functions and regions stand in its code.
+//! *Nested code* stands between the tree of asks and the flat code (`lam_meaning/specs/Nested`). It is the operations
+//! of each construct with their structure, a region with its body and its catch block inside. The scheme is its
+//! pieces, laid out flat. Under a list of answers nested code changes the operands, gathers the asks, and lists
+//! monitors as they are taken: `specs/Gathers` has what it does. `proofs/Placed` says where the units of functions and
+//! regions stand in the scheme's code.
 //!
 //! Half of the proof goes from trees to nested code. Played with the same answers, both make the same asks, construct
 //! by construct. They end with the same values, locals, capabilities, answers and units left. `proofs/Plays` has the

@@ -1,17 +1,18 @@
--- Code with its structure, in which a region has its body and its catch block inside: what stands between a program and
--- its pieces.
-use Rattle.std.specs.Prelude.{ℕ, true, false, List, [], ◌∷◌, length, Option, Some, None}
-use Rattle.lam_value.specs.declared.values.Value.{Value}
-use Rattle.lam_value.specs.declared.values.Value.TheVariants.{Int, Bool as Truth, Bytes, Nothing}
+-- The scheme's code of each construct with its structure: branches are nested, constants stand by value, and a region has
+-- its body and its catch block inside. Its pieces are what is laid out flat.
+use Rattle.std.specs.Prelude.{ℕ, ◌+◌, Bool, true, false, List, [], ◌∷◌, length, Option, Some, None}
+use Rattle.thread_steps.specs.Value.{Value}
+use Rattle.thread_steps.specs.Value.TheVariants.{Int, Bool as Truth, Bytes, Nothing}
 use Rattle.lam_operators.specs.declared.BinaryOp.{BinaryOp}
 use Rattle.lam_operators.specs.declared.BinaryOp.TheVariants as binary
-use Rattle.lam_bytecode.specs.declared.op.Op.{Op}
-use Rattle.lam_bytecode.specs.declared.op.Op.TheVariants.{Load, Store, Pop, Add, Sub, Mul, Div, Rem, Eq, Ne, Lt, Le, Gt, Ge, Call, Return, Throw, ReadBarrier, WriteBarrier, GetField, PutField, GetElement, PutElement, NewObject, NewArray, MakeLabel, NoCaps, System, EnterMonitor, LeaveMonitor, EnterRegion, Spawn}
-use Rattle.lam_meaning_typed.specs.Means.{kind_of}
+use Rattle.lam_operators.specs.declared.UnaryOp.{UnaryOp}
+use Rattle.lam_operators.specs.declared.UnaryOp.TheVariants as unary
+use Rattle.thread_steps.specs.Op.{Op}
+use Rattle.thread_steps.specs.Op.TheVariants.{Load, Store, Pop, Add, Sub, Mul, Div, Rem, Neg, Not, Eq, Ne, Lt, Le, Gt, Ge, Call, Return, Throw, ReadBarrier, WriteBarrier, GetField, PutField, GetElement, PutElement, NewObject, NewArray, MakeLabel, NoCaps, WithPlus, WithMinus, System, EnterMonitor, LeaveMonitor, EnterRegion, Spawn}
+use Rattle.lam_meaning.specs.Means.{kind_of}
 use Rattle.lam_resolve_tree.specs.Tree.{CapSlot, Expression, number_value, text_value, bool_value, null_value, local_value, unary_of, binary_of, field_of, element_of, call_of, builtin_of, new_object, new_array, label_of, caps_of, spawn_of, Expressions, args_end, args_more, Statement, let_slot, if_block, while_block, return_value, throw_value, sync_block, region_block, do_value, set_local, set_field, set_element, Block, block_end, block_more, OtherBlock, no_other, other_block}
-use Rattle.lam_meaning_typed.specs.Pieces as laid
-use Rattle.lam_meaning_typed.specs.Pieces.{Pieces, no_pieces, joined, one}
-use Rattle.lam_meaning_typed.specs.Scheme.{prefix_op, sign_op, count}
+use Rattle.lam_meaning.specs.Pieces as laid
+use Rattle.lam_meaning.specs.Pieces.{Pieces, no_pieces, joined, one}
 
 pub data Nested : Type 0 where
   no_code : Nested
@@ -42,6 +43,7 @@ pieces_of (enters number captures slots body handler) = laid.op (EnterRegion num
 
 -- ---- expressions
 
+-- `a && b` leaves false where a is false, and `a || b` true where a is true
 abbrev pub operator_code : BinaryOp → Nested → Nested
 operator_code binary.And right = either right (puts (Truth false))
 operator_code binary.Or right = either (puts (Truth true)) right
@@ -57,9 +59,21 @@ operator_code binary.Mul right = both right (does Mul)
 operator_code binary.Div right = both right (does Div)
 operator_code binary.Rem right = both right (does Rem)
 
+abbrev pub prefix_op : UnaryOp → Op
+prefix_op unary.Not = Not
+prefix_op unary.Neg = Neg
+
+abbrev pub sign_op : Bool → Op
+sign_op true = WithPlus
+sign_op false = WithMinus
+
 abbrev pub signs_code : List CapSlot → Nested
 signs_code [] = no_code
 signs_code (x ∷ xs) = both (does (Load x.slot)) (both (does (sign_op x.plus)) (signs_code xs))
+
+abbrev pub count : Expressions → ℕ
+count args_end = 0
+count (args_more e rest) = count rest + 1
 
 abbrev mutual
   pub expression_code : Expression → Nested
@@ -90,6 +104,7 @@ abbrev pub loads_code : List ℕ → Nested
 loads_code [] = no_code
 loads_code (x ∷ xs) = both (does (Load x)) (loads_code xs)
 
+-- the monitors of the open `sync`s are given back, the inmost first
 abbrev pub gives_back_code : List ℕ → Nested
 gives_back_code [] = no_code
 gives_back_code (x ∷ xs) = both (does (Load x)) (both (does LeaveMonitor) (gives_back_code xs))
