@@ -1,7 +1,7 @@
 -- What is read was spelt.
-use Rattle.std.proofs.Common.{◌≡◌, ℕ, zero, suc, ◌+◌, ◌<◌, ◌≤◌, codes, Bool, true, false, cond, eqb, leb, List, [], ◌∷◌, ◌++◌, length, refl, sym, ap, ◌∙◌, subst, arith, Option, Some, None, Result, Ok, Err, append_assoc, append-nil}
+use Rattle.std.proofs.Common.{◌≡◌, ℕ, zero, ◌+◌, ◌<◌, ◌≤◌, codes, Bool, true, false, cond, eqb, leb, List, [], ◌∷◌, ◌++◌, length, refl, sym, ap, ◌∙◌, subst, arith, Option, Some, None, Result, Ok, Err, append_assoc, append-nil}
 use Rattle.std.specs.Str.{bytes_eq}
-use Rattle.std.proofs.lemmas.Bool.{and_parts}
+use Rattle.std.proofs.lemmas.Bool.{and_parts, cond_both, eqb-true, leb-true}
 use Rattle.std.proofs.lemmas.Bool.Decides.{nat_tests}
 use Rattle.std.proofs.lemmas.Option.{none-some, same_Some}
 use Rattle.std.proofs.lemmas.Slice.Eq.{bytes_eq-Decides}
@@ -38,16 +38,12 @@ after_some mark text = filled (pieces mark text) (more_pieces mark text true fal
     filled [] e = absurd cc
     filled (p ∷ ps) e = refl
 
-eq_mark : (b m : ℕ) → eqb b m ≡ true → m ≡ b
-eq_mark b m e = grind (arith, nat_tests)
-
 pub parted-pieces : (mark : ℕ) (text : Word) → parted mark (pieces mark text) ≡ text
 parted-pieces mark [] = refl
-parted-pieces mark (b ∷ bs) = split (eqb b mark) refl (parted-pieces mark bs)
-  where
-    split : (t : Bool) → eqb b mark ≡ t → parted mark (pieces mark bs) ≡ bs → parted mark (cond t ([] ∷ pieces mark bs) (onto_first b (pieces mark bs))) ≡ b ∷ bs
-    split true same ih = after_some mark bs ∙ ap (λ r. mark ∷ r) ih ∙ ap (λ (m : ℕ). m ∷ bs) (eq_mark b mark same)
-    split false differs ih = parted_onto mark b (pieces mark bs) ∙ ap (λ r. b ∷ r) ih
+parted-pieces mark (b ∷ bs) =
+    cond_both (eqb b mark) ([] ∷ pieces mark bs) (onto_first b (pieces mark bs)) (λ ps. parted mark ps ≡ b ∷ bs)
+    (λ same. after_some mark bs ∙ ap (λ r. mark ∷ r) (parted-pieces mark bs) ∙ ap (λ (m : ℕ). m ∷ bs) (sym (eqb-true b mark same)))
+    (λ differs. parted_onto mark b (pieces mark bs) ∙ ap (λ r. b ∷ r) (parted-pieces mark bs))
 
 lacks_onto : (mark b : ℕ) (ps : List Word) → eqb b mark ≡ false → each_lacks mark ps ≡ true → each_lacks mark (onto_first b ps) ≡ true
 lacks_onto mark b [] differs e = rw differs refl
@@ -55,11 +51,9 @@ lacks_onto mark b (p ∷ ps) differs e = rw differs e
 
 pub pieces_lack : (mark : ℕ) (text : Word) → each_lacks mark (pieces mark text) ≡ true
 pieces_lack mark [] = refl
-pieces_lack mark (b ∷ bs) = split (eqb b mark) refl (pieces_lack mark bs)
-  where
-    split : (t : Bool) → eqb b mark ≡ t → each_lacks mark (pieces mark bs) ≡ true → each_lacks mark (cond t ([] ∷ pieces mark bs) (onto_first b (pieces mark bs))) ≡ true
-    split true same ih = ih
-    split false differs ih = lacks_onto mark b (pieces mark bs) differs ih
+pieces_lack mark (b ∷ bs) =
+    cond_both (eqb b mark) ([] ∷ pieces mark bs) (onto_first b (pieces mark bs)) (λ ps. each_lacks mark ps ≡ true)
+    (λ same. pieces_lack mark bs) (λ differs. lacks_onto mark b (pieces mark bs) differs (pieces_lack mark bs))
 
 -- ---- words
 
@@ -192,9 +186,6 @@ line_said p q line e =
 pub lines_are_exact : LinesAreExact
 lines_are_exact p q line = (line_read p q line, line_said p q line)
 
-small : (number : ℕ) → leb number 65536 ≡ true → number ≤ 65536
-small number e = grind (arith, nat_tests)
-
 last_number : (number : ℕ) → leb number 65536 ≡ false → number ≤ 65537 → number ≡ 65537
 last_number number e within = let past : 65536 < number = grind (arith, nat_tests) in omega arith
 
@@ -205,34 +196,28 @@ record Lines (p r : Play) (ps : List Word) (number : ℕ) : Type 0 where
   few : number + length lines ≤ 65537
   go : Goes p lines r
 
-same_ok : (x y : Play) → (let P : Result Play ℕ = Ok x in P) ≡ Ok y → x ≡ y
-same_ok x y e = cc
-
 line_ok : {A : Type 0} (o : Option A) (number : ℕ) (f : A → Result A ℕ) (r : A) → or_line o number f ≡ Ok r → (x : A) × (o ≡ Some x) × (f x ≡ Ok r)
 line_ok None number f r e = absurd cc
 line_ok (Some x) number f r e = (x, refl, e)
 
 one_line : (p r : Play) (l : Word) (rest : List Word) (number : ℕ) → number ≤ 65537 → lacks 10 l ≡ true → ((q : Play) → number + 1 ≤ 65537 → read_lines q rest (number + 1) ≡ Ok r → Lines q r rest (number + 1)) → read_lines p (l ∷ rest) number ≡ Ok r → Lines p r (l ∷ rest) number
-one_line p r [] [] number within lack further e = record { lines = []; text_is = refl; no_feeds = refl; few = omega arith; go = same_ok p r e }
+one_line p r [] [] number within lack further e = record { lines = []; text_is = refl; no_feeds = refl; few = omega arith; go = cc }
 one_line p r (b ∷ bs) [] number within lack further e = absurd cc
 one_line p r l (m ∷ ms) number within lack further e =
     let line = line_ok (at_line p l number) number (λ q. read_lines q (m ∷ ms) (number + 1)) r e in
     let both = when_some (leb number 65536) (after_line p l) line.0 line.1 in
-    let within_next : number ≤ 65536 = small number both.0 in
+    let within_next : number ≤ 65536 = leb-true number 65536 both.0 in
     let more = further line.0 (omega arith) line.2 in
     record {
       lines = l ∷ more.lines;
       text_is = ap (λ t. l ++ 10 ∷ t) more.text_is;
       no_feeds = rw lack more.no_feeds;
-      few = next number (length more.lines) more.few;
+      few = omega (arith, more.few);
       go = (line.0, line_said p line.0 l both.1, more.go);
     }
-  where
-    next : (number k : ℕ) → number + 1 + k ≤ 65537 → number + suc k ≤ 65537
-    next number k h = omega arith
 
 back_lines : (p r : Play) (ps : List Word) (number : ℕ) → number ≤ 65537 → each_lacks 10 ps ≡ true → read_lines p ps number ≡ Ok r → Lines p r ps number
-back_lines p r [] number within lack e = record { lines = []; text_is = refl; no_feeds = refl; few = omega arith; go = same_ok p r e }
+back_lines p r [] number within lack e = record { lines = []; text_is = refl; no_feeds = refl; few = omega arith; go = cc }
 back_lines p r (l ∷ rest) number within lack e =
     let both = and_parts (lacks 10 l) (each_lacks 10 rest) lack in
     one_line p r l rest number within both.0 (λ q w h. back_lines q r rest (number + 1) w both.1 h) e
@@ -244,12 +229,9 @@ script_spelt text p e =
       lines = found.lines;
       text_is = sym (parted-pieces 10 text) ∙ found.text_is;
       no_feeds = found.no_feeds;
-      few = few (length found.lines) found.few;
+      few = omega (arith, found.few);
       go = found.go;
     }
-  where
-    few : (k : ℕ) → 1 + k ≤ 65537 → k ≤ 65536
-    few k h = omega arith
 
 pub scripts_are_exact : ScriptsAreExact
 scripts_are_exact text p = (script_read text p, script_spelt text p)
@@ -299,9 +281,6 @@ record Broken (p : Play) (ps : List Word) (number n : ℕ) : Type 0 where
   go : Goes p lines play
   breaks : Breaks play n rest
 
-same_err : (x y : ℕ) → (let P : Result Play ℕ = Err x in P) ≡ Err y → x ≡ y
-same_err x y e = cc
-
 here : (p : Play) (ps : List Word) (number n : ℕ) → number ≤ 65537 → number ≡ n → Breaks p number (parted 10 ps) → Broken p ps number n
 here p ps number n within same breaks = record {
   lines = [];
@@ -328,20 +307,14 @@ no_line p l number more within lack e = by_number (leb number 65536) refl e
 one_broken : (p : Play) (l : Word) (rest : List Word) (number n : ℕ) → number ≤ 65537 → lacks 10 l ≡ true → ((q : Play) → number + 1 ≤ 65537 → read_lines q rest (number + 1) ≡ Err n → Broken q rest (number + 1) n) → read_lines p (l ∷ rest) number ≡ Err n → Broken p (l ∷ rest) number n
 one_broken p [] [] number n within lack further e = absurd cc
 one_broken p (b ∷ bs) [] number n within lack further e =
-    here p ((b ∷ bs) ∷ []) number n within (same_err number n e) (subst (Breaks p number) (sym (append-nil (b ∷ bs))) (open_line b bs lack))
+    here p ((b ∷ bs) ∷ []) number n within (cc) (subst (Breaks p number) (sym (append-nil (b ∷ bs))) (open_line b bs lack))
 one_broken p l (m ∷ ms) number n within lack further e = by_line (at_line p l number) refl e
   where
-    next : (number k : ℕ) → number + 1 + k ≤ 65537 → number + suc k ≤ 65537
-    next number k h = omega arith
-
-    shift : (number k : ℕ) → number + 1 + k ≡ number + suc k
-    shift number k = omega arith
-
     by_line : (o : Option Play) → at_line p l number ≡ o → or_line o number (λ q. read_lines q (m ∷ ms) (number + 1)) ≡ Err n → Broken p (l ∷ m ∷ ms) number n
-    by_line None none h = here p (l ∷ m ∷ ms) number n within (same_err number n h) (no_line p l number (parted 10 (m ∷ ms)) within lack none)
+    by_line None none h = here p (l ∷ m ∷ ms) number n within (cc) (no_line p l number (parted 10 (m ∷ ms)) within lack none)
     by_line (Some q) some h =
         let both = when_some (leb number 65536) (after_line p l) q some in
-        let low : number ≤ 65536 = small number both.0 in
+        let low : number ≤ 65536 = leb-true number 65536 both.0 in
         let more = further q (omega arith) h in
         record {
           lines = l ∷ more.lines;
@@ -349,8 +322,8 @@ one_broken p l (m ∷ ms) number n within lack further e = by_line (at_line p l 
           play = more.play;
           text_is = ap (λ t. l ++ 10 ∷ t) more.text_is ∙ sym (append_assoc l (10 ∷ ended more.lines) more.rest);
           no_feeds = rw lack more.no_feeds;
-          few = next number (length more.lines) more.few;
-          number_is = more.number_is ∙ shift number (length more.lines);
+          few = omega (arith, more.few);
+          number_is = more.number_is ∙ omega arith;
           go = (q, line_said p q l both.1, more.go);
           breaks = more.breaks;
         }
@@ -370,17 +343,11 @@ break_spelt text n e =
       play = found.play;
       text_is = sym (parted-pieces 10 text) ∙ found.text_is;
       no_feeds = found.no_feeds;
-      few = few (length found.lines) found.few;
-      number = found.number_is ∙ flip (length found.lines);
+      few = omega (arith, found.few);
+      number = found.number_is ∙ omega arith;
       go = found.go;
       breaks = found.breaks;
     }
-  where
-    few : (k : ℕ) → 1 + k ≤ 65537 → k ≤ 65536
-    few k h = omega arith
-
-    flip : (k : ℕ) → 1 + k ≡ k + 1
-    flip k = omega arith
 
 pub breaks_are_exact : BreaksAreExact
 breaks_are_exact text n = (break_read text n, break_spelt text n)

@@ -3,13 +3,10 @@ use Rattle.std.proofs.Common.{◌≡◌, ℕ, zero, suc, ◌+◌, ◌<◌, ◌�
 use Rattle.std.specs.List.{slice_index}
 use Rattle.std.specs.Str.{IsUtf8, IsAscii}
 use Rattle.std.proofs.lemmas.Str.{IsUtf8-from_ascii}
-use Rattle.std.proofs.lemmas.Bool.{and_parts}
+use Rattle.std.proofs.lemmas.Bool.{and_parts, ltb-true}
 use Rattle.std.proofs.lemmas.Bool.Decides.{nat_tests}
 use Rattle.play_script.specs.Pieces.{Word, pieces, onto_first}
 use Rattle.play_script.specs.Script.{Play, is_ascii, after_line, at_line, or_line, at_end, last_or, read_lines}
-
-small : (b : ℕ) → ltb b 128 ≡ true → b < 128
-small b e = grind (arith, nat_tests)
 
 at_place : (b : ℕ) (bs : List ℕ) (i : ℕ) → b < 128 → IsAscii bs → slice_index (b ∷ bs) i < 128
 at_place b bs zero less rest = less
@@ -20,7 +17,7 @@ ascii [] e = λ i. omega arith
 ascii (b ∷ bs) e =
     let both : (ltb b 128 ≡ true) × (is_ascii bs ≡ true) = and_parts (ltb b 128) (is_ascii bs) e in
     let rest : IsAscii bs = ascii bs both.1 in
-    λ i. at_place b bs i (small b both.0) rest
+    λ i. at_place b bs i (ltb-true b 128 both.0) rest
 
 pub ascii_text : (bs : Word) → is_ascii bs ≡ true → IsUtf8 bs
 ascii_text bs e = IsUtf8-from_ascii bs (ascii bs e)

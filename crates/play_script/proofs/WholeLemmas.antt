@@ -1,5 +1,5 @@
 -- What was read is whole.
-use Rattle.std.proofs.Common.{◌≡◌, ℕ, zero, suc, ◌+◌, ◌<◌, ◌≤◌, ◌||◌, not, Bool, true, false, cond, List, [], ◌∷◌, ◌++◌, length, refl, sym, ap, ◌∙◌, subst, arith, Some, Ok, append_assoc, append-nil, is_none, length-append}
+use Rattle.std.proofs.Common.{◌≡◌, ℕ, zero, ◌+◌, ◌<◌, ◌||◌, not, Bool, true, false, cond, List, [], ◌∷◌, ◌++◌, length, refl, sym, ap, ◌∙◌, subst, arith, Some, Ok, append_assoc, append-nil, is_none, length-append}
 use Rattle.std.specs.List.{All, list_all, list_any, position_from}
 use Rattle.std.specs.Str.{bytes_eq}
 use Rattle.std.specs.Bool.{Decides}
@@ -207,10 +207,10 @@ sound_goes p r (l ∷ ls) s h = sound_goes h.0 r ls (sound_after p h.0 h.1.words
 
 size_goes : (p r : Play) (ls : List Word) → Goes p ls r → size r ≡ size p + length ls
 size_goes p r [] e = let same : size p + zero ≡ size p = omega arith in sym (ap size e) ∙ sym same
-size_goes p r (l ∷ ls) h = let first : size h.0 ≡ size p + 1 = size_after p h.0 h.1.words h.1.says in let rest : size r ≡ size h.0 + length ls = size_goes h.0 r ls h.2 in joined (size p) (size h.0) (length ls) (size r) first rest
-  where
-    joined : (a b k c : ℕ) → b ≡ a + 1 → c ≡ b + k → c ≡ a + suc k
-    joined a b k c e f = omega arith
+size_goes p r (l ∷ ls) h =
+    let first = size_after p h.0 h.1.words h.1.says in
+    let rest = size_goes h.0 r ls h.2 in
+    omega (arith, first, rest)
 
 nothing_sound : IsSound nothing
 nothing_sound = record { kinds = refl; actors = refl; cells = refl; space = record { names = tt; unreserved = refl }; steps = All-nil (IsDeclared nothing) }
@@ -226,8 +226,5 @@ read_is_whole text p e =
       names = sound.space.names;
       unreserved = sound.space.unreserved;
       steps = sound.steps;
-      few = within (size p) (length spelt.lines) (size_goes nothing p spelt.lines spelt.go) spelt.few;
+      few = omega (arith, size_goes nothing p spelt.lines spelt.go, spelt.few);
     }
-  where
-    within : (a k : ℕ) → a ≡ size nothing + k → k ≤ 65536 → a ≤ 65536
-    within a k e h = omega arith
