@@ -17,11 +17,6 @@ even [] = refl
 even (Private ∷ did) = even did
 even (Asked a x ∷ did) = ap suc (even did)
 
-pub asked_append : (did more : List What) → asked_in (did ++ more) ≡ asked_in did ++ asked_in more
-asked_append [] more = refl
-asked_append (Private ∷ did) more = asked_append did more
-asked_append (Asked a x ∷ did) more = ap (λ l. a ∷ l) (asked_append did more)
-
 pub answers_append : (did more : List What) → answers_in (did ++ more) ≡ answers_in did ++ answers_in more
 answers_append [] more = refl
 answers_append (Private ∷ did) more = answers_append did more

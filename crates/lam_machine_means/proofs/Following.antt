@@ -4,7 +4,7 @@ use Rattle.std.specs.Prelude.{if◌then◌else◌}
 use Rattle.lam_asks.specs.declared.answer.Answer.{Answer}
 use Rattle.lam_asks.specs.declared.ask.Ask.{Ask}
 use Rattle.lam_asks.specs.Suits.{fits}
-use Rattle.lam_meaning.specs.Trees.{Asked, Tree, ends, spent, broken, asks}
+use Rattle.lam_meaning.specs.Trees.{Asked, Tree, asks}
 use Rattle.lam_meaning.specs.Plays.{asks_of, AllFit}
 
 abbrev pub rest_of : {A : Type 0} → Tree A → List Answer → Tree A
@@ -14,9 +14,7 @@ rest_of t xs = t
 
 pub rest_none : {A : Type 0} (t : Tree A) → rest_of t [] ≡ t
 rest_none (asks q go) = refl
-rest_none (ends e) = refl
-rest_none spent = refl
-rest_none broken = refl
+rest_none t = refl
 
 pub record NextAsk {A : Type 0} (t : Tree A) (xs : List Answer) (a : Ask) : Type 0 where
   pub q : Asked
@@ -42,9 +40,7 @@ module _ {A : Type 0} (q : Asked) (go : Answer → Tree A) (x : Answer) (xs : Li
 
 pub fit_none : {A : Type 0} (t : Tree A) → AllFit (asks_of t []) []
 fit_none (asks q go) = tt
-fit_none (ends e) = tt
-fit_none spent = tt
-fit_none broken = tt
+fit_none t = tt
 
 same_head : (a b : Ask) (xs ys : List Ask) → a ∷ xs ≡ b ∷ ys → (a ≡ b) × (xs ≡ ys)
 same_head a b xs ys e = (cc, cc)
@@ -62,12 +58,8 @@ next_is (asks q go) (x ∷ xs) (b ∷ made) a rest h e n =
     let tail = same_head q.ask b (plain (asks_of (go x) xs)) ((made ++ a ∷ []) ++ rest) (sym (ap plain (asks_cons q go x xs p.0)) ∙ e) in
     let m = next_is (go x) xs made a rest p.1 tail.1 (omega (arith, n)) in
     record { q = m.q; go = m.go; here = m.here; same = m.same }
-next_is (ends f) xs [] a rest h e n = absurd cc
-next_is (ends f) xs (b ∷ made) a rest h e n = absurd cc
-next_is spent xs [] a rest h e n = absurd cc
-next_is spent xs (b ∷ made) a rest h e n = absurd cc
-next_is broken xs [] a rest h e n = absurd cc
-next_is broken xs (b ∷ made) a rest h e n = absurd cc
+next_is t xs [] a rest h e n = absurd cc
+next_is t xs made a rest h e n = absurd cc
 
 module _ {A : Type 0} (q : Asked) (go : Answer → Tree A) (x : Answer) where
   same_ask : (p : Asked) (k : Answer → Tree A) → asks p k ≡ asks q go → p ≡ q
@@ -80,16 +72,12 @@ module _ {A : Type 0} (q : Asked) (go : Answer → Tree A) (x : Answer) where
   pub more_fit : (t : Tree A) (xs : List Answer) → AllFit (asks_of t xs) xs → rest_of t xs ≡ asks q go → fits q.want x ≡ true → AllFit (asks_of t (xs ++ x ∷ [])) (xs ++ x ∷ [])
   more_fit (asks p k) [] h e s = fit_join p k x [] (subst (λ (z : Asked). fits z.want x ≡ true) (sym (same_ask p k e)) s) (fit_none (k x))
   more_fit (asks p k) (y ∷ xs) h e s = let parts = fit_parts p k y xs h in fit_join p k y (xs ++ x ∷ []) parts.0 (more_fit (k y) xs parts.1 e s)
-  more_fit (ends f) xs h e s = absurd cc
-  more_fit spent xs h e s = absurd cc
-  more_fit broken xs h e s = absurd cc
+  more_fit t xs h e s = absurd cc
 
   pub rest_more : (t : Tree A) (xs : List Answer) → rest_of t xs ≡ asks q go → rest_of t (xs ++ x ∷ []) ≡ go x
   rest_more (asks p k) [] e = rest_none (k x) ∙ ap (λ (f : Answer → Tree A). f x) (same_go p k e)
   rest_more (asks p k) (y ∷ xs) e = rest_more (k y) xs e
-  rest_more (ends f) xs e = absurd cc
-  rest_more spent xs e = absurd cc
-  rest_more broken xs e = absurd cc
+  rest_more t xs e = absurd cc
 
 -- ---- fewer asks, and more
 

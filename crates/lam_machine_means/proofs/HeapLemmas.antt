@@ -8,11 +8,11 @@ use Rattle.std.specs.FinMap.{FinMap, get, insert, contains_key, get-insert}
 use Rattle.lam_value.specs.declared.names.Name.{Name}
 use Rattle.lam_value.specs.Names.{name_cmp}
 use Rattle.lam_value.specs.declared.values.Value.{Value}
-use Rattle.lam_value.specs.declared.values.Value.TheVariants.{Int, Bool as Truth, Bytes, Nothing, Obj, Arr, File, Dir, Pipe, Thread, Tag, Lab, CapV}
+use Rattle.lam_value.specs.declared.values.Value.TheVariants.{Obj, Arr}
 use Rattle.lam_value.specs.Shapes.{zero_of}
 use Rattle.lam_value.proofs.Keys.{name_total, name_exact}
 use Rattle.labelled_heap.specs.Things.{Things, changed_at}
-use Rattle.lam_builtins.specs.Types.{int, bool, bytes, tag, label, caps, file, dir, pipe, thread, object, array}
+use Rattle.lam_builtins.specs.Types.{int}
 use Rattle.lam_resolve_tree.specs.Tree.{ResolvedType}
 use Rattle.lam_meaning.specs.Means.{kind_of}
 use Rattle.lam_machine_means.specs.Typing.{Thing, an_object, an_array, Typing, Extends, Classes, slot_types, Is, Are, AreSlots}
@@ -27,25 +27,14 @@ itself q = (eq_by_cmp_equiv name_total).refl q
 
 module _ (G H : Typing) (more : Extends G H) where
   pub is_on : (t : ResolvedType) (v : Value) → Is G t v → Is H t v
-  is_on t (Int n) h = h
-  is_on t (Truth b) h = h
-  is_on t (Bytes bs) h = h
-  is_on t Nothing h = h
   is_on t (Obj n) h = (h.0, more n (an_object h.0) h.1, h.2)
   is_on t (Arr n len) h = (h.0, more n (an_array h.0 len) h.1, h.2)
-  is_on t (File n) h = h
-  is_on t (Dir n) h = h
-  is_on t (Pipe n) h = h
-  is_on t (Thread n) h = h
-  is_on t (Tag n) h = h
-  is_on t (Lab l) h = h
-  is_on t (CapV p m) h = h
+  is_on t v h = h
 
   pub are_on : (ts : List ResolvedType) (vs : List Value) → Are G ts vs → Are H ts vs
   are_on [] [] h = tt
-  are_on [] (v ∷ vs) h = absurd h
-  are_on (t ∷ ts) [] h = absurd h
   are_on (t ∷ ts) (v ∷ vs) h = (is_on t v h.0, are_on ts vs h.1)
+  are_on ts vs h = absurd h
 
 -- ---- slots
 
@@ -63,17 +52,7 @@ are_set G (u ∷ ts) (x ∷ vs) (suc at) t v h e l = (h.0, are_set G ts vs at t 
 
 first_value : (G : Typing) (t : ResolvedType) → Is G t (zero_of (kind_of t))
 first_value G int = refl
-first_value G bool = refl
-first_value G bytes = refl
-first_value G tag = refl
-first_value G label = refl
-first_value G caps = refl
-first_value G file = refl
-first_value G dir = refl
-first_value G pipe = refl
-first_value G thread = refl
-first_value G (object c) = refl
-first_value G (array t) = refl
+first_value G t = refl
 
 pub first_fields : (G : Typing) (ts : List ResolvedType) → Are G ts (map (λ u. zero_of (kind_of u)) ts)
 first_fields G [] = tt

@@ -8,7 +8,7 @@ use Rattle.lam_asks.specs.declared.answer.What.{What}
 use Rattle.lam_bytecode.specs.Codes.{CodeTree}
 use Rattle.lam_resolve_tree.specs.Tree.{ResolvedFunction, ResolvedTree}
 use Rattle.thread_steps.specs.Threads.{Context, Thread}
-use Rattle.thread_steps.specs.Next.{Next, goes, asks, stuck, started, next_of, stands, standing_in, is_ended}
+use Rattle.thread_steps.specs.Next.{Next, goes, started, next_of, stands, standing_in, is_ended}
 use Rattle.lam_meaning.specs.Means.{means}
 use Rattle.lam_meaning.specs.Plays.{asks_of, AllFit, asks_made}
 use Rattle.lam_meaning_typed.specs.Kinds.{AreOf}
@@ -30,8 +30,7 @@ ended_stays code th made w (c ∷ rest) e s = absurd (by (next_of code c) s)
   where
     by : (nx : Next) → stands nx ≡ is_ended → ⊥
     by (goes i) s = cc
-    by (asks a i) s = cc
-    by stuck s = cc
+    by nx s = cc
 
 module _ (r : ResolvedTree) (code : CodeTree) (acts_as : ActsAs code r) (f : ℕ) (fn : ResolvedFunction) (vs : List Value) (k : Caps) (did : List What) (th : Thread) (found : slice_get r.functions f ≡ Some fn) (sorts : AreOf fn.params vs) (own : OwnTurns code (started code f vs k) did th) (suit : (n : ℕ) → AllFit (asks_of (means r n f vs k) (answers_in did)) (answers_in did)) where
   acts : (n : ℕ) → ActsWith code n r f vs k (answers_in did)

@@ -29,7 +29,7 @@ use Rattle.lam_bytecode.specs.Codes.{CodeTree}
 use Rattle.thread_steps.specs.Threads.{Inside, Context, Thread}
 use Rattle.thread_steps.specs.Next.{Next, goes, asks, stuck, next_of, with_inside, started, result_after, takes}
 use Rattle.lam_machine_valid.specs.Worlds.{World, thread_at, result_in, result_at, with_thread}
-use Rattle.lam_machine_runs.specs.Serves.{Effect, sets_slot, adds_thing, adds_copy, adds_thread, effect_of, Served, answers, under, unless, on_thing}
+use Rattle.lam_machine_runs.specs.Serves.{Effect, sets_slot, adds_copy, adds_thread, effect_of, Served, answers, under, unless, on_thing}
 use Rattle.lam_machine_valid.specs.Serving.{slot_at, renamed, opened, received, ended_with, serve}
 use Rattle.lam_machine_valid.specs.Turns.{is_ready, Moment, goes_on, served, turn_by}
 use Rattle.lam_machine_valid.specs.Valid.{AreSoundStores}
@@ -109,14 +109,12 @@ module _ (classes : Classes) (G : Typing) (code : CodeTree) (t : ℕ) (w : World
   copy_typed home r n e h = absurd e
 
   bytes_typed : (ms : List Message) → Is G bytes (received (front_of sort_of_message.Bytes ms))
-  bytes_typed [] = refl
-  bytes_typed (message.Bytes bs ∷ ms) = refl
   bytes_typed (message.Caps k ∷ ms) = refl
+  bytes_typed ms = refl
 
   caps_typed : (ms : List Message) → Is G caps (received (front_of sort_of_message.Caps ms))
-  caps_typed [] = refl
-  caps_typed (message.Bytes bs ∷ ms) = refl
   caps_typed (message.Caps k ∷ ms) = refl
+  caps_typed ms = refl
 
   opened_typed : (u : ResolvedType) (refer : Name → Value) (x : Option Name) → ((n : Name) → Is G u (refer n)) → IsAnswer G u (opened refer x)
   opened_typed u refer None h = tt
@@ -163,11 +161,6 @@ module _ (classes : Classes) (G : Typing) (code : CodeTree) (t : ℕ) (w : World
       through (ask.CopyTo r l) r h.0 _ h.1 (both (ask.CopyTo r l) _ _ _ (record { typing = q.0; more = q.1; slots = q.2; answer = q.3 }))
   row ask.Mint h = both ask.Mint _ _ _ (record { typing = G; more = λ n x e. e; slots = typed; answer = refl })
   row (ask.Enter l k region args) h = both (ask.Enter l k region args) _ _ _ (record { typing = G; more = λ n x e. e; slots = typed; answer = tt })
-  row ask.Leave h = record { typing = G; more = λ n x e. e; slots = typed; answer = tt }
-  row (ask.Barred denied) h = record { typing = G; more = λ n x e. e; slots = typed; answer = tt }
-  row (ask.Caught f) h = record { typing = G; more = λ n x e. e; slots = typed; answer = tt }
-  row (ask.Suppressed f) h = record { typing = G; more = λ n x e. e; slots = typed; answer = tt }
-  row (ask.End out) h = record { typing = G; more = λ n x e. e; slots = typed; answer = tt }
   row (ask.MonEnter r) h =
       leading (ask.MonEnter r) r _ (λ n. both (ask.MonEnter r) _ _ _ (record { typing = G; more = λ n x e. e; slots = typed; answer = tt }))
   row (ask.MonLeave r) h = leading (ask.MonLeave r) r _ (λ n. record { typing = G; more = λ n x e. e; slots = typed; answer = tt })
@@ -187,7 +180,7 @@ module _ (classes : Classes) (G : Typing) (code : CodeTree) (t : ℕ) (w : World
   row (ask.ReceiveCaps p) h = ruled (ask.ReceiveCaps p) _ _ (record { typing = G; more = λ n x e. e; slots = typed; answer = caps_typed (waiting_at w.pipes p) })
   row (ask.Spawn unit args k) h = both (ask.Spawn unit args k) _ _ _ (record { typing = G; more = λ n x e. e; slots = typed; answer = refl })
   row (ask.Join u) h = ruled (ask.Join u) _ _ (record { typing = G; more = λ n x e. e; slots = typed; answer = joined_typed (result_at w u) (results u) })
-  row (ask.Say bs) h = record { typing = G; more = λ n x e. e; slots = typed; answer = tt }
+  row a h = record { typing = G; more = λ n x e. e; slots = typed; answer = tt }
 
 -- ---- results
 
@@ -220,8 +213,6 @@ ended_gave classes G wanted a old h g r e = g r e
 -- the heap after an effect does not hang on the acting thread
 heap_beside : (code : CodeTree) (t : ℕ) (w : World) (to : Thread) (e : Effect) → (effect_of code t e (with_thread w t to)).heap ≡ (effect_of code t e w).heap
 heap_beside code t w to (sets_slot n at v) = refl
-heap_beside code t w to (adds_thing home sort xs) = refl
-heap_beside code t w to (adds_copy n home) = refl
 heap_beside code t w to e = refl
 
 abbrev TurnTyped : Classes → Typing → ResolvedType → Moment → Type 0

@@ -22,15 +22,13 @@ use Rattle.lam_machine_means.proofs.Values.{kind_is, plain_is}
 
 pub are_by : (G : Typing) (ts : List ResolvedType) (vs : List Value) → Are G ts vs → AreBy (λ t v. Is G t v) ts vs
 are_by G [] [] h = tt
-are_by G [] (v ∷ vs) h = absurd h
-are_by G (t ∷ ts) [] h = absurd h
 are_by G (t ∷ ts) (v ∷ vs) h = (h.0, are_by G ts vs h.1)
+are_by G ts vs h = absurd h
 
 pub by_are : (G : Typing) (ts : List ResolvedType) (vs : List Value) → AreBy (λ t v. Is G t v) ts vs → Are G ts vs
 by_are G [] [] h = tt
-by_are G [] (v ∷ vs) h = absurd h
-by_are G (t ∷ ts) [] h = absurd h
 by_are G (t ∷ ts) (v ∷ vs) h = (h.0, by_are G ts vs h.1)
+by_are G ts vs h = absurd h
 
 -- ---- slots
 

@@ -1,7 +1,7 @@
 -- Values of types under a typing, and their sorts.
 use Rattle.std.proofs.Common.{◌≡◌, false, List, [], ◌∷◌, refl, sym, subst}
 use Rattle.lam_value.specs.declared.values.Value.{Value}
-use Rattle.lam_value.specs.declared.values.Value.TheVariants.{Int, Bool as Truth, Bytes, Nothing, Obj, Arr, File, Dir, Pipe, Thread, Tag, Lab, CapV}
+use Rattle.lam_value.specs.declared.values.Value.TheVariants.{Nothing, Obj, Arr}
 use Rattle.lam_builtins.specs.Types.{int, bool, bytes, tag, label, caps, file, dir, pipe, thread, object, array}
 use Rattle.lam_resolve_tree.specs.Tree.{ResolvedType}
 use Rattle.lam_resolve_tree.specs.Typing.{is_object}
@@ -12,25 +12,15 @@ use Rattle.lam_machine_means.specs.Typing.{Typing, Is, Are}
 
 -- a value of a type is of the type's sort
 pub kind_is : (G : Typing) (t : ResolvedType) (v : Value) → Is G t v → IsA t v
-kind_is G t (Int n) e = subst (λ t. IsA t (Int n)) (sym e) refl
-kind_is G t (Truth b) e = subst (λ t. IsA t (Truth b)) (sym e) refl
-kind_is G t (Bytes bs) e = subst (λ t. IsA t (Bytes bs)) (sym e) refl
 kind_is G t Nothing e = null_is t e
 kind_is G t (Obj n) h = subst (λ t. IsA t (Obj n)) (sym h.2) refl
 kind_is G t (Arr n len) h = subst (λ t. IsA t (Arr n len)) (sym h.2) refl
-kind_is G t (File n) e = subst (λ t. IsA t (File n)) (sym e) refl
-kind_is G t (Dir n) e = subst (λ t. IsA t (Dir n)) (sym e) refl
-kind_is G t (Pipe n) e = subst (λ t. IsA t (Pipe n)) (sym e) refl
-kind_is G t (Thread n) e = subst (λ t. IsA t (Thread n)) (sym e) refl
-kind_is G t (Tag n) e = subst (λ t. IsA t (Tag n)) (sym e) refl
-kind_is G t (Lab l) e = subst (λ t. IsA t (Lab l)) (sym e) refl
-kind_is G t (CapV p m) e = subst (λ t. IsA t (CapV p m)) (sym e) refl
+kind_is G t v e = subst (λ t. IsA t v) (sym e) refl
 
 pub kinds_are : (G : Typing) (ts : List ResolvedType) (vs : List Value) → Are G ts vs → AreOf ts vs
 kinds_are G [] [] h = tt
-kinds_are G [] (v ∷ vs) h = absurd h
-kinds_are G (t ∷ ts) [] h = absurd h
 kinds_are G (t ∷ ts) (v ∷ vs) h = (kind_is G t v h.0, kinds_are G ts vs h.1)
+kinds_are G ts vs h = absurd h
 
 -- where the type is of no things, the sort is all
 pub plain_is : (G : Typing) (t : ResolvedType) (v : Value) → is_object t ≡ false → IsA t v → Is G t v

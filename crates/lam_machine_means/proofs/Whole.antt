@@ -1,9 +1,9 @@
 -- A whole run: every thread stands as its source means, and what stands on the heap is typed.
 use Rattle.std.proofs.Common.{◌≡◌, inl, inr, ℕ, suc, ◌+◌, ◌<◌, ◌≤◌, Bool, true, false, cond, List, [], ◌∷◌, ◌++◌, length, Option, Some, None, refl, sym, ap, ◌∙◌, subst, arith, append_assoc}
 use Rattle.std.specs.Prelude.{nat_eq, map, filter}
-use Rattle.std.proofs.lemmas.Bool.Decides.{nat_tests}
-use Rattle.std.proofs.lemmas.List.{append-nil, map-append}
+use Rattle.std.proofs.lemmas.List.{append-nil, map-append, length_push}
 use Rattle.std.proofs.lemmas.List.Elements.{filter-append}
+use Rattle.std.proofs.lemmas.Bool.{eqb-true, eqb-false, eq-eqb, ne_eqb}
 use Rattle.capabilities.specs.declared.Caps.{Caps}
 use Rattle.lam_value.specs.declared.values.Value.{Value}
 use Rattle.lam_asks.specs.declared.answer.What.{What}
@@ -59,22 +59,6 @@ moments_few code (t ∷ ts) w = by (step code w t) (λ v. moments_few code ts v)
     by None h = omega arith
     by (Some m) h = let le = h m.world in omega (arith, le)
 
-same_number : (a b : ℕ) → nat_eq a b ≡ true → a ≡ b
-same_number a b e = grind (arith, nat_tests, e)
-
-own_number : (a b : ℕ) → a ≡ b → nat_eq a b ≡ true
-own_number a b e = grind (arith, nat_tests, e)
-
-other_number : (a b : ℕ) → nat_eq a b ≡ false → b ≡ a → ⊥
-other_number a b e s = absurd (let t = own_number a b (sym s) in cc)
-
-apart_number : (a b : ℕ) → (b ≡ a → ⊥) → nat_eq a b ≡ false
-apart_number a b h = by (nat_eq a b) refl
-  where
-    by : (x : Bool) → nat_eq a b ≡ x → x ≡ false
-    by true e = absurd (h (sym (same_number a b e)))
-    by false e = refl
-
 began_more : (code : CodeTree) (w : World) (past : List Moment) (m : Moment) (u f : ℕ) (vs : List Value) (k : Caps) → Began code w past u f vs k → Began code w (past ++ m ∷ []) u f vs k
 began_more code w past m u f vs k (inl e) = inl e
 began_more code w past m u f vs k (inr s) =
@@ -122,10 +106,10 @@ module _ (r : ResolvedTree) (code : CodeTree) (N : ℕ) (start : World) where
         mv = moves r code N acts_as G kn.function kn.args kn.caps (done_by t past) k.before kn.stands w t m k.after h inv.valid.sound inv.world k.own (let le = done_few t past in omega (arith, le, lt))
 
         acting : Known now mv.typing t k.after
-        acting = known_by now mv.typing t k.after k.after (done_by t past ++ m.event.what ∷ []) kn.function kn.args kn.caps refl (sym (done_own t past m (own_number m.event.thread t number))) (began_more code start past m t kn.function kn.args kn.caps kn.began) mv.stands
+        acting = known_by now mv.typing t k.after k.after (done_by t past ++ m.event.what ∷ []) kn.function kn.args kn.caps refl (sym (done_own t past m (eq-eqb m.event.thread t number))) (began_more code start past m t kn.function kn.args kn.caps kn.began) mv.stands
 
         apart : (u : ℕ) → nat_eq m.event.thread u ≡ false → u ≡ t → ⊥
-        apart u e s = other_number m.event.thread u e (s ∙ sym number)
+        apart u e s = eqb-false m.event.thread u e (number ∙ sym s)
 
         standing : (u : ℕ) (th : Thread) → thread_at m.world u ≡ Some th → nat_eq m.event.thread u ≡ false → (o : Option Thread) → thread_at w u ≡ o → Known now mv.typing u th
         standing u th at e (Some old) f =
@@ -140,17 +124,17 @@ module _ (r : ResolvedTree) (code : CodeTree) (N : ℕ) (start : World) where
 
         by_number : (u : ℕ) (th : Thread) → thread_at m.world u ≡ Some th → (b : Bool) → nat_eq m.event.thread u ≡ b → Known now mv.typing u th
         by_number u th at true e =
-            let same : t ≡ u = sym number ∙ same_number m.event.thread u e in
+            let same : t ≡ u = sym number ∙ eqb-true m.event.thread u e in
             subst (λ th. Known now mv.typing u th) (some_inj k.after th (sym (subst (λ u. thread_at m.world u ≡ Some k.after) same k.then_at) ∙ at)) (subst (λ u. Known now mv.typing u k.after) same acting)
         by_number u th at false e = standing u th at e (thread_at w u) refl
 
         by_none : (u : ℕ) → thread_at m.world u ≡ None → (o : Option Thread) → thread_at w u ≡ o → done_by u now ≡ []
         by_none u none None f =
-            done_other u past m (apart_number m.event.thread u (λ s. let here = subst (λ u. thread_at w u ≡ Some k.before) (sym (s ∙ number)) k.at in absurd (let z = sym f ∙ here in cc))) ∙ inv.none u f
+            done_other u past m (ne_eqb m.event.thread u (λ s. let here = subst (λ u. thread_at w u ≡ Some k.before) (sym number ∙ s) k.at in absurd (let z = sym f ∙ here in cc))) ∙ inv.none u f
         by_none u none (Some old) f = gone (nat_eq m.event.thread u) refl
           where
             gone : (b : Bool) → nat_eq m.event.thread u ≡ b → done_by u now ≡ []
-            gone true e = absurd (let same : t ≡ u = sym number ∙ same_number m.event.thread u e in let here = subst (λ u. thread_at m.world u ≡ Some k.after) same k.then_at in let z = sym none ∙ here in cc)
+            gone true e = absurd (let same : t ≡ u = sym number ∙ eqb-true m.event.thread u e in let here = subst (λ u. thread_at m.world u ≡ Some k.after) same k.then_at in let z = sym none ∙ here in cc)
             gone false e = absurd (let z = sym none ∙ k.others u old (apart u e) f in cc)
 
     all_turns : (turns : List ℕ) (past : List Moment) (G : Typing) (w : World) → Holds past G w → length past + length turns ≤ N → (H : Typing) × Holds (past ++ moments code turns w) H (left_by w (moments code turns w))
@@ -161,13 +145,9 @@ module _ (r : ResolvedTree) (code : CodeTree) (N : ℕ) (start : World) where
         by None e more = (G, subst (λ ms. Holds ms G w) (sym (append-nil past)) inv)
         by (Some m) e more =
             let one = one_turn past G w t m inv e (omega (arith, le)) in
-            let long = length_more past m in
+            let long = length_push past m in
             let rest = more (past ++ m ∷ []) one.0 m.world one.1 (omega (arith, le, long)) in
             (rest.0, subst (λ ms. Holds ms rest.0 (left_by m.world (moments code ts m.world))) (append_assoc past (m ∷ []) (moments code ts m.world)) rest.1)
-          where
-            length_more : (past : List Moment) (m : Moment) → length (past ++ m ∷ []) ≡ suc (length past)
-            length_more [] m = refl
-            length_more (x ∷ past) m = ap suc (length_more past m)
 
     at_start : IsValid start → ThreadsStart r code start → Holds [] nothing_known start
     at_start valid starts =
