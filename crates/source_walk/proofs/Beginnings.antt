@@ -14,8 +14,9 @@ use Rattle.thread_steps.specs.Next.{locals_in, first_context, started}
 use Rattle.source_walk_terms.specs.Walks.{IsEntry, StandsAtEntry}
 use Rattle.source_walk_state.specs.declared.Beginning.{Beginning}
 use Rattle.source_walk.specs.Starts.{BeginsAt}
-use Rattle.source_walk_run.proofs.Sorts.{types_length, of_as_many}
-use Rattle.source_walk_run.proofs.Programs.{functions_length, found_is}
+use Rattle.source_walk_state.proofs.Programs.{functions_length, types_length}
+use Rattle.source_walk_meets.proofs.Began.{as_many}
+use Rattle.source_walk_run.proofs.Programs.{found_is}
 
 some_same : (x y : Context) → Some x ≡ Some y → x ≡ y
 some_same x y e = cc
@@ -49,7 +50,7 @@ module _ (r : Resolved) (code : CodeTree) (th : Thread) (s : StandsAtEntry (reso
   -- the function takes as many arguments as it was given
   takes_all : (f : Function) → slice_get r.functions.items s.function ≡ Some f → length s.args ≡ length f.params.items
   takes_all f e =
-      sym (of_as_many s.entry.function.params s.args s.entry.sorts) ∙ ap (λ (fn : ResolvedFunction). length fn.params) (sym (found_is r s.function f s.entry.function e s.entry.found)) ∙ types_length f.params.items
+      sym (as_many s.entry.function.params s.args s.entry.sorts) ∙ ap (λ (fn : ResolvedFunction). length fn.params) (sym (found_is r s.function f s.entry.function e s.entry.found)) ∙ types_length f.params.items
 
   locals_are : (c : Context) → slice_get th.contexts 0 ≡ Some c → s.args ++ replicate (locals_in (slice_get code.units s.function) - length s.args) Nothing ≡ c.inside.frame.locals
   locals_are c e = ap (λ (c : Context). c.inside.frame.locals) (first_is c e)

@@ -1,7 +1,7 @@
 -- How a walk begins.
-use Rattle.std.proofs.Common.{◌≡◌, ℕ, zero, suc, ◌-◌, List, [], ◌∷◌, ◌++◌, length, replicate, Some, None, refl, sym, ap, ◌∙◌, arith}
+use Rattle.std.proofs.Common.{◌≡◌, ℕ, zero, suc, ◌-◌, List, [], ◌∷◌, ◌++◌, length, replicate, Some, None, refl, sym, ap, ◌∙◌}
 use Rattle.std.specs.Prelude.{slice_get}
-use Rattle.std.proofs.lemmas.Option.{same_Some}
+use Rattle.std.specs.Option.{option_map}
 use denote.Bor.{Bor}
 use Rattle.flow_labels.specs.Flow.{public_label}
 use Rattle.capabilities.specs.declared.Caps.{Caps}
@@ -10,46 +10,27 @@ use Rattle.lam_value.specs.declared.values.Value.TheVariants.{Nothing}
 use Rattle.lam_resolve_tree.specs.declared.Class.{Class}
 use Rattle.lam_resolve_tree.specs.declared.Function.{Function}
 use Rattle.lam_resolve_tree.specs.declared.Stmt.{Stmt}
-use Rattle.lam_resolve_tree.specs.declared.ValueType.{ValueType}
-use Rattle.lam_resolve_tree.specs.Tree.{types_tree, stmts_tree, class_tree, classes_tree, function_tree, functions_tree, ResolvedTree}
+use Rattle.lam_resolve_tree.specs.Tree.{stmts_tree, class_tree, classes_tree, function_tree, ResolvedTree}
 use Rattle.lam_meaning.specs.Trees.{on_end}
 use Rattle.lam_meaning.specs.Means.{body_of, block_runs, first_locals, last_ask, means}
 use Rattle.source_walk_state.specs.declared.Control.TheVariants as control
 use Rattle.source_walk_state.proofs.Begins.{walk_begins}
+use Rattle.source_walk_state.proofs.Programs.{types_length}
 use Rattle.source_walk_parts.specs.States.{State, left_at}
 use Rattle.source_walk_follow.specs.Standing.{first_state}
 
--- the functions and classes of a program, by place
-pub function_there : (fs : List Function) (n : ℕ) (f : Function) → slice_get fs n ≡ Some f → slice_get (functions_tree fs) n ≡ Some (function_tree f)
-function_there [] n f e = cc
-function_there (g ∷ fs) zero f e = ap (λ x. Some (function_tree x)) (same_Some g f e)
-function_there (g ∷ fs) (suc n) f e = function_there fs n f e
-
-pub no_function_at : (fs : List Function) (n : ℕ) → slice_get fs n ≡ None → slice_get (functions_tree fs) n ≡ None
-no_function_at [] n e = refl
-no_function_at (g ∷ fs) zero e = cc
-no_function_at (g ∷ fs) (suc n) e = no_function_at fs n e
-
-pub class_at : (cs : List Class) (n : ℕ) (c : Class) → slice_get cs n ≡ Some c → slice_get (classes_tree cs) n ≡ Some (class_tree c)
-class_at [] n c e = cc
-class_at (d ∷ cs) zero c e = ap (λ x. Some (class_tree x)) (same_Some d c e)
-class_at (d ∷ cs) (suc n) c e = class_at cs n c e
-
-pub no_class_at : (cs : List Class) (n : ℕ) → slice_get cs n ≡ None → slice_get (classes_tree cs) n ≡ None
-no_class_at [] n e = refl
-no_class_at (d ∷ cs) zero e = cc
-no_class_at (d ∷ cs) (suc n) e = no_class_at cs n e
-
-length-types : (ts : List ValueType) → length (types_tree ts) ≡ length ts
-length-types [] = refl
-length-types (t ∷ ts) = omega (arith, length-types ts)
+-- the classes of a program, by place
+pub class_at : (cs : List Class) (n : ℕ) → slice_get (classes_tree cs) n ≡ option_map class_tree (slice_get cs n)
+class_at [] n = refl
+class_at (c ∷ cs) zero = refl
+class_at (c ∷ cs) (suc n) = class_at cs n
 
 module _ (r : ResolvedTree) (n f : ℕ) (vs : List Value) (k : Caps) where
   pub begins_at : (callee : Function) (rest : Bor (List Stmt)) (ls : List Value) → slice_get r.functions f ≡ Some (function_tree callee) → rest.now ≡ callee.body.items → ls ≡ vs ++ replicate (length callee.slots.items - length vs) Nothing →
       left_at r (control.Block n rest) (first_state n ls k) ≡ means r n f vs k
   unfolding left_at
   begins_at callee rest ls found same e =
-      let whole : ls ≡ first_locals (function_tree callee) vs = e ∙ ap (λ m. vs ++ replicate (m - length vs) Nothing) (sym (length-types callee.slots.items)) in
+      let whole : ls ≡ first_locals (function_tree callee) vs = e ∙ ap (λ m. vs ++ replicate (m - length vs) Nothing) (sym (types_length callee.slots.items)) in
       ap (λ l. left_at r (control.Block n rest) (first_state n l k)) whole ∙ walk_begins r n f (function_tree callee) vs k rest found (ap stmts_tree same)
 
   pub begins_nowhere : (s : State) → slice_get r.functions f ≡ None → left_at r control.Broken s ≡ means r n f vs k

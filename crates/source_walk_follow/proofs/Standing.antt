@@ -3,7 +3,7 @@ use Rattle.std.proofs.Common.{◌≡◌, ℕ, Bool, true, false, cond, List, [],
 use Rattle.std.specs.Prelude.{slice_get}
 use Rattle.std.proofs.lemmas.Option.{same_Some, none-some}
 use Rattle.lam_asks.specs.declared.answer.Answer.{Answer}
-use Rattle.lam_asks.specs.declared.answer.Answer.TheVariants.{Done, Entered, Val, Refused, Failed}
+use Rattle.lam_asks.specs.declared.answer.Answer.TheVariants.{Val}
 use Rattle.lam_value.specs.declared.shapes.Shape.TheVariants.{Class}
 use Rattle.lam_asks.specs.declared.ask.Ask.{Ask}
 use Rattle.lam_asks.specs.declared.ask.Ask.TheVariants as ask
@@ -79,10 +79,7 @@ module _ (r : ResolvedTree) (s : State) where
 -- the last ask has none behind it
 pub none_behind : (n : ℕ) (o : Own) (x : Answer) (xs : List Answer) → map (λ q. q.ask) (asks_of (done_reply {A = Unit {0}} tt n o x) xs) ≡ []
 none_behind n o (Val v) xs = refl
-none_behind n o (Refused d) xs = refl
-none_behind n o (Failed f) xs = refl
-none_behind n o Done xs = refl
-none_behind n o Entered xs = refl
+none_behind n o x xs = refl
 
 -- where it settled before
 pub settled_goes : (r : ResolvedTree) (c d : Control) (s u : State) (a : Ask) (x : Answer) (e : Control) (t : State) → left_at r d u ≡ left_at r c s → GoesOn r d u a x e t → GoesOn r c s a x e t

@@ -1,10 +1,9 @@
 -- Frames of statements that have blocks.
-use Rattle.std.proofs.Common.{◌≡◌, ℕ, suc, zero, ◌+◌, ◌-◌, ◌<◌, ◌≤◌, Bool, true, false, List, [], ◌∷◌, Option, Some, None, refl, sym, ap, ◌∙◌, subst, inl, inr, arith}
+use Rattle.std.proofs.Common.{◌≡◌, ℕ, suc, zero, ◌-◌, ◌<◌, ◌≤◌, Bool, true, false, List, ◌∷◌, refl, sym, ap, ◌∙◌, subst, inl, inr, arith}
 use denote.Bor.{Bor}
 use Rattle.lam_value.specs.declared.values.Value.{Value}
 use Rattle.lam_value.specs.declared.values.Value.TheVariants.{Int, Bool as Truth, Nothing, Obj, Arr, Lab, CapV}
 use Rattle.lam_asks.specs.declared.fault.Fault.{Fault}
-use Rattle.lam_asks.specs.declared.fault.Fault.TheVariants.{Null}
 use Rattle.lam_asks.specs.Faults.{fault_number}
 use Rattle.lam_asks.specs.declared.ask.Ask.TheVariants as ask
 use Rattle.lam_resolve_tree.specs.declared.Expr.{Expr}
@@ -18,16 +17,15 @@ use Rattle.source_walk_state.specs.declared.Region.{Region}
 use Rattle.source_walk_state.specs.declared.Outside.{Outside}
 use Rattle.source_walk_state.specs.declared.BeforeBlock.TheVariants as before
 use Rattle.source_walk_state.specs.declared.BeforeRegion.TheVariants as part
-use Rattle.source_walk_state.specs.declared.Frame.{Frame}
 use Rattle.source_walk_state.specs.declared.Frame.TheVariants as frame
 use Rattle.source_walk_state.specs.declared.Control.{Control}
 use Rattle.source_walk_state.specs.declared.Control.TheVariants as control
-use Rattle.source_walk_state.specs.Meaning.{value_of, block, valued, loop_rest, under, open_of, after, own_of, place_of}
+use Rattle.source_walk_state.specs.Meaning.{block, valued, loop_rest, under, open_of, after, own_of, place_of}
 use Rattle.source_walk_state.proofs.Opening.{asks_done}
 use Rattle.source_walk_state.proofs.Going.{goes_region, opens_while, turns, holds}
 use Rattle.source_walk_state.proofs.Delimiters as laws
 use Rattle.source_walk_parts.specs.Controls.{monitor_control}
-use Rattle.source_walk_parts.specs.Weights.{expr_weight, block_weight, control_weight, frame_weight, frames_weight, pending}
+use Rattle.source_walk_parts.specs.Weights.{control_weight}
 use Rattle.source_walk_parts.specs.States.{State, pushed, pushed_if, local_set, with_units, outside_of, left_at, Goes, IsWaiting}
 use Rattle.source_walk_go.specs.Choices.{branch_control, enter_control}
 use Rattle.source_walk_go.proofs.Waiting.{waits_goes}
@@ -38,7 +36,6 @@ module _ (r : ResolvedTree) (s : State) where
   branch_goes : (v : Value) (depth : ℕ) (a b : Bor (List Stmt)) → Goes r (control.Give v) (pushed s (frame.Branch depth a b)) (branch_control depth a b v) s
   unfolding left_at on_end
   branch_goes (Truth true) depth a b = record { left = refl; less = inr (refl, omega arith) }
-  branch_goes (Truth false) depth a b = record { left = refl; less = inr (refl, omega arith) }
   branch_goes v depth a b = record { left = refl; less = inr (refl, omega arith) }
 
   pub branch_by : (v : Value) (depth : ℕ) (a b : Bor (List Stmt)) (d : Control) → d ≡ branch_control depth a b v → Goes r (control.Give v) (pushed s (frame.Branch depth a b)) d s
@@ -130,13 +127,10 @@ module _ (r : ResolvedTree) (s : State) where
   unfolding left_at on_end
   gives_back (Obj x) = ap (λ t. on_end t (after r s.frames s.place)) (sym (asks_done (ask.MonLeave (Obj x)) s.units s.own))
   gives_back (Arr x len) = ap (λ t. on_end t (after r s.frames s.place)) (sym (asks_done (ask.MonLeave (Arr x len)) s.units s.own))
-  gives_back Nothing = refl
   gives_back v = refl
 
   monitor_weighs : (takes : Bool) (x : Value) → control_weight (monitor_control takes x) ≤ 1
   monitor_weighs takes (Obj x) = omega arith
-  monitor_weighs takes (Arr x len) = omega arith
-  monitor_weighs takes Nothing = omega arith
   monitor_weighs takes v = omega arith
 
   pub held_goes : (v x : Value) (slot : ℕ) (d : Control) → x ≡ local s.own slot → d ≡ monitor_control false x → Goes r (control.Give v) (pushed s (frame.Held slot)) d s
@@ -157,11 +151,7 @@ module _ (r : ResolvedTree) (s : State) where
     enters_goes : (l c : Value) → Goes r (control.Give c) (pushed s (frame.Region depth x (part.Caps l))) (enter_control depth x l c) s
     unfolding left_at on_end
     enters_goes (Lab l) (CapV p m) = record { left = refl; less = inr (refl, omega arith) }
-    enters_goes (Lab l) Nothing = record { left = refl; less = inr (refl, omega arith) }
-    enters_goes (Lab l) c = record { left = refl; less = inr (refl, omega arith) }
     enters_goes Nothing (CapV p m) = record { left = refl; less = inr (refl, omega arith) }
-    enters_goes Nothing Nothing = record { left = refl; less = inr (refl, omega arith) }
-    enters_goes Nothing c = record { left = refl; less = inr (refl, omega arith) }
     enters_goes l c = record { left = refl; less = inr (refl, omega arith) }
 
     pub enters_by : (l c : Value) (d : Control) → d ≡ enter_control depth x l c → Goes r (control.Give c) (pushed s (frame.Region depth x (part.Caps l))) d s

@@ -1,5 +1,5 @@
 -- Calls, and the other uses of arguments.
-use Rattle.std.proofs.Common.{◌≡◌, ℕ, suc, zero, ◌+◌, ◌-◌, ◌<◌, ◌≤◌, Bool, true, false, nat_lt, cond, List, [], ◌∷◌, ◌++◌, length, replicate, Option, Some, None, refl, sym, ap, ◌∙◌, subst, inl, inr, arith}
+use Rattle.std.proofs.Common.{◌≡◌, ℕ, suc, zero, ◌-◌, ◌<◌, ◌≤◌, true, false, nat_lt, List, [], ◌++◌, length, replicate, Some, None, refl, sym, ap, ◌∙◌, subst, inl, inr, arith}
 use Rattle.std.specs.Prelude.{slice_get, option_map, get_or}
 use Rattle.std.proofs.lemmas.Option.{slice_get_past, slice_get_read}
 use denote.Bor.{Bor}
@@ -12,9 +12,8 @@ use Rattle.thread_steps.specs.Builtins.{builtin}
 use Rattle.lam_resolve_tree.specs.declared.Expr.{Expr}
 use Rattle.lam_resolve_tree.specs.declared.Stmt.{Stmt}
 use Rattle.lam_resolve_tree.specs.declared.Function.{Function}
-use Rattle.lam_resolve_tree.specs.declared.ValueType.{ValueType}
-use Rattle.lam_resolve_tree.specs.Tree.{exprs_tree, stmts_tree, types_tree, function_tree, functions_tree, ResolvedFunction, ResolvedTree}
-use Rattle.lam_meaning.specs.Trees.{Own, Tree, broken, spent, on_end, spend, with_locals}
+use Rattle.lam_resolve_tree.specs.Tree.{stmts_tree, function_tree, functions_tree, ResolvedFunction, ResolvedTree}
+use Rattle.lam_meaning.specs.Trees.{Tree, broken, spent, on_end, spend, with_locals}
 use Rattle.lam_meaning.specs.Means.{calls_limit, call_end, body_of, block_runs, deeper, first_locals}
 use Rattle.source_walk_state.specs.declared.Sort.{Sort as Written}
 use Rattle.source_walk_state.specs.declared.Using.{Using}
@@ -22,36 +21,26 @@ use Rattle.source_walk_state.specs.declared.Using.TheVariants as using
 use Rattle.source_walk_state.specs.declared.Frame.TheVariants as frame
 use Rattle.source_walk_state.specs.declared.Control.{Control}
 use Rattle.source_walk_state.specs.declared.Control.TheVariants as control
-use Rattle.source_walk_state.specs.Meaning.{caller, block, spawns, used, after}
-use Rattle.source_walk_state.proofs.Opening.{gathers_none}
+use Rattle.source_walk_state.specs.Meaning.{block, used, after}
 use Rattle.source_walk_state.proofs.Delimiters as laws
+use Rattle.source_walk_state.proofs.Programs.{function_at as any_function, types_length}
 use Rattle.source_walk_parts.specs.Controls.{pure_control, calls_control, spawn_control}
-use Rattle.source_walk_parts.specs.Weights.{exprs_weight, using_weight, frame_weight, frames_weight, pending}
-use Rattle.source_walk_parts.specs.States.{State, pushed, with_units, called, left_at, IsLess, IsLeft}
+use Rattle.source_walk_parts.specs.States.{State, pushed, with_units, called, left_at, IsLeft}
 use Rattle.source_walk_parts.proofs.Steps.{pure_left, calls_left, spawn_left}
 use Rattle.source_walk_go.specs.Uses.{Uses}
 
 -- ---- functions of a program
 
-functions_there : (fs : List Function) (i : ℕ) → slice_get (functions_tree fs) i ≡ option_map function_tree (slice_get fs i)
-functions_there [] i = refl
-functions_there (f ∷ fs) zero = refl
-functions_there (f ∷ fs) (suc i) = functions_there fs i
-
 -- in a list that the code reads
 pub function_at : (xs fs : List Function) (i : ℕ) (f : Function) → xs ≡ fs → i < length xs → f ≡ get_or xs i f → slice_get (functions_tree fs) i ≡ Some (function_tree f)
-function_at xs fs i f e h g = functions_there fs i ∙ ap (λ ys. option_map function_tree (slice_get ys i)) (sym e) ∙ ap (option_map function_tree) (slice_get_read xs (length xs) i f refl h g)
+function_at xs fs i f e h g = any_function fs i ∙ ap (λ ys. option_map function_tree (slice_get ys i)) (sym e) ∙ ap (option_map function_tree) (slice_get_read xs (length xs) i f refl h g)
 
 pub none_at : (xs fs : List Function) (i : ℕ) → xs ≡ fs → length xs ≤ i → slice_get (functions_tree fs) i ≡ None
-none_at xs fs i e h = functions_there fs i ∙ ap (λ ys. option_map function_tree (slice_get ys i)) (sym e) ∙ ap (option_map function_tree) (slice_get_past xs i h)
-
-length-types : (ts : List ValueType) → length (types_tree ts) ≡ length ts
-length-types [] = refl
-length-types (t ∷ ts) = omega (arith, length-types ts)
+none_at xs fs i e h = any_function fs i ∙ ap (λ ys. option_map function_tree (slice_get ys i)) (sym e) ∙ ap (option_map function_tree) (slice_get_past xs i h)
 
 -- the locals of a call
 pub locals_of : (f : Function) (vs ls : List Value) (slots : ℕ) → slots ≡ length f.slots.items → ls ≡ vs ++ replicate (slots - length vs) Nothing → ls ≡ first_locals (function_tree f) vs
-locals_of f vs ls slots e h = h ∙ ap (λ n. vs ++ replicate (n - length vs) Nothing) (e ∙ sym (length-types f.slots.items))
+locals_of f vs ls slots e h = h ∙ ap (λ n. vs ++ replicate (n - length vs) Nothing) (e ∙ sym (types_length f.slots.items))
 
 -- where a call begins
 pub call_begins : (s a b t : State) (ls first outer : List Value) (calls n : ℕ) → a ≡ with_units s n → ls ≡ first → outer ≡ a.own.locals → b ≡ called a ls → t ≡ pushed b (frame.Called calls outer) → t ≡ pushed (called (with_units s n) first) (frame.Called calls s.own.locals)

@@ -1,5 +1,5 @@
 -- Faults and returns, and the ends of calls and regions.
-use Rattle.std.proofs.Common.{◌≡◌, ℕ, ◌+◌, ◌<◌, ◌≤◌, true, false, List, [], ◌∷◌, refl, sym, ap, ◌∙◌, subst, inl, inr, arith}
+use Rattle.std.proofs.Common.{◌≡◌, ℕ, ◌+◌, ◌<◌, true, false, List, [], ◌∷◌, refl, sym, ap, ◌∙◌, subst, inr, arith}
 use denote.Bor.{Bor}
 use Rattle.flow_labels.specs.declared.Label.{Label}
 use Rattle.lam_value.specs.declared.values.Value.{Value}
@@ -25,7 +25,7 @@ use Rattle.source_walk_state.specs.Meaning.{valued, open_of, after, own_of, plac
 use Rattle.source_walk_state.proofs.Opening.{asks_done}
 use Rattle.source_walk_state.proofs.Delimiters as laws
 use Rattle.source_walk_parts.specs.Controls.{monitor_control}
-use Rattle.source_walk_parts.specs.Weights.{frame_weight, frames_weight, pending}
+use Rattle.source_walk_parts.specs.Weights.{frames_weight, pending}
 use Rattle.source_walk_go.specs.Choices.{is_region_delimiter}
 use Rattle.source_walk_parts.specs.States.{State, pushed, pushed_if, with_frames, at_place, returned, outside_of, left_at, Goes}
 
@@ -90,7 +90,6 @@ module _ (r : ResolvedTree) (s : State) where
   raise_passes f (frame.Called calls ls) h i j = absurd (h calls ls refl)
   raise_passes f (frame.Region depth x b) h i j = absurd (i depth x b refl)
   raise_passes f (frame.Catch out) h i j = absurd (j out refl)
-  raise_passes f (frame.Loop depth e a false) h i j = record { left = refl; less = inr (refl, omega arith) }
   raise_passes f g h i j = record { left = refl; less = inr (refl, omega arith) }
 
   -- ---- returns
@@ -145,20 +144,15 @@ module _ (r : ResolvedTree) (s : State) where
         sym (laws.asks_then (ask.MonLeave (Obj x)) s.units s.own (λ n o. returns (open_of s.frames) v n o) (after r (frame.Held slot ∷ s.frames) s.place) (after r (frame.Leaving v ∷ s.frames) s.place) (λ n o. behind n o) (λ f n o. refl))
     giving (Arr x len) =
         sym (laws.asks_then (ask.MonLeave (Arr x len)) s.units s.own (λ n o. returns (open_of s.frames) v n o) (after r (frame.Held slot ∷ s.frames) s.place) (after r (frame.Leaving v ∷ s.frames) s.place) (λ n o. behind n o) (λ f n o. refl))
-    giving Nothing = refl
     giving x = refl
 
     -- two for the `return` and its frame, before
     lighter : (x : Value) → pending (monitor_control false x) (pushed_if (monitor_control false x) s (frame.Leaving v)).frames < 2 + frames_weight s.frames
     lighter (Obj x) = omega arith
-    lighter (Arr x len) = omega arith
-    lighter Nothing = omega arith
     lighter x = omega arith
 
     same_units : (x : Value) → (pushed_if (monitor_control false x) s (frame.Leaving v)).units ≡ s.units
     same_units (Obj x) = refl
-    same_units (Arr x len) = refl
-    same_units Nothing = refl
     same_units x = refl
 
     leaves_held : Goes r (control.Leave v) (pushed s (frame.Held slot)) (monitor_control false (local s.own slot)) (pushed_if (monitor_control false (local s.own slot)) s (frame.Leaving v))

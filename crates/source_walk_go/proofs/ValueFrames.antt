@@ -1,37 +1,33 @@
 -- Frames that take a value.
-use Rattle.std.proofs.Common.{◌≡◌, ℕ, ◌+◌, ◌++◌, Bool, true, false, List, [], ◌∷◌, Option, Some, None, refl, sym, ap, ◌∙◌, subst, inl, inr, arith}
-use Rattle.std.specs.Prelude.{slice_get}
+use Rattle.std.proofs.Common.{◌≡◌, ℕ, ◌++◌, true, List, [], ◌∷◌, None, refl, sym, ap, subst, inr, arith}
 use denote.Bor.{Bor}
 use Rattle.lam_operators.specs.declared.BinaryOp.{BinaryOp}
 use Rattle.lam_operators.specs.declared.BinaryOp.TheVariants as binary
 use Rattle.lam_operators.specs.declared.UnaryOp.{UnaryOp}
 use Rattle.lam_value.specs.declared.values.Value.{Value}
-use Rattle.lam_value.specs.declared.values.Value.TheVariants.{Bool as Truth, Nothing, Obj, Arr}
+use Rattle.lam_value.specs.declared.values.Value.TheVariants.{Bool as Truth, Nothing}
 use Rattle.lam_value.specs.declared.shapes.Kind.{Kind}
 use Rattle.lam_asks.specs.declared.fault.Fault.TheVariants.{Denied}
 use Rattle.lam_asks.specs.declared.answer.Outcome.TheVariants as outcome
 use Rattle.lam_asks.specs.declared.ask.Ask.TheVariants as ask
 use Rattle.thread_steps.specs.Operators.{operator, prefix}
 use Rattle.lam_resolve_tree.specs.declared.Expr.{Expr}
-use Rattle.lam_resolve_tree.specs.Tree.{expr_tree, exprs_tree, ResolvedTree}
-use Rattle.lam_meaning.specs.Trees.{asked, Tree, on_end, gives, broken, purely, ask_value, ask_unit, value_or_null}
+use Rattle.lam_resolve_tree.specs.Tree.{expr_tree, ResolvedTree}
+use Rattle.lam_meaning.specs.Trees.{asked, on_end, purely, ask_value, ask_unit}
 use Rattle.lam_meaning.specs.Means.{on_number, makes_array, throws}
 use Rattle.source_walk_state.specs.declared.Sort.{Sort as Written}
 use Rattle.source_walk_state.specs.declared.Using.{Using}
 use Rattle.source_walk_state.specs.declared.Using.TheVariants as using
 use Rattle.source_walk_state.specs.declared.BeforeExpr.TheVariants as expr
-use Rattle.source_walk_state.specs.declared.Frame.{Frame}
 use Rattle.source_walk_state.specs.declared.Frame.TheVariants as frame
 use Rattle.source_walk_state.specs.declared.Control.{Control}
 use Rattle.source_walk_state.specs.declared.Control.TheVariants as control
-use Rattle.source_walk_state.specs.Meaning.{sort_seen, value_of, valued, after, stops_at}
-use Rattle.source_walk_state.proofs.Opening.{asks_done}
+use Rattle.source_walk_state.specs.Meaning.{sort_seen, valued, after, stops_at}
 use Rattle.source_walk_state.proofs.Going.{goes_right, goes_element, goes_field, goes_index, goes_set}
 use Rattle.source_walk_parts.specs.declared.access.Access.{Access}
 use Rattle.source_walk_parts.specs.declared.access.Way.TheVariants.{Reads, Writes}
 use Rattle.source_walk_parts.specs.Accesses.{field_access, element_access, access_tree}
 use Rattle.source_walk_parts.specs.Controls.{pure_control, array_control, thrown_control}
-use Rattle.source_walk_parts.specs.Weights.{expr_weight, exprs_weight, frame_weight, frames_weight, pending}
 use Rattle.source_walk_parts.specs.States.{State, pushed, local_set, left_at, Goes, IsWaiting, IsLeft}
 use Rattle.source_walk_parts.proofs.Steps.{pure_left, array_left, thrown_left, goes_by}
 use Rattle.source_walk_parts.proofs.Reached.{field_tree, element_tree}
@@ -165,13 +161,11 @@ module _ (r : ResolvedTree) (s : State) (depth : ℕ) (e : Bor Expr) where
   pub and_goes : (v : Value) → Goes r (control.Give v) (pushed s (frame.Expr depth e (expr.Left binary.And))) (and_control depth e v) s
   unfolding left_at on_end
   and_goes (Truth true) = record { left = refl; less = inr (refl, omega arith) }
-  and_goes (Truth false) = record { left = refl; less = inr (refl, omega arith) }
   and_goes v = record { left = refl; less = inr (refl, omega arith) }
 
   pub or_goes : (v : Value) → Goes r (control.Give v) (pushed s (frame.Expr depth e (expr.Left binary.Or))) (or_control depth e v) s
   unfolding left_at on_end
   or_goes (Truth true) = record { left = refl; less = inr (refl, omega arith) }
-  or_goes (Truth false) = record { left = refl; less = inr (refl, omega arith) }
   or_goes v = record { left = refl; less = inr (refl, omega arith) }
 
   pub and_by : (v : Value) (op : BinaryOp) (d : Control) → op ≡ binary.And → d ≡ and_control depth e v → Goes r (control.Give v) (pushed s (frame.Expr depth e (expr.Left op))) d s

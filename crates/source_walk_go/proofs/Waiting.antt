@@ -1,5 +1,5 @@
 -- A frame with its value opens an expression, and another frame waits for that.
-use Rattle.std.proofs.Common.{◌≡◌, ℕ, ◌+◌, ◌<◌, List, [], ◌∷◌, refl, sym, ap, ◌∙◌, subst, inl, inr, arith}
+use Rattle.std.proofs.Common.{◌≡◌, ℕ, ◌+◌, ◌<◌, ◌∷◌, refl, sym, subst, inr, arith}
 use denote.Bor.{Bor}
 use Rattle.lam_resolve_tree.specs.declared.Expr.{Expr}
 use Rattle.lam_resolve_tree.specs.Tree.{expr_tree, ResolvedTree}
@@ -9,7 +9,7 @@ use Rattle.source_walk_state.specs.declared.Frame.{Frame}
 use Rattle.source_walk_state.specs.declared.Control.{Control}
 use Rattle.source_walk_state.specs.declared.Control.TheVariants.{Eval, Give}
 use Rattle.source_walk_state.specs.Meaning.{value_of, after}
-use Rattle.source_walk_parts.specs.Weights.{expr_weight, frame_weight, frames_weight, pending}
+use Rattle.source_walk_parts.specs.Weights.{expr_weight, frame_weight}
 use Rattle.source_walk_parts.specs.States.{State, pushed, left_at, Goes, IsWaiting}
 use Rattle.source_walk_parts.proofs.Steps.{by_waiting}
 

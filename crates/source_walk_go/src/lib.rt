@@ -4,8 +4,8 @@
 //! the next delimiter, the end of a call or of a region (`delimiters`). `uses` calls functions and built-in calls with the values
 //! of their arguments.
 //!
-//! The promise of `walk` (`source_walk`) rests on `give`, `raise`, `leave` and `use_all`: such a step leaves what is
-//! asked as it is.
+//! The promise of `walk` (`source_walk`) rests on the one clause each of `give`, `raise`, `leave` and `use_all`: such a
+//! step leaves what is asked as it is. Nothing here is a matter of speed.
 #![tactic(auto)]
 
 mod blocks;

@@ -1,7 +1,7 @@
 -- How a thread of a run began is one.
 use Rattle.std.proofs.Common.{◌≡◌, inl, inr, ℕ, suc, ◌-◌, List, [], ◌∷◌, length, replicate, Some, refl, sym, ap, ◌∙◌, subst, arith}
 use Rattle.std.specs.Prelude.{slice_get}
-use Rattle.std.proofs.lemmas.Option.{slice_get_within}
+use Rattle.std.proofs.lemmas.Option.{slice_get_within, same_Some}
 use Rattle.capabilities.specs.declared.Caps.{Caps}
 use Rattle.capabilities.specs.Changes.{no_caps}
 use Rattle.lam_value.specs.declared.values.Value.{Value}
@@ -21,9 +21,8 @@ use Rattle.source_walk_meets.proofs.Runs.{born, spawned_later, spawned_once}
 -- as many values as types
 pub as_many : (ts : List ResolvedType) (vs : List Value) → AreOf ts vs → length ts ≡ length vs
 as_many [] [] h = refl
-as_many [] (v ∷ vs) h = absurd h
-as_many (t ∷ ts) [] h = absurd h
 as_many (t ∷ ts) (v ∷ vs) h = ap suc (as_many ts vs h.1)
+as_many ts vs h = absurd h
 
 -- ---- a thread at an entry
 
@@ -47,10 +46,7 @@ pub record Takes (r : ResolvedTree) (f : ℕ) (vs : List Value) : Type 0 where
 
 as_long : (r : ResolvedTree) (f : ℕ) (vs us : List Value) → Takes r f vs → Takes r f us → length vs ≡ length us
 as_long r f vs us a b =
-    sym (as_many a.function.params vs a.sorts) ∙ ap (λ (fn : ResolvedFunction). length fn.params) (some_same a.function b.function (sym a.found ∙ b.found)) ∙ as_many b.function.params us b.sorts
-  where
-    some_same : (x y : ResolvedFunction) → Some x ≡ Some y → x ≡ y
-    some_same x y e = cc
+    sym (as_many a.function.params vs a.sorts) ∙ ap (λ (fn : ResolvedFunction). length fn.params) (same_Some a.function b.function (sym a.found ∙ b.found)) ∙ as_many b.function.params us b.sorts
 
 abbrev AreSame : ℕ → List Value → Caps → ℕ → List Value → Caps → Type 0
 AreSame f vs k g us h = (f ≡ g) × (vs ≡ us) × (k ≡ h)
@@ -80,10 +76,7 @@ module _ (r : ResolvedTree) (code : CodeTree) (f : ℕ) (vs : List Value) (k : C
     spawned_same s t = born_same u (spawned_once (length w.threads) ms last has u f vs k g us h s t)
 
     pub began_same : Takes r f vs → Takes r g us → Began code w ms u f vs k → Began code w ms u g us h → AreSame f vs k g us h
-    began_same a b (inl at) (inl here) = started_once a b (some_same (started code f vs k) (started code g us h) (sym at ∙ here))
-      where
-        some_same : (x y : Thread) → Some x ≡ Some y → x ≡ y
-        some_same x y e = cc
+    began_same a b (inl at) (inl here) = started_once a b (same_Some (started code f vs k) (started code g us h) (sym at ∙ here))
     began_same a b (inl at) (inr s) = absurd (not_both at s)
     began_same a b (inr s) (inl at) = absurd (other_way at s)
       where

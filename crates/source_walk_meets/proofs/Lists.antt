@@ -1,6 +1,7 @@
 -- Lists: what stands at a place of a front, and counted numbers.
-use Rattle.std.proofs.Common.{◌≡◌, inl, inr, ◌⊎◌, ℕ, zero, suc, ◌+◌, ◌<◌, List, [], ◌∷◌, ◌++◌, length, take, Some, refl, ap, ◌∙◌, subst, arith}
+use Rattle.std.proofs.Common.{◌≡◌, inl, inr, ◌⊎◌, ℕ, zero, suc, ◌+◌, ◌<◌, List, [], ◌∷◌, ◌++◌, length, take, Some, refl, ap, ◌∙◌, subst, arith, ⊎_elim}
 use Rattle.std.specs.Prelude.{slice_get, map}
+use Rattle.std.proofs.lemmas.Option.{same_Some}
 use Rattle.lam_bytecode.specs.Codes.{AreCounted}
 
 -- what stands in a front of a list stands there in the list
@@ -46,32 +47,19 @@ is_there (x ∷ xs) (suc n) lt = is_there xs n (omega (arith, lt))
 
 pub counted_get : (n : ℕ) (xs : List ℕ) (j u : ℕ) → AreCounted n xs → slice_get xs j ≡ Some u → u ≡ n + j
 counted_get n [] j u h e = absurd cc
-counted_get n (x ∷ xs) zero u h e = let z : x ≡ u = some_same x u e in omega (arith, z, h.0)
-  where
-    some_same : (x u : ℕ) → Some x ≡ Some u → x ≡ u
-    some_same x u e = cc
+counted_get n (x ∷ xs) zero u h e = let z = same_Some x u e in omega (arith, z, h.0)
 counted_get n (x ∷ xs) (suc j) u h e = let z = counted_get (suc n) xs j u h.1 e in omega (arith, z)
 
 pub counted_append : (n : ℕ) (xs ys : List ℕ) → AreCounted n xs → AreCounted (n + length xs) ys → AreCounted n (xs ++ ys)
-counted_append n [] ys h k = subst (λ m. AreCounted m ys) (none n) k
-  where
-    none : (n : ℕ) → n + 0 ≡ n
-    none n = omega arith
-counted_append n (x ∷ xs) ys h k = (h.0, counted_append (suc n) xs ys h.1 (subst (λ m. AreCounted m ys) (more n (length xs)) k))
-  where
-    more : (n k : ℕ) → n + suc k ≡ suc n + k
-    more n k = omega arith
+counted_append n [] ys h k = let none : n + 0 ≡ n = omega arith in subst (λ m. AreCounted m ys) none k
+counted_append n (x ∷ xs) ys h k = let more : n + suc (length xs) ≡ suc n + length xs = omega arith in (h.0, counted_append (suc n) xs ys h.1 (subst (λ m. AreCounted m ys) more k))
 
 -- ---- what stands in two lists, and in what is made of one
 
 pub split_get : {X : Type 0} (xs ys : List X) (u : ℕ) (z : X) → slice_get (xs ++ ys) u ≡ Some z → (slice_get xs u ≡ Some z) ⊎ ((j : ℕ) × (u ≡ length xs + j) × (slice_get ys j ≡ Some z))
 split_get [] ys u z e = inr (u, omega arith, e)
 split_get (x ∷ xs) ys zero z e = inl e
-split_get (x ∷ xs) ys (suc u) z e = by (split_get xs ys u z e)
-  where
-    by : (slice_get xs u ≡ Some z) ⊎ ((j : ℕ) × (u ≡ length xs + j) × (slice_get ys j ≡ Some z)) → (slice_get xs u ≡ Some z) ⊎ ((j : ℕ) × (suc u ≡ suc (length xs) + j) × (slice_get ys j ≡ Some z))
-    by (inl h) = inl h
-    by (inr (j, f, h)) = inr (j, omega (arith, f), h)
+split_get (x ∷ xs) ys (suc u) z e = ⊎_elim (λ h. inl h) (λ h. inr (h.0, omega (arith, h.1), h.2)) (split_get xs ys u z e)
 
 pub made_get : {X Y : Type 0} (f : X → Y) (xs : List X) (j : ℕ) (y : Y) → slice_get (map f xs) j ≡ Some y → (x : X) × (slice_get xs j ≡ Some x) × (f x ≡ y)
 made_get f [] j y e = absurd cc

@@ -2,9 +2,9 @@
 use Rattle.std.proofs.Common.{◌≡◌, ℕ, zero, suc, ◌+◌, ◌<◌, ◌≤◌, List, [], ◌∷◌, ◌++◌, length, Option, Some, None, refl, sym, ap, ◌∙◌, subst, arith, length-append}
 use Rattle.std.specs.Prelude.{slice_get}
 use Rattle.std.specs.Option.{option_to_list, option_map}
-use Rattle.std.proofs.lemmas.List.{map-append, length-map}
+use Rattle.std.proofs.lemmas.List.{map-append, length-map, append-nil}
 use Rattle.std.proofs.lemmas.List.Concat.{flat_map-append}
-use Rattle.std.proofs.lemmas.Option.{slice_get-map}
+use Rattle.std.proofs.lemmas.Option.{slice_get-map, same_Some}
 use Rattle.capabilities.specs.declared.Caps.{Caps}
 use Rattle.lam_value.specs.declared.values.Value.{Value}
 use Rattle.lam_value.specs.declared.values.Value.TheVariants as value
@@ -18,7 +18,7 @@ use Rattle.lam_machine_terms.specs.Turns.{Moment, step, and_then, moments, left_
 use Rattle.source_walk_terms.specs.Runs.{WasSpawned}
 use Rattle.source_walk_meets.specs.Births.{Birth, birth_of, births, numbers, HasThreads, RunsHaveThreads}
 use Rattle.source_walk_meets.proofs.Lists.{behind_get, counted_get, counted_append}
-use Rattle.source_walk_meets.proofs.Turns.{births_one, turned}
+use Rattle.source_walk_meets.proofs.Turns.{turned}
 
 -- ---- births, moment by moment
 
@@ -39,11 +39,8 @@ has_more n m ms last lt counted more =
     record {
       turns = (lt, more.turns);
       counted = subst (AreCounted n) (sym (map-append (λ (b : Birth). b.number) (born_in m) (births ms))) (counted_append n (numbers (born_in m)) (numbers (births ms)) counted (subst (λ k. AreCounted (n + k) (numbers (births ms))) (sym (numbers_length (born_in m))) more.counted));
-      all = more.all ∙ sums n (length (born_in m)) (length (births ms)) ∙ ap (λ k. n + k) (sym (length-append (born_in m) (births ms)));
+      all = let long = length-append (born_in m) (births ms) in omega (arith, long, more.all);
     }
-  where
-    sums : (n k j : ℕ) → (n + k) + j ≡ n + (k + j)
-    sums n k j = omega arith
 
 none_more : (w : World) → HasThreads (length w.threads) [] w
 none_more w = record { turns = tt; counted = tt; all = omega arith }
@@ -56,7 +53,7 @@ run_has_threads code (t ∷ ts) w = by (step code w t) refl (λ v. run_has_threa
     by None e more = none_more w
     by (Some m) e more =
         let one = turned code w t m e in
-        let same = births_one (born_in m) in
+        let same = append-nil (born_in m) in
         has_more (length w.threads) m (moments code ts m.world) (left_by m.world (moments code ts m.world)) one.there (subst (λ bs. AreCounted (length w.threads) (numbers bs)) same one.counted)
         (subst (λ n. HasThreads n (moments code ts m.world) (left_by m.world (moments code ts m.world))) (one.all ∙ ap (λ bs. length w.threads + length bs) same) (more m.world))
 
@@ -82,10 +79,7 @@ is_born ms u f vs k s =
 -- and each of those was spawned
 asked_so : (what : What) (b : Birth) → birth_of what ≡ Some b → what ≡ Asked (Spawn b.function b.args b.caps) (Val (value.Thread b.number))
 asked_so Private b e = absurd cc
-asked_so (Asked (Spawn f vs k) (Val (value.Thread u))) b e = ap (λ (b : Birth). Asked (Spawn b.function b.args b.caps) (Val (value.Thread b.number))) (some_same (born u f vs k) b e)
-  where
-    some_same : (b c : Birth) → Some b ≡ Some c → b ≡ c
-    some_same b c e = cc
+asked_so (Asked (Spawn f vs k) (Val (value.Thread u))) b e = ap (λ (b : Birth). Asked (Spawn b.function b.args b.caps) (Val (value.Thread b.number))) (same_Some (born u f vs k) b e)
 asked_so (Asked a x) b e = absurd cc
 
 later_on : (m : Moment) (ms : List Moment) (b : Birth) → WasSpawned ms b.number b.function b.args b.caps → WasSpawned (m ∷ ms) b.number b.function b.args b.caps
@@ -119,7 +113,4 @@ module _ (n : ℕ) (ms : List Moment) (last : World) (has : HasThreads n ms last
       let e = at_number a.0 (born u f vs k) a.1 in
       let e' = at_number b.0 (born u g us h) b.1 in
       let same : a.0 ≡ b.0 = omega (arith, e, e') in
-      some_same (born u f vs k) (born u g us h) (sym a.1 ∙ ap (slice_get (births ms)) same ∙ b.1)
-    where
-      some_same : (b c : Birth) → Some b ≡ Some c → b ≡ c
-      some_same b c e = cc
+      same_Some (born u f vs k) (born u g us h) (sym a.1 ∙ ap (slice_get (births ms)) same ∙ b.1)

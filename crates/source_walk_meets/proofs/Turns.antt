@@ -1,7 +1,8 @@
 -- One turn: it is of a thread that is there, and a thread is started exactly where a spawn is answered with its number.
-use Rattle.std.proofs.Common.{◌≡◌, ℕ, ◌+◌, ◌<◌, List, [], ◌∷◌, ◌++◌, length, Some, refl, sym, ap, ◌∙◌, subst, arith, length-append}
+use Rattle.std.proofs.Common.{◌≡◌, ℕ, ◌+◌, ◌<◌, List, [], ◌∷◌, length, Some, refl, sym, ap, ◌∙◌, subst, arith, length-append}
 use Rattle.std.specs.Option.{option_to_list}
 use Rattle.std.proofs.lemmas.Option.{slice_get_within}
+use Rattle.std.proofs.lemmas.List.{append-nil}
 use Rattle.flow_labels.specs.declared.Denied.{Denied}
 use Rattle.lam_asks.specs.declared.fault.Fault.{Fault}
 use Rattle.lam_asks.specs.declared.answer.Answer.TheVariants.{Refused, Failed}
@@ -64,11 +65,6 @@ pub record Turned (w : World) (m : Moment) : Type 0 where
   pub counted : AreCounted (length w.threads) (numbers (births (m ∷ [])))
   pub all : length m.world.threads ≡ length w.threads + length (births (m ∷ []))
 
--- what a moment that is no spawn's and that of an ask are counted by
-pub births_one : (bs : List Birth) → bs ++ [] ≡ bs
-births_one [] = refl
-births_one (b ∷ bs) = ap (λ l. b ∷ l) (births_one bs)
-
 module _ (code : CodeTree) (w : World) (t : ℕ) (th : Thread) (c : Context) (rest : List Context) (at : thread_at w t ≡ Some th) where
   there : t < length w.threads
   there = slice_get_within w.threads t th at
@@ -86,7 +82,7 @@ module _ (code : CodeTree) (w : World) (t : ℕ) (th : Thread) (c : Context) (re
       let d = serve w c a in
       let to = takes code th c rest i a d.answer in
       let bears : Bears (length w.threads) a d = row_bears w (publicly w.public c) a in
-      let one = births_one (born a d) in
+      let one = append-nil (born a d) in
       record {
         there = there;
         counted = subst (λ bs. AreCounted (length w.threads) (numbers bs)) (sym one) bears.1;

@@ -4,8 +4,8 @@
 //! order (`specs/Births`). And a thread's asks leave those of its source at one place. Where each thread means its
 //! source, as in every run of a program's own code (`lam_machine_means`), the answer is that all asks are the same.
 //!
-//! A public promise rests on `meant_runs_are_same`: of a program's own code `lam walk` says `same`. Nothing here is a
-//! matter of speed.
+//! Public promises rest on `walks_have_one_answer` and `meant_runs_are_same`: a walk has one answer, and of a program's
+//! own code `lam walk` says `same`. Nothing here is a matter of speed.
 #![tactic(auto)]
 
 ghost use Rattle.lam_bytecode.specs.Codes.{CodeTree};

@@ -5,8 +5,7 @@ use Rattle.std.specs.declared.alloc.Global.{Global}
 use Rattle.lam_value.specs.declared.values.Value.TheVariants.{Nothing}
 use Rattle.lam_resolve_tree.specs.declared.Expr.{Expr}
 use Rattle.lam_resolve_tree.specs.declared.Stmt.{Stmt}
-use Rattle.lam_resolve_tree.specs.declared.ValueType.{ValueType}
-use Rattle.lam_resolve_tree.specs.Tree.{ResolvedType, Statement, Block, let_slot, if_block, while_block, return_value, throw_value, sync_block, region_block, do_value, set_local, set_field, set_element, block_end, block_more, expr_tree, stmt_tree, stmts_tree, else_tree, types_tree, ResolvedTree}
+use Rattle.lam_resolve_tree.specs.Tree.{ResolvedType, Statement, Block, let_slot, if_block, while_block, return_value, throw_value, sync_block, region_block, do_value, set_local, set_field, set_element, block_end, block_more, expr_tree, stmt_tree, stmts_tree, else_tree, ResolvedTree}
 use Rattle.lam_meaning.specs.Trees.{on_end}
 use Rattle.source_walk_state.specs.declared.Region.{Region}
 use Rattle.source_walk_state.specs.declared.BeforeExpr.TheVariants as expr
@@ -22,10 +21,6 @@ use Rattle.source_walk_parts.specs.Weights.{expr_weight, stmt_weight, block_weig
 use Rattle.source_walk_parts.specs.States.{State, pushed, left_at, IsWaiting}
 use Rattle.source_walk_open.specs.Opens.{OpensStmt, OpensBlock}
 use Rattle.source_walk_open.proofs.Opened.{waits}
-
-pub length-types : (ts : List ValueType) → length (types_tree ts) ≡ length ts
-length-types [] = refl
-length-types (t ∷ ts) = omega (arith, length-types ts)
 
 other-weight : (b : Option (Vec Stmt Global)) (c : Bor (List Stmt)) → stmts_tree c.now ≡ block_in b → block_weight (stmts_tree c.now) ≡ other_weight (else_tree b)
 other-weight None c h = ap block_weight h

@@ -4,8 +4,8 @@
 //! `exprs` has expressions, arguments and lists of tags, and `stmts` statements and blocks. `caps` has the braces of
 //! `caps`, which need no frame, since their tags are locals. Each takes one step, however deep what it opens is.
 //!
-//! The promise of `walk` (`source_walk`) rests on `eval`, `exec` and `block`: such a step leaves what is asked as it
-//! is.
+//! The promise of `walk` (`source_walk`) rests on the one clause each of `eval`, `exec` and `block`: such a step leaves
+//! what is asked as it is. Nothing here is a matter of speed.
 #![tactic(auto)]
 
 mod caps;

@@ -1,10 +1,10 @@
 -- Accesses, and what asks for things.
-use Rattle.std.proofs.Common.{◌≡◌, ℕ, Option, Some, None, pos, negsuc, true, false, nat_lt, cond, refl, ap, ◌∙◌}
+use Rattle.std.proofs.Common.{◌≡◌, ℕ, Option, Some, None, pos, true, false, nat_lt, cond, refl, ap, ◌∙◌}
 use Rattle.flow_labels.specs.declared.Label.{Label}
 use Rattle.flow_labels.specs.declared.Denied.{Denied as Denial}
 use Rattle.lam_value.specs.declared.names.Name.{Name}
 use Rattle.lam_value.specs.declared.values.Value.{Value}
-use Rattle.lam_value.specs.declared.values.Value.TheVariants.{Int, Nothing, Obj, Arr}
+use Rattle.lam_value.specs.declared.values.Value.TheVariants.{Int, Obj, Arr}
 use Rattle.lam_asks.specs.declared.fault.Fault.TheVariants.{Index}
 use Rattle.lam_meaning.specs.Trees.{Own, Tree, fails, unless_denied, on_object, on_array}
 use Rattle.lam_meaning.specs.Means.{within, on_number}
@@ -20,7 +20,6 @@ module _ {A : Type 0} (n : ℕ) (o : Own) (go : Value → ℕ → Tree A) where
 
   pub field_tree : (way : Way) (l : Label) (v : Value) (at : ℕ) → access_tree (field_access way l v at) n o go ≡ on_object v n o (λ x. unless_denied (barred_by way l x) n o (go (Obj x) at))
   field_tree way l (Obj x) at = denied_or (barred_by way l x) (Reaches (Obj x) at)
-  field_tree way l Nothing at = refl
   field_tree way l v at = refl
 
   place_tree : (x : Name) (len i : ℕ) → access_tree (at_index x len (Int (pos i))) n o go ≡ within (pos i) len n o (λ at. go (Arr x len) at)
@@ -28,10 +27,8 @@ module _ {A : Type 0} (n : ℕ) (o : Own) (go : Value → ℕ → Tree A) where
 
   index_tree : (x : Name) (len : ℕ) (i : Value) → access_tree (at_index x len i) n o go ≡ on_number i (λ z. within z len n o (λ at. go (Arr x len) at))
   index_tree x len (Int (pos i)) = place_tree x len i
-  index_tree x len (Int (negsuc i)) = refl
   index_tree x len i = refl
 
   pub element_tree : (way : Way) (l : Label) (v i : Value) → access_tree (element_access way l v i) n o go ≡ on_array v n o (λ x len. unless_denied (barred_by way l x) n o (on_number i (λ z. within z len n o (λ at. go (Arr x len) at))))
   element_tree way l (Arr x len) i = denied_or (barred_by way l x) (at_index x len i) ∙ ap (unless_denied (barred_by way l x) n o) (index_tree x len i)
-  element_tree way l Nothing i = refl
   element_tree way l v i = refl

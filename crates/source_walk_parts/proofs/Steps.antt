@@ -2,7 +2,7 @@
 use Rattle.std.proofs.Common.{Result, Ok, Err, IfOk, OnOk, ◌≡◌, ℕ, ◌≤◌, Bool, true, false, cond, nat_le, pos, negsuc, Some, List, refl, sym, ap, ◌∙◌, subst, inr, arith}
 use Rattle.flow_labels.specs.declared.Denied.{Denied as Denial}
 use Rattle.lam_value.specs.declared.values.Value.{Value}
-use Rattle.lam_value.specs.declared.values.Value.TheVariants.{Int, Nothing, CapV}
+use Rattle.lam_value.specs.declared.values.Value.TheVariants.{Int, CapV}
 use Rattle.lam_value.specs.declared.shapes.Kind.{Kind}
 use Rattle.lam_value.specs.declared.shapes.Shape.TheVariants.{Array}
 use Rattle.thread_steps.specs.Limits.{length_limit}
@@ -107,7 +107,6 @@ module _ (r : ResolvedTree) (s : State) where
   pub spawn_left : (f : ℕ) (c : Value) (vs : List Value) → IsLeft r (spawns f c vs s.units s.own) 1 s (spawn_control f c vs) s
   unfolding left_at on_end
   spawn_left f (CapV p m) vs = record { left = refl; units = refl; least = omega arith }
-  spawn_left f Nothing vs = record { left = refl; units = refl; least = omega arith }
   spawn_left f c vs = record { left = refl; units = refl; least = omega arith }
 
 module _ (r : ResolvedTree) (s : State) (e : Denial) (d : Control) (t : State) (w : IsWaiting (control.Ask (ask.Barred e) Number reply.Done) frame.Bar s d t) where

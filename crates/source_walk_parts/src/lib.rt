@@ -11,7 +11,8 @@
 //! `specs/States` says what a step is. It leaves the tree of asks as it is, and takes a unit or makes what is pending
 //! less, as `specs/Weights` counts it.
 //!
-//! The promise of `walk` (`source_walk`) rests on `suits`: an answer goes into a walk exactly where it suits its ask.
+//! The promise of `walk` (`source_walk`) rests on the one clause of `suits`: an answer goes into a walk exactly where it
+//! suits its ask. Nothing here is a matter of speed.
 #![tactic(auto)]
 
 mod access;

@@ -1,8 +1,7 @@
 -- How many turns are a thread's, counted one by one, and in a run.
 use Rattle.std.proofs.Common.{◌≡◌, inl, inr, ◌⊎◌, ℕ, zero, suc, ◌+◌, ◌<◌, ◌≤◌, Bool, true, false, cond, List, [], ◌∷◌, length, map, get_or, take, Option, Some, None, refl, sym, ap, ◌∙◌, arith}
 use Rattle.std.specs.Prelude.{nat_eq, slice_set, filter}
-use Rattle.std.proofs.lemmas.Bool.{cases_eq, cases_lt}
-use Rattle.std.proofs.lemmas.Bool.Decides.{nat_tests}
+use Rattle.std.proofs.lemmas.Bool.{cases_eq, cases_lt, eq-eqb, ne_eqb}
 use Rattle.std.proofs.lemmas.List.{length-take, get_or_past}
 use Rattle.std.proofs.lemmas.List.Sums.{sum_by-append, count_by_more_yes, count_by_more_no, count_by-le-length}
 use Rattle.lam_asks.specs.declared.answer.What.{What}
@@ -42,23 +41,16 @@ count_past t [] le = refl
 count_past zero (n ∷ ns) le = absurd (omega (arith, le))
 count_past (suc t) (n ∷ ns) le = ap (λ l. n ∷ l) (count_past t ns (omega (arith, le)))
 
--- one turn more
-other_number : (a b : ℕ) → (a ≡ b → ⊥) → nat_eq a b ≡ false
-other_number a b ne = grind (arith, nat_tests, ne)
-
-same_number : (a b : ℕ) → a ≡ b → nat_eq a b ≡ true
-same_number a b e = grind (arith, nat_tests, e)
-
 pub counts_more : (turns : List ℕ) (i n t : ℕ) (counts : List ℕ) → i < length turns → t ≡ get_or turns i 0 → AreTurnsOf (take i turns) n counts → AreTurnsOf (take (i + 1) turns) n (counted t counts)
 counts_more turns i n t counts lt read h = (counted_length t counts ∙ h.0, λ u below. by u below (cases_eq u t))
   where
     by : (u : ℕ) → u < n → (u ≡ t) ⊎ (u ≡ t → ⊥) → get_or (counted t counts) u 0 ≡ turns_of u (take (i + 1) turns)
     by u below (inl e) =
         let here : get_or (counted t counts) t 0 ≡ get_or counts t 0 + 1 = counted_here t counts (omega (arith, below, e, h.0)) in
-        let more : turns_of u (take (i + 1) turns) ≡ turns_of u (take i turns) + 1 = count_by_more_yes (λ (k : ℕ). nat_eq k u) turns i 0 lt (same_number (get_or turns i 0) u (sym read ∙ sym e)) in
+        let more : turns_of u (take (i + 1) turns) ≡ turns_of u (take i turns) + 1 = count_by_more_yes (λ (k : ℕ). nat_eq k u) turns i 0 lt (eq-eqb (get_or turns i 0) u (sym read ∙ sym e)) in
         ap (λ k. get_or (counted t counts) k 0) e ∙ here ∙ ap (λ k. get_or counts k 0 + 1) (sym e) ∙ ap (λ k. k + 1) (h.1 u below) ∙ sym more
     by u below (inr apart) =
-        let less : turns_of u (take (i + 1) turns) ≡ turns_of u (take i turns) = count_by_more_no (λ (k : ℕ). nat_eq k u) turns i 0 lt (other_number (get_or turns i 0) u (λ s. apart (sym s ∙ sym read))) in
+        let less : turns_of u (take (i + 1) turns) ≡ turns_of u (take i turns) = count_by_more_no (λ (k : ℕ). nat_eq k u) turns i 0 lt (ne_eqb (get_or turns i 0) u (λ s. apart (sym s ∙ sym read))) in
         counted_apart t u counts apart ∙ h.1 u below ∙ sym less
 
 -- there are no more of a thread than turns

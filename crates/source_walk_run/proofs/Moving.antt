@@ -1,10 +1,10 @@
 -- What the threads of moments did, with one moment more.
-use Rattle.std.proofs.Common.{◌≡◌, ℕ, ◌+◌, ◌≤◌, Bool, true, false, cond, List, [], ◌∷◌, ◌++◌, length, map, refl, ap, ◌∙◌, append-nil, length-append, arith}
+use Rattle.std.proofs.Common.{◌≡◌, ℕ, ◌+◌, ◌≤◌, Bool, false, cond, List, [], ◌∷◌, ◌++◌, length, map, refl, ap, ◌∙◌, append-nil, length-append, arith}
 use Rattle.std.specs.Prelude.{nat_eq, filter}
 use Rattle.std.specs.Option.{option_to_list}
-use Rattle.std.proofs.lemmas.Bool.Decides.{nat_tests}
 use Rattle.std.proofs.lemmas.List.{map-append}
 use Rattle.std.proofs.lemmas.List.Elements.{filter-append}
+use Rattle.std.proofs.lemmas.Bool.{eq-eqb, ne_eqb}
 use Rattle.lam_asks.specs.declared.answer.What.{What}
 use Rattle.lam_machine_terms.specs.Turns.{Moment}
 use Rattle.lam_machine_laws.specs.Own.{done_by}
@@ -20,12 +20,6 @@ own u m = nat_eq m.event.thread u
 abbrev pub born_in : Moment → List Birth
 born_in m = option_to_list (birth_of m.event.what)
 
-same_number : (a b : ℕ) → a ≡ b → nat_eq a b ≡ true
-same_number a b e = grind (arith, nat_tests, e)
-
-other_number : (a b : ℕ) → (a ≡ b → ⊥) → nat_eq a b ≡ false
-other_number a b ne = grind (arith, nat_tests, ne)
-
 -- ---- what a thread did
 
 done_more : (u : ℕ) (ms : List Moment) (m : Moment) → done_by u (ms ++ m ∷ []) ≡ done_by u ms ++ done_by u (m ∷ [])
@@ -33,10 +27,10 @@ done_more u ms m =
     ap whats_of (filter-append (own u) ms (m ∷ [])) ∙ map-append (λ (m : Moment). m.event.what) (filter (own u) ms) (filter (own u) (m ∷ []))
 
 pub done_own : (u : ℕ) (ms : List Moment) (m : Moment) → m.event.thread ≡ u → done_by u (ms ++ m ∷ []) ≡ done_by u ms ++ m.event.what ∷ []
-done_own u ms m e = done_more u ms m ∙ ap (λ b. done_by u ms ++ whats_of (cond b (m ∷ []) [])) (same_number m.event.thread u e)
+done_own u ms m e = done_more u ms m ∙ ap (λ b. done_by u ms ++ whats_of (cond b (m ∷ []) [])) (eq-eqb m.event.thread u e)
 
 pub done_other : (u : ℕ) (ms : List Moment) (m : Moment) → (m.event.thread ≡ u → ⊥) → done_by u (ms ++ m ∷ []) ≡ done_by u ms
-done_other u ms m ne = done_more u ms m ∙ ap (λ b. done_by u ms ++ whats_of (cond b (m ∷ []) [])) (other_number m.event.thread u ne) ∙ append-nil (done_by u ms)
+done_other u ms m ne = done_more u ms m ∙ ap (λ b. done_by u ms ++ whats_of (cond b (m ∷ []) [])) (ne_eqb m.event.thread u ne) ∙ append-nil (done_by u ms)
 
 -- ---- threads that are there
 
@@ -55,5 +49,5 @@ pub none_done : (n u : ℕ) (ms : List Moment) → AreOfThreads n ms → n + len
 none_done n u [] h le = refl
 none_done n u (m ∷ ms) h le =
     let many = births_more m ms n in
-    let none : own u m ≡ false = other_number m.event.thread u (λ e. absurd (omega (arith, h.0, le, many, e))) in
+    let none : own u m ≡ false = ne_eqb m.event.thread u (λ e. absurd (omega (arith, h.0, le, many, e))) in
     ap (λ b. whats_of (cond b (m ∷ filter (own u) ms) (filter (own u) ms))) none ∙ none_done (n + length (born_in m)) u ms h.1 (omega (arith, le, many))

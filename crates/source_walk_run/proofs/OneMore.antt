@@ -179,10 +179,7 @@ stays_at r t walks =
     record { many = refl; here = λ w v e f. subst (λ (x : Follower). FollowsTurn r w Private x) (same_Some w v (sym e ∙ f)) (private_turn r w); apart = λ u apart. refl }
 
 nothing_added : (r : ResolvedTree) (turns : List ℕ) (t : ℕ) (kept : Kept) → Adds r turns t Private kept kept
-nothing_added r turns t kept = record { between = kept.walks.items; begins = refl; follows = stays_at r t kept.walks.items; asks = plus_none kept.asks }
-  where
-    plus_none : (k : ℕ) → k ≡ k + 0
-    plus_none k = omega arith
+nothing_added r turns t kept = record { between = kept.walks.items; begins = refl; follows = stays_at r t kept.walks.items; asks = omega arith }
 
 pub private_left : (r : ResolvedTree) (starts : List Beginning) (turns : List ℕ) (ms : List Moment) (m : Moment) (kept : Kept) → m.event.what ≡ Private → IsToldBy m (product_label m.event.what) → IsKept r starts turns ms kept → IsKept r starts turns (ms ++ m ∷ []) kept
 private_left r starts turns ms m kept e told is = kept_more r starts turns ms m kept kept is (subst (λ what. Adds r turns m.event.thread what kept kept) (sym e) (nothing_added r turns m.event.thread kept))
@@ -192,13 +189,10 @@ private_left r starts turns ms m kept e told is = kept_more r starts turns ms m 
 pub none_kept : (r : ResolvedTree) (starts : List Beginning) (turns : List ℕ) (kept : Kept) → AreFirstWalks r starts turns kept.walks.items → kept.asks ≡ 0 → IsKept r starts turns [] kept
 none_kept r starts turns kept first asks =
     record {
-      walks = λ h. record { many = first.many ∙ plus_none (length starts); each = λ u b w k e. first.each u b w (ap (λ l. slice_get l u) (sym (append-nil starts)) ∙ k) e };
+      walks = λ h. record { many = first.many ∙ omega arith; each = λ u b w k e. first.each u b w (ap (λ l. slice_get l u) (sym (append-nil starts)) ∙ k) e };
       few = λ u w e. let none = first.asks u w e in omega (arith, none);
       asks = asks;
     }
-  where
-    plus_none : (k : ℕ) → k ≡ k + 0
-    plus_none k = omega arith
 
 -- ---- there are fewer asks than turns
 

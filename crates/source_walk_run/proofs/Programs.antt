@@ -1,9 +1,9 @@
 -- Functions of a program by number, and whether a thread may begin there.
-use Rattle.std.proofs.Common.{◌≡◌, ◌<◌, ◌≤◌, ℕ, zero, suc, Bool, true, false, ◌&&◌, List, [], ◌∷◌, length, get_or, Some, None, refl, sym, ap, ◌∙◌, subst}
+use Rattle.std.proofs.Common.{◌≡◌, ℕ, Bool, true, false, ◌&&◌, List, Some, None, sym, ap, ◌∙◌, subst}
 use Rattle.std.specs.Prelude.{◌↔◌, IsTrue, slice_get}
 use Rattle.std.specs.Option.{option_map}
 use Rattle.std.proofs.lemmas.Bool.{and_parts, and_from, false≢true}
-use Rattle.std.proofs.lemmas.Option.{slice_get_read, slice_get_past}
+use Rattle.std.proofs.lemmas.Option.{same_Some}
 use Rattle.lam_value.specs.declared.values.Value.{Value}
 use Rattle.lam_builtins.specs.Types.{int}
 use Rattle.lam_resolve_tree.specs.declared.Function.{Function}
@@ -12,29 +12,11 @@ use Rattle.lam_resolve_tree.specs.declared.ValueType.{ValueType}
 use Rattle.lam_resolve_tree.specs.Tree.{types_tree, option_type_tree, ResolvedFunction, function_tree, functions_tree, resolved_tree}
 use Rattle.lam_meaning_typed.specs.Kinds.{AreOf}
 use Rattle.source_walk_terms.specs.Walks.{IsEntry}
-
--- what a reference from a list has
-pub item_there : {X : Type 0} (xs ys : List X) (i : ℕ) (x : X) → ys ≡ xs → i < length ys → x ≡ get_or ys i x → slice_get xs i ≡ Some x
-item_there xs ys i x e lt is = subst (λ (l : List _). slice_get l i ≡ Some x) e (slice_get_read ys (length ys) i x refl lt is)
-
-pub none_there : {X : Type 0} (xs ys : List X) (i : ℕ) → ys ≡ xs → length ys ≤ i → slice_get xs i ≡ None
-none_there xs ys i e past = subst (λ (l : List _). slice_get l i ≡ None) e (slice_get_past ys i past)
-
-pub function_at : (fs : List Function) (f : ℕ) → slice_get (functions_tree fs) f ≡ option_map function_tree (slice_get fs f)
-function_at [] f = refl
-function_at (x ∷ fs) zero = refl
-function_at (x ∷ fs) (suc f) = function_at fs f
-
-pub functions_length : (fs : List Function) → length (functions_tree fs) ≡ length fs
-functions_length [] = refl
-functions_length (x ∷ fs) = ap suc (functions_length fs)
-
-some_same : (x y : ResolvedFunction) → Some x ≡ Some y → x ≡ y
-some_same x y e = cc
+use Rattle.source_walk_state.proofs.Programs.{function_at}
 
 -- a function that was found is that of an entry
 pub found_is : (r : Resolved) (f : ℕ) (fn : Function) (declared : ResolvedFunction) → slice_get r.functions.items f ≡ Some fn → slice_get (functions_tree r.functions.items) f ≡ Some declared → function_tree fn ≡ declared
-found_is r f fn declared e found = some_same (function_tree fn) declared (sym (function_at r.functions.items f ∙ ap (option_map function_tree) e) ∙ found)
+found_is r f fn declared e found = same_Some (function_tree fn) declared (sym (function_at r.functions.items f ∙ ap (option_map function_tree) e) ∙ found)
 
 pub no_entry : (r : Resolved) (f : ℕ) (vs : List Value) → slice_get r.functions.items f ≡ None → IsTrue false ↔ IsEntry (resolved_tree r) f vs
 no_entry r f vs e = ((λ t. absurd cc), (λ h. absurd (let z = sym (function_at r.functions.items f ∙ ap (option_map function_tree) e) ∙ h.found in cc)))

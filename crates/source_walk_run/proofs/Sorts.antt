@@ -1,5 +1,5 @@
 -- Values of the sorts of types, place by place.
-use Rattle.std.proofs.Common.{◌≡◌, ℕ, suc, ◌+◌, ◌<◌, ◌≤◌, Bool, true, false, ◌&&◌, List, [], ◌∷◌, length, get_or, drop, refl, sym, ap, ◌∙◌, arith}
+use Rattle.std.proofs.Common.{◌≡◌, ℕ, ◌+◌, ◌<◌, ◌≤◌, Bool, true, false, ◌&&◌, List, [], ◌∷◌, length, get_or, drop, refl, sym, ap, ◌∙◌, arith}
 use Rattle.std.specs.Prelude.{◌↔◌, IsTrue}
 use Rattle.std.proofs.lemmas.Bool.{and_parts}
 use Rattle.std.proofs.lemmas.List.{drop_more, drop_all}
@@ -13,22 +13,19 @@ use Rattle.lam_meaning_typed.specs.Kinds.{AreOf}
 -- whether arguments are of the sorts of parameters, as a test
 abbrev are_of : List ResolvedType → List Value → Bool
 are_of [] [] = true
-are_of [] (v ∷ vs) = false
-are_of (t ∷ ts) [] = false
 are_of (t ∷ ts) (v ∷ vs) = is_of (sort_of t) v && are_of ts vs
+are_of ts vs = false
 
 -- the test says so
 pub says_of : (ts : List ResolvedType) (vs : List Value) → are_of ts vs ≡ true → AreOf ts vs
 says_of [] [] e = tt
-says_of [] (v ∷ vs) e = absurd cc
-says_of (t ∷ ts) [] e = absurd cc
 says_of (t ∷ ts) (v ∷ vs) e = let both = and_parts (is_of (sort_of t) v) (are_of ts vs) e in (both.0, says_of ts vs both.1)
+says_of ts vs e = absurd cc
 
 pub so_says : (ts : List ResolvedType) (vs : List Value) → AreOf ts vs → are_of ts vs ≡ true
 so_says [] [] h = refl
-so_says [] (v ∷ vs) h = absurd h
-so_says (t ∷ ts) [] h = absurd h
 so_says (t ∷ ts) (v ∷ vs) h = ap (λ b. b && are_of ts vs) h.0 ∙ so_says ts vs h.1
+so_says ts vs h = absurd h
 
 pub as_tested : (b : Bool) (ts : List ResolvedType) (vs : List Value) → are_of ts vs ≡ b → IsTrue b ↔ AreOf ts vs
 as_tested b ts vs e = ((λ (t : IsTrue b). says_of ts vs (e ∙ t)), (λ h. sym e ∙ so_says ts vs h))
@@ -56,15 +53,3 @@ left_none ts vs at t v lt same t_is v_is not left =
 -- all of them
 pub left_all : (ts : List ValueType) (vs : List Value) (at : ℕ) → length ts ≤ at → length ts ≡ length vs → IsLeft ts vs at → are_of (types_tree ts) vs ≡ true
 left_all ts vs at le same left = sym left ∙ (λ i. are_of (types_tree (drop_all at ts le i)) (drop_all at vs (omega (arith, le, same)) i))
-
--- ---- as many
-
-pub types_length : (ts : List ValueType) → length (types_tree ts) ≡ length ts
-types_length [] = refl
-types_length (t ∷ ts) = ap suc (types_length ts)
-
-pub of_as_many : (ts : List ResolvedType) (vs : List Value) → AreOf ts vs → length ts ≡ length vs
-of_as_many [] [] h = refl
-of_as_many [] (v ∷ vs) h = absurd h
-of_as_many (t ∷ ts) [] h = absurd h
-of_as_many (t ∷ ts) (v ∷ vs) h = ap suc (of_as_many ts vs h.1)

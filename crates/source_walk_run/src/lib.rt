@@ -12,8 +12,9 @@
 //! `specs/Departures` says what is told of a run, `specs/Walking` how walks stand to what was done, and
 //! `specs/Counting` what is counted.
 //!
-//! The promise of `walk` (`source_walk`) rests on `departures_of` (clause `ok`): where each thread of a run departs
-//! from its source. Free to change for speed: how the turns of each thread are counted (`counting`).
+//! The promise of `walk` (`source_walk`) rests on `departures_of`: where each thread of a run departs from its source
+//! (clause `ok`), and which turns are no run (clauses `run` and `stops`). Free to change for speed: how the turns of
+//! each thread are counted (`counting`).
 #![tactic(auto)]
 
 mod births;

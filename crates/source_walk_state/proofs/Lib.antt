@@ -3,3 +3,4 @@ pub mod Opening
 pub mod Going
 pub mod Delimiters
 pub mod Begins
+pub mod Programs

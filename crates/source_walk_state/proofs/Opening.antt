@@ -2,7 +2,6 @@
 use Rattle.std.proofs.Common.{◌≡◌, ℕ, List, [], ◌∷◌, ◌++◌, Option, refl, sym, ap, ◌∙◌, append_assoc}
 use Rattle.std.proofs.lemmas.List.{append-nil}
 use Rattle.std.proofs.Math.Path.{fun_ext}
-use Rattle.std.specs.Prelude.{slice_get}
 use denote.Bor.{Bor}
 use Rattle.lam_operators.specs.declared.BinaryOp.{BinaryOp}
 use Rattle.lam_operators.specs.declared.UnaryOp.{UnaryOp}
@@ -10,7 +9,6 @@ use Rattle.lam_builtins.specs.declared.Builtin.{Builtin}
 use Rattle.lam_value.specs.declared.values.Value.{Value}
 use Rattle.lam_value.specs.declared.values.Value.TheVariants.{Nothing}
 use Rattle.lam_value.specs.declared.shapes.Kind.{Kind}
-use Rattle.lam_value.specs.declared.shapes.Shape.TheVariants.{Class}
 use Rattle.lam_asks.specs.declared.answer.Answer.{Answer}
 use Rattle.lam_asks.specs.declared.answer.Answer.TheVariants.{Val}
 use Rattle.lam_asks.specs.declared.ask.Ask.{Ask}
@@ -20,9 +18,9 @@ use Rattle.thread_steps.specs.Operators.{prefix}
 use Rattle.thread_steps.specs.Builtins as calls
 use Rattle.thread_steps.specs.Builtins.{Calls, builtin}
 use Rattle.lam_resolve_tree.specs.declared.Expr.{Expr}
-use Rattle.lam_resolve_tree.specs.Tree.{ResolvedType, Expression, unary_of, binary_of, field_of, element_of, builtin_of, new_object, new_array, spawn_of, Expressions, args_end, args_more, expr_tree, exprs_tree, ResolvedTree}
+use Rattle.lam_resolve_tree.specs.Tree.{ResolvedType, Expression, unary_of, binary_of, field_of, element_of, builtin_of, new_array, spawn_of, Expressions, args_end, args_more, expr_tree, exprs_tree, ResolvedTree}
 use Rattle.lam_meaning.specs.Trees.{Own, asked, End, goes, raises, leaves, Tree, asks, on_end, next, and_then, gives, purely, value_reply, ask_value, nothing_gained, done_reply, ask_unit, gained}
-use Rattle.lam_meaning.specs.Means.{sort_of, kind_of, At, class_fields, makes_array, on_number, result_sort, called_in, two}
+use Rattle.lam_meaning.specs.Means.{sort_of, kind_of, At, makes_array, on_number, result_sort, called_in, two}
 use Rattle.source_walk_state.specs.declared.Sort.{Sort as Written}
 use Rattle.source_walk_state.specs.declared.Using.{Using}
 use Rattle.source_walk_state.specs.declared.Using.TheVariants as using
@@ -92,9 +90,6 @@ module _ (r : ResolvedTree) (d : ℕ) (fs : List Frame) (p : At) (n : ℕ) (o : 
 
   pub opens_builtin : (b : Builtin) (es : Expressions) (t : Option ResolvedType) (s : Written) → sort_seen s ≡ result_sort t → value_of r d (builtin_of b es t) p n o ≡ gathered r d es [] (using.Builtin b s) p n o
   opens_builtin b es t s h = ap (and_then (values_of r d es p n o)) (fun_ext (λ vs. fun_ext (λ n. fun_ext (λ o. same_calls t s h n o (builtin p.label o.caps b vs)))))
-
-  pub opens_object : (c : ℕ) → value_of r d (new_object c) p n o ≡ asks (asked numbers (ask.New (Class c (class_fields (slice_get r.classes c))))) (λ x. value_reply (gained (ask.New (Class c (class_fields (slice_get r.classes c))))) n o x)
-  opens_object c = asks_value numbers (ask.New (Class c (class_fields (slice_get r.classes c)))) n o (λ v. refl)
 
 -- ---- arguments
 

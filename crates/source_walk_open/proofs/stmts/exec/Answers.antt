@@ -5,7 +5,8 @@ use Rattle.lam_resolve_tree.specs.Tree.{let_slot, if_block, while_block, return_
 use Rattle.lam_resolve_tree.proofs.Rows.{while_row, sync_row, if_row, region_row}
 use Rattle.source_walk_parts.proofs.Steps.{if_ok}
 use Rattle.source_walk_parts.specs.States.{state_of}
-use Rattle.source_walk_open.proofs.StmtForms.{of_form, region_parts, length-types}
+use Rattle.source_walk_open.proofs.StmtForms.{of_form, region_parts}
+use Rattle.source_walk_state.proofs.Programs.{types_length}
 use Rattle.source_walk_open.proofs.stmts.exec.Goals as goal
 
 pub returns-in-Let : goal.returns-in-Let
@@ -41,7 +42,7 @@ returns-in-Region c =
     (region_block c.in-Region.number (expr_tree c.deref-in-Region-4.result.now) (expr_tree c.deref-in-Region-5.result.now) c.deref-in-Region.result.now (types_tree c.in-Region.slots.items) (stmts_tree c.deref-in-Region-2.result.now) c.in-Region.catch_slot (stmts_tree c.deref-in-Region-3.result.now))
     (ap stmt_tree c.in-Region.is ∙ region_row c.in-Region.number c.in-Region.label c.in-Region.caps c.in-Region.captures c.in-Region.slots c.in-Region.body c.in-Region.catch_slot c.in-Region.catch_body
     ∙ region_parts c.in-Region.number (types_tree c.in-Region.slots.items) c.in-Region.catch_slot _ _ _ _ _ _ _ _ _ _ c.deref-in-Region-4.ensures c.deref-in-Region-5.ensures c.deref-in-Region.ensures.value c.deref-in-Region-2.ensures.value c.deref-in-Region-3.ensures.value)
-    (if_ok c.region.result _ _ c.region.ensures (λ d h. h (types_tree c.in-Region.slots.items) (omega (arith, c.len.ensures, c.in-Region.slots.ok.0, length-types c.in-Region.slots.items))))
+    (if_ok c.region.result _ _ c.region.ensures (λ d h. h (types_tree c.in-Region.slots.items) (omega (arith, c.len.ensures, c.in-Region.slots.ok.0, types_length c.in-Region.slots.items))))
 
 pub returns-in-Do : goal.returns-in-Do
 returns-in-Do c =

@@ -1,4 +1,4 @@
-use Rattle.std.proofs.Common.{◌≡◌, ap, sym, ◌∙◌}
+use Rattle.std.proofs.Common.{ap, sym, ◌∙◌}
 use Rattle.lam_asks.specs.Suits.{want_of}
 use Rattle.source_walk_state.specs.Meaning.{sort_seen}
 use Rattle.source_walk_parts.proofs.suiting.want_of.Goals as goal

@@ -1,4 +1,5 @@
-use Rattle.source_walk_run.proofs.Programs.{item_there, none_there, no_entry, entry_by_sorts, entry_by_number}
+use Rattle.source_walk_follow.proofs.Lists.{item_there, none_there}
+use Rattle.source_walk_run.proofs.Programs.{no_entry, entry_by_sorts, entry_by_number}
 use Rattle.source_walk_run.proofs.entries.is_entry.Goals as goal
 
 pub returns-in-None : goal.returns-in-None
