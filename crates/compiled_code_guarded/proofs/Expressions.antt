@@ -1,8 +1,9 @@
 -- The code of a typed expression puts a value of its kind on the operands.
-use Rattle.std.proofs.Common.{◌≡◌, ℕ, zero, suc, ◌+◌, ◌<◌, Bool, true, false, if◌then◌else◌, List, [], ◌∷◌, ◌++◌, length, is_some, Option, Some, None, slice_get, refl, sym, ap, ◌∙◌, subst, arith, length-append}
+use Rattle.std.proofs.Common.{◌≡◌, ℕ, ◌+◌, Bool, true, false, if◌then◌else◌, List, [], ◌∷◌, ◌++◌, length, is_some, Option, Some, None, slice_get, refl, sym, ap, ◌∙◌, subst, arith, length-append}
 use Rattle.std.specs.Prelude.{drop, replicate, reverse}
 use Rattle.std.proofs.lemmas.Option.{slice_get_within}
 use Rattle.std.proofs.lemmas.Bool.{lt-ltb}
+use Rattle.std.proofs.lemmas.List.{append-nil, length-replicate}
 use Rattle.lam_operators.specs.declared.BinaryOp.{BinaryOp}
 use Rattle.lam_operators.specs.declared.BinaryOp.TheVariants as binary
 use Rattle.lam_operators.specs.declared.UnaryOp.{UnaryOp}
@@ -36,26 +37,17 @@ use Rattle.compiled_code_guarded.proofs.Operands.{kind_of_given, slot_kind, slot
 
 -- a call's result is of its function's kind
 result_of : (t : Option ResolvedType) → IsOfKind (if is_int t then Number else Unknown) (kind_of_given (given_by t))
-result_of None = refl
 result_of (Some int) = refl
 result_of t = refl
 
 -- ---- lists of operands
-
-nil_behind : {A : Type 0} (xs : List A) → xs ++ [] ≡ xs
-nil_behind [] = refl
-nil_behind (x ∷ xs) = ap (λ ys. x ∷ ys) (nil_behind xs)
-
-pub as_long : {A : Type 0} (n : ℕ) (x : A) → length (replicate n x) ≡ n
-as_long zero x = refl
-as_long (suc n) x = ap suc (as_long n x)
 
 onto_append : (xs ys st : List ValueKind) → onto (xs ++ ys) st ≡ onto ys (onto xs st)
 onto_append [] ys st = refl
 onto_append (x ∷ xs) ys st = onto_append xs ys (x ∷ st)
 
 all_onto : (p : Place) (ks st : List ValueKind) (n : ℕ) → length ks ≡ n → EachTakes p ks → TakesKinds (replicate n p) (onto ks st)
-all_onto p ks st n e each = subst (λ ps. TakesKinds ps (onto ks st)) (nil_behind (replicate n p)) (same_onto p ks st [] n e each tt)
+all_onto p ks st n e each = subst (λ ps. TakesKinds ps (onto ks st)) (append-nil (replicate n p)) (same_onto p ks st [] n e each tt)
 
 -- the tags of a label
 abbrev others : Expressions → List ValueKind
@@ -185,7 +177,7 @@ module _ (r : ResolvedTree) (locals : ℕ) (env : Scope) (within : Inside locals
   -- ---- calls
 
   takes_long : (f n : ℕ) → function_takes (slice_get (scheme r).units f) ≡ Some n → length (anything (function_takes (slice_get (scheme r).units f))) ≡ n
-  takes_long f n e = ap (λ o. length (anything o)) e ∙ as_long n Any
+  takes_long f n e = ap (λ o. length (anything o)) e ∙ length-replicate n Any
 
   call_step : (f : ℕ) (fn : ResolvedFunction) (ks st : List ValueKind) → slice_get r.functions f ≡ Some fn → length ks ≡ length fn.params → Step (Call f) (onto ks st) (kind_of_given (given_by fn.result) ∷ st)
   call_step f fn ks st e long =
@@ -230,8 +222,8 @@ module _ (r : ResolvedTree) (locals : ℕ) (env : Scope) (within : Inside locals
       let ks = others s ++ others i in
       let n = count s + count i in
       let long : length ks ≡ n = omega (arith, length-append (others s) (others i), others_long s, others_long i) in
-      let each = others_each s (others i) (subst (EachTakes (Only Other)) (nil_behind (others i)) (others_each i [] tt)) in
-      let many = as_long n (Only Other) in
+      let each = others_each s (others i) (subst (EachTakes (Only Other)) (append-nil (others i)) (others_each i [] tt)) in
+      let many = length-replicate n (Only Other) in
       subst (λ stack. Step (MakeLabel (count s) (count i)) stack (Other ∷ st)) (onto_append (others s) (others i) st) (
         record { names = refl; takes = all_onto (Only Other) ks st n long each; compares = tt; behind = tt },
         λ at. (refl, gives_put env (replicate n (Only Other)) Other Other (onto ks st) st (drop_onto ks st (length (replicate n (Only Other))) (long ∙ sym many)) refl, tt),

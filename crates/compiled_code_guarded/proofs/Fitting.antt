@@ -1,7 +1,7 @@
 -- Descriptions that fit a shape: where they meet, and after an operation.
 use Rattle.std.proofs.Common.{IsTrue, ◌≡◌, ℕ, zero, suc, ◌+◌, ◌<◌, ◌≤◌, Bool, true, false, if◌then◌else◌, nat_eq, List, [], ◌∷◌, ◌++◌, map, Option, Some, None, length, slice_get, slice_set, refl, sym, ap, ap₂, ◌∙◌, subst, arith}
 use Rattle.std.specs.Prelude.{drop, replicate, unwrap_or}
-use Rattle.std.proofs.lemmas.Bool.{eqb-true, eqb-false, false≢true}
+use Rattle.std.proofs.lemmas.Bool.{eqb-true, eqb-false}
 use Rattle.std.proofs.lemmas.List.{length-set, length-map}
 use Rattle.guarded_code.specs.declared.known.ValueKind.{ValueKind}
 use Rattle.guarded_code.specs.declared.known.ValueKind.TheVariants.{Other, Unknown}
@@ -23,21 +23,14 @@ use Rattle.compiled_code_guarded.proofs.OfKinds.{met_of_kind, of_less, met_teste
 abbrev TestedAt : Access → ℕ → List Operand → Type 0
 TestedAt access i os = IsTrue (is_tested_at access (slice_get os i))
 
-nothing_tested : {A : Type 0} → (access : Access) → IsTrue (is_tested_at access None) → A
-nothing_tested access h = absurd (false≢true h)
-
 abbrev MetStack : List Operand → List Operand → List ValueKind → Type 0
 MetStack os ps ks =
     (qs : List Operand) × (met_lists met_operand os ps ≡ Some qs) × Pairwise OperandFits qs ks × ((access : Access) (i : ℕ) → TestedAt access i os → TestedAt access i ps → TestedAt access i qs)
 
 met_stack : (os ps : List Operand) (ks : List ValueKind) → Pairwise OperandFits os ks → Pairwise OperandFits ps ks → MetStack os ps ks
 met_stack [] [] [] h i = ([], refl, tt, λ access n a b. a)
-met_stack [] [] (k ∷ ks) h i = absurd h
 met_stack [] (p ∷ ps) [] h i = absurd i
-met_stack [] (p ∷ ps) (k ∷ ks) h i = absurd h
-met_stack (o ∷ os) [] [] h i = absurd h
 met_stack (o ∷ os) [] (k ∷ ks) h i = absurd i
-met_stack (o ∷ os) (p ∷ ps) [] h i = absurd h
 met_stack (o ∷ os) (p ∷ ps) (k ∷ ks) h i =
     let r = met_stack os ps ks h.1 i.1 in
     (met_operand o p ∷ r.0, ap (put_before (met_operand o p)) r.1, (met_of_kind o.known.kind p.known.kind k h.0 i.0, r.2), at r.0 r.3)
@@ -45,6 +38,7 @@ met_stack (o ∷ os) (p ∷ ps) (k ∷ ks) h i =
     at : (qs : List Operand) → ((access : Access) (n : ℕ) → TestedAt access n os → TestedAt access n ps → TestedAt access n qs) → (access : Access) (n : ℕ) → TestedAt access n (o ∷ os) → TestedAt access n (p ∷ ps) → TestedAt access n (met_operand o p ∷ qs)
     at qs f access zero a b = met_tested access o.known p.known a b
     at qs f access (suc n) a b = f access n a b
+met_stack os ps ks h i = absurd h
 
 met_locals : (xs ys : List Known) → length xs ≡ length ys → (zs : List Known) × (met_lists met_known xs ys ≡ Some zs) × (length zs ≡ length xs) × ((n : ℕ) → known_at zs n ≡ met_known (known_at xs n) (known_at ys n))
 met_locals [] [] e = ([], refl, refl, λ n. refl)
@@ -98,9 +92,8 @@ loads_fit locals n d s t h f = record {
 -- a store
 forgotten_fit : (n : ℕ) (os : List Operand) (ks : List ValueKind) → Pairwise OperandFits os ks → Pairwise OperandFits (map (forgotten n) os) ks
 forgotten_fit n [] [] h = tt
-forgotten_fit n [] (k ∷ ks) h = absurd h
-forgotten_fit n (o ∷ os) [] h = absurd h
 forgotten_fit n (o ∷ os) (k ∷ ks) h = (h.0, forgotten_fit n os ks h.1)
+forgotten_fit n os ks h = absurd h
 
 set_here : (ks : List Known) (n : ℕ) (x : Known) (k : ValueKind) → IsOfKind x.kind k → IsOfKind (known_at (slice_set ks n x) n).kind k
 set_here [] n x k h = refl
@@ -141,16 +134,14 @@ copy_fits access (Some n) o k h = if_fits access (is_copy n o.copies) o k h
 
 copies_fit : (access : Access) (c : Option ℕ) (os : List Operand) (ks : List ValueKind) → Pairwise OperandFits os ks → Pairwise OperandFits (map (tested_copy access c) os) ks
 copies_fit access c [] [] h = tt
-copies_fit access c [] (k ∷ ks) h = absurd h
-copies_fit access c (o ∷ os) [] h = absurd h
 copies_fit access c (o ∷ os) (k ∷ ks) h = (copy_fits access c o k h.0, copies_fit access c os ks h.1)
+copies_fit access c os ks h = absurd h
 
 place_fits : (access : Access) (i : ℕ) (os : List Operand) (ks : List ValueKind) → Pairwise OperandFits os ks → Pairwise OperandFits (at_place (tested_operand access) i os) ks
 place_fits access i [] [] h = tt
-place_fits access i [] (k ∷ ks) h = absurd h
-place_fits access i (o ∷ os) [] h = absurd h
 place_fits access zero (o ∷ os) (k ∷ ks) h = (tested_fits access o k h.0, h.1)
 place_fits access (suc i) (o ∷ os) (k ∷ ks) h = (h.0, place_fits access i os ks h.1)
+place_fits access i os ks h = absurd h
 
 place_known : (access : Access) (i : ℕ) (ks : List Known) (n : ℕ) → (known_at (at_place (tested access) i ks) n).kind ≡ (known_at ks n).kind
 place_known access zero (k ∷ ks) zero = tested_kind access k

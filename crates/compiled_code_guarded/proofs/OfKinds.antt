@@ -30,9 +30,6 @@ of_less k m Unknown h s = any_kind k
 of_less k m z h s = subst (IsOfKind k) s h
 
 agree_back : (k m : ValueKind) → IsOfKind k m → IsOfKind m k
-agree_back Number Number h = refl
-agree_back Truth Truth h = refl
-agree_back Other Other h = refl
 agree_back k Unknown h = refl
 agree_back Unknown m h = any_kind m
 agree_back k m h = h

@@ -42,7 +42,6 @@ kind_known (a_value t) = type_known t
   where
     type_known : (t : ResolvedType) → IsKnown (kind_of_type t)
     type_known int = tt
-    type_known bool = tt
     type_known t = tt
 kind_known a_null = tt
 kind_known nothing = tt

@@ -1,6 +1,6 @@
 -- The code of a typed statement begins and ends with no operands.
 use Rattle.std.proofs.Common.{◌≡◌, ℕ, ◌<◌, List, [], ◌∷◌, ◌++◌, map, length, is_some, Option, Some, None, refl, sym, ap, ◌∙◌, subst, arith, length-append}
-use Rattle.std.proofs.lemmas.List.{length-map}
+use Rattle.std.proofs.lemmas.List.{length-map, length-replicate}
 use Rattle.std.proofs.lemmas.Option.{slice_get_within}
 use Rattle.std.proofs.lemmas.Bool.{lt-ltb}
 use Rattle.lam_builtins.specs.Types.{int, bool, label, caps, object, array, a_value, exactly}
@@ -20,7 +20,7 @@ use Rattle.guarded_code.specs.Changes.{Any, Only, kind_of_type, anything}
 use Rattle.compiled_code_guarded.specs.Layouts.{fact_of, TakesKinds, SlotsSay, with_slot}
 use Rattle.compiled_code_guarded.proofs.Runs.{slots_same, slots_trans, Joins, Steps, Runs}
 use Rattle.compiled_code_guarded.proofs.Operands.{kind_of_given, slots_of, at, object_kind, onto, drop_onto, same_onto, any_each}
-use Rattle.compiled_code_guarded.proofs.Expressions.{as_long, gives_none, branch, puts_runs, load_step, expression_runs, stands_run}
+use Rattle.compiled_code_guarded.proofs.Expressions.{gives_none, branch, puts_runs, load_step, expression_runs, stands_run}
 use Rattle.compiled_code_guarded.proofs.Scopes.{IsOpen, open_monitor, stored_new, stored_old, says_without, at_end, open_after, open_end, says_end}
 
 -- a block's end leads to what stood before it
@@ -86,7 +86,7 @@ module _ (r : ResolvedTree) (slots : List ResolvedType) where
         let found = region_in number (scheme r).units in
         let takes : region_takes found ≡ Some (length from) = ap region_takes p.found in
         let places = anything (region_takes found) ++ Only Other ∷ Only Other ∷ [] in
-        let many : length (anything (region_takes found)) ≡ length from = ap (λ o. length (anything o)) takes ∙ as_long (length from) Any in
+        let many : length (anything (region_takes found)) ≡ length from = ap (λ o. length (anything o)) takes ∙ length-replicate (length from) Any in
         let gone = drop_onto (Other ∷ Other ∷ ks) [] (length places) (omega (arith, long, many, length-append (anything (region_takes found)) (Only Other ∷ Only Other ∷ []))) in (
           record {
             names = ap is_some p.found;

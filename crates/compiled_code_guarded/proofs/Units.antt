@@ -1,7 +1,7 @@
 -- The units of a typed program's functions and regions have layouts.
-use Rattle.std.proofs.Common.{◌≡◌, ℕ, zero, suc, ◌+◌, List, [], ◌∷◌, ◌++◌, map, length, Option, Some, None, Result, Ok, slice_get, refl, sym, ap, ◌∙◌, subst, arith}
+use Rattle.std.proofs.Common.{◌≡◌, ℕ, zero, suc, ◌+◌, List, [], ◌∷◌, ◌++◌, map, length, Option, Some, None, Ok, slice_get, refl, sym, ap, ◌∙◌, subst, arith}
 use Rattle.std.specs.Prelude.{replicate}
-use Rattle.std.proofs.lemmas.List.{length-map}
+use Rattle.std.proofs.lemmas.List.{length-map, length-replicate}
 use Rattle.std.proofs.lemmas.Option.{slice_get_within}
 use Rattle.lam_builtins.specs.Types.{int}
 use Rattle.lam_value.specs.declared.values.Value.{Value}
@@ -10,7 +10,7 @@ use Rattle.lam_bytecode.specs.Codes.{CodeTree, given}
 use Rattle.lam_bytecode.specs.declared.op.Op.TheVariants.{Store, Return, LeaveRegion}
 use Rattle.lam_bytecode.specs.declared.unit.CodeUnit.{CodeUnit}
 use Rattle.thread_steps.specs.Ops.{UnitAt}
-use Rattle.lam_resolve_tree.specs.Tree.{ResolvedType, Statement, let_slot, if_block, while_block, return_value, throw_value, sync_block, region_block, do_value, set_local, set_field, set_element, Block, block_end, block_more, OtherBlock, no_other, other_block, ResolvedFunction, ResolvedTree}
+use Rattle.lam_resolve_tree.specs.Tree.{ResolvedType, Statement, if_block, while_block, sync_block, region_block, Block, block_end, block_more, OtherBlock, no_other, other_block, ResolvedFunction, ResolvedTree}
 use Rattle.lam_resolve_tree.specs.Typing.{heads_of, a_local, a_monitor, Scope, with_use, local_if, locals_of, Returning, in_region, in_function, after, IsStatement, IsBlock, IsOther, IsFunction, AreFunctions, IsTypedTree}
 use Rattle.lam_resolve_tree.specs.Regions.{AreNumbered}
 use Rattle.lam_meaning.specs.Pieces.{size}
@@ -38,7 +38,7 @@ use Rattle.compiled_code_guarded.specs.Compiled.{SchemeIsGuarded, CompiledIsGuar
 use Rattle.compiled_code_guarded.proofs.Runs.{Weakens, Runs, shapes}
 use Rattle.compiled_code_guarded.proofs.Lays.{all_back, at_same, entry_at, whole, front_at, exit_at, unit_laid_out, shapes_long}
 use Rattle.compiled_code_guarded.proofs.Operands.{slot_kind, slots_of, at}
-use Rattle.compiled_code_guarded.proofs.Expressions.{as_long, puts_runs}
+use Rattle.compiled_code_guarded.proofs.Expressions.{puts_runs}
 use Rattle.compiled_code_guarded.proofs.Scopes.{open_more, stored_new, at_end, open_end, open_first}
 use Rattle.compiled_code_guarded.proofs.Statements.{store_step, block_runs}
 
@@ -86,7 +86,7 @@ caught : (locals : ℕ) (env : Scope) → Fits locals (catching locals) (at env 
 caught locals env = record {
   stack = (refl, tt);
   slots = λ n. subst (λ k. IsOfKind k (slots_of env n)) (sym (unknown_all locals n)) refl;
-  size = as_long locals (untested Unknown);
+  size = length-replicate locals (untested Unknown);
   fact = tt;
 }
 
@@ -198,13 +198,7 @@ module _ (r : ResolvedTree) where
         let own_unit = region_guarded number from own body slot handler h.0 h.1 region.1 h.5 (captured_long env from h.0 h.4) h.6 h.7 h.8 p.1 p.2 there region.7 region.8 region.9 region.10 in
         each_append (d ∷ regions_in body) (regions_in handler) (own_unit, block_guarded own in_region (locals_of h.0) [] body region.1 0 h.6 p.1 region.7)
         (block_guarded own in_region (with_use (locals_of h.0) slot (a_local int)) [] handler region.1 _ h.8 p.2 region.9.1)
-    regions_guarded slots ret env os (let_slot n e) u pc h p st = tt
-    regions_guarded slots ret env os (return_value e) u pc h p st = tt
-    regions_guarded slots ret env os (throw_value e) u pc h p st = tt
-    regions_guarded slots ret env os (do_value e) u pc h p st = tt
-    regions_guarded slots ret env os (set_local n e) u pc h p st = tt
-    regions_guarded slots ret env os (set_field e c f t v) u pc h p st = tt
-    regions_guarded slots ret env os (set_element e i t v) u pc h p st = tt
+    regions_guarded slots ret env os s u pc h p st = tt
 
     block_guarded : (slots : List ResolvedType) (ret : Returning) (env : Scope) (os : List ℕ) (b : Block) (u pc : ℕ) → IsBlock (heads_of r) slots ret env b → BlockPlaced r b → Stands (scheme r) u pc (block_code os b) → EachGuarded (regions_in b)
     block_guarded slots ret env os block_end u pc h p st = tt
@@ -255,10 +249,7 @@ scheme_guarded r typed numbered = (guarded_means (scheme r)).1 (each_unit r (dra
 -- ---- what compiling comes to
 
 not_long : (o : Option ℕ) (c code : CodeTree) → unless_long o c ≡ Ok code → c ≡ code
-not_long None c code e = ok_is c code e
-  where
-    ok_is : (a b : CodeTree) → ◌≡◌ {A = Result CodeTree ℕ} (Ok a) (Ok b) → a ≡ b
-    ok_is a b e = cc
+not_long None c code e = cc
 not_long (Some unit) c code e = absurd cc
 
 pub compiled_guarded : CompiledIsGuarded

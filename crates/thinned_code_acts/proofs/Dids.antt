@@ -7,7 +7,7 @@ use Rattle.flow_labels.specs.declared.Denied.{Denied}
 use Rattle.capabilities.specs.declared.Caps.{Caps}
 use Rattle.lam_value.specs.declared.names.Name.{Name}
 use Rattle.lam_value.specs.declared.values.Value.{Value}
-use Rattle.lam_value.specs.declared.values.Value.TheVariants.{Int, Bool as Truth, Nothing, Obj, Arr, Lab, CapV}
+use Rattle.lam_value.specs.declared.values.Value.TheVariants.{Int, Bool as Truth, Obj, Arr, Lab, CapV}
 use Rattle.lam_value.specs.declared.shapes.Kind.{Kind}
 use Rattle.lam_value.specs.declared.shapes.Shape.TheVariants.{Array}
 use Rattle.lam_builtins.specs.Builtins.{row}
@@ -57,17 +57,14 @@ module _ (ks : List Bool) where
   still_thing : (s : List Value) (go : Name → List Value → Did) → ((n : Name) (r : List Value) → Still (go n r)) → Still (on_thing s go)
   still_thing (Obj n ∷ s) go h = h n s
   still_thing (Arr n len ∷ s) go h = h n s
-  still_thing (Nothing ∷ s) go h = refl
   still_thing s go h = refl
 
   still_caps : (s : List Value) (go : Caps → List Value → Did) → ((c : Caps) (r : List Value) → Still (go c r)) → Still (on_caps s go)
   still_caps (CapV p m ∷ s) go h = h (record { plus = p; minus = m }) s
-  still_caps (Nothing ∷ s) go h = refl
   still_caps s go h = refl
 
   still_label : (s : List Value) (go : Label → List Value → Did) → ((l : Label) (r : List Value) → Still (go l r)) → Still (on_label s go)
   still_label (Lab l ∷ s) go h = h l s
-  still_label (Nothing ∷ s) go h = refl
   still_label s go h = refl
 
   still_known : (x : Option ℕ) (go : ℕ → Did) → ((n : ℕ) → Still (go n)) → Still (on_known x go)
@@ -132,7 +129,6 @@ module _ (ks : List Bool) where
   still_monitor : (a : Value → Ask) (may : Name → Bool) (s : List Value) → Still (monitor_of a may s)
   still_monitor a may (Obj n ∷ s) = still_if (may n) (wants (a (Obj n)) s) breaks refl refl
   still_monitor a may (Arr n len ∷ s) = still_if (may n) (wants (a (Arr n len)) s) breaks refl refl
-  still_monitor a may (Nothing ∷ s) = refl
   still_monitor a may s = refl
 
   still_constant : (s : List Value) (x : Option Value) → Still (on_constant s x)

@@ -36,9 +36,7 @@ IsWanted q = (s : Sort) × (q.want ≡ want_of s q.ask)
 
 abbrev pub AllWanted : {A : Type 0} → Tree A → Type 0
 AllWanted (asks q go) = IsWanted q × ((x : Answer) → AllWanted (go x))
-AllWanted (ends e) = Unit {0}
-AllWanted spent = Unit {0}
-AllWanted broken = Unit {0}
+AllWanted t = Unit {0}
 
 -- ---- pieces
 ended : {A B : Type 0} (t : Tree A) (go : End A → Tree B) → AllWanted t → ((e : End A) → AllWanted (go e)) → AllWanted (on_end t go)
@@ -84,18 +82,15 @@ unless_one (Some d) n o t h = then_on (ask_unit (ask.Barred d) n o) _ (asks_done
 
 object_one : {A : Type 0} (v : Value) (n : ℕ) (o : Own) (go : Name → Tree A) → ((x : Name) → AllWanted (go x)) → AllWanted (on_object v n o go)
 object_one (Obj x) n o go h = h x
-object_one Nothing n o go h = tt
 object_one v n o go h = tt
 
 array_one : {A : Type 0} (v : Value) (n : ℕ) (o : Own) (go : Name → ℕ → Tree A) → ((x : Name) (len : ℕ) → AllWanted (go x len)) → AllWanted (on_array v n o go)
 array_one (Arr x len) n o go h = h x len
-array_one Nothing n o go h = tt
 array_one v n o go h = tt
 
 thing_one : {A : Type 0} (v : Value) (n : ℕ) (o : Own) (go : Value → Tree A) → ((x : Value) → AllWanted (go x)) → AllWanted (on_thing v n o go)
 thing_one (Obj x) n o go h = h (Obj x)
 thing_one (Arr x len) n o go h = h (Arr x len)
-thing_one Nothing n o go h = tt
 thing_one v n o go h = tt
 
 truth_one : {A : Type 0} (v : Value) (s t : Tree A) → AllWanted s → AllWanted t → AllWanted (on_truth v s t)
@@ -105,7 +100,6 @@ truth_one v s t h k = tt
 
 caps_one : {A : Type 0} (v : Value) (n : ℕ) (o : Own) (go : Caps → Tree A) → ((k : Caps) → AllWanted (go k)) → AllWanted (on_caps v n o go)
 caps_one (CapV p m) n o go h = h (record { plus = p; minus = m })
-caps_one Nothing n o go h = tt
 caps_one v n o go h = tt
 
 region_one : {A : Type 0} (l c : Value) (n : ℕ) (o : Own) (go : Label → Caps → Tree A) → ((l : Label) (k : Caps) → AllWanted (go l k)) → AllWanted (on_region l c n o go)
@@ -302,9 +296,6 @@ module _ (r : ResolvedTree) where
 
 -- each ask that is made
 asks_wanted : {A : Type 0} (t : Tree A) (xs : List Answer) (i : ℕ) (q : Asked) → AllWanted t → slice_get (asks_of t xs) i ≡ Some q → IsWanted q
-asks_wanted (ends e) xs i q h e' = none_some e'
-asks_wanted spent xs i q h e = none_some e
-asks_wanted broken xs i q h e = none_some e
 asks_wanted (asks p go) [] zero q h e = subst IsWanted (some_inj e) h.0
 asks_wanted (asks p go) [] (suc i) q h e = none_some e
 asks_wanted (asks p go) (x ∷ xs) i q h e = by (fits p.want x) i e (λ j. asks_wanted (go x) xs j q (h.1 x))
@@ -314,6 +305,7 @@ asks_wanted (asks p go) (x ∷ xs) i q h e = by (fits p.want x) i e (λ j. asks_
     by true (suc i) f later = later i f
     by false zero f later = subst IsWanted (some_inj f) h.0
     by false (suc i) f later = none_some f
+asks_wanted t xs i q h e = none_some e
 
 pub made_wanted : (r : ResolvedTree) (n f : ℕ) (vs : List Value) (k : Caps) (xs : List Answer) (i : ℕ) (q : Asked) → slice_get (asks_of (means r n f vs k) xs) i ≡ Some q → IsWanted q
 made_wanted r n f vs k xs i q e = asks_wanted (means r n f vs k) xs i q (means_wanted r n f vs k) e
