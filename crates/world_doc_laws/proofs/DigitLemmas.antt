@@ -1,32 +1,26 @@
 -- The digits of bytes, none of them a capital, are read as the bytes.
-use Rattle.std.proofs.Common.{◌≡◌, ◌*◌, ◌≤◌, ℕ, zero, suc, Bool, true, false, List, [], ◌∷◌, length, Some, Ok, refl, ap, ◌∙◌, arith, le-leb, slice_index}
+use Rattle.std.proofs.Common.{◌≡◌, ◌≤◌, ℕ, zero, suc, false, List, [], ◌∷◌, length, Some, refl, ap, ◌∙◌, arith, le-leb, slice_index}
 use Rattle.std.specs.Prelude.{◌||◌, ◌/◌, ◌%◌, if◌then◌else◌, None, option_and_then, option_map}
 use Rattle.std.specs.List.{list_any}
+use Rattle.std.proofs.lemmas.Bool.{or_from, or_parts}
 use Rattle.hex.specs.Hex.{lower_digits, encode_with, encode_lower, decode_of, IsBytes}
 use Rattle.hex.proofs.HexLemmas.{length-encode_with, decode_of-encode_lower}
 use Rattle.world_doc_terms.specs.Breaks.{only_if}
 use Rattle.world_doc_terms.specs.Stores.{a_text}
-use Rattle.world_doc_terms.specs.Numbered.{is_capital, bytes_or, bytes_of_hex, most_digits}
+use Rattle.world_doc_terms.specs.Numbered.{is_capital, bytes_or, bytes_of_hex}
 use Rattle.world_doc_laws.specs.Saved.{BytesAreRead}
-
-both_false : (a b : Bool) → a ≡ false → b ≡ false → (a || b) ≡ false
-both_false a b e f = ap (λ x. x || b) e ∙ f
-
-parts_false : (a b : Bool) → (a || b) ≡ false → (a ≡ false) × (b ≡ false)
-parts_false true b e = cc
-parts_false false b e = (refl, e)
 
 no_capital_at : (xs : List ℕ) → list_any is_capital xs ≡ false → (d : ℕ) → is_capital (slice_index xs d) ≡ false
 no_capital_at [] e d = refl
-no_capital_at (x ∷ xs) e zero = (parts_false (is_capital x) (list_any is_capital xs) e).0
-no_capital_at (x ∷ xs) e (suc d) = no_capital_at xs (parts_false (is_capital x) (list_any is_capital xs) e).1 d
+no_capital_at (x ∷ xs) e zero = (or_parts (is_capital x) (list_any is_capital xs) e).0
+no_capital_at (x ∷ xs) e (suc d) = no_capital_at xs (or_parts (is_capital x) (list_any is_capital xs) e).1 d
 
 no_capitals : (xs : List ℕ) → list_any is_capital (encode_with lower_digits xs) ≡ false
 unfolding encode_with
 no_capitals [] = refl
 no_capitals (b ∷ rest) =
-    both_false (is_capital (slice_index lower_digits (b / 16))) (is_capital (slice_index lower_digits (b % 16)) || list_any is_capital (encode_with lower_digits rest)) (no_capital_at lower_digits refl (b / 16))
-    (both_false (is_capital (slice_index lower_digits (b % 16))) (list_any is_capital (encode_with lower_digits rest)) (no_capital_at lower_digits refl (b % 16)) (no_capitals rest))
+    or_from (is_capital (slice_index lower_digits (b / 16))) (is_capital (slice_index lower_digits (b % 16)) || list_any is_capital (encode_with lower_digits rest)) (no_capital_at lower_digits refl (b / 16))
+    (or_from (is_capital (slice_index lower_digits (b % 16))) (list_any is_capital (encode_with lower_digits rest)) (no_capital_at lower_digits refl (b % 16)) (no_capitals rest))
 
 spelled : (bytes : List ℕ) → IsBytes bytes → bytes_of_hex (encode_lower bytes) ≡ Some bytes
 spelled bytes h = ap (λ b. if b then None else bytes_or (decode_of (encode_lower bytes))) (no_capitals bytes) ∙ ap bytes_or (decode_of-encode_lower bytes h)

@@ -17,9 +17,14 @@ use Rattle.world_doc_laws.specs.Entered.{StartsAreEntered, StartsAreSound}
 -- as many arguments as parameters
 as_many : (ks : List ArgKind) (vs : List Value) → AreArguments ks vs → length ks ≡ length vs
 as_many [] [] h = refl
-as_many [] (v ∷ vs) h = absurd h
-as_many (k ∷ ks) [] h = absurd h
 as_many (k ∷ ks) (v ∷ vs) h = ap suc (as_many ks vs h.1)
+as_many ks vs h = absurd h
+
+-- what holds of all threads holds of each
+pub all_at : (P : Thread → Type 0) (ths : List Thread) → AllByRecursion P ths → (t : ℕ) (th : Thread) → slice_get ths t ≡ Some th → P th
+all_at P [] h t th e = absurd cc
+all_at P (x ∷ ths) h zero th e = let same : x ≡ th = cc in subst P same h.0
+all_at P (x ∷ ths) h (suc t) th e = all_at P ths h.1 t th e
 
 module _ (code : CodeTree) where
   entry_takes : (unit : ℕ) (takes : List ArgKind) (args : List Value) → IsEntry code unit takes → AreArguments takes args → TakesAll code unit args
@@ -28,13 +33,8 @@ module _ (code : CodeTree) where
   is_entered : (th : Thread) → StandsAtEntry code th → IsAtEntry code th
   is_entered th s = record { unit = s.unit; args = s.args; caps = s.caps; it = s.it; takes = entry_takes s.unit s.takes s.args s.entry s.fitting }
 
-  all_entered : (ths : List Thread) → AllByRecursion (StandsAtEntry code) ths → (t : ℕ) (th : Thread) → slice_get ths t ≡ Some th → IsAtEntry code th
-  all_entered [] h t th e = absurd cc
-  all_entered (x ∷ ths) h zero th e = let same : x ≡ th = cc in subst (IsAtEntry code) same (is_entered x h.0)
-  all_entered (x ∷ ths) h (suc t) th e = all_entered ths h.1 t th e
-
 pub starts_entered : (code : CodeTree) → StartsAreEntered code
-starts_entered code text w e = all_entered code w.threads (text_start code text w e).entries
+starts_entered code text w e = λ t th at. is_entered code th (all_at (StandsAtEntry code) w.threads (text_start code text w e).entries t th at)
 
 pub starts_sound : (code : CodeTree) → StartsAreSound code
 starts_sound code is guarded text w e = sound_entries code w is guarded (text_start code text w e).valid (starts_entered code text w e)

@@ -108,13 +108,12 @@ module _ (tags : FirstTags) (t : Tree) (q : Queues) (called : List (Text × Name
 
   arguments_good : (ks : List ArgKind) (ds : Items) → IfOk (arguments names called ks ds) AllGoodValues
   arguments_good [] no_items = tt
-  arguments_good [] (item d ds) = tt
-  arguments_good (k ∷ ks) no_items = tt
   arguments_good (k ∷ ks) (item d ds) =
       after (formed (codes "args") (as_object d)) (λ ms. argument names called ms >>= λ v. fitting k v >>= λ same. arguments names called ks ds >>= λ vs. Ok (same ∷ vs)) AllGoodValues
       (λ ms. onward (argument names called ms) Good (argument_good ms) (λ v. fitting k v >>= λ same. arguments names called ks ds >>= λ vs. Ok (same ∷ vs)) AllGoodValues
       (λ v h. onward (fitting k v) Good (fitting_good k v h) (λ same. arguments names called ks ds >>= λ vs. Ok (same ∷ vs)) AllGoodValues
       (λ same f. onward (arguments names called ks ds) AllGoodValues (arguments_good ks ds) (λ vs. Ok (same ∷ vs)) AllGoodValues (λ vs r. (f, r)))))
+  arguments_good ks ds = tt
 
   args_good : (takes : List ArgKind) (ms : Members) → IfOk (args_in names called takes ms) AllGoodValues
   args_good takes ms =

@@ -1,12 +1,13 @@
 -- The files and directories of a document of version 3 are sound at each step, and what stands in them lives.
-use Rattle.std.proofs.Common.{◌≡◌, ℕ, suc, ◌<◌, ◌≤◌, Bool, true, false, cond, List, [], ◌∷◌, length, Option, Some, None, Ok, Err, refl, sym, ap, subst, ◌∙◌, arith}
-use Rattle.std.specs.Prelude.{IfOk, IfSome, IsTrue, is_some, not, ◌&&◌, nat_le, nat_lt, codes, option_and_then}
+use Rattle.std.proofs.Common.{◌≡◌, ℕ, suc, ◌<◌, ◌≤◌, Bool, true, false, cond, List, [], ◌∷◌, length, Option, Some, None, Ok, refl, sym, ap, subst, ◌∙◌, arith}
+use Rattle.std.specs.Prelude.{IfOk, IsTrue, is_some, not, ◌&&◌, nat_le, nat_lt, codes, option_and_then}
 use Rattle.std.specs.List.{AllByRecursion}
 use Rattle.std.specs.Ordering.{eq_by_cmp}
 use Rattle.std.specs.Cmp.{Equal-is}
 use Rattle.std.specs.FinMap.{FinMap, empty, get, insert, contains_key, get-empty, get-insert}
 use Rattle.std.proofs.lemmas.Bool.Decides.{nat_tests}
-use Rattle.serde_json.specs.Data.{Data, Items, no_items, item, Members}
+use Rattle.std.proofs.lemmas.Bool.{and_parts, not-true}
+use Rattle.serde_json.specs.Data.{Items, no_items, item, Members}
 use Rattle.serde_json.specs.Find.{get_member, as_str, as_array, as_object}
 use Rattle.flow_labels.specs.declared.Label.{Label}
 use Rattle.flow_labels.specs.TwoLists.{Text}
@@ -35,20 +36,12 @@ use Rattle.world_doc_terms.specs.Stores.{Spot, spot_of, Content, a_dir, a_text, 
 use Rattle.world_doc_terms.specs.Numbered.{whole, next_in, has_made, new_home, with_count_item, with_counts, with_root, counts_in, root_counted, hex_content_of, is_open, name_in, with_named, with_numbered_item, with_numbered_items, numbered_tree_in, numbered_in}
 use Rattle.world_doc_laws.proofs.LabelLemmas.{IsBelow}
 use Rattle.world_doc_laws.proofs.ReadLemmas.{after, onward, formed_good, member_good, tested, option_good, AreFew, label_as_known, label_known}
-use Rattle.world_doc_laws.proofs.StoreLemmas.{staged, IsGood, GoodTree, root_good, more_good}
+use Rattle.world_doc_laws.proofs.StoreLemmas.{staged, GoodTree, root_good, more_good}
 
 -- ---- tests
 
-both_true : (a b : Bool) → (a && b) ≡ true → (a ≡ true) × (b ≡ true)
-both_true true true e = (refl, refl)
-both_true true false e = cc
-both_true false b e = cc
-
 three : (a b c : Bool) → (a && (not b && not c)) ≡ true → (a ≡ true) × ((b ≡ false) × (c ≡ false))
-three true false false e = (refl, (refl, refl))
-three true false true e = cc
-three true true c e = cc
-three false b c e = cc
+three a b c e = let p = and_parts a (not b && not c) e in let q = and_parts (not b) (not c) p.1 in (p.0, (not-true b q.0, not-true c q.1))
 
 -- ---- the counters
 
@@ -78,7 +71,7 @@ module _ (names : List Text) where
       by h false e l = g.known h l
 
   few_tested : (n : ℕ) → (nat_le 1 n && nat_le n 65536) ≡ true → n ≤ 65536
-  few_tested n e = let second : nat_le n 65536 ≡ true = (both_true (nat_le 1 n) (nat_le n 65536) e).1 in grind (arith, nat_tests)
+  few_tested n e = let second : nat_le n 65536 ≡ true = (and_parts (nat_le 1 n) (nat_le n 65536) e).1 in grind (arith, nat_tests)
 
   next_few : (ms : Members) → IfOk (next_in ms) (λ (n : ℕ). n ≤ 65536)
   next_few ms =

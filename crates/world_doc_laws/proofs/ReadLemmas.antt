@@ -153,8 +153,7 @@ module _ (names : List Text) where
   by_fault : (name text : Text) (r : Result Label LabelFault) → IfOk r (IsBelow (length names)) → IfOk (label_or name text r) (IsBelow (length names))
   by_fault name text (Ok l) h = h
   by_fault name text (Err (fault.BadLabel at)) h = tt
-  by_fault name text (Err (fault.NoTag at)) h = tt
-  by_fault name text (Err fault.NoMemory) h = tt
+  by_fault name text r h = tt
 
   pub label_as_known : (name : Text) (ms : Members) → IfOk (label_as name names ms) (IsBelow (length names))
   label_as_known name ms =

@@ -1,9 +1,9 @@
 -- What is read of the members that say counters and items.
-use Rattle.std.proofs.Common.{◌≡◌, ℕ, suc, List, [], ◌∷◌, length, Option, Some, None, Ok, Err, refl, sym, ap, ◌∙◌}
+use Rattle.std.proofs.Common.{◌≡◌, ℕ, suc, List, [], ◌∷◌, length, Option, Some, None, Ok, Err, refl, ap, ◌∙◌}
 use Rattle.std.specs.Prelude.{codes, option_and_then}
 use Rattle.std.specs.FinMap.{empty, insert}
 use Rattle.serde_json.specs.Data.{Data, Items, no_items, item, Members}
-use Rattle.serde_json.specs.Find.{get_member, as_str, as_array, as_object}
+use Rattle.serde_json.specs.Find.{get_member}
 use Rattle.flow_labels.specs.declared.Label.{Label}
 use Rattle.flow_labels.specs.TwoLists.{Text}
 use Rattle.capabilities.specs.Kinds.{public_of}
@@ -15,15 +15,14 @@ use Rattle.lam_bytecode.specs.Codes.{CodeTree}
 use Rattle.thread_steps.specs.Threads.{Thread}
 use Rattle.lam_machine_terms.specs.Worlds.{World}
 use Rattle.world_doc_terms.specs.declared.version.Version.{Version}
-use Rattle.world_doc_terms.specs.declared.version.Version.TheVariants.{Three}
 use Rattle.world_doc_terms.specs.Breaks.{Reading, ◌>>=◌, only_if, formed, present, member_as}
 use Rattle.world_doc_terms.specs.Tags.{FirstTags, tags_in, label_as, label_in}
 use Rattle.world_doc_terms.specs.Stores.{Spot, Content, Pipes, spot_of, unless_full, pipes_in}
 use Rattle.world_doc_terms.specs.Numbered.{whole, next_in, new_home, with_count_item, with_counts, with_root, root_counted, hex_content_of, is_open, name_in, with_named, with_numbered_item, with_numbered_items, numbered_tree_in, numbered_in}
-use Rattle.world_doc_terms.specs.SavedItems.{counted_items, counts_of, SavedItem, item_name, with_saved_item, with_saved_items, SaysCount, SaysItem, SayAll, SaysFiles}
+use Rattle.world_doc_terms.specs.SavedItems.{counted_items, counts_of, SavedItem, item_name, with_saved_item, with_saved_items, SaysCount, SaysItem, SayAll}
 use Rattle.world_doc_terms.specs.Entries.{threads_in}
-use Rattle.world_doc_terms.specs.Start.{version_in, files_in, world_in}
-use Rattle.world_doc_laws.specs.Saved.{FilesAreRead, SaysStart, StartsAreRead}
+use Rattle.world_doc_terms.specs.Start.{files_in, world_in}
+use Rattle.world_doc_laws.specs.Saved.{FilesAreRead, StartsAreRead}
 
 -- ---- readings
 
@@ -35,7 +34,7 @@ value_then : {A B C : Type 0} (r : Reading A) (f : A → B) (g : B → Reading C
 value_then (Ok x) f g = refl
 value_then (Err e) f g = refl
 
-inside : {X : Type 0} {x y : X} → ◌≡◌ {A = Reading X} (Ok x) (Ok y) → x ≡ y
+pub inside : {X : Type 0} {x y : X} → ◌≡◌ {A = Reading X} (Ok x) (Ok y) → x ≡ y
 inside e = cc
 
 -- a member of a form, on which more is asked
@@ -67,8 +66,7 @@ module _ (names : List Text) where
       ∙ ap (λ (r : Reading Counts). r >>= λ more. with_counts names more ds) (count_read counts says.0.0 e says.0.2)
       ∙ value_then (new_home counts e.0) (λ home. insert counts home e.1) (λ more. with_counts names more ds)
       ∙ same_after (new_home counts e.0) (λ home. with_counts names (insert counts home e.1) ds) (λ home. counted_items (insert counts home e.1) es) (λ home. counts_read (insert counts home e.1) ds es says.1)
-  counts_read counts no_items (e ∷ es) says = absurd says
-  counts_read counts (item d ds) [] says = absurd says
+  counts_read counts ds es says = absurd says
 
   -- ---- items
 
@@ -99,8 +97,7 @@ module _ (names : List Text) where
       ap (λ (o : Option Members). formed (codes "tree") o >>= λ ms. with_numbered_item names index t ms >>= λ u. with_numbered_items names (suc index) u ds) says.0.1
       ∙ ap (λ (r : Reading Tree). r >>= λ u. with_numbered_items names (suc index) u ds) (item_read index t says.0.0 it says.0.2)
       ∙ same_after (with_saved_item index t it) (λ u. with_numbered_items names (suc index) u ds) (λ u. with_saved_items (suc index) u its) (λ u. items_read (suc index) u ds its says.1)
-  items_read index t no_items (it ∷ its) says = absurd says
-  items_read index t (item d ds) [] says = absurd says
+  items_read index t ds its says = absurd says
 
 -- ---- both
 

@@ -4,6 +4,7 @@ use Rattle.std.specs.Prelude.{IfOk, IfSome, IsTrue, nat_eq, nat_lt, nat_le, ◌&
 use Rattle.std.specs.List.{AllByRecursion}
 use Rattle.std.specs.FinMap.{empty}
 use Rattle.std.proofs.lemmas.Bool.Decides.{nat_tests}
+use Rattle.std.proofs.lemmas.Bool.{and_parts}
 use Rattle.serde_json.specs.Data.{Data, Items, no_items, item, Members}
 use Rattle.serde_json.specs.Find.{get_member, as_str, as_array, as_object}
 use Rattle.serde_json.specs.Events.{items_len}
@@ -18,7 +19,7 @@ use Rattle.lam_bytecode.specs.Codes.{CodeTree, unit_named}
 use Rattle.lam_bytecode.specs.declared.unit.ArgKind.{ArgKind}
 use Rattle.lam_bytecode.specs.declared.unit.CodeUnit.{CodeUnit}
 use Rattle.lam_bytecode.specs.declared.unit.UnitKind.{UnitKind}
-use Rattle.lam_bytecode.specs.declared.unit.UnitKind.TheVariants.{Function, Region}
+use Rattle.lam_bytecode.specs.declared.unit.UnitKind.TheVariants.{Function}
 use Rattle.thread_steps.specs.Threads.{Thread}
 use Rattle.thread_steps.specs.Next.{started}
 use Rattle.lam_machine_terms.specs.Worlds.{World}
@@ -75,13 +76,12 @@ fitting_good k v = formed_good (λ u. IsTrue (fits k u)) (codes "args") (only_if
 module _ (names : List Text) (called : List (Text × Name)) where
   arguments_good : (ks : List ArgKind) (ds : Items) → IfOk (arguments names called ks ds) (AreArguments ks)
   arguments_good [] no_items = tt
-  arguments_good [] (item d ds) = tt
-  arguments_good (k ∷ ks) no_items = tt
   arguments_good (k ∷ ks) (item d ds) =
       after (formed (codes "args") (as_object d)) (λ ms. argument names called ms >>= λ v. fitting k v >>= λ same. arguments names called ks ds >>= λ vs. Ok (same ∷ vs)) (AreArguments (k ∷ ks))
       (λ ms. after (argument names called ms) (λ v. fitting k v >>= λ same. arguments names called ks ds >>= λ vs. Ok (same ∷ vs)) (AreArguments (k ∷ ks))
       (λ v. onward (fitting k v) (λ u. IsTrue (fits k u)) (fitting_good k v) (λ same. arguments names called ks ds >>= λ vs. Ok (same ∷ vs)) (AreArguments (k ∷ ks))
       (λ same f. onward (arguments names called ks ds) (AreArguments ks) (arguments_good ks ds) (λ vs. Ok (same ∷ vs)) (AreArguments (k ∷ ks)) (λ vs r. (f, r)))))
+  arguments_good ks ds = tt
 
   args_good : (takes : List ArgKind) (ms : Members) → IfOk (args_in names called takes ms) (AreArguments takes)
   args_good takes ms =
@@ -94,8 +94,7 @@ module _ (code : CodeTree) where
 
   by_kind : (n : ℕ) (u : CodeUnit) → slice_get code.units n ≡ Some u → (k : UnitKind) → u.kind ≡ k → IfSome (entry_by n k) EntryGood
   by_kind n u there (Function name takes true) is = record { name = name; it = u; there = there; is = is }
-  by_kind n u there (Function name takes false) is = tt
-  by_kind n u there (Region region captures catch_at) is = tt
+  by_kind n u there k is = tt
 
   by_unit : (n : ℕ) (o : Option CodeUnit) → slice_get code.units n ≡ o → IfSome (option_and_then (λ (u : CodeUnit). entry_by n u.kind) o) EntryGood
   by_unit n None there = tt
@@ -136,14 +135,9 @@ module _ (code : CodeTree) where
     abbrev InNumber : Items → Type 0
     InNumber items = (nat_lt 0 (items_len items) && nat_le (items_len items) most_starting) ≡ true
 
-    two : (a b : Bool) → (a && b) ≡ true → (a ≡ true) × (b ≡ true)
-    two true true e = (refl, refl)
-    two true false e = cc
-    two false b e = cc
-
     counted : (items : Items) → InNumber items → (ths : List Thread) → Good (items_len items) ths → Stand ths
     counted items e ths h =
-        let tests = two (nat_lt 0 (items_len items)) (nat_le (items_len items) most_starting) e in
+        let tests = and_parts (nat_lt 0 (items_len items)) (nat_le (items_len items) most_starting) e in
         let first : nat_lt 0 (items_len items) ≡ true = tests.0 in
         let second : nat_le (items_len items) 64 ≡ true = tests.1 in
         let a : 0 < items_len items = grind (arith, nat_tests) in

@@ -1,7 +1,6 @@
 -- A thread of a document's world just starts.
-use Rattle.std.proofs.Common.{◌≡◌, ℕ, zero, suc, List, [], ◌∷◌, map, Some, refl, subst}
-use Rattle.std.specs.Prelude.{IsTrue, slice_get}
-use Rattle.std.specs.List.{AllByRecursion}
+use Rattle.std.proofs.Common.{List, [], ◌∷◌, map, refl, subst}
+use Rattle.std.specs.Prelude.{IsTrue}
 use Rattle.lam_value.specs.declared.values.Value.{Value}
 use Rattle.lam_value.specs.declared.values.Value.TheVariants.{Int, Bool as Truth, Bytes, Pipe, Tag}
 use Rattle.lam_builtins.specs.Types.{int, bool, bytes, tag, pipe}
@@ -9,7 +8,6 @@ use Rattle.lam_bytecode.specs.Codes.{CodeTree}
 use Rattle.thread_steps.specs.Threads.{Thread}
 use Rattle.lam_resolve_tree.specs.Tree.{ResolvedType, ResolvedTree}
 use Rattle.lam_meaning.specs.Scheme.{arg_kind}
-use Rattle.lam_machine_terms.specs.Worlds.{World}
 use Rattle.lam_machine_means.specs.Typing.{Is, Are}
 use Rattle.lam_machine_means.specs.Runs.{nothing_known, JustStarts, ThreadsStart}
 use Rattle.lam_machine_means.proofs.Meaning.{runs_mean}
@@ -17,28 +15,23 @@ use Rattle.lam_machine_means.proofs.Sticking.{none_sticks}
 use Rattle.world_doc_laws.specs.Entries.{IsIntFunction, EntriesAreFunctions}
 use Rattle.world_doc_terms.specs.Entries.{fits}
 use Rattle.world_doc_laws.specs.Standing.{AreArguments, StandsAtEntry}
+use Rattle.world_doc_laws.proofs.Entering.{all_at}
 use Rattle.world_doc_laws.proofs.StartLemmas.{text_start}
 use Rattle.world_doc_laws.specs.Documents.{DocumentsRunAsMeant}
 
 -- an argument of a parameter's kind is of its type
 fit_is : (t : ResolvedType) (v : Value) → IsTrue (fits (arg_kind t) v) → Is nothing_known t v
 fit_is int (Int n) h = refl
-fit_is int v h = absurd cc
 fit_is bool (Truth b) h = refl
-fit_is bool v h = absurd cc
 fit_is bytes (Bytes bs) h = refl
-fit_is bytes v h = absurd cc
 fit_is tag (Tag n) h = refl
-fit_is tag v h = absurd cc
 fit_is pipe (Pipe n) h = refl
-fit_is pipe v h = absurd cc
 fit_is t v h = absurd cc
 
 fit_are : (ts : List ResolvedType) (vs : List Value) → AreArguments (map arg_kind ts) vs → Are nothing_known ts vs
 fit_are [] [] h = tt
-fit_are [] (v ∷ vs) h = absurd h
-fit_are (t ∷ ts) [] h = absurd h
 fit_are (t ∷ ts) (v ∷ vs) h = (fit_is t v h.0, fit_are ts vs h.1)
+fit_are ts vs h = absurd h
 
 entry_starts : (r : ResolvedTree) (code : CodeTree) → EntriesAreFunctions r code → (th : Thread) → StandsAtEntry code th → JustStarts r code th
 entry_starts r code functions th s =
@@ -51,11 +44,6 @@ entry_starts r code functions th s =
       it = s.it;
       starts = (f.declared, f.found, f.result, fit_are f.declared.params s.args (subst (λ ks. AreArguments ks s.args) f.kinds s.fitting));
     }
-
-all_at : (P : Thread → Type 0) (ths : List Thread) → AllByRecursion P ths → (t : ℕ) (th : Thread) → slice_get ths t ≡ Some th → P th
-all_at P [] h t th e = absurd cc
-all_at P (x ∷ ths) h zero th e = let same : x ≡ th = cc in subst P same h.0
-all_at P (x ∷ ths) h (suc t) th e = all_at P ths h.1 t th e
 
 pub documents_mean : (r : ResolvedTree) (code : CodeTree) → DocumentsRunAsMeant r code
 documents_mean r code acts_as functions is_code typed text w read turns =

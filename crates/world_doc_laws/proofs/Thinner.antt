@@ -1,17 +1,16 @@
 -- Thinned code has the entries of the code.
-use Rattle.std.proofs.Common.{◌≡◌, ℕ, ◌<◌, ◌≤◌, Bool, true, List, length, Option, Some, None, slice_get, option_and_then, refl, sym, ap, ◌∙◌, subst, arith}
-use Rattle.std.proofs.lemmas.Option.{slice_get_within, slice_get-get_or}
+use Rattle.std.proofs.Common.{◌≡◌, ℕ, Bool, true, List, Option, Some, None, slice_get, option_and_then, refl, sym, ap, ◌∙◌, subst, arith}
+use Rattle.std.proofs.lemmas.Option.{slice_get_within, slice_get-get_or, same_Some}
 use Rattle.flow_labels.specs.TwoLists.{Text}
 use Rattle.lam_bytecode.specs.Codes.{CodeTree, unit_named}
 use Rattle.lam_bytecode.specs.declared.unit.ArgKind.{ArgKind}
 use Rattle.lam_bytecode.specs.declared.unit.CodeUnit.{CodeUnit}
 use Rattle.lam_bytecode.specs.declared.unit.UnitKind.{UnitKind}
 use Rattle.lam_bytecode.specs.declared.unit.UnitKind.TheVariants.{Function, Region}
-use Rattle.lam_resolve_tree.specs.Tree.{ResolvedTree}
 use Rattle.thinned_code.specs.Thinned.{thinned}
 use Rattle.thinned_code.specs.Facts.{IsSameKind, IsThinner, HasThinnerUnits, KeepsUnits, KeepsNames}
-use Rattle.world_doc_terms.specs.Entries.{Entry, entry_by, entry_named}
-use Rattle.world_doc_laws.specs.Entries.{EntriesAreFunctions, ThinnedEntries, ThinnedStarts}
+use Rattle.world_doc_terms.specs.Entries.{Entry, entry_by}
+use Rattle.world_doc_laws.specs.Entries.{ThinnedEntries, ThinnedStarts}
 
 -- ---- a function is the same function
 
@@ -22,9 +21,6 @@ same_function (Region region captures at) l name takes gives_int s e = absurd (l
 same_entry : (n : ℕ) (k l : UnitKind) → IsSameKind k l → entry_by n l ≡ entry_by n k
 same_entry n (Function own takes gives_int) l s = ap (entry_by n) s
 same_entry n (Region region captures at) l s = ap (entry_by n) s.1
-
-some_unit : (u v : CodeUnit) → ◌≡◌ {A = Option CodeUnit} (Some u) (Some v) → u ≡ v
-some_unit u v e = cc
 
 -- ---- a unit by its number
 
@@ -47,7 +43,7 @@ module _ (code thin : CodeTree) (h : HasThinnerUnits code thin) where
     where
       by : (o : Option CodeUnit) → slice_get code.units n ≡ o → Origin n v
       by None f = absurd (let z = sym (past n f) ∙ e in cc)
-      by (Some u) f = let x = h.each n u f in record { unit = u; there = f; thinner = subst (IsThinner u) (some_unit x.0 v (sym x.1 ∙ e)) x.2 }
+      by (Some u) f = let x = h.each n u f in record { unit = u; there = f; thinner = subst (IsThinner u) (same_Some x.0 v (sym x.1 ∙ e)) x.2 }
 
   abbrev entry_of : Option CodeUnit → ℕ → Option Entry
   entry_of o n = option_and_then (λ (u : CodeUnit). entry_by n u.kind) o

@@ -2,13 +2,14 @@
 use Rattle.std.proofs.Common.{◌≡◌, ℕ, zero, suc, Bool, true, List, [], ◌∷◌, ◌++◌, map, Option, Some, None, refl, sym, ap, ◌∙◌}
 use Rattle.std.specs.Prelude.{slice_get}
 use Rattle.std.specs.List.{AllByRecursion}
+use Rattle.std.proofs.lemmas.Option.{same_Some}
 use Rattle.flow_labels.specs.TwoLists.{Text}
 use Rattle.lam_value.specs.declared.values.Value.{Value}
 use Rattle.lam_builtins.specs.Types.{int}
 use Rattle.lam_bytecode.specs.declared.unit.ArgKind.{ArgKind}
 use Rattle.lam_bytecode.specs.declared.unit.CodeUnit.{CodeUnit}
 use Rattle.lam_bytecode.specs.declared.unit.UnitKind.TheVariants.{Function, Region}
-use Rattle.lam_resolve_tree.specs.Tree.{ResolvedType, Statement, let_slot, if_block, while_block, return_value, throw_value, sync_block, region_block, do_value, set_local, set_field, set_element, Block, block_end, block_more, OtherBlock, no_other, other_block, ResolvedFunction, ResolvedTree}
+use Rattle.lam_resolve_tree.specs.Tree.{ResolvedType, Statement, if_block, while_block, sync_block, region_block, Block, block_end, block_more, OtherBlock, no_other, other_block, ResolvedFunction, ResolvedTree}
 use Rattle.lam_meaning.specs.Scheme.{Draft, arg_kind, is_int, function_draft, regions_of, regions_in, regions_in_other, all_regions, drafts, all_constants, unit_of, scheme}
 use Rattle.world_doc_laws.specs.Entries.{SchemeEntries}
 
@@ -24,17 +25,11 @@ both (d ∷ a) b h k = (h.0, both a b h.1 k)
 
 mutual
   of_statement : (s : Statement) → AreRegions (regions_of s)
-  of_statement (let_slot x e) = tt
   of_statement (if_block e body other) = both (regions_in body) (regions_in_other other) (of_block body) (of_other other)
   of_statement (while_block e body) = of_block body
-  of_statement (return_value e) = tt
-  of_statement (throw_value e) = tt
   of_statement (sync_block x e body) = of_block body
   of_statement (region_block n l c from slots body slot handler) = ((n, _, _, refl), both (regions_in body) (regions_in handler) (of_block body) (of_block handler))
-  of_statement (do_value e) = tt
-  of_statement (set_local x e) = tt
-  of_statement (set_field e c f t v) = tt
-  of_statement (set_element e i t v) = tt
+  of_statement s = tt
 
   of_block : (b : Block) → AreRegions (regions_in b)
   of_block block_end = tt
@@ -56,14 +51,11 @@ is_number (Some t) e = absurd cc
 same_function : (a b : Text) (ks ls : List ArgKind) (x y : Bool) → Function a ks x ≡ Function b ls y → (ks ≡ ls) × (x ≡ y)
 same_function a b ks ls x y e = (cc, cc)
 
-some_is : {A : Type 0} (a b : A) → ◌≡◌ {A = Option A} (Some a) (Some b) → a ≡ b
-some_is a b e = cc
-
 module _ (vs : List Value) (name : Text) (takes : List ArgKind) (it : CodeUnit) (kind : it.kind ≡ Function name takes true) where
   no_region : (ds : List Draft) → AreRegions ds → (u : ℕ) → slice_get (map (unit_of vs) ds) u ≡ Some it → ⊥
   no_region [] h u e = cc
   no_region (d ∷ ds) h zero e =
-      let same = ap (λ (x : CodeUnit). x.kind) (some_is (unit_of vs d) it e) in
+      let same = ap (λ (x : CodeUnit). x.kind) (same_Some (unit_of vs d) it e) in
       let region = h.0.3 in
       let z = sym region ∙ same ∙ kind in
       cc
@@ -72,7 +64,7 @@ module _ (vs : List Value) (name : Text) (takes : List ArgKind) (it : CodeUnit) 
   function_at : (fs : List ResolvedFunction) (ds : List Draft) → AreRegions ds → (u : ℕ) → slice_get (map (unit_of vs) (map function_draft fs ++ ds)) u ≡ Some it → (fn : ResolvedFunction) × (slice_get fs u ≡ Some fn) × (fn.result ≡ Some int) × (takes ≡ map arg_kind fn.params)
   function_at [] ds h u e = absurd (no_region ds h u e)
   function_at (f ∷ fs) ds h zero e =
-      let same = ap (λ (x : CodeUnit). x.kind) (some_is (unit_of vs (function_draft f)) it e) ∙ kind in
+      let same = ap (λ (x : CodeUnit). x.kind) (same_Some (unit_of vs (function_draft f)) it e) ∙ kind in
       let parts = same_function f.name name (map arg_kind f.params) takes (is_int f.result) true same in
       (f, refl, is_number f.result parts.1, sym parts.0)
   function_at (f ∷ fs) ds h (suc u) e = function_at fs ds h u e

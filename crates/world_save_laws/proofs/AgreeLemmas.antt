@@ -1,9 +1,10 @@
 -- What is reached and seen at the end of the one run is reached at the end of the other.
-use Rattle.std.proofs.Common.{◌≡◌, ℕ, Bool, true, false, cond, List, [], ◌∷◌, length, Option, Some, None, is_some, refl, sym, ap, ◌∙◌, arith}
+use Rattle.std.proofs.Common.{◌≡◌, ℕ, Bool, true, false, cond, List, [], ◌∷◌, length, Option, None, refl, sym, ap, ◌∙◌, arith}
 use Rattle.std.specs.Prelude.{IsTrue, take, slice_get}
 use Rattle.std.specs.Option.{unwrap_or}
 use Rattle.std.specs.Map.{lookup}
 use Rattle.std.specs.FinMap.{FinMap, get, get-retain_keys, same_map}
+use Rattle.std.proofs.lemmas.Option.{same_Some}
 use Rattle.flow_labels.specs.declared.Label.{Label}
 use Rattle.flow_labels.specs.Flow.{seen}
 use Rattle.lam_value.specs.declared.names.Name.{Name}
@@ -23,6 +24,7 @@ use Rattle.lam_machine_laws.proofs.WholeLemmas.{isolated, steady}
 use Rattle.world_save_laws.specs.Reached.{IsAt, IsReached, HoldsReached}
 use Rattle.world_save_laws.specs.Next.{GoesOn}
 use Rattle.world_save_laws.specs.Agreeing.{EndsWell, NextStartsAgree}
+use Rattle.world_save_laws.proofs.PutLemmas.{nothing}
 
 -- ---- what is shown of a map
 
@@ -45,10 +47,6 @@ module _ {X : Type 0} (o : Label) where
       by q false e = refl
 
 -- ---- what is reached
-
-none_of : {X : Type 0} (o : Option X) → is_some o ≡ false → o ≡ None
-none_of None e = refl
-none_of (Some x) e = absurd cc
 
 -- two ends that look the same to the observer
 record LookAlike (o : Label) (t u : Tree) : Type 0 where
@@ -83,7 +81,7 @@ module _ (o : Label) (t u v w : Tree) (ends : EndsWell o t) (ends' : EndsWell o 
       by : (a : Bool) → lives_as Dir v n ≡ a → (b : Bool) → lives_as Dir w n ≡ b → get v.dirs n ≡ get w.dirs n
       by true e b f = h.dirs n (h.only Dir n e) ∙ alike.dirs n sees ∙ sym (k.dirs n (crossed Dir n sees e))
       by false e true f = h.dirs n (back Dir n sees f) ∙ alike.dirs n sees ∙ sym (k.dirs n (k.only Dir n f))
-      by false e false f = none_of (get v.dirs n) e ∙ sym (none_of (get w.dirs n) f)
+      by false e false f = nothing (get v.dirs n) e ∙ sym (nothing (get w.dirs n) f)
 
   files_same : (n : Name) → IsTrue (seen n.own o) → get v.files n ≡ get w.files n
   files_same n sees = by (lives_as File v n) refl (lives_as File w n) refl
@@ -91,12 +89,9 @@ module _ (o : Label) (t u v w : Tree) (ends : EndsWell o t) (ends' : EndsWell o 
       by : (a : Bool) → lives_as File v n ≡ a → (b : Bool) → lives_as File w n ≡ b → get v.files n ≡ get w.files n
       by true e b f = h.files n (h.only File n e) ∙ alike.files n sees ∙ sym (k.files n (crossed File n sees e))
       by false e true f = h.files n (back File n sees f) ∙ alike.files n sees ∙ sym (k.files n (k.only File n f))
-      by false e false f = none_of (get v.files n) e ∙ sym (none_of (get w.files n) f)
+      by false e false f = nothing (get v.files n) e ∙ sym (nothing (get w.files n) f)
 
 -- ---- the ends
-
-some_same : {X : Type 0} (x y : X) → ◌≡◌ {A = Option X} (Some x) (Some y) → x ≡ y
-some_same x y e = cc
 
 module _ (code : CodeTree) (o : Label) (s s' : World) (turns turns' : List ℕ) (well : AreWellLabelled s) (well' : AreWellLabelled s') (agree : Agree o s s') (run : IsRun code turns s) (run' : IsRun code turns' s') (agendas : agenda o (moments code turns s) ≡ agenda o (moments code turns' s')) where
   abbrev last : World
@@ -111,7 +106,7 @@ module _ (code : CodeTree) (o : Label) (s s' : World) (turns turns' : List ℕ) 
       let n = length (agenda o (moments code turns s)) in
       let same : n ≡ length (agenda o (moments code turns' s')) = ap length agendas in
       let look = isolated code o s s' turns turns' n well well' agree run run' (omega arith) (omega arith) (ap (take n) agendas) in
-      some_same (view o last) (view o last')
+      same_Some (view o last) (view o last')
       (sym (steady code o s turns well run) ∙ look.states ∙ ap (slice_get (views o s' (moments code turns' s'))) same ∙ steady code o s' turns' well' run')
 
   module _ (ends : EndsWell o last.files) (ends' : EndsWell o last'.files) (v v' : World) (g : GoesOn s last.files v) (g' : GoesOn s' last'.files v') where

@@ -1,5 +1,5 @@
 -- A text of a value in the compact form has no more bytes than are counted of the value.
-use Rattle.std.proofs.Common.{◌≡◌, ◌≤◌, ◌+◌, ℕ, max, Bool, true, false, List, [], ◌∷◌, ◌++◌, length, Option, Some, None, option_map, unwrap_or, refl, sym, ap, ◌∙◌, subst, arith, append_assoc, append-nil}
+use Rattle.std.proofs.Common.{◌≡◌, ◌≤◌, ◌+◌, ℕ, max, Bool, true, false, List, [], ◌∷◌, ◌++◌, length, Option, Some, option_map, unwrap_or, refl, sym, ap, ◌∙◌, subst, arith, append_assoc, append-nil}
 use Rattle.std.specs.Prelude.{if◌then◌else◌}
 use Rattle.std.specs.List.{All, AllByRecursion}
 use Rattle.std.proofs.lemmas.List.{length-append}
@@ -9,7 +9,7 @@ use Rattle.json.specs.Token as token
 use Rattle.json.specs.Print.{print, print_from, quoted}
 use Rattle.json.specs.Json as json
 use Rattle.json.specs.Tree.{json_tokens, items_tokens, members_tokens}
-use Rattle.serde_json.specs.Data.{Num, unsigned, negative, float}
+use Rattle.serde_json.specs.Data.{Num, float}
 use Rattle.serde_json.specs.Find.{is_float}
 use Rattle.serde_json.specs.Read.{number_of}
 use Rattle.serde_json.specs.Written.{blank, blank_items, blank_members, unless_float, comma_if}
@@ -22,10 +22,8 @@ use Rattle.world_save_laws.specs.Longest.{most_json, most_items, most_members, T
 
 number_bound : (s : List ℕ) (o : Option Num) → number_of s ≡ o → IsLaidOut (token.number s) → length s ≤ max most_number (length (if unwrap_or (option_map is_float o) false then [] else s))
 unfolding IsNumeralOf
-number_bound s None e laid = omega arith
-number_bound s (Some (unsigned n)) e laid = omega arith
-number_bound s (Some (negative z)) e laid = omega arith
 number_bound s (Some (float x)) e laid = let short = (laid x e).1 in omega (arith, short)
+number_bound s o e laid = omega arith
 
 number_short : (s : List ℕ) → IsLaidOut (token.number s) → length s ≤ max most_number (length (unless_float s))
 number_short s laid = number_bound s (number_of s) refl laid

@@ -1,6 +1,6 @@
 -- The rows of counters say the counters of all homes, each home once.
 use Rattle.std.proofs.Common.{◌≡◌, ◌≤◌, ◌<◌, ℕ, zero, suc, Bool, true, false, cond, List, [], ◌∷◌, map, length, set, get_or, Option, Some, None, Ok, option_map, option_and_then, is_some, refl, sym, ap, subst, ◌∙◌, arith, lt-ltb, le-leb}
-use Rattle.std.specs.Prelude.{IsTrue, not, ◌&&◌, nat_le, nat_lt, slice_get, codes}
+use Rattle.std.specs.Prelude.{IsTrue, not, ◌&&◌, nat_le, nat_lt, codes}
 use Rattle.std.specs.Option.{option_or, unwrap_or}
 use Rattle.std.specs.List.{AllByRecursion, IsDistinct, swap}
 use Rattle.std.specs.List.Sorted.{IsPermutation}
@@ -11,6 +11,8 @@ use Rattle.std.specs.Cmp.{Equal-is, eq_by_cmp_equiv}
 use Rattle.std.proofs.lemmas.List.Sorted.{IsPermutation-refl, IsPermutation-map, IsPermutation-keeps, IsPermutation-trans, IsPermutation-sym, All-permutation, Contains-permutation}
 use Rattle.std.proofs.lemmas.Map.Keys.{IsDistinct-IsPermutation}
 use Rattle.std.proofs.lemmas.Map.Views.{Contains-from_lookup, lookup-from_Contains}
+use Rattle.std.proofs.lemmas.List.{map-set, length-map}
+use Rattle.std.proofs.lemmas.Option.{slice_get-get_or}
 use Rattle.json.specs.Json as json
 use Rattle.json.proofs.Printed.Decimals.{IsNumber-decimal}
 use Rattle.serde_json.specs.Data.{Num, number, string, object, unsigned, Members, no_members, member, put}
@@ -53,11 +55,6 @@ same_is : (h k : Home) → same h k ≡ true → h ≡ k
 same_is h k e = home_exact h k ((Equal-is (home_cmp h k)).0 e)
 
 module _ {X Y : Type 0} (f : X → Y) where
-  set_map : (xs : List X) (i : ℕ) (x : X) → map f (set xs i x) ≡ set (map f xs) i (f x)
-  set_map [] i x = refl
-  set_map (y ∷ xs) zero x = refl
-  set_map (y ∷ xs) (suc i) x = ap (λ l. f y ∷ l) (set_map xs i x)
-
   get_map : (xs : List X) (i : ℕ) (d : X) → f (get_or xs i d) ≡ get_or (map f xs) i (f d)
   get_map [] i d = refl
   get_map (y ∷ xs) zero d = refl
@@ -66,13 +63,9 @@ module _ {X Y : Type 0} (f : X → Y) where
   swap_map : (xs : List X) (i j : ℕ) → map f (swap xs i j) ≡ swap (map f xs) i j
   swap_map [] i j = refl
   swap_map (d ∷ xs) i j =
-      set_map (set (d ∷ xs) i (get_or (d ∷ xs) j d)) j (get_or (d ∷ xs) i d)
-      ∙ (λ k. set (set_map (d ∷ xs) i (get_or (d ∷ xs) j d) k) j (get_map (d ∷ xs) i d k))
+      map-set f (set (d ∷ xs) i (get_or (d ∷ xs) j d)) j (get_or (d ∷ xs) i d)
+      ∙ (λ k. set (map-set f (d ∷ xs) i (get_or (d ∷ xs) j d) k) j (get_map (d ∷ xs) i d k))
       ∙ (λ k. set (set (map f (d ∷ xs)) i (get_map (d ∷ xs) j d k)) j (get_or (map f (d ∷ xs)) i (f d)))
-
-  length_map : (xs : List X) → length (map f xs) ≡ length xs
-  length_map [] = refl
-  length_map (x ∷ xs) = ap suc (length_map xs)
 
   -- a list in another order, each of whose elements is one of those
   record Sources (xs : List X) (ys : List Y) : Type 0 where
@@ -85,7 +78,7 @@ module _ {X Y : Type 0} (f : X → Y) where
     where
       step : (l : List Y) (i j : ℕ) → i < length l → j < length l → Sources xs l → Sources xs (swap l i j)
       step l i j a b s =
-          let n = ap length s.are ∙ length_map s.sources in
+          let n = ap length s.are ∙ length-map s.sources f in
           record {
             sources = swap s.sources i j;
             same_ones = IsPermutation-trans xs s.sources (swap s.sources i j) s.same_ones (record { moves = (i, j) ∷ []; below = (omega arith, omega arith, tt); is = refl });
@@ -158,13 +151,8 @@ module _ (names : List Text) (counts : Counts) (rows : List Row) (are : AreNames
   abbrev Counted : Home × ℕ → Type 0
   Counted e = get counts e.0 ≡ Some e.1
 
-  place : {X : Type 0} (xs : List X) (k : ℕ) (d : X) → k < length xs → slice_get xs k ≡ Some (get_or xs k d)
-  place [] k d l = absurd (omega arith)
-  place (x ∷ xs) zero d l = refl
-  place (x ∷ xs) (suc k) d l = place xs k d (omega arith)
-
   all_counted : AllByRecursion Counted homes
-  all_counted = all_listed Counted homes (All-permutation Counted r.homes homes source.same_ones (λ k d l. listed_at r.homes counts r.listed k (get_or r.homes k d).0 (get_or r.homes k d).1 (place r.homes k d l)))
+  all_counted = all_listed Counted homes (All-permutation Counted r.homes homes source.same_ones (λ k d l. listed_at r.homes counts r.listed k (get_or r.homes k d).0 (get_or r.homes k d).1 (slice_get-get_or r.homes k d l)))
 
   distinct_first : IsDistinct same (keys_of r.homes)
   distinct_first = subst (λ (e : Home → Home → Bool). IsDistinct e (keys_of r.homes)) (λ i a b. home_ties a b i) (r.listed).once

@@ -1,10 +1,10 @@
 -- Each turn keeps files and directories small, and so does every run; they are sound and a forest too.
 use Rattle.std.proofs.Common.{◌≡◌, ℕ, List, [], ◌∷◌, Option, Some, None, refl, subst}
-use Rattle.lam_bytecode.specs.Codes.{CodeTree, IsCode}
+use Rattle.lam_bytecode.specs.Codes.{CodeTree}
 use Rattle.thread_steps.specs.Threads.{Context, Thread}
 use Rattle.thread_steps.specs.Next.{Next, goes, asks, stuck, next_of, takes}
 use Rattle.lam_machine_terms.specs.Worlds.{World, with_thread}
-use Rattle.lam_machine_terms.specs.Serves.{Effect, adds_file, adds_dir, removes, appends, cuts, nothing, takes_tag, sets_slot, adds_thing, adds_copy, takes_monitor, gives_back, drops, adds_pipe, sends, receives, adds_thread, effect_of}
+use Rattle.lam_machine_terms.specs.Serves.{Effect, adds_file, adds_dir, removes, appends, cuts, effect_of}
 use Rattle.lam_machine_terms.specs.Serving.{serve}
 use Rattle.lam_machine_terms.specs.Turns.{is_ready, Moment, goes_on, served, turn_by, step, and_then, moments, left_by}
 use Rattle.lam_machine_terms.specs.Valid.{IsValid}

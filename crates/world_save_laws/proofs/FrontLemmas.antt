@@ -5,6 +5,7 @@ use Rattle.std.specs.Option.{option_or, unwrap_or}
 use Rattle.std.specs.Map.{lookup}
 use Rattle.std.specs.FinMap.{get}
 use Rattle.std.specs.Cmp.Lexicographic.{nat_list_eq_equiv, same_text}
+use Rattle.std.proofs.lemmas.Bool.{false_from_ne_true}
 use Rattle.lam_value.specs.declared.names.Name.{Name}
 use Rattle.lam_value_homes.proofs.Rows.{lookup-append}
 use Rattle.labelled_files.specs.declared.directory.Target.{Target}
@@ -47,7 +48,7 @@ pub record Grows (t : Tree) (dir : Name) (u v : Tree) : Type 0 where
 
 -- what an entry of the whole leads to does not live before the entry is made
 pub fresh : (t u : Tree) → IsForest t → IsFront t u → (dir : Name) (text : List ℕ) (x : Target) → LeadsTo t dir text x → target_at u dir text ≡ None → (kind : EntryKind) → lives_as kind u x.name ≡ false
-fresh t u forest front dir text x leads none kind = by (lives_as kind u x.name) refl
+fresh t u forest front dir text x leads none kind = false_from_ne_true (lives_as kind u x.name) (λ e. never (front.held kind x.name e))
   where
     never : (x.name ≡ t.root) ⊎ IsHeld u x.name → ⊥
     never (inl e) = forest.root dir text x leads e
@@ -55,10 +56,6 @@ fresh t u forest front dir text x leads none kind = by (lives_as kind u x.name) 
         let one = forest.once h.dir dir h.text text h.target x (front.within h.dir h.text h.target h.leads) leads h.is in
         let no : Some h.target ≡ None = sym h.leads ∙ (λ i. target_at u (one.0 i) (one.1 i)) ∙ none in
         cc
-
-    by : (b : Bool) → lives_as kind u x.name ≡ b → b ≡ false
-    by true e = absurd (never (front.held kind x.name e))
-    by false e = refl
 
 -- ---- one thing more
 
@@ -82,9 +79,8 @@ found_new es text x h =
 -- a name that does not live as the one kind
 other_kind : (v : Tree) (n : Name) (bytes : List ℕ) (kind k : EntryKind) → IsMade v n bytes kind → IsTrue (lives_as k v n) → k ≡ kind
 other_kind v n bytes File File made h = refl
-other_kind v n bytes File Dir made h = let no : true ≡ false = sym h ∙ ap is_some made.1 in cc
-other_kind v n bytes Dir File made h = let no : true ≡ false = sym h ∙ ap is_some made.1 in cc
 other_kind v n bytes Dir Dir made h = refl
+other_kind v n bytes kind k made h = let no : true ≡ false = sym h ∙ ap is_some made.1 in cc
 
 made_lives : (v : Tree) (n : Name) (bytes : List ℕ) (kind : EntryKind) → IsMade v n bytes kind → IsTrue (lives_as kind v n)
 made_lives v n bytes File made = ap is_some made.0

@@ -22,6 +22,7 @@ use Rattle.world_doc_terms.specs.Breaks.{Reading, ◌>>=◌, only_if, formed}
 use Rattle.world_doc_terms.specs.Stores.{Spot, dir_at, unless_full}
 use Rattle.world_doc_terms.specs.Numbered.{is_open, with_named}
 use Rattle.world_doc_terms.specs.SavedItems.{SavedItem, with_saved_item, with_saved_items}
+use Rattle.world_doc_laws.proofs.SavedLemmas.{inside}
 use Rattle.world_forest.specs.Forest.{LeadsTo}
 use Rattle.world_save_terms.specs.Items.{Item, below, at_entry, items_below}
 use Rattle.world_save_laws.specs.TreeLaws.{content_at, saved, IsWhole}
@@ -43,9 +44,6 @@ pub record IsReady (t u : Tree) (path : Text) (dir : Name) : Type 0 where
   pub front : IsFront t u
   pub live : IsTrue (lives_as Dir u dir)
   pub leads : down u t.root (way path) ≡ Some dir
-
-inside : {A : Type 0} {x y : A} → ◌≡◌ {A = Reading A} (Ok x) (Ok y) → x ≡ y
-inside e = cc
 
 -- items, and after them more items
 made_then : (u v w : Tree) (xs ys : List SavedItem) (index : ℕ) → with_saved_items index u xs ≡ Ok v → ((i : ℕ) → with_saved_items i v ys ≡ Ok w) → with_saved_items index u (xs ++ ys) ≡ Ok w

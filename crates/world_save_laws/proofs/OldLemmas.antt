@@ -1,7 +1,7 @@
 -- What was read of the older document.
 use Rattle.std.proofs.Common.{◌≡◌, ℕ, suc, true, List, [], ◌∷◌, ◌++◌, Option, Some, None, Ok, Err, is_some, refl, ap, subst}
 use Rattle.std.specs.Prelude.{IfOk, not, codes}
-use Rattle.serde_json.specs.Data.{Data, null, boolean, number, string, array, object, Items, no_items, item, Members, depth, members_depth}
+use Rattle.serde_json.specs.Data.{Data, object, Items, no_items, item, Members, depth, members_depth}
 use Rattle.serde_json.specs.Find.{get, get_member, as_str, as_object}
 use Rattle.flow_labels.specs.Names.{AreNames, is_name, place_of}
 use Rattle.flow_labels.specs.TwoLists.{Text}
@@ -21,6 +21,7 @@ use Rattle.world_doc_terms.specs.Start.{version_in, files_in, world_in, world_of
 use Rattle.labelled_files.specs.Trees.{Tree}
 use Rattle.world_doc_laws.proofs.ReadLemmas.{after, onward, formed_good, member_good, tested, option_good, AreFew, tags_few}
 use Rattle.world_doc_laws.proofs.StoreLemmas.{staged}
+use Rattle.world_doc_laws.proofs.SavedLemmas.{inside as of_ok}
 use Rattle.world_save_laws.specs.ListLaws.{AreTags}
 
 -- ---- names of tags
@@ -105,9 +106,6 @@ after_files code ms tags files pipes = threads_in code tags.names pipes.called m
 abbrev after_tags : CodeTree → Members → FirstTags → Tree → Reading World
 after_tags code ms tags files = pipes_in tags.names ms >>= λ pipes. after_files code ms tags files pipes
 
-of_ok : (v w : World) → ◌≡◌ {A = Reading World} (Ok v) (Ok w) → v ≡ w
-of_ok v w h = cc
-
 pub read_of : (code : CodeTree) (d : Data) (w : World) → world_of d code ≡ Ok w → IsRead code d w
 read_of code d w e =
     let m = opened (formed (codes "version") (as_object d)) (λ ms. world_in code ms) w e in
@@ -129,23 +127,15 @@ read_of code d w e =
       threads = h.0;
       pipes_read = p.1.0;
       threads_read = h.1.0;
-      is = of_ok (staged t.0 f.0 p.0.queues h.0) w h.1.1;
+      is = of_ok {x = staged t.0 f.0 p.0.queues h.0} {y = w} h.1.1;
     }
 
 -- ---- members
 
 pub member_of : (k : Text) (d : Data) (ms : Members) → as_object d ≡ Some ms → get k d ≡ get_member k ms
-member_of k null ms e = absurd cc
-member_of k (boolean b) ms e = absurd cc
-member_of k (number n) ms e = absurd cc
-member_of k (string s) ms e = absurd cc
-member_of k (array ds) ms e = absurd cc
 member_of k (object xs) ms e = let is : xs ≡ ms = cc in ap (get_member k) is
+member_of k d ms e = absurd cc
 
 pub object_deep : (d : Data) (ms : Members) → as_object d ≡ Some ms → depth d ≡ suc (members_depth ms)
-object_deep null ms e = absurd cc
-object_deep (boolean b) ms e = absurd cc
-object_deep (number n) ms e = absurd cc
-object_deep (string s) ms e = absurd cc
-object_deep (array ds) ms e = absurd cc
 object_deep (object xs) ms e = let is : xs ≡ ms = cc in ap (λ (ms : Members). suc (members_depth ms)) is
+object_deep d ms e = absurd cc

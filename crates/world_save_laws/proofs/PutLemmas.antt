@@ -1,10 +1,11 @@
 -- What is put under a name that does not live, and where it then stands.
-use Rattle.std.proofs.Common.{◌≡◌, ◌≤◌, ℕ, Bool, true, false, cond, List, [], ◌∷◌, ◌++◌, length, Option, Some, None, is_some, refl, sym, ap, subst, ◌∙◌}
+use Rattle.std.proofs.Common.{◌≡◌, ◌≤◌, ℕ, Bool, true, false, cond, List, [], ◌∷◌, ◌++◌, length, Option, Some, None, is_some, refl, sym, ap, subst, ◌∙◌, ⊎_elim}
 use Rattle.std.specs.Option.{unwrap_or}
 use Rattle.std.specs.FinMap.{FinMap, get, insert, get-insert}
 use Rattle.std.specs.Ordering.{eq_by_cmp}
 use Rattle.std.specs.Cmp.{Equal-is, eq_by_cmp_equiv}
 use Rattle.std.proofs.lemmas.List.{take_all}
+use Rattle.std.proofs.lemmas.Bool.{false_from_ne_true, cases_Bool}
 use Rattle.lam_value.specs.declared.names.Name.{Name}
 use Rattle.lam_value.specs.Names.{name_cmp}
 use Rattle.lam_value.proofs.Keys.{name_total, name_exact}
@@ -28,19 +29,11 @@ unlike : (a b : Name) → eq a b ≡ false → a ≡ b → ⊥
 unlike a b e is = let tied : eq a b ≡ true = subst (λ c. eq a c ≡ true) is (itself a) in let both : true ≡ false = sym tied ∙ e in cc
 
 apart : (a b : Name) → (a ≡ b → ⊥) → eq a b ≡ false
-apart a b never = by (eq a b) refl
-  where
-    by : (x : Bool) → eq a b ≡ x → x ≡ false
-    by true e = absurd (never (same a b e))
-    by false e = refl
+apart a b never = false_from_ne_true (eq a b) (λ e. never (same a b e))
 
 -- by whether two names are the same
 pub by_same : {P : Type 0} (a b : Name) → (a ≡ b → P) → ((a ≡ b → ⊥) → P) → P
-by_same {P = P} a b f g = by (eq a b) refl
-  where
-    by : (x : Bool) → eq a b ≡ x → P
-    by true e = f (same a b e)
-    by false e = g (unlike a b e)
+by_same a b f g = ⊎_elim (λ e. f (same a b e)) (λ e. g (unlike a b e)) (cases_Bool (eq a b))
 
 -- ---- what is there
 

@@ -1,10 +1,10 @@
 -- A saved text is read as the start of a run that goes on.
-use Rattle.std.proofs.Common.{◌≡◌, ◌⊎◌, inl, inr, ◌≤◌, ◌<◌, ℕ, Bool, true, false, List, [], map, length, Option, Some, None, Ok, IsUtf8, refl, sym, ap, ◌∙◌, subst, arith}
+use Rattle.std.proofs.Common.{◌≡◌, ◌⊎◌, inl, inr, ◌≤◌, ◌<◌, ℕ, true, List, [], map, length, Option, Some, None, Ok, IsUtf8, refl, sym, ap, ◌∙◌, subst, arith, ⊎_elim}
 use Rattle.std.specs.Prelude.{IsTrue, ◌&&◌, nat_le, nat_lt, codes, option_and_then, if◌then◌else◌}
 use Rattle.std.specs.Str.{is_utf8}
 use Rattle.std.proofs.lemmas.Str.{IsUtf8-from_is_utf8, is_utf8-from_IsUtf8}
-use Rattle.std.proofs.lemmas.Bool.Decides.{nat_tests}
 use Rattle.std.proofs.lemmas.List.Elements.{All-contains}
+use Rattle.std.proofs.lemmas.Bool.{cases_lt}
 use Rattle.hex.specs.Hex.{IsBytes}
 use Rattle.serde_json.specs.Data.{Data, Members, no_members, member, depth}
 use Rattle.serde_json.specs.Events.{items_len}
@@ -78,11 +78,7 @@ members_of p =
 module _ (names : List Text) (t : Tree) (can : AreSavable t) (all_named : AllNamed names t) where
   -- a tag in a label that is written has a name
   has_name : (l : Label) → IsItemLabel t l ⊎ IsHomeLabel t l → (tag : ℕ) → IsTagOf tag l → tag < length names
-  has_name l which tag is = by (nat_lt tag (length names)) refl
-    where
-      by : (b : Bool) → nat_lt tag (length names) ≡ b → tag < length names
-      by true e = grind (arith, nat_tests)
-      by false e = let far : length names ≤ tag = grind (arith, nat_tests) in absurd (all_named tag (far, (l, (which, is))))
+  has_name l which tag is = ⊎_elim (λ near. near) (λ far. absurd (all_named tag (far, (l, (which, is))))) (cases_lt tag (length names))
 
   named_label : (l : Label) → IsItemLabel t l ⊎ IsHomeLabel t l → IsNamed names l
   named_label l which = (λ tag c. has_name l which tag (inl c), λ tag c. has_name l which tag (inr c))

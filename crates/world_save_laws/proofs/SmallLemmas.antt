@@ -1,17 +1,17 @@
 -- Each change of files and directories keeps them small.
-use Rattle.std.proofs.Common.{◌≡◌, ◌≤◌, ◌<◌, ◌+◌, ◌-◌, ℕ, Bool, true, false, cond, List, [], length, take, Option, Some, None, refl, sym, ap, ◌∙◌, subst, arith, length-append}
-use Rattle.std.specs.Prelude.{nat_lt}
+use Rattle.std.proofs.Common.{◌≡◌, ◌≤◌, ◌<◌, ◌+◌, ◌-◌, ℕ, Bool, true, false, cond, List, [], length, take, Option, Some, None, sym, ◌∙◌, subst, arith, length-append}
 use Rattle.std.specs.Option.{unwrap_or}
 use Rattle.std.specs.FinMap.{FinMap, get, insert, empty, get-empty, get-insert}
 use Rattle.std.specs.Ordering.{eq_by_cmp}
 use Rattle.std.proofs.lemmas.List.{length-take}
+use Rattle.std.proofs.lemmas.Bool.{cond_both}
 use Rattle.lam_value.specs.declared.names.Name.{Name}
 use Rattle.lam_value.specs.Names.{name_cmp}
 use Rattle.lam_value.specs.Homes.{Home, Counts, home_cmp, count_in, counted, IsAboveZero}
 use Rattle.lam_value.proofs.Keys.{name_total, home_total}
 use Rattle.labelled_files.specs.declared.directory.EntryKind.{EntryKind}
 use Rattle.labelled_files.specs.declared.directory.EntryKind.TheVariants.{File, Dir}
-use Rattle.labelled_files.specs.Trees.{Tree, public_home, root_alone, bytes_at, changed_at, appended, with_file, with_dir, placed, with_more, with_first, without_entry, next_name}
+use Rattle.labelled_files.specs.Trees.{Tree, public_home, root_alone, bytes_at, appended, with_file, with_dir, placed, with_more, with_first, without_entry, next_name}
 use Rattle.labelled_files.proofs.SoundLemmas.{stays}
 use Rattle.world_save_laws.specs.EndLaws.{IsSmall}
 
@@ -30,11 +30,7 @@ front_few : (len : ℕ) (bytes : List ℕ) → IsFew bytes → IsFew (take len b
 front_few len bytes few = let b = length-take len bytes in omega arith
 
 new_few : (files : FinMap name_cmp (List ℕ)) (n : Name) → ((q : Name) → IsFew (unwrap_or (get files q) [])) → (q : Name) → IsFew (unwrap_or (get (insert files n []) q) [])
-new_few files n few q = subst (λ (o : Option (List ℕ)). IsFew (unwrap_or o [])) (sym (get-insert name_total files n [] q)) (by (eq_by_cmp name_cmp q n))
-  where
-    by : (b : Bool) → IsFew (unwrap_or (cond b (Some []) (get files q)) [])
-    by true = omega arith
-    by false = few q
+new_few files n few q = subst (λ (o : Option (List ℕ)). IsFew (unwrap_or o [])) (sym (get-insert name_total files n [] q)) (cond_both (eq_by_cmp name_cmp q n) (Some []) (get files q) (λ o. IsFew (unwrap_or o [])) (λ e. omega arith) (λ e. few q))
 
 -- ---- counters
 

@@ -1,8 +1,8 @@
 -- The files and directories of a document are small, in each version.
-use Rattle.std.proofs.Common.{◌≡◌, ◌≤◌, ◌<◌, ℕ, suc, Bool, true, false, List, length, Option, Some, None, Ok, Err, refl, subst, arith}
+use Rattle.std.proofs.Common.{◌≡◌, ◌<◌, ℕ, suc, true, List, length, Option, Some, None, Ok, subst, arith}
 use Rattle.std.specs.Prelude.{IfOk, ◌&&◌, nat_le, codes, option_and_then}
 use Rattle.std.specs.FinMap.{empty, insert}
-use Rattle.std.proofs.lemmas.Bool.Decides.{nat_tests}
+use Rattle.std.proofs.lemmas.Bool.{leb-true, and_parts}
 use Rattle.serde_json.specs.Data.{Data, Items, no_items, item, Members}
 use Rattle.serde_json.specs.Find.{get_member, as_str, as_array, as_object}
 use Rattle.flow_labels.specs.declared.Label.{Label}
@@ -71,11 +71,7 @@ module _ (names : List Text) where
 -- ---- version 3: the counters
 
 some_tested : (n : ℕ) → (nat_le 1 n && nat_le n 65536) ≡ true → 0 < n
-some_tested n e = by (nat_le 1 n) (nat_le n 65536) refl e
-  where
-    by : (a b : Bool) → nat_le 1 n ≡ a → (a && b) ≡ true → 0 < n
-    by true b same both = grind (arith, nat_tests)
-    by false b same both = cc
+some_tested n e = let first = leb-true 1 n (and_parts (nat_le 1 n) (nat_le n 65536) e).0 in omega (arith, first)
 
 next_some : (ms : Members) → IfOk (next_in ms) (λ (n : ℕ). 0 < n)
 next_some ms =

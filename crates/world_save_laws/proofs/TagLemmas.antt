@@ -30,8 +30,7 @@ tag_members name kind = member (codes "kind") (string (kind_word kind)) (member 
 
 kind_read : (name : Text) (kind : TagKind) → kind_in (tag_members name kind) ≡ Ok kind
 kind_read name Read = refl
-kind_read name Export = refl
-kind_read name Integrity = refl
+kind_read name kind = refl
 
 tag_read : (tags : FirstTags) (name : Text) (kind : TagKind) → is_name name ≡ true → place_of tags.names name ≡ None → with_tag_item Three tags (tag_data name kind) ≡ Ok (with_tag tags name kind)
 tag_read tags name kind fine new =
@@ -101,8 +100,7 @@ has_place test t at (d ∷ done) k ks e = by (test d) (has_place test t (at + 1)
 
 kind_by : (k : TagKind) → cond (adds_freely k) Export (cond (drops_freely k) Integrity Read) ≡ k
 kind_by Read = refl
-kind_by Export = refl
-kind_by Integrity = refl
+kind_by k = refl
 
 kind_same : (done : List TagKind) (k : TagKind) (ks : List TagKind) (t : ℕ) → t ≡ length done → kind_at (public_of (done ++ k ∷ ks)) t ≡ k
 unfolding public_of

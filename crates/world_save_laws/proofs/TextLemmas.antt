@@ -34,12 +34,10 @@ right_printable (t ∷ ts) us h = right_printable ts us h.1
 
 mutual
   numbers_of : (j : json.Json) → ArePrintableOrBad (json_tokens j) → HasNumbers j
-  numbers_of json.null h = tt
-  numbers_of (json.boolean b) h = tt
   numbers_of (json.number s) h = h.0
-  numbers_of (json.string s) h = tt
   numbers_of (json.array js) h = items_numbers js h.1
   numbers_of (json.object ms) h = members_numbers ms h.1
+  numbers_of j h = tt
 
   items_numbers : (js : json.Items) → ArePrintableOrBad (items_tokens js) → ItemsHaveNumbers js
   items_numbers json.no_items h = tt
@@ -79,12 +77,9 @@ compact_printed d text c shallow =
 -- the tokens of a value leave a value just ended
 mutual
   ended : (c : Bool) (j : json.Json) (ts : List Token) → fold (λ _ (u : Token). ends u) c (json_tokens j ++ ts) ≡ fold (λ _ (u : Token). ends u) true ts
-  ended c json.null ts = refl
-  ended c (json.boolean b) ts = refl
-  ended c (json.number s) ts = refl
-  ended c (json.string s) ts = refl
   ended c (json.array js) ts = items_ended false js ts
   ended c (json.object ms) ts = members_ended false ms ts
+  ended c j ts = refl
 
   items_ended : (c : Bool) (js : json.Items) (ts : List Token) → fold (λ _ (u : Token). ends u) c (items_tokens js ++ ts) ≡ fold (λ _ (u : Token). ends u) true ts
   items_ended c json.no_items ts = refl

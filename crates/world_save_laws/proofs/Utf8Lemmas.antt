@@ -25,7 +25,7 @@ use Rattle.flow_labels.specs.declared.Label.{Label}
 use Rattle.flow_labels.proofs.NameLemmas.{and_both, name_is_words}
 use Rattle.capabilities.specs.declared.Caps.{Caps}
 use Rattle.capabilities.specs.declared.kinds.TagKind.{TagKind}
-use Rattle.capabilities.specs.declared.kinds.TagKind.TheVariants.{Read, Export, Integrity}
+use Rattle.capabilities.specs.declared.kinds.TagKind.TheVariants.{Read}
 use Rattle.lam_value.specs.declared.names.Name.{Name}
 use Rattle.lam_value.specs.Homes.{Home}
 use Rattle.labelled_files.specs.declared.directory.EntryKind.{EntryKind}
@@ -163,8 +163,7 @@ member_utf8 later name value rest n v r =
 
 kind_text : (k : TagKind) → IsUtf8 (kind_word k)
 kind_text Read = IsUtf8-are_ascii _ refl
-kind_text Export = IsUtf8-are_ascii _ refl
-kind_text Integrity = IsUtf8-are_ascii _ refl
+kind_text k = IsUtf8-are_ascii _ refl
 
 tags_texts : (public : Caps) (t : ℕ) (names : List Text) → AllByRecursion IsUtf8 names → AllByRecursion AreTexts (tags_from public t names)
 tags_texts public t [] h = tt

@@ -1,7 +1,8 @@
 -- The path of an entry leads to the place of the entry.
 use Rattle.std.proofs.Common.{◌≡◌, ℕ, Bool, true, false, List, [], ◌∷◌, ◌++◌, length, Option, Some, None, Ok, Err, refl, sym, ap, ◌∙◌, append_assoc, append-nil}
-use Rattle.std.specs.Prelude.{not, ◌&&◌, ◌||◌, nat_eq, nat_le, is_some, codes, option_and_then, if◌then◌else◌}
+use Rattle.std.specs.Prelude.{not, ◌&&◌, nat_eq, nat_le, is_some, codes, option_and_then, if◌then◌else◌}
 use Rattle.std.specs.List.{list_any}
+use Rattle.std.proofs.lemmas.Bool.{or_parts, and_parts, not-true}
 use Rattle.flow_labels.specs.TwoLists.{Text}
 use Rattle.lam_value.specs.declared.names.Name.{Name}
 use Rattle.labelled_files.specs.declared.directory.Target.{Target}
@@ -30,22 +31,15 @@ split part (x ∷ xs) rest = by (nat_eq x 47) (split [] xs rest) (split (part ++
     by true e f = ap (λ l. part ∷ l) e
     by false e f = f
 
-parts_false : (a b : Bool) → (a || b) ≡ false → (a ≡ false) × (b ≡ false)
-parts_false true b e = cc
-parts_false false b e = (refl, e)
-
 -- a text with no mark is one part
 alone : (part text : Text) → list_any (λ b. nat_eq b 47) text ≡ false → parts_from part text ≡ (part ++ text) ∷ []
 alone part [] h = ap (λ (s : Text). s ∷ []) (sym (append-nil part))
 alone part (x ∷ xs) h =
-    let both = parts_false (nat_eq x 47) (list_any (λ b. nat_eq b 47) xs) h in
+    let both = or_parts (nat_eq x 47) (list_any (λ b. nat_eq b 47) xs) h in
     ap (λ b. if b then part ∷ parts_from [] xs else parts_from (part ++ x ∷ []) xs) both.0 ∙ alone (part ++ x ∷ []) xs both.1 ∙ ap (λ (s : Text). s ∷ []) (append_assoc part (x ∷ []) xs)
 
 third : (a b c d : Bool) → (a && (b && (not c && d))) ≡ true → c ≡ false
-third true true false d e = refl
-third true true true d e = cc
-third true false c d e = cc
-third false b c d e = cc
+third a b c d e = not-true c (and_parts (not c) d (and_parts b (not c && d) (and_parts a (b && (not c && d)) e).1).1).0
 
 unmarked : (text : Text) → is_entry_name text ≡ true → list_any (λ b. nat_eq b 47) text ≡ false
 unmarked text fine =

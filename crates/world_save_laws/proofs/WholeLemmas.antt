@@ -1,9 +1,10 @@
 -- All items together make what the root reaches, and nothing else.
-use Rattle.std.proofs.Common.{◌≡◌, inl, ◌+◌, ◌≤◌, ℕ, zero, suc, Bool, true, false, List, [], ◌∷◌, ◌++◌, map, length, Option, Some, None, Ok, is_some, refl, sym, ap, subst, ◌∙◌, arith}
+use Rattle.std.proofs.Common.{◌≡◌, inl, ◌+◌, ◌≤◌, ℕ, zero, suc, true, false, List, [], ◌∷◌, ◌++◌, map, length, Option, Some, None, Ok, is_some, refl, sym, ap, subst, ◌∙◌, arith}
 use Rattle.std.specs.Prelude.{IsTrue}
 use Rattle.std.specs.Option.{unwrap_or}
 use Rattle.std.specs.Map.{lookup}
 use Rattle.std.specs.FinMap.{get, empty, len, get-empty}
+use Rattle.std.proofs.lemmas.Bool.{false_from_ne_true}
 use Rattle.flow_labels.specs.TwoLists.{Text}
 use Rattle.lam_value.specs.declared.names.Name.{Name}
 use Rattle.lam_value.specs.Names.{name_cmp}
@@ -79,11 +80,7 @@ module _ (t : Tree) (whole : IsWhole t) where
             ∙ sym (there (get t.dirs t.root) [] whole.sound.rooted) ∙ ap (get t.dirs) (sym is)
 
         elsewhere : (d ≡ t.root → ⊥) → get u.dirs d ≡ get t.dirs d
-        elsewhere other = m.grows.new_dirs d h (not_before (lives_as Dir begun d) refl)
-          where
-            not_before : (b : Bool) → lives_as Dir begun d ≡ b → b ≡ false
-            not_before true e = absurd (other (only_root Dir d e).1)
-            not_before false e = refl
+        elsewhere other = m.grows.new_dirs d h (false_from_ne_true (lives_as Dir begun d) (λ e. other (only_root Dir d e).1))
 
     same_files : (f : Name) → IsTrue (lives_as File u f) → get u.files f ≡ get t.files f
     same_files f h = m.grows.new_files f h (ap is_some (get-empty name_cmp f))
