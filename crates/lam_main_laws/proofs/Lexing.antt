@@ -1,6 +1,6 @@
 -- The tokens of a text that has neither comments nor texts, computed.
-use Rattle.std.proofs.Common.{◌≡◌, ℕ, zero, suc, ◌+◌, ◌^◌, ◌&&◌, true, false, Bool, not, if◌then◌else◌, nat_lt, List, [], ◌∷◌, length, Option, Some, None, option_map, encode_utf8_all, pos, refl, subst, ltb-true}
-use Rattle.std.proofs.lemmas.Bool.{and_parts}
+use Rattle.std.proofs.Common.{◌≡◌, ℕ, zero, suc, ◌+◌, ◌^◌, ◌&&◌, true, Bool, not, if◌then◌else◌, nat_lt, List, [], ◌∷◌, length, Option, Some, None, option_map, encode_utf8_all, pos, refl, subst, ltb-true}
+use Rattle.std.proofs.lemmas.Bool.{and_parts, not-true}
 use Rattle.lam_lexer.specs.declared.token.Token.{Token}
 use Rattle.lam_lexer.specs.declared.token.TokenKind.TheVariants as Kind
 use Rattle.lam_lexer.specs.declared.start.Start.{Start}
@@ -37,10 +37,6 @@ taken : (t : Token) (o : Option (List Token)) (ts : List Token) → put t o ≡ 
 taken t None ts e = absurd (cc)
 taken t (Some us) ts e = (us, refl, some_same e)
 
-not_true : (b : Bool) → not b ≡ true → b ≡ false
-not_true true e = absurd (cc)
-not_true false e = refl
-
 module _ (more : Lex) (is : (at : ℕ) (cs : List ℕ) (ts : List Token) → more at cs ≡ Some ts → LexedAt at cs ts) where
   one_token : (at to c : ℕ) (cs rest : List ℕ) (t : Token) (ts : List Token) → Lexes at (start c (first cs)) (c ∷ cs) (t ∷ []) to rest → put t (more to rest) ≡ Some ts → LexedAt at (c ∷ cs) ts
   one_token at to c cs rest t ts r e =
@@ -57,7 +53,7 @@ module _ (more : Lex) (is : (at : ℕ) (cs : List ℕ) (ts : List Token) → mor
       let to : ℕ = at + 1 + length (run is_digit cs) in
       let p = if_true (is_number c cs) (put t (more to (past is_digit cs))) ts h in
       let q = and_parts (nat_lt (number (c ∷ run is_digit cs)) (2 ^ 63)) (not (goes_on continues_name (past is_digit cs))) p.0 in
-      one_token at to c cs (past is_digit cs) t ts (subst (λ (s : Start). Lexes at s (c ∷ cs) (t ∷ []) to (past is_digit cs)) e (a_number (ltb-true _ _ q.0) (not_true _ q.1))) p.1
+      one_token at to c cs (past is_digit cs) t ts (subst (λ (s : Start). Lexes at s (c ∷ cs) (t ∷ []) to (past is_digit cs)) e (a_number (ltb-true _ _ q.0) (not-true _ q.1))) p.1
   is_lexed at c cs ts (Start.Mark k) e h = one_token at (at + 1) c cs cs (token at k) ts (subst (λ (s : Start). Lexes at s (c ∷ cs) (token at k ∷ []) (at + 1) cs) e a_mark) h
   is_lexed at c cs ts _ e h = absurd (cc)
 

@@ -6,7 +6,7 @@ use Rattle.std.specs.Fmt.{digits}
 use Rattle.std.specs.FinMap.{empty}
 use Rattle.std.specs.FinSet.{from_list}
 use Rattle.std.specs.Str.{bytes_eq}
-use Rattle.std.proofs.lemmas.Bool.{cases_eq, eq-eqb, le-ltb}
+use Rattle.std.proofs.lemmas.Bool.{cases_eq, eq-eqb, le-ltb, false_from_ne_true}
 use Rattle.std.proofs.lemmas.Fmt.{decimal_injective}
 use Rattle.std.proofs.lemmas.List.Folds.{position_or_len_push}
 use Rattle.std.proofs.lemmas.Slice.Eq.{bytes_eq-Decides}
@@ -60,16 +60,12 @@ names_length (suc n) = length-append (names n) (tag_name n ∷ []) ∙ (let h = 
 same_name : (k : ℕ) → bytes_eq (tag_name k) (tag_name k) ≡ true
 same_name k = (bytes_eq-Decides (tag_name k) (tag_name k)).1 refl
 
-false_unless : (b : Bool) → (b ≡ true → ⊥) → b ≡ false
-false_unless true h = absurd (h refl)
-false_unless false h = refl
-
 tail_is : {x y : ℕ} {xs ys : Text} → x ∷ xs ≡ y ∷ ys → xs ≡ ys
 tail_is e = cc
 
 other_name : (j k : ℕ) → j < 64 → k < 64 → (j ≡ k → ⊥) → bytes_eq (tag_name j) (tag_name k) ≡ false
 other_name j k g h differ =
-    false_unless (bytes_eq (tag_name j) (tag_name k)) (λ e. differ (decimal_injective j k (omega arith) (omega arith) (tail_is ((bytes_eq-Decides (tag_name j) (tag_name k)).0 e))))
+    false_from_ne_true (bytes_eq (tag_name j) (tag_name k)) (λ e. differ (decimal_injective j k (omega arith) (omega arith) (tail_is ((bytes_eq-Decides (tag_name j) (tag_name k)).0 e))))
 
 -- where the name of a tag stands first
 abbrev place : ℕ → ℕ → ℕ

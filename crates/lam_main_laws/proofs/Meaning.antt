@@ -28,14 +28,12 @@ use Rattle.lam_main_laws.specs.Meant.{CallsRunAsMeant, MeansEverywhere, SourcesR
 use Rattle.barrier_compiler.specs.Compiled.{IsCompiledTo}
 use Rattle.lam_main_plan.specs.Reading.{IsRunCode}
 use Rattle.lam_main_laws.proofs.Counts.{small}
+use Rattle.lam_main_laws.proofs.Given.{some_same}
 use Rattle.lam_main_laws.proofs.Codes.{by_scheme, is_code}
 
 -- what holds of that which a program resolves to
 of_resolved : (p : ProgramTree) (r : ResolvedTree) (P : ResolvedTree → Type 0) → resolved p ≡ Some r → IsSomeAnd (resolved p) P → P r
 of_resolved p r P e h = subst (λ (o : Option ResolvedTree). IsSomeAnd o P) e h
-
-one_tree : {a b : ResolvedTree} → ◌≡◌ {A = Option ResolvedTree} (Some a) (Some b) → a ≡ b
-one_tree e = cc
 
 -- a code acts as a program and has its functions as entries
 record Acts (r : ResolvedTree) (code : CodeTree) : Type 0 where
@@ -83,7 +81,7 @@ module _ (guarded : SchemeIsGuarded) (acts : (r : ResolvedTree) → ThinnedSchem
     sources_mean bytes code r c s =
         let one : c.makes.program ≡ s.program = one_fine bytes c.makes.program s.program c.makes.fine s.fine in
         let same : ◌≡◌ {A = Option ResolvedTree} (Some c.makes.makes.tree) (Some r) = sym c.makes.makes.resolves ∙ ap resolved one ∙ s.resolves in
-        subst (λ (it : ResolvedTree). MeansEverywhere it code) (one_tree same) (runs_everywhere bytes c.makes.program c.whole code c.makes.fine c.makes.makes c.thin)
+        subst (λ (it : ResolvedTree). MeansEverywhere it code) (some_same same) (runs_everywhere bytes c.makes.program c.whole code c.makes.fine c.makes.makes c.thin)
 
     pub calls_mean : (ws : List Text) (files : Files) → CallsRunAsMeant ws files
     calls_mean ws files p code start a =

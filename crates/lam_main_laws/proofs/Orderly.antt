@@ -1,5 +1,5 @@
 -- How calls end that nothing failed.
-use Rattle.std.proofs.Common.{◌≡◌, ℕ, false, List, Option, Result, Ok, refl, sym, ap, subst, ◌∙◌, codes}
+use Rattle.std.proofs.Common.{◌≡◌, ℕ, List, Option, Result, Ok, refl, sym, ap, subst, ◌∙◌, codes}
 use Rattle.lam_io.specs.Outside.{Files}
 use Rattle.lam_print.specs.Canon.{canon}
 use Rattle.play_run.specs.Lines.{play_lines}
@@ -11,7 +11,7 @@ use Rattle.audit_log.specs.Log.{view_lines, audit_lines}
 use Rattle.audit_log_notes.specs.Sums.{summary_lines}
 use Rattle.lam_main_words.specs.Words.{Text, Request, play, check, format, code, replay, audit, help, request_of, commands, help_lines}
 use Rattle.lam_main_plan.specs.declared.Status.{Status}
-use Rattle.lam_main_plan.specs.declared.Status.TheVariants.{Done, NoMemory, Words, Program, World as WorldStatus, Book, Missing, ShelfFault, SinkFault, Budget, AllWait}
+use Rattle.lam_main_plan.specs.declared.Status.TheVariants.{Done, NoMemory, ShelfFault, SinkFault}
 use Rattle.lam_main_plan.specs.Refusals.{Plan, prints}
 use Rattle.lam_main_plan.specs.Reading.{HasFile, IsCompiled, program_limit}
 use Rattle.lam_main_plan.specs.Threads.{IsOfThreads, made_budget}
@@ -124,17 +124,10 @@ module _ (complete : (ws : List Text) (files : Files) → MakesAreComplete ws fi
 -- ---- refusals
 
 refused_quiet : (status : Status) → IsRefused status → IsUnfailed status
-refused_quiet Done refused = tt
 refused_quiet NoMemory refused = refused
-refused_quiet Words refused = tt
-refused_quiet Program refused = tt
-refused_quiet WorldStatus refused = tt
-refused_quiet Book refused = tt
-refused_quiet Missing refused = tt
 refused_quiet ShelfFault refused = refused
 refused_quiet SinkFault refused = refused
-refused_quiet Budget refused = tt
-refused_quiet AllWait refused = tt
+refused_quiet status refused = tt
 
 module _ (one : RefusalsAreOne) (ws : List Text) (status : Status) (old new : Outside) (given : IsPlanned status (IsPlan ws old.files) old new) where
   did_planned : IsUnfailed status → (plan : Plan) × IsRefusedAs ws status old new plan

@@ -3,13 +3,13 @@ use Rattle.std.proofs.Common.{◌≡◌, ℕ, List, Option, Some, None, Result, 
 use Rattle.flow_labels.specs.declared.Label.{Label}
 use Rattle.flow_labels.specs.declared.texts.LabelFault.{LabelFault}
 use Rattle.lam_front.specs.declared.fault.ProgramFault.{ProgramFault}
-use Rattle.lam_front.specs.declared.fault.ProgramFault.TheVariants.{NotUtf8, At, NoMemory as no_memory}
+use Rattle.lam_front.specs.declared.fault.ProgramFault.TheVariants.{NotUtf8}
 use Rattle.lam_front.proofs.Once.{fine_or_broken}
 use Rattle.lam_bytecode.specs.Codes.{CodeTree}
 use Rattle.thinned_code.specs.Thinned.{thinned}
 use Rattle.lam_machine_terms.specs.Worlds.{World}
 use Rattle.lam_machine_terms.specs.Turns.{Moment}
-use Rattle.world_doc_terms.specs.Breaks.{Break, Reading, NotJson, NoMember, BadMember, NoTag, BadPath, PathTwice}
+use Rattle.world_doc_terms.specs.Breaks.{Break, Reading, NotJson}
 use Rattle.lam_machine_runs.specs.declared.How.{How}
 use Rattle.lam_machine_runs.specs.declared.How.TheVariants as how
 use Rattle.lam_main_words.specs.Words.{Text}
@@ -44,8 +44,7 @@ of_reader IsOf read shown plan is h = subst (λ (it : Result (List Moment → Te
 
 pub is_run_end : (ended : How) → IsRunEnd (status_of ended)
 is_run_end how.Done = tt
-is_run_end how.AllWait = tt
-is_run_end how.Budget = tt
+is_run_end ended = tt
 
 -- a plan that is another one ends as that does
 ends_as : (plan it : Plan) → plan ≡ it → IsRunEnd plan.status → IsRunEnd it.status
@@ -57,16 +56,11 @@ no_unread (Some bytes) name limit plan h end = ends_as plan _ h.1 end
 
 no_fault : (f : ProgramFault) → IsRunEnd (no_program f).status → ⊥
 no_fault NotUtf8 end = end
-no_fault (At flaw at) end = end
-no_fault no_memory end = end
+no_fault f end = end
 
 no_break : (breach : Break) → IsRunEnd (no_world breach).status → ⊥
 no_break NotJson end = end
-no_break (NoMember name) end = end
-no_break (BadMember name) end = end
-no_break (NoTag name) end = end
-no_break (BadPath index) end = end
-no_break (PathTwice index) end = end
+no_break breach end = end
 
 -- ---- what is there, where a run's end is planned
 

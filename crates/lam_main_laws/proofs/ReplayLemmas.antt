@@ -1,8 +1,9 @@
 -- From what files hold to what is printed.
-use Rattle.std.proofs.Common.{◌≡◌, ℕ, zero, suc, ◌+◌, Bool, true, false, not, ◌&&◌, cond, List, [], ◌∷◌, ◌++◌, length, take, drop, Option, Some, None, Result, Ok, slice_get, refl, sym, ap, subst, ◌∙◌, append_assoc, arith}
+use Rattle.std.proofs.Common.{◌≡◌, ℕ, zero, suc, ◌+◌, Bool, true, not, cond, List, [], ◌∷◌, ◌++◌, length, take, drop, Option, Some, None, Result, Ok, slice_get, refl, sym, ap, subst, ◌∙◌, append_assoc, arith}
 use Rattle.std.specs.List.{flat_map}
 use Rattle.std.specs.Option.{option_map}
 use Rattle.std.proofs.lemmas.Option.{slice_get_past}
+use Rattle.std.proofs.lemmas.Bool.{and_parts}
 use Rattle.flow_labels.specs.declared.Label.{Label}
 use Rattle.flow_labels.specs.Flow.{seen}
 use Rattle.capabilities.specs.Changes.{used}
@@ -117,13 +118,9 @@ module _ (names : List Text) where
   shown_made o None h = absurd (let no : ⊥ = cc in no)
   shown_made o (Some made) h = (made, refl)
 
-  second_true : (a b : Bool) → a && b ≡ true → b ≡ true
-  second_true true b h = h
-  second_true false b h = absurd (let no : ⊥ = cc in no)
-
   release_stands : (ms : List Moment) (o : Label) (turn : ℕ) (m : Moment) → slice_get ms turn ≡ Some m → is_release m ≡ true → is_past o m ≡ true → HasRelease names (audit_lines names ms) turn m
   release_stands ms o turn m is down past =
-      let made = shown_made o m.made (second_true (not (seen m.event.label o)) (shows o m.made) past) in
+      let made = shown_made o m.made (and_parts (not (seen m.event.label o)) (shows o m.made) past).1 in
       let here : 0 + turn ≡ turn = omega arith in
       let h = subst (λ (line : Text). Stands (audit_lines names ms) line) (ap (λ (t : ℕ). moment_line names t m) here ∙ release_line turn m made.0 made.1 down) (moment_stands ms 0 turn m is) in
       record { made = made.0; it = made.1; before = h.before; after = h.after; stands = h.is }
