@@ -1,10 +1,11 @@
 -- what a moment shows, and that releases are allowed
-use Rattle.std.proofs.Common.{◌≡◌, ℕ, zero, suc, ℤ, Bool, true, false, List, [], ◌∷◌, ◌++◌, Option, Some, None, refl, sym, ap, ◌∙◌, subst}
+use Rattle.std.proofs.Common.{◌≡◌, ℕ, zero, suc, ℤ, true, false, List, [], ◌∷◌, ◌++◌, Option, Some, None, refl, sym, ap, ◌∙◌, subst}
 use Rattle.std.specs.Prelude.{if◌then◌else◌, map, slice_get}
 use Rattle.std.specs.List.{AllByRecursion, cons_option}
-use Rattle.std.proofs.lemmas.Option.{same_Some, slice_get-map}
+use Rattle.std.proofs.lemmas.Option.{same_Some, slice_get-map, none-some}
 use Rattle.std.specs.Option.{option_map}
 use Rattle.std.specs.FinSet.{difference}
+use Rattle.std.proofs.lemmas.Bool.{both_ways, false_from_ne_true}
 use Rattle.flow_labels.specs.Tags.{least}
 use Rattle.flow_labels.proofs.TagLemmas.{none-is_subset}
 use Rattle.flow_labels.specs.declared.Label.{Label}
@@ -105,11 +106,7 @@ copied_done p d s None v k e = (refl, let same : record { label = d; release = r
 copied_done p d s (Some denied) v k e = absurd cc
 
 not_down : (o p d : Label) → flows p o ≡ false → flows d o ≡ true → flows p d ≡ false
-not_down o p d unseen seen = sort (flows p d) refl
-  where
-    sort : (b : Bool) → flows p d ≡ b → flows p d ≡ false
-    sort true h = let clash = flows-trans p d o h seen in absurd cc
-    sort false h = h
+not_down o p d unseen seen = false_from_ne_true (flows p d) (λ h. both_ways (flows p o) unseen (flows-trans p d o h seen))
 
 allowed_copy : (play : Play) (o : Label) (cells : List Cell) (a n k : ℕ) (m : Moment) (r : Release) → labels_of cells ≡ cell_labels play → flows m.event.label o ≡ false → PastCopied o m.copied (Released r) → TookCopy (cast_of play) cells a n k m → IsAllowed play o r
 allowed_copy play o cells a n k m r labels unseen p t =
@@ -147,14 +144,8 @@ allowed_copy play o cells a n k m r labels unseen p t =
     }
 
 allowed_moment : (play : Play) (o : Label) (cells : List Cell) (s : Step) (m : Moment) (r : Release) → labels_of cells ≡ cell_labels play → moment_of (cast_of play) cells s ≡ Some m → flows m.event.label o ≡ false → PastCopied o m.copied (Released r) → IsAllowed play o r
-allowed_moment play o cells (Read a n) m r labels e unseen p =
-    let none : m.copied ≡ None = ap (λ x. x.copied) (took_read (cast_of play) cells a n m e).is in
-    let some : m.copied ≡ Some p.copied = p.is in
-    absurd cc
-allowed_moment play o cells (Write a n v) m r labels e unseen p =
-    let none : m.copied ≡ None = ap (λ x. x.copied) (took_write (cast_of play) cells a n v m e).is in
-    let some : m.copied ≡ Some p.copied = p.is in
-    absurd cc
+allowed_moment play o cells (Read a n) m r labels e unseen p = absurd (none-some p.copied (sym (ap (λ x. x.copied) (took_read (cast_of play) cells a n m e).is) ∙ p.is))
+allowed_moment play o cells (Write a n v) m r labels e unseen p = absurd (none-some p.copied (sym (ap (λ x. x.copied) (took_write (cast_of play) cells a n v m e).is) ∙ p.is))
 allowed_moment play o cells (Copy a n k) m r labels e unseen p = allowed_copy play o cells a n k m r labels unseen p (took_copy (cast_of play) cells a n k m e)
 
 Fine : Play → Label → Entry → Type 0
@@ -167,9 +158,7 @@ fine_moment play o cells s m (Seen event) labels h is = tt
 fine_moment play o cells s m (Released r) labels h is = sort (noting o m)
   where
     sort : Noting o m (noted o m) → IsAllowed play o r
-    sort (Watched seen f) =
-        let clash : Seen m.event ≡ Released r = same_Some (Seen m.event) (Released r) (sym f ∙ is) in
-        absurd cc
+    sort (Watched seen f) = let clash : Seen m.event ≡ Released r = same_Some (Seen m.event) (Released r) (sym f ∙ is) in absurd cc
     sort (Hidden unseen f) = allowed_moment play o cells s m r labels h unseen (past_copied o m.copied (Released r) (sym f ∙ is))
 
 fine_notes : (play : Play) (o : Label) (cells : List Cell) (steps : List Step) → labels_of cells ≡ cell_labels play → AllByRecursion (Fine play o) (notes o (moments (cast_of play) cells steps))

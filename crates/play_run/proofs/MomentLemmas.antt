@@ -1,7 +1,8 @@
 -- one step of a run, and the same step of another run whose cells look the same
-use Rattle.std.proofs.Common.{◌≡◌, ℕ, ℤ, Bool, true, false, List, Option, Some, None, refl, sym, ap, ◌∙◌}
+use Rattle.std.proofs.Common.{◌≡◌, ℕ, ℤ, Bool, true, false, List, Option, Some, None, refl, sym, ap, ◌∙◌, ⊎_elim}
 use Rattle.std.specs.Prelude.{if◌then◌else◌, slice_get}
-use Rattle.std.proofs.lemmas.Option.{same_Some}
+use Rattle.std.proofs.lemmas.Option.{same_Some, none-some, cond_some}
+use Rattle.std.proofs.lemmas.Bool.{both_ways, cases_Bool, false_from_ne_true}
 use Rattle.flow_labels.specs.declared.Label.{Label}
 use Rattle.flow_labels.specs.declared.Denied.{Denied}
 use Rattle.flow_labels.specs.Flow.{flows}
@@ -91,11 +92,9 @@ pub data Noting (o : Label) (m : Moment) (e : Option Entry) : Type 0 where
   Hidden : flows m.event.label o ≡ false → e ≡ past o m.copied → Noting o m e
 
 pub noting : (o : Label) (m : Moment) → Noting o m (noted o m)
-noting o m = sort (flows m.event.label o) refl
-  where
-    sort : (b : Bool) → flows m.event.label o ≡ b → Noting o m (noted o m)
-    sort true h = Watched h (ap (λ b. if b then Some (Seen m.event) else past o m.copied) h)
-    sort false h = Hidden h (ap (λ b. if b then Some (Seen m.event) else past o m.copied) h)
+noting o m =
+    let says = λ (b : Bool). if b then Some (Seen m.event) else past o m.copied in
+    ⊎_elim (λ h. Watched h (ap says h)) (λ h. Hidden h (ap says h)) (cases_Bool (flows m.event.label o))
 
 record IsHidden (o : Label) (m : Moment) : Type 0 where
   hidden : flows m.event.label o ≡ false
@@ -111,25 +110,16 @@ unnoted o m e = sort (noting o m)
 -- ---- a step that is not noted keeps what is seen
 
 up : (o p c : Label) → flows p o ≡ false → flows p c ≡ true → flows c o ≡ false
-up o p c hidden goes = sort (flows c o) refl
-  where
-    sort : (b : Bool) → flows c o ≡ b → flows c o ≡ false
-    sort true h = absurd cc (flows-trans p c o goes h)
-    sort false h = h
+up o p c hidden goes = false_from_ne_true (flows c o) (λ h. both_ways (flows p o) hidden (flows-trans p c o goes h))
 
 unseen_put : (o : Label) (cells : List Cell) (n : ℕ) (c : Cell) (x : Option Denied) (v : ℤ) → slice_get cells n ≡ Some c → (x ≡ None → flows c.label o ≡ false) → view o (put cells n (went x v)) ≡ view o cells
 unseen_put o cells n c None v there unseen = view-unseen o cells n v c there (unseen refl)
 unseen_put o cells n c (Some denied) v there unseen = refl
 
 past_unseen : (o p d : Label) (s : Step) (v : ℤ) → past o (copied_into p s d (Done v)) ≡ None → flows d o ≡ false
-past_unseen o p d s v e = sort (flows d o) refl
-  where
-    sort : (b : Bool) → flows d o ≡ b → flows d o ≡ false
-    sort true h =
-        let r : Release = record { copy = s; value = v; by = used p d } in
-        let some : past o (copied_into p s d (Done v)) ≡ Some (Released r) = ap (λ b. if b then Some (Released r) else None) h in
-        absurd cc
-    sort false h = h
+past_unseen o p d s v e =
+    let r : Release = record { copy = s; value = v; by = used p d } in
+    false_from_ne_true (flows d o) (λ h. none-some (Released r) (sym e ∙ ap (λ b. if b then Some (Released r) else None) h))
 
 pub unseen_step : (o : Label) (cast : Cast) (cells : List Cell) (s : Step) (m : Moment) → moment_of cast cells s ≡ Some m → noted o m ≡ None → view o m.cells ≡ view o cells
 unseen_step o cast cells (Read a n) m e none =
@@ -207,36 +197,21 @@ seen_pair o cast cells cells' (Copy a n k) m m' views e e' seen =
 
 -- ---- a release tells the cells after it
 
-record Told (cells : List Cell) (m : Moment) (r : Release) : Type 0 where
-  cells_are : m.cells ≡ cells_after cells r.copy (Done r.value)
-
 past_told : (o p d : Label) (s : Step) (w : Outcome) (r : Release) → past o (copied_into p s d w) ≡ Some (Released r) → (r.copy ≡ s) × (w ≡ Done r.value)
 past_told o p d s (Refused denied) r e = absurd cc
-past_told o p d s (Done v) r e = sort (flows d o) refl
-  where
-    sort : (b : Bool) → flows d o ≡ b → (r.copy ≡ s) × (Done v ≡ Done r.value)
-    sort true h =
-        let q : Release = record { copy = s; value = v; by = used p d } in
-        let both : Some (Released q) ≡ Some (Released r) = ap (λ b. if b then Some (Released q) else None) (sym h) ∙ e in
-        let same : q ≡ r = cc in
-        (ap (λ x. x.copy) (sym same), ap (λ x. Done x.value) same)
-    sort false h =
-        let none : past o (copied_into p s d (Done v)) ≡ None = ap (λ b. if b then Some (Released (record { copy = s; value = v; by = used p d })) else None) h in
-        absurd cc
+past_told o p d s (Done v) r e =
+    let q : Release = record { copy = s; value = v; by = used p d } in
+    let entries : Released q ≡ Released r = (cond_some (flows d o) (Released q) (Released r) e).1 in
+    let same : q ≡ r = cc in
+    (ap (λ x. x.copy) (sym same), ap (λ x. Done x.value) same)
 
-told : (o : Label) (cast : Cast) (cells : List Cell) (s : Step) (m : Moment) (r : Release) → moment_of cast cells s ≡ Some m → past o m.copied ≡ Some (Released r) → Told cells m r
-told o cast cells (Read a n) m r e is =
-    let t = took_read cast cells a n m e in
-    let none : past o m.copied ≡ None = ap (λ x. past o x.copied) t.is in
-    absurd cc
-told o cast cells (Write a n v) m r e is =
-    let t = took_write cast cells a n v m e in
-    let none : past o m.copied ≡ None = ap (λ x. past o x.copied) t.is in
-    absurd cc
+told : (o : Label) (cast : Cast) (cells : List Cell) (s : Step) (m : Moment) (r : Release) → moment_of cast cells s ≡ Some m → past o m.copied ≡ Some (Released r) → m.cells ≡ cells_after cells r.copy (Done r.value)
+told o cast cells (Read a n) m r e is = absurd (none-some (Released r) (sym (ap (λ x. past o x.copied) (took_read cast cells a n m e).is) ∙ is))
+told o cast cells (Write a n v) m r e is = absurd (none-some (Released r) (sym (ap (λ x. past o x.copied) (took_write cast cells a n v m e).is) ∙ is))
 told o cast cells (Copy a n k) m r e is =
     let t = took_copy cast cells a n k m e in
     let both = past_told o t.actor.label t.to.label (Copy a n k) (outcome_of (copy_test cast.public t.actor t.from.label t.to.label) t.from.value) r (ap (λ x. past o x.copied) (sym t.is) ∙ is) in
-    record { cells_are = ap (λ x. x.cells) t.is ∙ (λ j. cells_after cells (sym both.0 j) (both.1 j)) }
+    ap (λ x. x.cells) t.is ∙ (λ j. cells_after cells (sym both.0 j) (both.1 j))
 
 -- ---- two notes with equal items
 
@@ -249,9 +224,6 @@ took_step cast cells (Read a n) m e = ap (λ x. x.event.step) (took_read cast ce
 took_step cast cells (Write a n v) m e = ap (λ x. x.event.step) (took_write cast cells a n v m e).is
 took_step cast cells (Copy a n k) m e = ap (λ x. x.event.step) (took_copy cast cells a n k m e).is
 
-acts_inj : (s t : Step) → Acts s ≡ Acts t → s ≡ t
-acts_inj s t e = cc
-
 -- what is past o is a copy into a cell that o sees
 pub record PastCopied (o : Label) (c : Option Copied) (e : Entry) : Type 0 where
   pub copied : Copied
@@ -261,16 +233,7 @@ pub record PastCopied (o : Label) (c : Option Copied) (e : Entry) : Type 0 where
 
 pub past_copied : (o : Label) (c : Option Copied) (e : Entry) → past o c ≡ Some e → PastCopied o c e
 past_copied o None e h = absurd cc
-past_copied o (Some c) e h = sort (flows c.label o) refl
-  where
-    sort : (b : Bool) → flows c.label o ≡ b → PastCopied o (Some c) e
-    sort true f =
-        let some : past o (Some c) ≡ Some (Released c.release) = ap (λ b. if b then Some (Released c.release) else None) f in
-        let same : e ≡ Released c.release = cc in
-        record { copied = c; is = refl; seen = f; entry = same }
-    sort false f =
-        let none : past o (Some c) ≡ None = ap (λ b. if b then Some (Released c.release) else None) f in
-        absurd cc
+past_copied o (Some c) e h = let both = cond_some (flows c.label o) (Released c.release) e h in record { copied = c; is = refl; seen = both.0; entry = sym both.1 }
 
 pub together : (o : Label) (cast : Cast) (cells cells' : List Cell) (s s' : Step) (m m' : Moment) (e e' : Entry) → view o cells ≡ view o cells' → moment_of cast cells s ≡ Some m → moment_of cast cells' s' ≡ Some m' → noted o m ≡ Some e → noted o m' ≡ Some e' → item_of e ≡ item_of e' → Together o e e' m m'
 together o cast cells cells' s s' m m' e e' views h h' is is' same = sort (noting o m) (noting o m')
@@ -279,7 +242,8 @@ together o cast cells cells' s s' m m' e e' views h h' is is' same = sort (notin
     sort (Watched seen f) (Watched seen' f') =
         let entry : e ≡ Seen m.event = same_Some e (Seen m.event) (sym is ∙ f) in
         let entry' : e' ≡ Seen m'.event = same_Some e' (Seen m'.event) (sym is' ∙ f') in
-        let steps : m.event.step ≡ m'.event.step = acts_inj m.event.step m'.event.step (ap item_of (sym entry) ∙ same ∙ ap item_of entry') in
+        let acts : Acts m.event.step ≡ Acts m'.event.step = ap item_of (sym entry) ∙ same ∙ ap item_of entry' in
+        let steps : m.event.step ≡ m'.event.step = cc in
         let step : s' ≡ s = sym (took_step cast cells' s' m' h') ∙ sym steps ∙ took_step cast cells s m h in
         let pair = seen_pair o cast cells cells' s m m' views h (ap (λ t. moment_of cast cells' t) (sym step) ∙ h') seen in
         record { entries = entry ∙ ap Seen pair.events ∙ sym entry'; views = pair.views }
@@ -293,8 +257,8 @@ together o cast cells cells' s s' m m' e e' views h h' is is' same = sort (notin
         record {
           entries = r.entry ∙ ap Released releases ∙ sym r'.entry;
           views =
-              ap (view o) after.cells_are ∙ view-after o cells cells' r.copied.release.copy (Done r.copied.release.value) views
-              ∙ ap (λ x. view o (cells_after cells' x.copy (Done x.value))) releases ∙ ap (view o) (sym after'.cells_are);
+              ap (view o) after ∙ view-after o cells cells' r.copied.release.copy (Done r.copied.release.value) views
+              ∙ ap (λ x. view o (cells_after cells' x.copy (Done x.value))) releases ∙ ap (view o) (sym after');
         }
     sort (Watched seen f) (Hidden unseen' f') =
         let entry : e ≡ Seen m.event = same_Some e (Seen m.event) (sym is ∙ f) in
