@@ -13,6 +13,10 @@
 //! `telling` has what a turn made: a region that was entered, or a copy, with all that is in it. [`product_label`] and
 //! [`product`] read it from the turn's event and the world after it. So no turn copies more than what is kept of it.
 //! The law [`products_are_told`] says that they tell it whole. `specs/Told` has the definitions.
+//!
+//! A public promise rests on [`keep_turns`] (clauses `ok`, `run`, `stops`), and [`seen_by`] and [`noted_in`] (the same):
+//! what is kept is of the moments of these turns, and the first turn of an unready thread is named. It rests on the clause
+//! of [`Keeps::keep`] too, and on the laws. Free to change for speed: how many turns go in a row, and what a turn copies.
 #![tactic(auto)]
 
 mod auditing;

@@ -7,6 +7,10 @@
 //! [`agenda_for`] is what an observer notes of a run, entry by entry. `worlds` finds the first part in which two starts
 //! differ; `stores` and `threads` compare their parts. A caller that has starts and lists of turns, and no [`Run`],
 //! calls [`agenda_of`] once for each, and then [`answer_of_starts`]. The first also says whether the turns are a run.
+//!
+//! A public promise rests on [`pair`] (clauses `paired`, `same`), [`answer_of_starts`], [`agenda_for`] and [`first_part`]:
+//! the answer is that of the definitions, and up to its number both runs look the same to the observer. Free to change for
+//! speed: how the parts of two worlds, and two agendas, are compared.
 #![tactic(auto)]
 
 mod stores;

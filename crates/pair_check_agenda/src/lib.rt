@@ -14,6 +14,10 @@
 //! - `meeting`: the comparison of two agendas.
 //!
 //! `specs/Agendas` says what an agenda stands for, and `specs/Noting` what is noted of a turn.
+//!
+//! A public promise rests on [`agenda_of`] (clauses `ok`, `run`, `stops`) and [`answer_of`]: an agenda is that of the turns
+//! of a start, and the answer is the first place at which two differ. Free to change for speed: how entries are stored, and
+//! how many private turns are noted at once.
 #![tactic(auto)]
 
 mod agenda;
