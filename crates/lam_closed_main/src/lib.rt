@@ -9,6 +9,11 @@
 //! - `lam_closed_words` tells which command is asked.
 //! - `lam_closed_rooms` reads the files that it names, takes the turns and makes its text.
 //! - `lam_main_print` prints the line of a refusal.
+//!
+//! A public promise rests on [`lam_closed`] (every clause of it): the call answers to its plan (`answer`, `no_fault`), a
+//! refusal comes exactly where it is planned (`refused`), and a call makes up no failure (`shelf_rose`, `sink_rose`). What
+//! the closed schedule shows an observer is in `closed`, `broken_off`, `same` and `checked`. Nothing here is a matter of
+//! speed.
 #![tactic(auto)]
 
 ghost use Rattle.std.specs.Prelude.{◌≡◌, ◌≢◌, [], Ok, Err, IsErr, IfErr, OnErr, map, string_bytes, IsTrue};

@@ -6,6 +6,10 @@
 //! kept while the turns are taken, and the book is written last: nothing is written where there is a refusal. [`check`]
 //! reads the program, the document, the base and the book, and says where its turns depart from the schedule. What a call
 //! answers is what the plan of these files says (`lam_closed_plan`).
+//!
+//! A public promise rests on [`run`] (clauses `gives`, `kept`, `spared` and `failed`) and on [`check`] (`gives`, `stay` and
+//! `failed`): what they answer is planned, and no file changes but the book of [`run`]. Free to change for speed: when the
+//! code and the world are let go. The turns themselves are taken by `closed_run`.
 #![tactic(auto)]
 
 mod checking;

@@ -2,6 +2,10 @@
 //!
 //! The forms are a table, `Form::kinds`, with a line for each way to write a command's options. Words that are in no form
 //! are refused at the least index at which no form agrees with them. A base label with integrity is in no form.
+//!
+//! A public promise rests on [`read_words`] (clauses `value` and `ranges`) and on [`help_text`]: status 2 with the index of
+//! the word comes exactly where words are in no form. That no base has integrity is why what is public flows to it
+//! (`lam_closed_laws`). Free to change for speed: how a form is found, and in which order its words are copied.
 #![tactic(auto)]
 
 ghost use Rattle.std.specs.Prelude.{◌≡◌, ◌≤◌, IfOk, IfSome, length, map, find, string_bytes};

@@ -3,6 +3,10 @@
 //! The forms are a table, `Form::kinds`. A command adds a line to it, or one for each way to write its options. It also
 //! adds its name, a line of [`help_text`], and a case of [`read_words`]. Words that are in no form are refused at the
 //! least index at which no form agrees with them.
+//!
+//! A public promise rests on [`read_words`] (clauses `value` and `ranges`) and on [`help_text`]: status 2 with the index of
+//! the word comes exactly where words are in no form, and the help text has a line for each command. Free to change for
+//! speed: how a form is found, and in which order its words are copied.
 #![tactic(auto)]
 
 ghost use Rattle.std.specs.Prelude.{◌≡◌, ◌≤◌, IfOk, IfSome, length, map, find, string_bytes};
