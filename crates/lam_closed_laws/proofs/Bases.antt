@@ -1,5 +1,5 @@
 -- A base has no integrity, so what is public flows to it.
-use Rattle.std.proofs.Common.{◌≡◌, nat_cmp, ℕ, zero, suc, ◌+◌, ◌&&◌, true, false, Bool, cond, if◌then◌else◌, nat_eq, List, [], ◌∷◌, length, take, drop, Option, Some, None, Result, Ok, Err, is_none, find, codes, slice_get, refl, sym, ap, subst, ◌∙◌, arith}
+use Rattle.std.proofs.Common.{◌≡◌, nat_cmp, ℕ, ◌&&◌, true, List, [], take, drop, Option, Some, None, Result, Ok, Err, is_none, codes, slice_get, refl, sym, ap, subst, ◌∙◌}
 use Rattle.std.proofs.lemmas.Bool.{and_parts}
 use Rattle.std.proofs.Math.Bool.{true≢false}
 use Rattle.std.proofs.lemmas.Slice.Eq.{bytes_eq-Decides}
@@ -14,42 +14,19 @@ use Rattle.flow_labels.specs.declared.two_lists.Form.TheVariants.{Label as label
 use Rattle.flow_labels.specs.declared.two_lists.TwoSets.{TwoSets}
 use Rattle.lam_machine_laws.proofs.FlowLemmas.{and_true}
 use Rattle.lam_machine_laws.proofs.OwnLemmas.{same_number}
-use Rattle.lam_main_words.specs.Words.{Text, word}
-use Rattle.lam_closed_words.specs.Words.{Request, run, check, help, has_no_integrity, fits, run_kinds, check_kinds, base_option, turns_option, forms, agreed, is_in, request_in, request_of}
+use Rattle.lam_main_words.specs.Forms.{Text, word, has_no_integrity, fits, is_in, asks_by}
+use Rattle.lam_main_words.specs.declared.word_forms.Kind.{Kind}
+use Rattle.lam_main_words.proofs.FormLemmas.{fits_at, of_form}
+use Rattle.lam_closed_words.specs.Words.{Request, run, check, help, run_kinds, check_kinds, base_option, turns_option, kinds, forms, requested, request_of}
 
 -- ---- the words of a form fit it
 
-fits_at : (ks : List _) (ws : List Text) (i : ℕ) (k : _) → agreed ks ws ≡ length ks → slice_get ks i ≡ Some k → fits k (word ws i) ≡ true
-fits_at [] ws i k e at = absurd (let no : ⊥ = cc in no)
-fits_at (x ∷ ks) [] i k e at = absurd (let n : 0 ≡ suc (length ks) = e in omega (arith, n))
-fits_at (x ∷ ks) (w ∷ ws) i k e at = go (fits x w) refl (λ j. fits_at ks ws j k) i e at
-  where
-    go : (b : Bool) → fits x w ≡ b → ((j : ℕ) → agreed ks ws ≡ length ks → slice_get ks j ≡ Some k → fits k (word ws j) ≡ true) → (j : ℕ) → (if b then 1 + agreed ks ws else 0) ≡ length (x ∷ ks) → slice_get (x ∷ ks) j ≡ Some k → fits k (word (w ∷ ws) j) ≡ true
-    go true f rest zero e at = subst (λ (y : _). fits y w ≡ true) (let same : x ≡ k = cc in same) f
-    go true f rest (suc j) e at = rest j (omega (arith, e)) at
-    go false f rest j e at = absurd (omega (arith, e))
-
 -- the word of the index has no integrity, where words are in a form and its word is a base
-based : (ws : List Text) (ks : List _) (i : ℕ) (k : _) → slice_get ks i ≡ Some k → ((w : Text) → fits k w ≡ true → has_no_integrity w ≡ true) → (nat_eq (agreed ks ws) (length ks) && nat_eq (length ws) (length ks)) ≡ true → has_no_integrity (word ws i) ≡ true
+based : (ws : List Text) (ks : List Kind) (i : ℕ) (k : Kind) → slice_get ks i ≡ Some k → ((w : Text) → fits k w ≡ true → has_no_integrity w ≡ true) → is_in ws ks ≡ true → has_no_integrity (word ws i) ≡ true
 based ws ks i k at opens e = opens (word ws i) (fits_at ks ws i k (same_number _ _ (and_parts _ _ e).0) at)
 
 opened : (w : Text) → (is_none (bad_place label_form w) && has_no_integrity w) ≡ true → has_no_integrity w ≡ true
 opened w e = (and_parts (is_none (bad_place label_form w)) (has_no_integrity w) e).1
-
--- ---- what holds of each form that the words are in holds of the one that is found
-
-abbrev Each : {A : Type 0} → (A → Type 0) → List A → Type 0
-Each P [] = Unit {0}
-Each P (x ∷ xs) = P x × Each P xs
-
-module _ {A : Type 0} (P : Option A → Type 0) (p : A → Bool) (none : P None) where
-  of_test : (b : Bool) (x : A) (o : Option A) → p x ≡ b → (p x ≡ true → P (Some x)) → P o → P (cond b (Some x) o)
-  of_test true x o e h k = h e
-  of_test false x o e h k = k
-
-  of_found : (xs : List A) → Each (λ x. p x ≡ true → P (Some x)) xs → P (find p xs)
-  of_found [] h = none
-  of_found (x ∷ xs) h = of_test (p x) x (find p xs) refl h.0 (of_found xs h.1)
 
 -- the base of a request has no integrity
 abbrev pub HasOpenBase : Result Request ℕ → Type 0
@@ -60,7 +37,7 @@ HasOpenBase (Err at) = Unit {0}
 
 pub open_base : (ws : List Text) → HasOpenBase (request_of ws)
 open_base ws =
-    of_found (λ o. HasOpenBase (request_in ws o)) (is_in ws) tt forms
+    of_form kinds forms ws (λ form. HasOpenBase (asks_by (requested ws) form)) tt
     (λ e. refl, (λ e. based ws (run_kinds (base_option [])) 6 _ refl opened e, (λ e. refl, (λ e. based ws (run_kinds (base_option (turns_option []))) 6 _ refl opened e, (λ e. refl, (λ e. based ws (check_kinds (base_option [])) 5 _ refl opened e, (λ e. tt, tt)))))))
 
 -- ---- a label without integrity

@@ -1,5 +1,5 @@
 -- From the answer of a command to how the call ended.
-use Rattle.std.proofs.Common.{◌≡◌, ℕ, [], Option, None, Result, Ok, Err, IsOk, IsErr, IfErr, string_bytes, refl, sym, subst, ◌∙◌}
+use Rattle.std.proofs.Common.{◌≡◌, ℕ, [], Option, None, Result, Ok, Err, IsErr, IfErr, string_bytes, refl, sym, subst, ◌∙◌}
 use Rattle.lam_io.specs.Outside.{Files, AllStay, Took}
 use Rattle.lam_io.specs.declared.SinkFault.{SinkFault as Failure}
 use Rattle.closed_terms.specs.declared.End.{End}
@@ -135,8 +135,3 @@ refused_word status before after old new at answer is stay h = record { printed 
 pub words_first : (status : Status) (before after : Files) (old new : Option Text) (request : Result Request ℕ) (answer : Result Report Halt) → IfErr request (λ at. answer ≡ Err (Refused (Word at))) → (IsErr request → AllStay before after) → Ends status answer old new → IfErr request (λ at. AsPlanned status (no_word at) (outside before old) (outside after new))
 words_first status before after old new (Ok r) answer first stay h = tt
 words_first status before after old new (Err at) answer first stay h = refused_word status before after old new at answer first (stay refl) h
-
--- want of memory comes only where words are in a form
-pub none_named : (P : ℕ → Type 0) (request : Result Request ℕ) → IsOk request → IfErr request P
-none_named P (Ok r) ok = tt
-none_named P (Err at) ok = absurd (let no_ok : ⊥ = cc in no_ok)

@@ -1,17 +1,12 @@
 -- The forms of the words of `lam_closed`, as a table, and what each asks.
 -- Examples stand at the end.
-use Rattle.std.specs.Prelude.{◌≡◌, ℕ, ◌+◌, ◌≤◌, Bool, ◌&&◌, if◌then◌else◌, nat_eq, nat_lt, List, [], ◌∷◌, ◌++◌, length, drop, Option, Some, None, Result, Ok, Err, IsOk, codes, is_none, is_some, find, fold, max, string_bytes, refl}
-use Rattle.std.specs.Str.{bytes_eq}
-use Rattle.flow_labels.specs.Reading.{bad_place, first_end}
-use Rattle.flow_labels.specs.declared.two_lists.Form.TheVariants.{Label}
+use Rattle.std.specs.Prelude.{◌≡◌, ℕ, ◌≤◌, List, [], ◌∷◌, Result, Ok, Err, codes, string_bytes, refl}
 use Rattle.turn_book.specs.Limits.{most_turns}
-use Rattle.lam_main_words.specs.Words.{Text, usual_turns, number_in, word, number}
-use Rattle.lam_main_words.specs.declared.WordFault.{WordFault}
-use Rattle.lam_main_words.specs.declared.WordFault.TheVariants.{Word, NoMemory}
-use Rattle.lam_closed_words.specs.declared.Literal.{Literal}
-use Rattle.lam_closed_words.specs.declared.Literal.TheVariants as literal
-use Rattle.lam_closed_words.specs.declared.Kind.{Kind}
-use Rattle.lam_closed_words.specs.declared.Kind.TheVariants as kind
+use Rattle.lam_main_words.specs.Forms.{Text, word, number, form_in, asks_by, command_lines}
+use Rattle.lam_main_words.specs.Words.{usual_turns}
+use Rattle.lam_main_words.specs.declared.word_forms.Literal.TheVariants as literal
+use Rattle.lam_main_words.specs.declared.word_forms.Kind.{Kind}
+use Rattle.lam_main_words.specs.declared.word_forms.Kind.TheVariants as kind
 use Rattle.lam_closed_words.specs.declared.Form.{Form}
 use Rattle.lam_closed_words.specs.declared.Form.TheVariants as form
 use Rattle.lam_closed_words.specs.declared.Command.{Command}
@@ -21,34 +16,13 @@ use Rattle.lam_closed_words.specs.declared.Command.TheVariants as command
 abbrev pub usual_base : Text
 usual_base = codes "{}/{}"
 
-abbrev pub literal_text : Literal → Text
-literal_text literal.Run = codes "run"
-literal_text literal.Check = codes "check"
-literal_text literal.Help = codes "help"
-literal_text literal.Base = codes "--base"
-literal_text literal.Turns = codes "--turns"
-
 -- the commands as a reader of the help text sees them
 abbrev pub commands : List Text
 commands = codes "run P W OBS BOOKOUT [--base LABEL] [--turns N]" ∷ codes "check P W BOOK [--base LABEL]" ∷ codes "help" ∷ []
 
 -- a line for each command
 abbrev pub help_lines : List Text → Text
-help_lines [] = []
-help_lines (command ∷ commands) = codes "lam_closed " ++ command ++ codes "\n" ++ help_lines commands
-
--- the second list of a label's text is empty: behind the first one stands no more than that
-abbrev pub has_no_integrity : Text → Bool
-has_no_integrity w = bytes_eq (drop (first_end w) w) (codes "}/{}")
-
--- A word of a form: a word as it is, a file's name, which is any word that is not empty, a label's text, that of a label
--- without integrity, or a number of open turns.
-abbrev pub fits : Kind → Text → Bool
-fits (kind.Literal l) w = bytes_eq w (literal_text l)
-fits kind.File w = nat_lt 0 (length w)
-fits kind.Observer w = is_none (bad_place Label w)
-fits kind.Base w = is_none (bad_place Label w) && has_no_integrity w
-fits kind.Turns w = is_some (number_in 1 most_turns w)
+help_lines = command_lines (codes "lam_closed ")
 
 -- the words of `run` and of `check` before their options
 abbrev pub run_kinds : List Kind → List Kind
@@ -62,7 +36,7 @@ abbrev pub base_option : List Kind → List Kind
 base_option options = kind.Literal literal.Base ∷ kind.Base ∷ options
 
 abbrev pub turns_option : List Kind → List Kind
-turns_option options = kind.Literal literal.Turns ∷ kind.Turns ∷ options
+turns_option options = kind.Literal literal.Turns ∷ kind.Number 1 most_turns ∷ options
 
 -- the table: the words of each form
 abbrev pub kinds : Form → List Kind
@@ -76,20 +50,6 @@ kinds form.Help = kind.Literal literal.Help ∷ []
 
 abbrev pub forms : List Form
 forms = form.Run ∷ form.RunOnBase ∷ form.RunOfTurns ∷ form.RunOfBoth ∷ form.Check ∷ form.CheckOnBase ∷ form.Help ∷ []
-
--- with how many first words the words of a form agree
-abbrev pub agreed : List Kind → List Text → ℕ
-agreed [] ws = 0
-agreed (k ∷ ks) [] = 0
-agreed (k ∷ ks) (w ∷ ws) = if fits k w then 1 + agreed ks ws else 0
-
--- words are in a form where it agrees with all of them, and they are as many as its words
-abbrev pub is_in : List Text → Form → Bool
-is_in ws f = nat_eq (agreed (kinds f) ws) (length (kinds f)) && nat_eq (length ws) (length (kinds f))
-
--- the greatest number of first words with which some form agrees: the least index at which none does
-abbrev pub longest : List Text → ℕ
-longest ws = fold (λ most f. max most (agreed (kinds f) ws)) 0 forms
 
 -- what words ask
 pub data Request : Type 0 where
@@ -124,13 +84,9 @@ requested ws form.Check = asks_check ws form.Check
 requested ws form.CheckOnBase = asks_check ws form.CheckOnBase
 requested ws form.Help = help
 
-abbrev pub request_in : List Text → Option Form → Result Request ℕ
-request_in ws None = Err (longest ws)
-request_in ws (Some f) = Ok (requested ws f)
-
 -- what words ask by their form, or the index at which they are in no form
 abbrev pub request_of : List Text → Result Request ℕ
-request_of ws = request_in ws (find (is_in ws) forms)
+request_of ws = asks_by (requested ws) (form_in kinds forms ws)
 
 -- a command as what it asks
 abbrev pub asked : Command → Request
@@ -147,13 +103,6 @@ pub record TurnsInRange (turns : ℕ) : Type 0 where
 abbrev pub InRange : Request → Type 0
 InRange (run program world observer out base turns) = TurnsInRange turns
 InRange request = Unit
-
--- What reading words answers: a command that asks what they ask, or the index at which they are in no form.
--- Memory can run out only where they are in a form.
-abbrev pub ReadsCommand : Result Command WordFault → Result Request ℕ → Type 0
-ReadsCommand (Ok command) request = request ≡ Ok (asked command)
-ReadsCommand (Err (Word at)) request = request ≡ Err at
-ReadsCommand (Err NoMemory) request = IsOk request
 
 -- ---- worked examples
 no_words : request_of [] ≡ Err 0

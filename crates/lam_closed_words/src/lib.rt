@@ -1,58 +1,27 @@
 //! The words of the command line of `lam_closed`, their forms, and the commands that they ask.
 //!
 //! The forms are a table, `Form::kinds`, with a line for each way to write a command's options. Words that are in no form
-//! are refused at the least index at which no form agrees with them. A base label with integrity is in no form.
+//! are refused at the least index at which no form agrees with them. A base label with integrity is in no form. Words are
+//! read by such a table as those of `lam` are (`lam_main_words`).
 //!
 //! A public promise rests on [`read_words`] (clauses `value` and `ranges`) and on [`help_text`]: status 2 with the index of
 //! the word comes exactly where words are in no form. That no base has integrity is why what is public flows to it
-//! (`lam_closed_laws`). Free to change for speed: how a form is found, and in which order its words are copied.
+//! (`lam_closed_laws`). Free to change for speed: in which order the words are copied.
 #![tactic(auto)]
 
-ghost use Rattle.std.specs.Prelude.{◌≡◌, ◌≤◌, IfOk, IfSome, length, map, find, string_bytes};
-ghost use Rattle.flow_labels.specs.Reading.{first_end};
-ghost use Rattle.lam_main_words.specs.Words.{number_in, word, number};
-ghost use Rattle.lam_closed_words.specs.Words.{literal_text, commands, help_lines, has_no_integrity, fits, kinds, forms, agreed, is_in, longest, base_in, turns_in, asks_run, asks_check, request_of, asked, ReadsCommand, InRange};
+ghost use Rattle.std.specs.Prelude.{◌≡◌, ◌≤◌, Ok, IfOk, map, string_bytes};
+ghost use Rattle.lam_main_words.specs.Forms.{Reads};
+ghost use Rattle.lam_closed_words.specs.Words.{commands, help_lines, kinds, forms, base_in, turns_in, asks_run, asks_check, requested, request_of, asked, InRange};
 ghost use Rattle.turn_book.specs.Limits.{most_turns};
 
-use decimal_text::{NumberFault, read_number};
-use flow_labels::{Form as TwoLists, bad_place};
 pub use lam_main_words::WordFault;
+use lam_main_words::{Kind, Literal, WordForm, form_of, number_at, word_at};
 use std::alloc::Global;
 use turn_book::TURN_LIMIT;
 use want_of_memory::NoMemory;
 
 /// How many open turns `run` takes at most where the words do not say.
 const USUAL_TURNS: u64 = 100_000;
-
-/// A word that stands in a form as it is.
-#[derive(Clone, Copy)]
-enum Literal {
-    /// `run`
-    Run,
-    /// `check`
-    Check,
-    /// `help`
-    Help,
-    /// `--base`
-    Base,
-    /// `--turns`
-    Turns,
-}
-
-impl Literal {
-    /// The word.
-    fn text(self) -> &'static str
-        ensures { result.now ≡ literal_text self }
-    {
-        match self {
-            Literal::Run => "run",
-            Literal::Check => "check",
-            Literal::Help => "help",
-            Literal::Base => "--base",
-            Literal::Turns => "--turns",
-        }
-    }
-}
 
 /// A form of the words.
 #[derive(Clone, Copy)]
@@ -73,7 +42,9 @@ enum Form {
     Help,
 }
 
-impl Form {
+impl WordForm for Form {
+    ghost kinds = { kinds };
+
     fn kinds(self) -> &'static [Kind]
         ensures { result.now ≡ kinds self }
     {
@@ -95,7 +66,7 @@ impl Form {
                 Kind::Observer,
                 Kind::File,
                 TURNS,
-                Kind::Turns,
+                OPEN_TURNS,
             ],
             Form::RunOfBoth => &[
                 RUN,
@@ -106,7 +77,7 @@ impl Form {
                 BASE,
                 Kind::Base,
                 TURNS,
-                Kind::Turns,
+                OPEN_TURNS,
             ],
             Form::Check => &[CHECK, Kind::File, Kind::File, Kind::File],
             Form::CheckOnBase => &[CHECK, Kind::File, Kind::File, Kind::File, BASE, Kind::Base],
@@ -127,70 +98,8 @@ const BASE: Kind = Kind::Literal(Literal::Base);
 /// The option `--turns`.
 const TURNS: Kind = Kind::Literal(Literal::Turns);
 
-/// What a word of a form may be.
-#[derive(Clone, Copy)]
-enum Kind {
-    /// The word itself.
-    Literal(Literal),
-    /// The name of a file: any word that is not empty.
-    File,
-    /// A text that has the form of a label.
-    Observer,
-    /// A text that has the form of a label without integrity.
-    Base,
-    /// A number in decimal without leading zeros, from 1 to 1,000,000.
-    Turns,
-}
-
-impl Kind {
-    fn fits(self, word: &str) -> bool
-        ensures { result ≡ fits self word.now }
-    {
-        match self {
-            Kind::Literal(literal) => word == literal.text(),
-            Kind::File => !word.is_empty(),
-            Kind::Observer => is_label(word),
-            Kind::Base => is_label(word) && has_no_integrity(word.as_bytes()),
-            Kind::Turns => turns_of(word).is_some(),
-        }
-    }
-}
-
-/// Whether a text has the form of a label.
-fn is_label(word: &str) -> bool
-    ensures { result ≡ fits Kind.Observer word.now }
-{
-    bad_place(TwoLists::Label, word.as_bytes()).is_none()
-}
-
-/// Whether the second list of a label's text is empty: the text ends behind its first list with it.
-fn has_no_integrity(text: &[u8]) -> bool
-    ensures { result ≡ has_no_integrity text.now }
-{
-    let rest = &text[first_end(text)..];
-    *rest == *b"}/{}".as_slice()
-}
-
-/// Where the first list of a label's text ends.
-fn first_end(text: &[u8]) -> usize
-    ensures value { result ≡ first_end text.now }
-    ensures within { result ≤ length text.now }
-{
-    text.iter().take_while(|b| **b != b'}').count()
-}
-
-/// The number of open turns that a word writes, where it is from 1 to 1,000,000.
-fn turns_of(word: &str) -> Option<u64>
-    ensures value { result ≡ number_in 1 most_turns word.now }
-    ensures within { IfSome result (λ n. (1 ≤ n) × (n ≤ most_turns)) }
-{
-    match read_number(word.as_bytes()) {
-        Ok(number) if 1 <= number && number <= TURN_LIMIT => Some(number),
-        Ok(_) => None,
-        Err(NumberFault::NoNumber) => None,
-        Err(NumberFault::TooLarge) => None,
-    }
-}
+/// How many open turns `run` takes at most.
+const OPEN_TURNS: Kind = Kind::Number(1, TURN_LIMIT);
 
 fn forms() -> &'static [Form]
     ensures { result.now ≡ forms }
@@ -238,12 +147,20 @@ pub enum Command {
 ///
 /// `Word` exactly where the words are in no form, tested before any memory is taken; `NoMemory` where memory runs out.
 pub fn read_words(alloc: Global, words: &[String]) -> Result<Command, WordFault>
-    ensures value { ReadsCommand result (request_of (map string_bytes words.now)) }
+    ensures value { Reads asked result (request_of (map string_bytes words.now)) }
     ensures ranges { IfOk result (λ c. InRange (asked c)) }
 {
-    let Some(form) = form_of(words) else {
-        return Err(WordFault::Word { at: longest(words) });
-    };
+    match form_of(forms(), words) {
+        Ok(form) => read_form(alloc, words, form),
+        Err(at) => Err(WordFault::Word { at }),
+    }
+}
+
+/// What words in a form ask.
+fn read_form(alloc: Global, words: &[String], form: Form) -> Result<Command, WordFault>
+    ensures value { Reads asked result (Ok (requested (map string_bytes words.now) form)) }
+    ensures ranges { IfOk result (λ c. InRange (asked c)) }
+{
     match form {
         Form::Run | Form::RunOnBase | Form::RunOfTurns | Form::RunOfBoth => {
             run_command(alloc, words, form)
@@ -254,7 +171,7 @@ pub fn read_words(alloc: Global, words: &[String]) -> Result<Command, WordFault>
 }
 
 fn run_command(alloc: Global, words: &[String], form: Form) -> Result<Command, WordFault>
-    ensures value { ReadsCommand result (Ok (asks_run (map string_bytes words.now) form)) }
+    ensures value { Reads asked result (Ok (asks_run (map string_bytes words.now) form)) }
     ensures ranges { IfOk result (λ c. InRange (asked c)) }
 {
     Ok(Command::Run {
@@ -268,7 +185,7 @@ fn run_command(alloc: Global, words: &[String], form: Form) -> Result<Command, W
 }
 
 fn check_command(alloc: Global, words: &[String], form: Form) -> Result<Command, WordFault>
-    ensures value { ReadsCommand result (Ok (asks_check (map string_bytes words.now) form)) }
+    ensures value { Reads asked result (Ok (asks_check (map string_bytes words.now) form)) }
     ensures ranges { IfOk result (λ c. InRange (asked c)) }
 {
     Ok(Command::Check {
@@ -297,19 +214,10 @@ fn turns_in(words: &[String], form: Form) -> u64
     ensures most { result ≤ most_turns }
 {
     match form {
-        Form::RunOfTurns => turns_at(words, 6),
-        Form::RunOfBoth => turns_at(words, 8),
+        Form::RunOfTurns => number_at(words, 6, 1, TURN_LIMIT),
+        Form::RunOfBoth => number_at(words, 8, 1, TURN_LIMIT),
         _ => USUAL_TURNS,
     }
-}
-
-/// The number of open turns of a word, which in the words of a form is one.
-fn turns_at(words: &[String], index: usize) -> u64
-    ensures value { result ≡ number (map string_bytes words.now) index 1 most_turns }
-    ensures some { 1 ≤ result }
-    ensures most { result ≤ most_turns }
-{
-    turns_of(word_at(words, index)).unwrap_or(1)
 }
 
 /// The forms of the words, a line for each command.
@@ -324,53 +232,4 @@ pub fn help_text(alloc: Global) -> Result<String, NoMemory>
         alloc,
         "lam_closed run P W OBS BOOKOUT [--base LABEL] [--turns N]\nlam_closed check P W BOOK [--base LABEL]\nlam_closed help\n",
     )?)
-}
-
-fn form_of(words: &[String]) -> Option<Form>
-    ensures { result ≡ find (is_in (map string_bytes words.now)) forms }
-{
-    forms().iter().copied().find(|form| is_in(words, *form))
-}
-
-fn is_in(words: &[String], form: Form) -> bool
-    ensures { result ≡ is_in (map string_bytes words.now) form }
-{
-    let kinds = form.kinds();
-    agreed(kinds, words) == kinds.len() && words.len() == kinds.len()
-}
-
-/// With how many first words the words of a form agree.
-fn agreed(kinds: &[Kind], words: &[String]) -> usize
-    ensures value { result ≡ agreed kinds.now (map string_bytes words.now) }
-    ensures bound { result ≤ length kinds.now }
-{
-    let Some((kind, kinds_left)) = kinds.split_first() else {
-        return 0;
-    };
-    let Some((word, words_left)) = words.split_first() else {
-        return 0;
-    };
-    if kind.fits(word.as_str()) {
-        1 + agreed(kinds_left, words_left)
-    } else {
-        0
-    }
-}
-
-/// The greatest number of first words with which some form agrees.
-fn longest(words: &[String]) -> u64
-    ensures { result ≡ longest (map string_bytes words.now) }
-{
-    let most = forms().iter().fold(0, |most: usize, form| most.max(agreed(form.kinds(), words)));
-    most as u64
-}
-
-/// A word by its index.
-fn word_at(words: &[String], index: usize) -> &str
-    ensures { result.now ≡ word (map string_bytes words.now) index }
-{
-    match words.get(index) {
-        Some(word) => word.as_str(),
-        None => "",
-    }
 }

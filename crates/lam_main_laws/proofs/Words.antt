@@ -1,8 +1,10 @@
 -- The number of threads that words of `make` ask is from 1 to 64.
-use Rattle.std.proofs.Common.{◌≡◌, ℕ, ◌≤◌, ◌&&◌, true, false, Bool, cond, if◌then◌else◌, nat_le, List, [], ◌∷◌, Option, Some, None, Result, Ok, Err, unwrap_or, find, refl, subst, arith, leb-true}
+use Rattle.std.proofs.Common.{◌≡◌, ℕ, ◌≤◌, ◌&&◌, true, false, Bool, if◌then◌else◌, nat_le, List, Option, Some, None, Result, Ok, Err, unwrap_or, refl, subst, arith, leb-true}
 use Rattle.std.proofs.lemmas.Bool.{and_parts}
 use Rattle.decimal_text.specs.Decimal.{number_of}
-use Rattle.lam_main_words.specs.Words.{Text, Request, make, in_range, word, request_in, request_of, forms, is_in}
+use Rattle.lam_main_words.specs.Forms.{asks_by}
+use Rattle.lam_main_words.specs.Words.{Text, Request, make, in_range, word, kinds, forms, requested, request_of}
+use Rattle.lam_main_words.proofs.FormLemmas.{of_form}
 
 abbrev IsBetween : ℕ → ℕ → ℕ → Type 0
 IsBetween least most n = (least ≤ n) × (n ≤ most)
@@ -21,28 +23,13 @@ threads_asked (Ok (make seed threads out)) = threads
 threads_asked (Ok request) = 1
 threads_asked (Err at) = 1
 
--- ---- what holds of each element holds of the one that is found
-
-abbrev Each : {A : Type 0} → (A → Type 0) → List A → Type 0
-Each P [] = Unit {0}
-Each P (x ∷ xs) = P x × Each P xs
-
-module _ {A : Type 0} (P : Option A → Type 0) (p : A → Bool) (none : P None) where
-  of_test : (b : Bool) (x : A) (o : Option A) → P (Some x) → P o → P (cond b (Some x) o)
-  of_test true x o h k = h
-  of_test false x o h k = k
-
-  of_found : (xs : List A) → Each (λ x. P (Some x)) xs → P (find p xs)
-  of_found [] h = none
-  of_found (x ∷ xs) h = of_test (p x) x (find p xs) h.0 (of_found xs h.1)
-
 one : IsBetween 1 64 1
 one = (omega arith, omega arith)
 
 asked_between : (ws : List Text) → IsBetween 1 64 (threads_asked (request_of ws))
 asked_between ws =
-    of_found (λ o. IsBetween 1 64 (threads_asked (request_in ws o))) (is_in ws) one forms
-    (one, (one, (one, (one, (one, (one, (one, (one, (one, (one, (between 1 64 (number_of (word ws 2)) (omega arith), (one, (one, (one, (one, tt)))))))))))))))
+    of_form kinds forms ws (λ form. IsBetween 1 64 (threads_asked (asks_by (requested ws) form))) one
+    (λ e. one, (λ e. one, (λ e. one, (λ e. one, (λ e. one, (λ e. one, (λ e. one, (λ e. one, (λ e. one, (λ e. one, (λ e. between 1 64 (number_of (word ws 2)) (omega arith), (λ e. one, (λ e. one, (λ e. one, (λ e. one, tt)))))))))))))))
 
 pub threads_between : (ws : List Text) (seed threads : ℕ) (out : Text) → request_of ws ≡ Ok (make seed threads out) → (1 ≤ threads) × (threads ≤ 64)
 threads_between ws seed threads out e = subst (λ (it : Result Request ℕ). IsBetween 1 64 (threads_asked it)) e (asked_between ws)

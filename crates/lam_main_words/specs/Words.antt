@@ -1,25 +1,19 @@
 -- The forms of the words, as a table, and what each asks.
 -- Examples stand at the end.
-use Rattle.std.specs.Prelude.{◌≡◌, ℕ, ◌+◌, ◌^◌, ◌<◌, ◌≤◌, Bool, ◌&&◌, if◌then◌else◌, nat_eq, nat_lt, nat_le, List, [], ◌∷◌, ◌++◌, length, Option, Some, None, Result, Ok, Err, IsOk, codes, is_none, is_some, find, fold, max, slice_get, unwrap_or, string_bytes, refl}
-use Rattle.std.specs.Str.{bytes_eq}
-use Rattle.decimal_text.specs.Decimal.{number_of}
-use Rattle.flow_labels.specs.Reading.{bad_place}
-use Rattle.flow_labels.specs.declared.two_lists.Form.TheVariants.{Label}
-use Rattle.lam_main_words.specs.declared.Kind.{Kind}
-use Rattle.lam_main_words.specs.declared.Kind.TheVariants.{Name, File, Observer, WorkersOption, TurnsOption, Number}
+use Rattle.std.specs.Prelude.{◌≡◌, ℕ, ◌^◌, ◌<◌, ◌≤◌, List, [], ◌∷◌, Result, Ok, Err, codes, string_bytes, refl}
+use Rattle.lam_main_words.specs.declared.word_forms.Kind.{Kind}
+use Rattle.lam_main_words.specs.declared.word_forms.Kind.TheVariants.{Literal, File, Observer, Number}
+use Rattle.lam_main_words.specs.declared.word_forms.Literal.TheVariants as literal
 use Rattle.lam_main_words.specs.declared.Form.{Form}
 use Rattle.lam_main_words.specs.declared.Form.TheVariants.{Play as play_form, Check as check_form, Format as format_form, Code as code_form, Replay as replay_form, Run as run_form, Audit as audit_form, Make as make_form, Help as help_form, Next as next_form, Pair as pair_form, Walk as walk_form}
 use Rattle.lam_main_words.specs.declared.Options.{Options}
 use Rattle.lam_main_words.specs.declared.Options.TheVariants.{Neither, Workers, Turns, Both}
 use Rattle.lam_main_words.specs.declared.Command.{Command}
 use Rattle.lam_main_words.specs.declared.Command.TheVariants.{Play, Check, Format, Code, Replay, Run, Audit, Make, Help, Next, Pair, Walk}
-use Rattle.lam_main_words.specs.declared.WordFault.{WordFault}
-use Rattle.lam_main_words.specs.declared.WordFault.TheVariants.{Word, NoMemory}
+pub use Rattle.lam_main_words.specs.Forms.{Text, in_range, number_in, word, number}
+use Rattle.lam_main_words.specs.Forms.{form_in, asks_by, command_lines}
 use Rattle.turn_book.specs.Limits.{most_turns, most_workers}
 use Rattle.lam_make.specs.Made.{most_made_threads}
-
-abbrev pub Text : Type 0
-Text = List ℕ
 
 -- as many workers and turns as there are where the words do not say
 abbrev pub usual_workers : ℕ
@@ -32,87 +26,38 @@ usual_turns = 100000
 abbrev pub most_seed : ℕ
 most_seed = 18446744073709551615
 
--- the name of a form's command
-abbrev pub name : Form → Text
-name play_form = codes "play"
-name check_form = codes "check"
-name format_form = codes "format"
-name code_form = codes "code"
-name replay_form = codes "replay"
-name (run_form options) = codes "run"
-name audit_form = codes "audit"
-name make_form = codes "make"
-name help_form = codes "help"
-name next_form = codes "next"
-name pair_form = codes "pair"
-name walk_form = codes "walk"
-
 -- the commands as a reader of the help text sees them
 abbrev pub commands : List Text
 commands = codes "play FILE OBS" ∷ codes "check P" ∷ codes "format P" ∷ codes "code P" ∷ codes "replay P W BOOK OBS" ∷ codes "run P W OBS BOOKOUT [--workers N] [--turns N]" ∷ codes "audit P W BOOK" ∷ codes "make SEED THREADS BOOKOUT" ∷ codes "help" ∷ codes "next P W BOOK W2" ∷ codes "pair P W1 BOOK1 W2 BOOK2 OBS" ∷ codes "walk P W BOOK" ∷ []
 
 -- a line for each command
 abbrev pub help_lines : List Text → Text
-help_lines [] = []
-help_lines (command ∷ commands) = codes "lam " ++ command ++ codes "\n" ++ help_lines commands
-
--- a number from the least to the most
-abbrev pub in_range : ℕ → ℕ → Option ℕ → Option ℕ
-in_range least most None = None
-in_range least most (Some n) = if nat_le least n && nat_le n most then Some n else None
-
--- the number that a text writes in decimal without leading zeros, where it is from the least to the most
-abbrev pub number_in : ℕ → ℕ → Text → Option ℕ
-number_in least most text = in_range least most (number_of text)
-
--- A word of a form: its command's name, a file's name, which is any word that is not empty, a label's text, an option's
--- name, or a number from the least to the most.
-abbrev pub fits : Kind → Text → Bool
-fits (Name form) w = bytes_eq w (name form)
-fits File w = nat_lt 0 (length w)
-fits Observer w = is_none (bad_place Label w)
-fits WorkersOption w = bytes_eq w (codes "--workers")
-fits TurnsOption w = bytes_eq w (codes "--turns")
-fits (Number least most) w = is_some (number_in least most w)
+help_lines = command_lines (codes "lam ")
 
 -- the words of `run`, by its options
 abbrev pub run_kinds : Options → List Kind
-run_kinds Neither = Name (run_form Neither) ∷ File ∷ File ∷ Observer ∷ File ∷ []
-run_kinds Workers = Name (run_form Neither) ∷ File ∷ File ∷ Observer ∷ File ∷ WorkersOption ∷ Number 1 most_workers ∷ []
-run_kinds Turns = Name (run_form Neither) ∷ File ∷ File ∷ Observer ∷ File ∷ TurnsOption ∷ Number 1 most_turns ∷ []
-run_kinds Both = Name (run_form Neither) ∷ File ∷ File ∷ Observer ∷ File ∷ WorkersOption ∷ Number 1 most_workers ∷ TurnsOption ∷ Number 1 most_turns ∷ []
+run_kinds Neither = Literal literal.Run ∷ File ∷ File ∷ Observer ∷ File ∷ []
+run_kinds Workers = Literal literal.Run ∷ File ∷ File ∷ Observer ∷ File ∷ Literal literal.Workers ∷ Number 1 most_workers ∷ []
+run_kinds Turns = Literal literal.Run ∷ File ∷ File ∷ Observer ∷ File ∷ Literal literal.Turns ∷ Number 1 most_turns ∷ []
+run_kinds Both = Literal literal.Run ∷ File ∷ File ∷ Observer ∷ File ∷ Literal literal.Workers ∷ Number 1 most_workers ∷ Literal literal.Turns ∷ Number 1 most_turns ∷ []
 
 -- the table: the words of each form
 abbrev pub kinds : Form → List Kind
-kinds play_form = Name play_form ∷ File ∷ Observer ∷ []
-kinds check_form = Name check_form ∷ File ∷ []
-kinds format_form = Name format_form ∷ File ∷ []
-kinds code_form = Name code_form ∷ File ∷ []
-kinds replay_form = Name replay_form ∷ File ∷ File ∷ File ∷ Observer ∷ []
+kinds play_form = Literal literal.Play ∷ File ∷ Observer ∷ []
+kinds check_form = Literal literal.Check ∷ File ∷ []
+kinds format_form = Literal literal.Format ∷ File ∷ []
+kinds code_form = Literal literal.Code ∷ File ∷ []
+kinds replay_form = Literal literal.Replay ∷ File ∷ File ∷ File ∷ Observer ∷ []
 kinds (run_form options) = run_kinds options
-kinds audit_form = Name audit_form ∷ File ∷ File ∷ File ∷ []
-kinds make_form = Name make_form ∷ Number 0 most_seed ∷ Number 1 most_made_threads ∷ File ∷ []
-kinds help_form = Name help_form ∷ []
-kinds next_form = Name next_form ∷ File ∷ File ∷ File ∷ File ∷ []
-kinds pair_form = Name pair_form ∷ File ∷ File ∷ File ∷ File ∷ File ∷ Observer ∷ []
-kinds walk_form = Name walk_form ∷ File ∷ File ∷ File ∷ []
+kinds audit_form = Literal literal.Audit ∷ File ∷ File ∷ File ∷ []
+kinds make_form = Literal literal.Make ∷ Number 0 most_seed ∷ Number 1 most_made_threads ∷ File ∷ []
+kinds help_form = Literal literal.Help ∷ []
+kinds next_form = Literal literal.Next ∷ File ∷ File ∷ File ∷ File ∷ []
+kinds pair_form = Literal literal.Pair ∷ File ∷ File ∷ File ∷ File ∷ File ∷ Observer ∷ []
+kinds walk_form = Literal literal.Walk ∷ File ∷ File ∷ File ∷ []
 
 abbrev pub forms : List Form
 forms = play_form ∷ check_form ∷ format_form ∷ code_form ∷ replay_form ∷ run_form Neither ∷ run_form Workers ∷ run_form Turns ∷ run_form Both ∷ audit_form ∷ make_form ∷ help_form ∷ next_form ∷ pair_form ∷ walk_form ∷ []
-
--- with how many first words the words of a form agree
-abbrev pub agreed : List Kind → List Text → ℕ
-agreed [] ws = 0
-agreed (k ∷ ks) [] = 0
-agreed (k ∷ ks) (w ∷ ws) = if fits k w then 1 + agreed ks ws else 0
-
--- words are in a form where it agrees with all of them, and they are as many as its words
-abbrev pub is_in : List Text → Form → Bool
-is_in ws form = nat_eq (agreed (kinds form) ws) (length (kinds form)) && nat_eq (length ws) (length (kinds form))
-
--- the greatest number of first words with which some form agrees: the least index at which none does
-abbrev pub longest : List Text → ℕ
-longest ws = fold (λ most form. max most (agreed (kinds form) ws)) 0 forms
 
 -- what words ask
 pub data Request : Type 0 where
@@ -128,13 +73,6 @@ pub data Request : Type 0 where
   next : (program world book out : Text) → Request
   pair : (program first_world first_book second_world second_book observer : Text) → Request
   walk : (program world book : Text) → Request
-
-abbrev pub word : List Text → ℕ → Text
-word ws index = unwrap_or (slice_get ws index) []
-
--- the number of a word, which in the words of a form is from the least to the most
-abbrev pub number : List Text → ℕ → (least most : ℕ) → ℕ
-number ws index least most = unwrap_or (number_in least most (word ws index)) least
 
 -- the workers and the turns that words of `run` ask, of which each may be left out
 abbrev pub workers_in : List Text → Options → ℕ
@@ -163,13 +101,9 @@ requested ws next_form = next (word ws 1) (word ws 2) (word ws 3) (word ws 4)
 requested ws pair_form = pair (word ws 1) (word ws 2) (word ws 3) (word ws 4) (word ws 5) (word ws 6)
 requested ws walk_form = walk (word ws 1) (word ws 2) (word ws 3)
 
-abbrev pub request_in : List Text → Option Form → Result Request ℕ
-request_in ws None = Err (longest ws)
-request_in ws (Some form) = Ok (requested ws form)
-
 -- what words ask by their form, or the index at which they are in no form
 abbrev pub request_of : List Text → Result Request ℕ
-request_of ws = request_in ws (find (is_in ws) forms)
+request_of ws = asks_by (requested ws) (form_in kinds forms ws)
 
 -- a command as what it asks
 abbrev pub asked : Command → Request
@@ -204,13 +138,6 @@ abbrev pub InRange : Request → Type 0
 InRange (run program world observer out workers turns) = RunsInRange workers turns
 InRange (make seed threads out) = MakesInRange seed threads
 InRange request = Unit
-
--- What reading words answers: a command that asks what they ask, or the index at which they are in no form.
--- Memory can run out only where they are in a form.
-abbrev pub ReadsCommand : Result Command WordFault → Result Request ℕ → Type 0
-ReadsCommand (Ok command) request = request ≡ Ok (asked command)
-ReadsCommand (Err (Word at)) request = request ≡ Err at
-ReadsCommand (Err NoMemory) request = IsOk request
 
 -- no words; a word is wanting; a word too many; and words in a form
 no_words : request_of [] ≡ Err 0

@@ -2,24 +2,29 @@
 //!
 //! The forms are a table, `Form::kinds`. A command adds a line to it, or one for each way to write its options. It also
 //! adds its name, a line of [`help_text`], and a case of [`read_words`]. Words that are in no form are refused at the
-//! least index at which no form agrees with them.
+//! least index at which no form agrees with them. [`form_of`] reads words by such a table, and other programs read theirs
+//! by it too (`lam_closed_words`).
 //!
 //! A public promise rests on [`read_words`] (clauses `value` and `ranges`) and on [`help_text`]: status 2 with the index of
 //! the word comes exactly where words are in no form, and the help text has a line for each command. Free to change for
 //! speed: how a form is found, and in which order its words are copied.
 #![tactic(auto)]
 
-ghost use Rattle.std.specs.Prelude.{◌≡◌, ◌≤◌, IfOk, IfSome, length, map, find, string_bytes};
-ghost use Rattle.lam_main_words.specs.Words.{name, commands, help_lines, in_range, number_in, fits, kinds, run_kinds, forms, agreed, is_in, longest, word, number, workers_in, turns_in, requested, request_of, asked, ReadsCommand, InRange};
+mod arguments;
+mod word_forms;
+
+ghost use Rattle.std.specs.Prelude.{◌≡◌, ◌≤◌, Ok, IfOk, map, string_bytes};
+ghost use Rattle.lam_main_words.specs.Forms.{Reads};
+ghost use Rattle.lam_main_words.specs.Words.{commands, help_lines, kinds, run_kinds, forms, workers_in, turns_in, requested, request_of, asked, InRange};
 ghost use Rattle.lam_main_words.specs.declared.WordFault.TheVariants.{NoMemory as no_memory};
 ghost use Rattle.turn_book.specs.Limits.{most_turns, most_workers};
 
-use decimal_text::{NumberFault, read_number};
-use flow_labels::{Form as TwoLists, bad_place};
+pub use arguments::words_of;
 use lam_make::MADE_THREADS_LIMIT;
 use std::alloc::{AllocError, AllocFailed, Global};
 use turn_book::{TURN_LIMIT, WORKER_LIMIT};
 use want_of_memory::NoMemory;
+pub use word_forms::{Kind, Literal, WordForm, form_of, number_at, word_at};
 
 /// How many workers `run` has where the words do not say.
 const USUAL_WORKERS: u64 = 4;
@@ -31,7 +36,7 @@ const USUAL_TURNS: u64 = 100_000;
 const MOST_SEED: u64 = u64::MAX;
 
 /// The name of `run`.
-const RUN: Kind = Kind::Name(Form::Run(Options::Neither));
+const RUN: Kind = Kind::Literal(Literal::Run);
 
 /// A form of the words.
 #[derive(Clone, Copy)]
@@ -75,60 +80,47 @@ enum Options {
     Both,
 }
 
-impl Form {
-    /// The command's name.
-    fn name(self) -> &'static str
-        ensures { result.now ≡ name self }
-    {
-        match self {
-            Form::Play => "play",
-            Form::Check => "check",
-            Form::Format => "format",
-            Form::Code => "code",
-            Form::Replay => "replay",
-            Form::Run(_) => "run",
-            Form::Audit => "audit",
-            Form::Make => "make",
-            Form::Help => "help",
-            Form::Next => "next",
-            Form::Pair => "pair",
-            Form::Walk => "walk",
-        }
-    }
+impl WordForm for Form {
+    ghost kinds = { kinds };
 
     fn kinds(self) -> &'static [Kind]
         ensures { result.now ≡ kinds self }
     {
         match self {
-            Form::Play => &[Kind::Name(Form::Play), Kind::File, Kind::Observer],
-            Form::Check => &[Kind::Name(Form::Check), Kind::File],
-            Form::Format => &[Kind::Name(Form::Format), Kind::File],
-            Form::Code => &[Kind::Name(Form::Code), Kind::File],
+            Form::Play => &[Kind::Literal(Literal::Play), Kind::File, Kind::Observer],
+            Form::Check => &[Kind::Literal(Literal::Check), Kind::File],
+            Form::Format => &[Kind::Literal(Literal::Format), Kind::File],
+            Form::Code => &[Kind::Literal(Literal::Code), Kind::File],
             Form::Replay => &[
-                Kind::Name(Form::Replay),
+                Kind::Literal(Literal::Replay),
                 Kind::File,
                 Kind::File,
                 Kind::File,
                 Kind::Observer,
             ],
             Form::Run(options) => options.kinds(),
-            Form::Audit => &[Kind::Name(Form::Audit), Kind::File, Kind::File, Kind::File],
+            Form::Audit => &[
+                Kind::Literal(Literal::Audit),
+                Kind::File,
+                Kind::File,
+                Kind::File,
+            ],
             Form::Make => &[
-                Kind::Name(Form::Make),
+                Kind::Literal(Literal::Make),
                 Kind::Number(0, MOST_SEED),
                 Kind::Number(1, MADE_THREADS_LIMIT),
                 Kind::File,
             ],
-            Form::Help => &[Kind::Name(Form::Help)],
+            Form::Help => &[Kind::Literal(Literal::Help)],
             Form::Next => &[
-                Kind::Name(Form::Next),
+                Kind::Literal(Literal::Next),
                 Kind::File,
                 Kind::File,
                 Kind::File,
                 Kind::File,
             ],
             Form::Pair => &[
-                Kind::Name(Form::Pair),
+                Kind::Literal(Literal::Pair),
                 Kind::File,
                 Kind::File,
                 Kind::File,
@@ -136,7 +128,12 @@ impl Form {
                 Kind::File,
                 Kind::Observer,
             ],
-            Form::Walk => &[Kind::Name(Form::Walk), Kind::File, Kind::File, Kind::File],
+            Form::Walk => &[
+                Kind::Literal(Literal::Walk),
+                Kind::File,
+                Kind::File,
+                Kind::File,
+            ],
         }
     }
 }
@@ -154,7 +151,7 @@ impl Options {
                 Kind::File,
                 Kind::Observer,
                 Kind::File,
-                Kind::WorkersOption,
+                Kind::Literal(Literal::Workers),
                 Kind::Number(1, WORKER_LIMIT),
             ],
             Options::Turns => &[
@@ -163,7 +160,7 @@ impl Options {
                 Kind::File,
                 Kind::Observer,
                 Kind::File,
-                Kind::TurnsOption,
+                Kind::Literal(Literal::Turns),
                 Kind::Number(1, TURN_LIMIT),
             ],
             Options::Both => &[
@@ -172,67 +169,12 @@ impl Options {
                 Kind::File,
                 Kind::Observer,
                 Kind::File,
-                Kind::WorkersOption,
+                Kind::Literal(Literal::Workers),
                 Kind::Number(1, WORKER_LIMIT),
-                Kind::TurnsOption,
+                Kind::Literal(Literal::Turns),
                 Kind::Number(1, TURN_LIMIT),
             ],
         }
-    }
-}
-
-/// What a word of a form may be.
-#[derive(Clone, Copy)]
-enum Kind {
-    /// The name of the form's command.
-    Name(Form),
-    /// The name of a file: any word that is not empty.
-    File,
-    /// A text that has the form of a label.
-    Observer,
-    /// The option `--workers`.
-    WorkersOption,
-    /// The option `--turns`.
-    TurnsOption,
-    /// A number in decimal without leading zeros, from the first to the second.
-    Number(u64, u64),
-}
-
-impl Kind {
-    fn fits(self, word: &str) -> bool
-        ensures { result ≡ fits self word.now }
-    {
-        match self {
-            Kind::Name(form) => word == form.name(),
-            Kind::File => !word.is_empty(),
-            Kind::Observer => bad_place(TwoLists::Label, word.as_bytes()).is_none(),
-            Kind::WorkersOption => word == "--workers",
-            Kind::TurnsOption => word == "--turns",
-            Kind::Number(least, most) => number_in(least, most, word).is_some(),
-        }
-    }
-}
-
-/// The number that a word writes in decimal without leading zeros, where it is from the least to the most.
-fn number_in(least: u64, most: u64, word: &str) -> Option<u64>
-    ensures value { result ≡ number_in least most word.now }
-    ensures within { IfSome result (λ n. (least ≤ n) × (n ≤ most)) }
-{
-    match read_number(word.as_bytes()) {
-        Ok(number) => in_range(least, most, number),
-        Err(NumberFault::NoNumber) => None,
-        Err(NumberFault::TooLarge) => None,
-    }
-}
-
-fn in_range(least: u64, most: u64, number: u64) -> Option<u64>
-    ensures value { result ≡ in_range least most (Some number) }
-    ensures within { IfSome result (λ n. (least ≤ n) × (n ≤ most)) }
-{
-    if least <= number && number <= most {
-        Some(number)
-    } else {
-        None
     }
 }
 
@@ -377,12 +319,20 @@ impl<T: Drop> From<AllocFailed<T>> for WordFault {
 ///
 /// `Word` exactly where the words are in no form, tested before any memory is taken; `NoMemory` where memory runs out.
 pub fn read_words(alloc: Global, words: &[String]) -> Result<Command, WordFault>
-    ensures value { ReadsCommand result (request_of (map string_bytes words.now)) }
+    ensures value { Reads asked result (request_of (map string_bytes words.now)) }
     ensures ranges { IfOk result (λ c. InRange (asked c)) }
 {
-    let Some(form) = form_of(words) else {
-        return Err(WordFault::Word { at: longest(words) });
-    };
+    match form_of(forms(), words) {
+        Ok(form) => read_form(alloc, words, form),
+        Err(at) => Err(WordFault::Word { at }),
+    }
+}
+
+/// What words in a form ask.
+fn read_form(alloc: Global, words: &[String], form: Form) -> Result<Command, WordFault>
+    ensures value { Reads asked result (Ok (requested (map string_bytes words.now) form)) }
+    ensures ranges { IfOk result (λ c. InRange (asked c)) }
+{
     match form {
         Form::Play => Ok(Command::Play {
             file: String::from_str(alloc, word_at(words, 1))?,
@@ -418,7 +368,7 @@ pub fn read_words(alloc: Global, words: &[String]) -> Result<Command, WordFault>
 }
 
 fn run_command(alloc: Global, words: &[String], options: Options) -> Result<Command, WordFault>
-    ensures value { ReadsCommand result (Ok (requested (map string_bytes words.now) (Form.Run options))) }
+    ensures value { Reads asked result (Ok (requested (map string_bytes words.now) (Form.Run options))) }
     ensures ranges { IfOk result (λ c. InRange (asked c)) }
 {
     Ok(Command::Run {
@@ -432,7 +382,7 @@ fn run_command(alloc: Global, words: &[String], options: Options) -> Result<Comm
 }
 
 fn make_command(alloc: Global, words: &[String]) -> Result<Command, WordFault>
-    ensures value { ReadsCommand result (Ok (requested (map string_bytes words.now) Form.Make)) }
+    ensures value { Reads asked result (Ok (requested (map string_bytes words.now) Form.Make)) }
     ensures ranges { IfOk result (λ c. InRange (asked c)) }
 {
     Ok(Command::Make {
@@ -443,7 +393,7 @@ fn make_command(alloc: Global, words: &[String]) -> Result<Command, WordFault>
 }
 
 fn next_command(alloc: Global, words: &[String]) -> Result<Command, WordFault>
-    ensures value { ReadsCommand result (Ok (requested (map string_bytes words.now) Form.Next)) }
+    ensures value { Reads asked result (Ok (requested (map string_bytes words.now) Form.Next)) }
     ensures ranges { IfOk result (λ c. InRange (asked c)) }
 {
     Ok(Command::Next {
@@ -455,7 +405,7 @@ fn next_command(alloc: Global, words: &[String]) -> Result<Command, WordFault>
 }
 
 fn pair_command(alloc: Global, words: &[String]) -> Result<Command, WordFault>
-    ensures value { ReadsCommand result (Ok (requested (map string_bytes words.now) Form.Pair)) }
+    ensures value { Reads asked result (Ok (requested (map string_bytes words.now) Form.Pair)) }
     ensures ranges { IfOk result (λ c. InRange (asked c)) }
 {
     Ok(Command::Pair {
@@ -469,7 +419,7 @@ fn pair_command(alloc: Global, words: &[String]) -> Result<Command, WordFault>
 }
 
 fn walk_command(alloc: Global, words: &[String]) -> Result<Command, WordFault>
-    ensures value { ReadsCommand result (Ok (requested (map string_bytes words.now) Form.Walk)) }
+    ensures value { Reads asked result (Ok (requested (map string_bytes words.now) Form.Walk)) }
     ensures ranges { IfOk result (λ c. InRange (asked c)) }
 {
     Ok(Command::Walk {
@@ -516,62 +466,4 @@ pub fn help_text(alloc: Global) -> Result<String, NoMemory>
         alloc,
         "lam play FILE OBS\nlam check P\nlam format P\nlam code P\nlam replay P W BOOK OBS\nlam run P W OBS BOOKOUT [--workers N] [--turns N]\nlam audit P W BOOK\nlam make SEED THREADS BOOKOUT\nlam help\nlam next P W BOOK W2\nlam pair P W1 BOOK1 W2 BOOK2 OBS\nlam walk P W BOOK\n",
     )?)
-}
-
-fn form_of(words: &[String]) -> Option<Form>
-    ensures { result ≡ find (is_in (map string_bytes words.now)) forms }
-{
-    forms().iter().copied().find(|form| is_in(words, *form))
-}
-
-fn is_in(words: &[String], form: Form) -> bool
-    ensures { result ≡ is_in (map string_bytes words.now) form }
-{
-    let kinds = form.kinds();
-    agreed(kinds, words) == kinds.len() && words.len() == kinds.len()
-}
-
-/// With how many first words the words of a form agree.
-fn agreed(kinds: &[Kind], words: &[String]) -> usize
-    ensures value { result ≡ agreed kinds.now (map string_bytes words.now) }
-    ensures bound { result ≤ length kinds.now }
-{
-    let Some((kind, kinds_left)) = kinds.split_first() else {
-        return 0;
-    };
-    let Some((word, words_left)) = words.split_first() else {
-        return 0;
-    };
-    if kind.fits(word.as_str()) {
-        1 + agreed(kinds_left, words_left)
-    } else {
-        0
-    }
-}
-
-/// The greatest number of first words with which some form agrees.
-fn longest(words: &[String]) -> u64
-    ensures { result ≡ longest (map string_bytes words.now) }
-{
-    let most = forms().iter().fold(0, |most: usize, form| most.max(agreed(form.kinds(), words)));
-    most as u64
-}
-
-/// A word by its index.
-fn word_at(words: &[String], index: usize) -> &str
-    ensures { result.now ≡ word (map string_bytes words.now) index }
-{
-    match words.get(index) {
-        Some(word) => word.as_str(),
-        None => "",
-    }
-}
-
-/// The number of a word, which in the words of a form is from the least to the most.
-fn number_at(words: &[String], index: usize, least: u64, most: u64) -> u64
-    ensures value { result ≡ number (map string_bytes words.now) index least most }
-    ensures no_less { least ≤ result }
-    ensures no_more { least ≤ most → result ≤ most }
-{
-    number_in(least, most, word_at(words, index)).unwrap_or(least)
 }

@@ -8,7 +8,7 @@ use Rattle.lam_closed_words.specs.Words.{Request, request_of}
 use Rattle.lam_closed_plan.specs.Plan.{IsPlanOf, written_by}
 use Rattle.lam_closed_rooms.specs.declared.Report.{Report}
 use Rattle.lam_closed_main.specs.Ends.{Reports}
-use Rattle.lam_closed_main.proofs.EndLemmas.{none_named}
+use Rattle.lam_main_words.proofs.FormLemmas.{none_named}
 use Rattle.lam_closed_main.proofs.answer_of.Goals as goal
 
 pub returns-in-Ok-clause-gives : goal.returns-in-Ok-clause-gives

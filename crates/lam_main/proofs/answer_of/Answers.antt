@@ -8,7 +8,7 @@ use Rattle.lam_main_replay.specs.declared.halt.Halt.{Halt}
 use Rattle.lam_main_replay.specs.declared.halt.Halt.TheVariants.{Refused, NoMemory}
 use Rattle.lam_main_replay.specs.declared.halt.Refusal.TheVariants.{Word}
 use Rattle.lam_main_replay.specs.Halts.{Reports}
-use Rattle.lam_main.proofs.WordLemmas.{none_named}
+use Rattle.lam_main_words.proofs.FormLemmas.{none_named}
 use Rattle.lam_main.proofs.answer_of.Goals as goal
 
 pub returns-in-Ok-clause-gives : goal.returns-in-Ok-clause-gives
