@@ -1,5 +1,5 @@
 -- What comes next, case by case.
-use Rattle.std.proofs.Common.{◌≡◌, ℕ, cond, List, [], ◌∷◌, drop, Some, None, ap, ◌∙◌, refl}
+use Rattle.std.proofs.Common.{◌≡◌, ℕ, cond, List, [], ◌∷◌, drop, Option, Some, None, ap, ◌∙◌, sym, subst, refl}
 use Rattle.std.specs.Prelude.{slice_get, slice_set}
 use Rattle.flow_labels.specs.declared.Label.{Label}
 use Rattle.lam_value.specs.declared.values.Value.{Value}
@@ -13,7 +13,8 @@ use Rattle.thread_core_state.specs.Stacked.{is_bottom}
 use Rattle.thread_steps.specs.Ops.{sets, returns, on_any}
 use Rattle.thread_steps.specs.Next.{Next, goes, asks, stuck, stands, is_shared, is_private, is_stuck, is_ended, raised, returned, ending, leaving, next_by, next_of, standing_in, with_inside}
 use Rattle.thread_core.specs.declared.turn.Turn.TheVariants as turn
-use Rattle.thread_core.specs.Turning.{turned, moved, turn_in, stepped_in, stepped, asked, asked_in, awaited, nobody}
+use Rattle.thread_core.specs.Turning.{turned, moved, turn_in, stepped_in, stepped, asked, asked_in, ask_of, awaited, nobody}
+use Rattle.thread_core.specs.Untested.{ThreadFinds}
 use Rattle.thread_core.specs.Moves.{raised_ask, with_result, caller_with}
 
 -- ---- a fault that was raised
@@ -184,10 +185,10 @@ turned_asked (goes i) a e = cc
 turned_asked (asks b i) a e = let f : b ≡ a = cc in ap turn.Asks f
 turned_asked stuck a e = cc
 
-moved_shared : (c : Context) (n : Next) → stands n ≡ is_shared → moved c n ≡ c
-moved_shared c (goes i) e = cc
-moved_shared c (asks a i) e = refl
-moved_shared c stuck e = cc
+moved_asked : (c : Context) (n : Next) (a : Ask) → asked n ≡ Some a → moved c n ≡ c
+moved_asked c (goes i) a e = cc
+moved_asked c (asks b i) a e = refl
+moved_asked c stuck a e = cc
 
 pub turn_private : (code : CodeTree) (cs : List Context) → standing_in code cs ≡ is_private → turn_in code cs ≡ turn.Private
 turn_private code [] e = cc
@@ -201,14 +202,19 @@ pub turn_ended : (code : CodeTree) (cs : List Context) → standing_in code cs �
 turn_ended code [] e = refl
 turn_ended code (c ∷ cs) e = absurd (stands_there (next_of code c) e)
 
-pub turn_shared : (code : CodeTree) (cs : List Context) (a : Ask) → asked_in code cs ≡ Some a → turn_in code cs ≡ turn.Asks a
-turn_shared code [] a e = cc
-turn_shared code (c ∷ cs) a e = turned_asked (next_of code c) a e
+pub turn_asked : (code : CodeTree) (cs : List Context) (a : Ask) → asked_in code cs ≡ Some a → turn_in code cs ≡ turn.Asks a
+turn_asked code [] a e = cc
+turn_asked code (c ∷ cs) a e = turned_asked (next_of code c) a e
 
 -- a thread that asks is as it was
-stays_in : (code : CodeTree) (cs : List Context) → standing_in code cs ≡ is_shared → stepped_in code cs ≡ cs
-stays_in code [] e = cc
-stays_in code (c ∷ cs) e = ap (λ x. x ∷ cs) (moved_shared c (next_of code c) e)
+stays_in : (code : CodeTree) (cs : List Context) (a : Ask) → asked_in code cs ≡ Some a → stepped_in code cs ≡ cs
+stays_in code [] a e = cc
+stays_in code (c ∷ cs) a e = ap (λ x. x ∷ cs) (moved_asked c (next_of code c) a e)
 
-pub shared_stays : (code : CodeTree) (th : Thread) → standing_in code th.contexts ≡ is_shared → stepped code th ≡ th
-shared_stays code th e = ap (λ cs. record { contexts = cs; result = th.result }) (stays_in code th.contexts e)
+pub asked_stays : (code : CodeTree) (th : Thread) (a : Ask) → asked_in code th.contexts ≡ Some a → stepped code th ≡ th
+asked_stays code th a e = ap (λ cs. record { contexts = cs; result = th.result }) (stays_in code th.contexts a e)
+
+-- ---- what was asked, by an equal code
+
+pub found_ask : (k code : CodeTree) (th : Thread) (o : Option Ask) (a : Ask) → k ≡ code → ThreadFinds code th → (ThreadFinds k th → o ≡ ask_of k th) → o ≡ Some a → ask_of code th ≡ Some a
+found_ask k code th o a e finds h is = ap (λ (x : CodeTree). ask_of x th) (sym e) ∙ (sym (h (subst (λ (x : CodeTree). ThreadFinds x th) (sym e) finds)) ∙ is)

@@ -362,35 +362,6 @@ fn returning(c: &Context) -> Standing
     }
 }
 
-/// How a context stands.
-#[tactic(auto, using(crate::proofs::Cases::raised_stands, crate::proofs::Cases::leaving_stands))]
-pub fn context_stands(c: &Context, code: &Code) -> Standing
-    ensures { standing_of result ≡ stands (untested_next code.now c.now) }
-{
-    match next(c, code) {
-        Coming::Nothing => Standing::Stuck,
-        Coming::Handles(_) => Standing::Shared,
-        Coming::Sees(op_effect) => match op_effect {
-            OpEffect::Drops { .. } => Standing::Private,
-            OpEffect::Puts { .. } => Standing::Private,
-            OpEffect::Sets { .. } => private_where(c.stack.len() > 0),
-            OpEffect::Jumps { .. } => Standing::Private,
-            OpEffect::Calls { .. } => Standing::Private,
-            OpEffect::Returns => returning(c),
-            OpEffect::Fails(_) => Standing::Private,
-            OpEffect::Asks { .. } => Standing::Shared,
-            OpEffect::Leaves => {
-                if is_bottom(c.phase) {
-                    Standing::Stuck
-                } else {
-                    Standing::Shared
-                }
-            }
-            OpEffect::Breaks => Standing::Stuck,
-        },
-    }
-}
-
 /// The ask of a context whose call returns, if it asks.
 #[tactic(auto, using(crate::proofs::Cases::ending_asked))]
 fn returning_ask(c: &Context) -> Result<Option<Ask>, NoMemory>
@@ -477,29 +448,6 @@ fn waits_of<'a>(p: &Label, ask_ref: &AskRef<'a>) -> Waits<'a>
         AskRef::MonEnter { r } => monitor_of(p, r),
         AskRef::Join { thread } => end_of(p, *thread),
         _ => Waits::Nobody,
-    }
-}
-
-/// What a context's next ask waits for, where that is not free or lives.
-#[tactic(auto, using(crate::proofs::Cases::raised_waits, crate::proofs::Cases::returned_waits, crate::proofs::Cases::leaving_waits, crate::proofs::Cases::set_waits))]
-pub fn context_waits<'a>(c: &'a Context, code: &'a Code) -> Waits<'a>
-    ensures { awaited_by result ≡ awaited c.now.label (asked (untested_next code.now c.now)) }
-{
-    match next(c, code) {
-        Coming::Nothing => Waits::Nobody,
-        Coming::Handles(_) => Waits::Nobody,
-        Coming::Sees(op_effect) => match op_effect {
-            OpEffect::Asks { ask, .. } => waits_of(&c.label, &ask),
-            OpEffect::Drops { .. } => Waits::Nobody,
-            OpEffect::Puts { .. } => Waits::Nobody,
-            OpEffect::Sets { .. } => Waits::Nobody,
-            OpEffect::Jumps { .. } => Waits::Nobody,
-            OpEffect::Calls { .. } => Waits::Nobody,
-            OpEffect::Returns => Waits::Nobody,
-            OpEffect::Fails(_) => Waits::Nobody,
-            OpEffect::Leaves => Waits::Nobody,
-            OpEffect::Breaks => Waits::Nobody,
-        },
     }
 }
 

@@ -6,7 +6,7 @@ ghost use Rattle.thread_steps.specs.Next.{standing, is_private, is_shared};
 ghost use Rattle.thread_core.specs.Turning.{turn_of, stepped, stepped_in, standing_of, ask_of, awaited_of, awaited_by};
 ghost use Rattle.thread_core.specs.Untested.{untested_standing, untested_standing_in, ThreadFinds, StandsAs};
 
-use crate::stepping::{context_ask, context_outlook, context_stands, context_waits, go_on_in};
+use crate::stepping::{context_ask, context_outlook, go_on_in};
 use crate::turn::{Outlook, Standing, Turn, Waits};
 use guarded_code_threads::Verified;
 use lam_asks::Ask;
@@ -22,16 +22,7 @@ pub fn standing(thread: &LamThread, code: &Verified) -> Standing
     ensures standing { ThreadFinds code.now thread.now → standing_of result ≡ standing code.now thread.now }
     ensures ended { IsThread thread.now → IsTrue (is_some thread.now.result) ↔ (result ≡ Standing.Ended) }
 {
-    stands(thread, code.code())
-}
-
-fn stands(thread: &LamThread, code: &Code) -> Standing
-    ensures { standing_of result ≡ untested_standing code.now thread.now }
-{
-    match thread.top() {
-        None => Standing::Ended,
-        Some(c) => context_stands(c, code),
-    }
+    outlook(thread, code).standing
 }
 
 /// What a thread's next ask waits for, where that is not free or lives: the monitor that it is to take, where the acting
@@ -40,16 +31,7 @@ fn stands(thread: &LamThread, code: &Code) -> Standing
 pub fn waits_for<'a>(thread: &'a LamThread, code: &'a Verified) -> Waits<'a>
     ensures { awaited_by result ≡ awaited_of code.now thread.now }
 {
-    waits(thread, code.code())
-}
-
-fn waits<'a>(thread: &'a LamThread, code: &'a Code) -> Waits<'a>
-    ensures { awaited_by result ≡ awaited_of code.now thread.now }
-{
-    match thread.top() {
-        None => Waits::Nobody,
-        Some(c) => context_waits(c, code),
-    }
+    outlook(thread, code).waits
 }
 
 /// How a thread stands, as [`standing`], and what its next ask waits for, as [`waits_for`]: what comes next is read once.
@@ -76,7 +58,8 @@ fn seen_ahead<'a>(thread: &'a LamThread, code: &'a Code) -> Outlook<'a>
 }
 
 fn asked(thread: &LamThread, code: &Code) -> Result<Option<Ask>, NoMemory>
-    ensures { IfOk result (λ a. standing code.now thread.now ≡ is_shared → a ≡ ask_of code.now thread.now) }
+    ensures shared { IfOk result (λ a. standing code.now thread.now ≡ is_shared → a ≡ ask_of code.now thread.now) }
+    ensures finds { IfOk result (λ a. ThreadFinds code.now thread.now → a ≡ ask_of code.now thread.now) }
 {
     match thread.top() {
         None => Ok(None),
@@ -143,7 +126,6 @@ pub fn go_on(thread: &mut LamThread, code: &Verified) -> Result<Standing, NoMemo
 /// # Errors
 ///
 /// `NoMemory` where memory is refused; the thread is then as it was.
-#[tactic(auto, using(crate::proofs::Cases::turn_private, crate::proofs::Cases::turn_shared, crate::proofs::Cases::turn_stuck, crate::proofs::Cases::turn_ended, crate::proofs::Cases::shared_stays))]
 pub fn advance(thread: &mut LamThread, code: &Verified) -> Result<Turn, NoMemory>
     requires finds { ThreadFinds code.now thread.old }
     ensures turn { IfOk result (λ t. t ≡ turn_of code.now thread.old) }
@@ -151,9 +133,25 @@ pub fn advance(thread: &mut LamThread, code: &Verified) -> Result<Turn, NoMemory
     ensures err { OnErr result (thread.new ≡ thread.old) }
     ensures kept { IsThread thread.old → IsThread thread.new }
 {
+    match asked(thread, code.code())? {
+        Some(ask) => Ok(Turn::Asks(ask)),
+        None => advance_alone(thread, code),
+    }
+}
+
+/// The next turn of a thread that does not ask.
+#[tactic(auto, using(crate::proofs::Cases::turn_private, crate::proofs::Cases::turn_stuck, crate::proofs::Cases::turn_ended, crate::proofs::Cases::shared_asks))]
+fn advance_alone(thread: &mut LamThread, code: &Verified) -> Result<Turn, NoMemory>
+    requires finds { ThreadFinds code.now thread.old }
+    requires alone { ask_of code.now thread.old ≡ None }
+    ensures turn { IfOk result (λ t. t ≡ turn_of code.now thread.old) }
+    ensures ok { OnOk result (thread.new ≡ stepped code.now thread.old) }
+    ensures err { OnErr result (thread.new ≡ thread.old) }
+    ensures kept { IsThread thread.old → IsThread thread.new }
+{
     match go_on(thread, code)? {
         Standing::Private => Ok(Turn::Private),
-        Standing::Shared => ask(thread, code).map(Turn::Asks),
+        Standing::Shared => unreachable!(),
         Standing::Stuck => Ok(Turn::Stuck),
         Standing::Ended => Ok(Turn::Ended),
     }
