@@ -1,9 +1,7 @@
 mod RunLemmas
-mod PrivateLemmas
-pub mod TurnsLemmas
 pub mod ProductLemmas
 mod PublicLemmas
-pub mod FrontLemmas
+mod TakesLemmas
 pub mod SeenLemmas
 mod NotedLemmas
 mod CountLemmas

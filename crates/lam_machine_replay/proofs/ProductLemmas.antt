@@ -45,7 +45,7 @@ copied_slots h n home v e = absurd e
 
 -- ---- each ask
 
-other_label : (x : Answer) (a : Ask) → may_release a ≡ false → label_by x a ≡ None
+pub other_label : (x : Answer) (a : Ask) → may_release a ≡ false → label_by x a ≡ None
 other_label Entered (Enter l k region args) e = absurd (true≢false e)
 other_label (Val v) (CopyTo r l) e = absurd (true≢false e)
 other_label x a e = refl

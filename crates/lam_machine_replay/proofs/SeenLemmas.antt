@@ -47,7 +47,7 @@ module _ (o : Label) (m : Moment) where
   no_code = record { units = []; constants = []; classes = [] }
 
   -- what is shown of another's turn is a release
-  shown_not : seen m.event.label o ≡ false → is_release m ≡ false → shows o m.made ≡ false
+  pub shown_not : seen m.event.label o ≡ false → is_release m ≡ false → shows o m.made ≡ false
   shown_not e r = go (shows o m.made) refl
     where
       go : (b : Bool) → shows o m.made ≡ b → b ≡ false

@@ -1,14 +1,15 @@
 //! Replay of a schedule from a start, with folds over its turns.
 //!
-//! `keeping` takes the turns of a start in order, by [`keep_turns`] over [`Keeps`], and keeps what a fold looks for. It
-//! takes private turns of one thread in a row at once, since nothing is kept of them. It stops at the first turn whose
-//! thread is not ready, and names it in a [`RunFault`]. `specs/Stops` says where turns stop to be a run, and
-//! `specs/Keeping` what it is to keep something of a turn. A caller that takes turns itself can hand each to a fold as it
-//! is taken. There are three folds:
+//! `keeping` takes the turns of a start in order, by [`keep_turns`], and keeps what a fold looks for. A fold that keeps
+//! nothing of private turns is one of [`Keeps`], and a caller that takes turns itself can hand each to it as it is taken.
+//! [`KeepsAll`] is for any fold. Private turns of one thread in a row are taken at once. The pass stops at the first turn
+//! whose thread is not ready, and names it in a [`RunFault`]. `specs/Stops` says where turns stop to be a run, and
+//! `specs/Keeping` what it is to keep something of turns. These folds are here:
 //!
 //! - an observer, which is its label, for what it sees ([`seen_by`], `specs/Viewed`),
 //! - an [`Auditor`] for each release and each refusal ([`noted_in`], `specs/Audited`),
-//! - a [`Counter`] for how often something is said, released and refused (`specs/Counted`).
+//! - a [`Counter`] for how often something is said, released and refused (`specs/Counted`),
+//! - [`Nobody`], which keeps nothing.
 //!
 //! `telling` has what a turn made: a region that was entered, or a copy, with all that is in it. [`product_label`] and
 //! [`product`] read it from the turn's event and the world after it. So no turn copies more than what is kept of it.
@@ -35,7 +36,7 @@ ghost use Rattle.lam_machine_replay.specs.Told.{ProductsAreTold};
 pub use auditing::{Auditor, noted_in, taken};
 pub use counting::Counter;
 pub use fault::RunFault;
-pub use keeping::{Keeps, keep_turns, row_at};
+pub use keeping::{Keeps, KeepsAll, Nobody, keep_turns, row_at};
 pub use lam_machine::{World, step, step_privately, step_privately_for};
 use lam_machine_laws::public_stay;
 pub use telling::{product, product_label};

@@ -1,4 +1,4 @@
 mod MadeLemmas
 mod NotedLemmas
-mod TakenLemmas
+mod KeptLemmas
 mod MeetLemmas

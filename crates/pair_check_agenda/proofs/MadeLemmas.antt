@@ -1,6 +1,5 @@
 -- What a release made is known from what is told of it.
-use Rattle.std.proofs.Common.{◌≡◌, ℕ, false, List, Option, Some, None, refl, sym, ap, ◌∙◌, subst}
-use Rattle.std.proofs.Math.Bool.{true≢false}
+use Rattle.std.proofs.Common.{◌≡◌, ℕ, List, Option, Some, None, refl, sym, ap, ◌∙◌, subst}
 use Rattle.flow_labels.specs.declared.Label.{Label}
 use Rattle.capabilities.specs.declared.Caps.{Caps}
 use Rattle.lam_value.specs.declared.names.Name.{Name}
@@ -21,12 +20,13 @@ use Rattle.lam_machine_terms.specs.Serves.{Made, a_region, a_thing, Served}
 use Rattle.lam_machine_terms.specs.Serving.{renamed, serve}
 use Rattle.lam_machine_terms.specs.Turns.{is_ready, Moment, step, served, turn_by}
 use Rattle.lam_machine_laws.proofs.ThreadLemmas.{some_inj}
-use Rattle.lam_machine_laws.proofs.RowLemmas.{under_by, unless_by, on_thing_by, may_release}
+use Rattle.lam_machine_laws.proofs.RowLemmas.{under_by, unless_by, on_thing_by}
 use Rattle.lam_machine_laws.proofs.TurnLemmas.{acts, only}
 use Rattle.audit_log_notes.specs.Notes.{content_in}
 use Rattle.audit_log_notes.specs.declared.Content.{Content}
 use Rattle.audit_log_notes.specs.declared.Content.TheVariants as content
 use Rattle.lam_machine_replay.specs.Told.{label_by, product_label, product_by, product}
+use Rattle.lam_machine_replay.proofs.ProductLemmas.{other_label}
 use Rattle.pair_check_agenda.specs.Agendas.{name_in, made_of}
 
 -- the value that leads to a thing has its name
@@ -61,11 +61,6 @@ content_told w t (Asked a x) own e = content_by w t x a own e
 renamed_name : (v : Value) (n : Name) → name_in (renamed v n) ≡ n
 renamed_name (Arr m len) n = refl
 renamed_name v n = refl
-
-other_label : (x : Answer) (a : Ask) → may_release a ≡ false → label_by x a ≡ None
-other_label Entered (Enter l k region args) e = absurd (true≢false e)
-other_label (Val v) (CopyTo r l) e = absurd (true≢false e)
-other_label x a e = refl
 
 module _ (w : World) (c : Context) where
   abbrev Names : Ask → Served → Type 0

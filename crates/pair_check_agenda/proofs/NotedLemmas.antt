@@ -4,18 +4,16 @@ use Rattle.std.specs.Prelude.{not, ◌&&◌, ◌||◌, map}
 use Rattle.std.specs.Option.{option_to_list}
 use Rattle.std.proofs.lemmas.List.{map-append}
 use Rattle.std.proofs.lemmas.List.Elements.{filter-append}
-use Rattle.std.proofs.Math.Bool.{true≢false}
 use Rattle.flow_labels.specs.declared.Label.{Label}
 use Rattle.flow_labels.specs.Flow.{seen}
 use Rattle.capabilities.specs.declared.Caps.{Caps}
 use Rattle.capabilities.specs.Changes.{used}
-use Rattle.lam_bytecode.specs.Codes.{CodeTree}
 use Rattle.lam_machine_terms.specs.Serves.{Made}
 use Rattle.lam_machine_terms.specs.Turns.{Moment}
-use Rattle.lam_machine_terms.specs.Views.{Item, turn, past, is_release, shows, release_of, used_by, is_noted, noted, item_of, agenda}
-use Rattle.lam_machine_laws.proofs.DownLemmas.{two_release}
+use Rattle.lam_machine_terms.specs.Views.{Item, turn, past, shows, release_of, used_by, is_noted, noted, item_of, agenda}
 use Rattle.audit_log_notes.specs.declared.Content.{Content}
 use Rattle.lam_machine_replay.specs.Told.{product_label, product, IsProduct, IsToldBy}
+use Rattle.lam_machine_replay.proofs.SeenLemmas.{shown_not}
 use Rattle.pair_check_agenda.specs.Agendas.{made_of}
 use Rattle.pair_check_agenda.specs.Noting as noting
 use Rattle.pair_check_agenda.specs.Noting.{released, past_by, noted_of}
@@ -28,17 +26,6 @@ module _ (o : Label) (m : Moment) where
       ap (λ b. map (item_of o) (cond (b || (not b && shows o m.made)) (m ∷ []) [])) e
       ∙ ap (λ b. cond b (turn m.event.thread) (past (release_of m)) ∷ []) e
       ∙ sym (ap (λ b. option_to_list (cond b (Some (turn m.event.thread)) (noting.past o m.event m.world))) e)
-
-  no_code : CodeTree
-  no_code = record { units = []; constants = []; classes = [] }
-
-  -- what is shown of another's turn is a release
-  shown_not : seen m.event.label o ≡ false → is_release m ≡ false → shows o m.made ≡ false
-  shown_not e r = go (shows o m.made) refl
-    where
-      go : (b : Bool) → shows o m.made ≡ b → b ≡ false
-      go true s = absurd (true≢false (sym ((two_release no_code).past o m (ap (λ b. not b && shows o m.made) e ∙ s)) ∙ r))
-      go false s = refl
 
   -- another's turn, by whether what it made is shown
   abbrev other : Bool → List Item
@@ -58,7 +45,7 @@ module _ (o : Label) (m : Moment) where
   release_noted own at is named e false = refl
 
   other_noted : (x : Option Label) → product_label m.event.what ≡ x → IsToldBy m x → IsNamedBy x m.made → seen m.event.label o ≡ false → other (shows o m.made) ≡ option_to_list (past_by o m.event told x)
-  other_noted None at is named e = ap other (shown_not e is)
+  other_noted None at is named e = ap other (shown_not o m e is)
   other_noted (Some own) at is named e = ap other (is.shown o) ∙ release_noted own at is named e (seen own o)
 
   past_noted : IsToldBy m (product_label m.event.what) → IsNamedBy (product_label m.event.what) m.made → seen m.event.label o ≡ false → agenda o (m ∷ []) ≡ option_to_list (noted_of o m.event m.world)
@@ -67,16 +54,13 @@ module _ (o : Label) (m : Moment) where
       ∙ other_noted (product_label m.event.what) refl is named e
       ∙ sym (ap (λ b. option_to_list (cond b (Some (turn m.event.thread)) (noting.past o m.event m.world))) e)
 
-noted_one : (o : Label) (m : Moment) → IsToldBy m (product_label m.event.what) → IsNamedBy (product_label m.event.what) m.made → agenda o (m ∷ []) ≡ option_to_list (noted_of o m.event m.world)
+pub noted_one : (o : Label) (m : Moment) → IsToldBy m (product_label m.event.what) → IsNamedBy (product_label m.event.what) m.made → agenda o (m ∷ []) ≡ option_to_list (noted_of o m.event m.world)
 noted_one o m is named = go (seen m.event.label o) refl
   where
     go : (b : Bool) → seen m.event.label o ≡ b → agenda o (m ∷ []) ≡ option_to_list (noted_of o m.event m.world)
     go true e = seen_noted o m e
     go false e = past_noted o m is named e
 
--- with one moment more, what is noted of it is put behind
-pub noted_more : (o : Label) (ms : List Moment) (m : Moment) → IsToldBy m (product_label m.event.what) → IsNamedBy (product_label m.event.what) m.made → agenda o (ms ++ m ∷ []) ≡ agenda o ms ++ option_to_list (noted_of o m.event m.world)
-noted_more o ms m is named =
-    ap (λ xs. map (item_of o) xs) (filter-append (is_noted o) ms (m ∷ []))
-    ∙ map-append (item_of o) (noted o ms) (noted o (m ∷ []))
-    ∙ ap (λ xs. agenda o ms ++ xs) (noted_one o m is named)
+-- what is noted of moments, one after another
+pub agenda_join : (o : Label) (ms ns : List Moment) → agenda o (ms ++ ns) ≡ agenda o ms ++ agenda o ns
+agenda_join o ms ns = ap (λ xs. map (item_of o) xs) (filter-append (is_noted o) ms ns) ∙ map-append (item_of o) (noted o ms) (noted o ns)

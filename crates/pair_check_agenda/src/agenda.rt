@@ -11,11 +11,9 @@ ghost use Rattle.pair_check_agenda.specs.Agendas.{items_in};
 
 use crate::entry::Entry;
 use crate::meeting::meeting;
-use crate::taking::take_turns;
 use flow_labels::Label;
 use guarded_code::Verified;
-use lam_machine_replay::{RunFault, World};
-use lam_machine_world::let_go_world;
+use lam_machine_replay::{RunFault, World, keep_turns};
 use pair_check_terms::PairAnswer;
 use std::alloc::Global;
 use std::marker::Model;
@@ -23,7 +21,7 @@ use std::marker::Model;
 /// The turns that an observer sees of a run, and the releases past it, in order.
 #[derive(Drop)]
 pub struct Agenda {
-    entries: Vec<Entry>,
+    pub(crate) entries: Vec<Entry>,
 }
 
 impl Model for Agenda {
@@ -77,14 +75,13 @@ pub fn agenda_of(
     ensures run { OnOk result (stopped_at code.now turns.now start ≡ None) }
     ensures stops { IfErr result (λ f. IsStop f (stopped_at code.now turns.now start)) }
 {
-    let mut entries = Vec::new(alloc);
-    let mut world = start;
-    let taken = take_turns(alloc, &mut entries, &mut world, code, turns, observer);
-    let_go_world(world);
-    match taken {
-        Ok(()) => Ok(Agenda { entries }),
+    let mut noted = Agenda {
+        entries: Vec::new(alloc),
+    };
+    match keep_turns(alloc, observer, &mut noted, code, start, turns) {
+        Ok(()) => Ok(noted),
         Err(fault) => {
-            drop(entries);
+            drop(noted);
             Err(fault)
         }
     }

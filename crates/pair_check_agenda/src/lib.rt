@@ -10,7 +10,7 @@
 //!
 //! - `contents`: equality of two contents of releases.
 //! - `entry`: the record of one turn; `agenda`: the list, which [`Agenda::entries`] reads.
-//! - `noting`: the entry of a turn's event and the world after it; `taking`: the turns, in order.
+//! - `noting`: the entry of a turn's event and the world after it; `taking`: the fold, which notes private turns in rows.
 //! - `meeting`: the comparison of two agendas.
 //!
 //! `specs/Agendas` says what an agenda stands for, and `specs/Noting` what is noted of a turn.
