@@ -8,14 +8,13 @@ ghost use Rattle.closed_terms.specs.Schedule.{quantum};
 ghost use Rattle.closed_terms.specs.Departures.{departure};
 ghost use Rattle.closed_run.specs.Departing.{GoesAlong, FollowsTo, departed, later};
 
-use crate::keepers::Nobody;
 use crate::next::next_of;
 use crate::places::slot_with;
 use closed_terms::{Departure, Slot};
 use flow_labels::{Label, flows};
 use guarded_code::Verified;
 use lam_asks::let_go_event;
-use lam_machine_replay::{RunFault, World, keep_turns, step};
+use lam_machine_replay::{Nobody, RunFault, World, keep_turns, step};
 use lam_machine_world::let_go_world;
 use std::alloc::Global;
 use want_of_memory::NoMemory;

@@ -6,12 +6,11 @@ ghost use Rattle.lam_machine_terms.specs.Turns.{moments};
 ghost use Rattle.closed_terms.specs.Ends.{IsEnded, most_turns};
 
 use crate::going::{Coming, take_row, take_turn, what_comes};
-use crate::keepers::Nobody;
 use crate::places::Place;
 use closed_terms::End;
 use flow_labels::Label;
 use guarded_code::Verified;
-use lam_machine_replay::{Keeps, World};
+use lam_machine_replay::{Keeps, Nobody, World};
 use lam_machine_world::let_go_world;
 use std::alloc::Global;
 use thread_host_run::{RunParts, let_go_verified};

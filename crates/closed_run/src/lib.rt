@@ -23,7 +23,6 @@
 mod departing;
 mod ending;
 mod going;
-mod keepers;
 mod next;
 mod places;
 

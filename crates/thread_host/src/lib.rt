@@ -26,7 +26,6 @@
 //! - `workers`: the workers; `running`: the runs.
 #![tactic(auto)]
 
-mod keepers;
 mod lightness;
 mod origins;
 mod running;

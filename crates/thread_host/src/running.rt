@@ -8,11 +8,10 @@ ghost use Rattle.thread_host_run.specs.Courses.{IsCourse, ran_to};
 ghost use Rattle.thread_host.specs.Visits.{EndsAs};
 ghost use Rattle.turn_book.specs.Limits.{most_turns, most_workers};
 
-use crate::keepers::Nobody;
 use crate::workers::{Ending, by_workers};
 use guarded_code::Verified;
 use lam_io::Gate;
-use lam_machine_replay::Keeps;
+use lam_machine_replay::{Keeps, Nobody};
 use lam_machine_runs::{How, runs_end_in_one_way};
 use lam_machine_world::{World, let_go_world};
 use std::alloc::Global;
