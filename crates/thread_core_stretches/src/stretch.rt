@@ -1,7 +1,7 @@
 //! The type of stretches.
 
-ghost use Rattle.std.specs.Prelude.{◌≡◌, ◌+◌, ◌≤◌, false, IfOk, OnOk, OnErr};
-ghost use Rattle.thread_core_stretches.specs.Stretches.{StretchStands, begun, goes_further, IsFurther, HasGone};
+ghost use Rattle.std.specs.Prelude.{◌≡◌, ◌+◌, ◌≤◌, IfOk, OnErr};
+ghost use Rattle.thread_core_stretches.specs.Stretches.{StretchStands, begun, goes_further, IsFurther};
 
 use crate::privately::go_privately;
 use guarded_code::Verified;
@@ -9,7 +9,7 @@ use thread_core::{Standing, go_on};
 use thread_core_state::LamThread;
 use want_of_memory::NoMemory;
 
-/// The most private turns to which [`Stretch::step`] and [`Stretch::go`] take a stretch.
+/// The most private turns to which [`Stretch::step`] takes a stretch.
 pub const STRETCH_LIMIT: u64 = 64;
 
 /// A thread by its number, what it was when the stretch began, what it is after so many private turns, and how many.
@@ -75,26 +75,6 @@ impl Stretch {
             Standing::Stuck => Ok(false),
             Standing::Ended => Ok(false),
         }
-    }
-
-    /// Takes as many private turns as there are, up to [`STRETCH_LIMIT`].
-    ///
-    /// # Errors
-    ///
-    /// `NoMemory` where memory is refused; the stretch then has the private turns that it took, and stands as far as it came.
-    #[tactic(auto, using(crate::proofs::Rows::none_gone, crate::proofs::Rows::one_gone, crate::proofs::Rows::ends_full))]
-    pub fn go(&mut self, code: &Verified) -> Result<(), NoMemory>
-        ensures gone { HasGone code.now self.old self.new }
-        ensures ends { OnOk result (goes_further code.now self.new ≡ false) }
-        ensures same { (self.new.thread ≡ self.old.thread) × (self.new.before ≡ self.old.before) }
-        ensures stands { StretchStands code.now self.old → StretchStands code.now self.new }
-    {
-        for _ in 0..STRETCH_LIMIT {
-            if !self.step(code)? {
-                return Ok(());
-            }
-        }
-        Ok(())
     }
 
     /// Takes private turns, at most `most` more; the contract leaves open how many.
