@@ -18,11 +18,11 @@ use Rattle.pair_check_agenda.proofs.MadeLemmas.{IsNamedBy, products_named}
 use Rattle.pair_check_agenda.proofs.NotedLemmas.{noted_one, agenda_join}
 
 module _ (o : Label) where
-  pub turn_kept : (n : ℕ) (e : Event) (after : World) (before kept : List Item) → kept ≡ before ++ option_to_list (noted_of o e after) → KeepsTurn (IsAgenda o) n e after before kept
-  turn_kept n e after before kept new code t w it ms many old =
+  pub turn_kept : (n : ℕ) (e : Event) (after : World) (stored before kept : List Item) → stored ≡ before → kept ≡ stored ++ option_to_list (noted_of o e after) → KeepsTurn (IsAgenda o) n e after before kept
+  turn_kept n e after stored before kept same new code t w it ms many old =
       let m : Moment = record { event = e; made = it.made; world = after } in
       new
-      ∙ ap (λ xs. xs ++ option_to_list (noted_of o e after)) old
+      ∙ ap (λ xs. xs ++ option_to_list (noted_of o e after)) (same ∙ old)
       ∙ ap (λ xs. agenda o ms ++ xs) (sym (noted_one o m (products_told code w t m it.is) (products_named code w t m it.is)))
       ∙ sym (agenda_join o ms (m ∷ []))
 
@@ -52,10 +52,10 @@ module _ (o : Label) where
         ∙ one_more (seen l o) (length row)
 
     -- whether the thread is seen is read once
-    pub private_kept : (many : ℕ) (before kept : List Item) (b : Bool) → b ≡ seen l o → kept ≡ before ++ private_noted b t many → KeepsPrivate (IsAgenda o) t l many before kept
-    private_kept many before kept b e new ms row so_many each old =
+    pub private_kept : (many : ℕ) (stored before kept : List Item) (b : Bool) → b ≡ seen l o → stored ≡ before → kept ≡ stored ++ private_noted b t many → KeepsPrivate (IsAgenda o) t l many before kept
+    private_kept many stored before kept b e same new ms row so_many each old =
         new
-        ∙ ap (λ xs. xs ++ private_noted b t many) old
+        ∙ ap (λ xs. xs ++ private_noted b t many) (same ∙ old)
         ∙ ap (λ x. agenda o ms ++ private_noted x t many) e
         ∙ ap (λ k. agenda o ms ++ private_noted (seen l o) t k) (sym so_many)
         ∙ ap (λ xs. agenda o ms ++ xs) (sym (row_noted row each))

@@ -7,4 +7,4 @@ use Rattle.pair_check_agenda.proofs.taking.LabelKeepsAllAgenda.keep_private.Goal
 pub returns : goal.returns
 returns c =
     on_ok_weaker c.note_private.result
-    (private_kept c.args.self.now c.args.thread (label_at c.args.world.now c.args.thread) c.args.many (items_in c.args.kept.now.entries.items) (items_in c.note_private.new.entries.items) c.sees_acting-is_seen.result c.sees_acting-is_seen.ensures) c.note_private.ensures
+    (private_kept c.args.self.now c.args.thread (label_at c.args.world.now c.args.thread) c.args.many (items_in c.kept.inside.entries.items) c.args.kept.now (items_in c.note_private.new.entries.items) c.sees_acting-is_seen.result c.sees_acting-is_seen.ensures c.kept.view_is) c.note_private.ensures

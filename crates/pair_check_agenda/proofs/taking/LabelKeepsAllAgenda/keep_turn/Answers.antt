@@ -6,4 +6,4 @@ use Rattle.pair_check_agenda.proofs.taking.LabelKeepsAllAgenda.keep_turn.Goals a
 pub returns : goal.returns
 returns c =
     on_ok_weaker c.note_event.result
-    (turn_kept c.args.self.now c.args._turn c.args.event c.args.world.now (items_in c.args.kept.now.entries.items) (items_in c.note_event.new.entries.items)) c.note_event.ensures
+    (turn_kept c.args.self.now c.args._turn c.args.event c.args.world.now (items_in c.kept.inside.entries.items) c.args.kept.now (items_in c.note_event.new.entries.items) c.kept.view_is) c.note_event.ensures
