@@ -1,6 +1,9 @@
 //! The printing of a command's text or of a refusal's line, without memory.
 //!
 //! The programs `lam` and `lam_closed` print by these calls. `specs/Lines` says how a text goes to an output in parts.
+//!
+//! The promises about what a call prints and about the status of a refusal rest on [`print_text`] and [`print_refusal`]
+//! (clauses `printed` and `failed` of each). Free to change for speed: in how many parts the line of a refusal goes out.
 #![tactic(auto)]
 
 ghost use Rattle.std.specs.Prelude.{◌≡◌, ◌≤◌, ◌∷◌, [], None, OnErr, decimal};
