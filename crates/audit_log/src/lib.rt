@@ -16,8 +16,9 @@
 //! with what is public at the start.
 //!
 //! A public promise rests on [`view_text`], [`audit_text`] and the laws [`views_are_read`], [`audits_are_read`] and
-//! [`marks_are_exact`]: both texts, byte for byte. `lam` writes them line by line, by [`push_seen`], [`push_noted`] and
-//! [`push_release`] (the one clause of each). Free to change for speed: how a text is put together.
+//! [`marks_are_exact`]: both texts, byte for byte. `lam` writes them line by line, by [`push_noted`], [`push_release`]
+//! and `push_event` of `audit_log_texts` (the one clause of each). Free to change for speed: how a text is put
+//! together.
 #![tactic(auto)]
 
 mod audit;
