@@ -22,6 +22,12 @@
 //! - `listing`: the list of the ready threads, kept from turn to turn; `ready_list`: with what each thread waits for
 //!   (`waiting`).
 //! - `books`: the run of a book of turns, or the turn at which they stop to be one.
+//!
+//! A public promise rests on [`Run::turn`] and [`Run::check_in`] (clauses `ok`, `err`), [`Run::turns`] (clause `whole`),
+//! [`Run::of`], the clauses `course` of [`Course`], and [`ready`]: turns are those of ready threads, and the world is what
+//! they leave. [`list_after_turn`], [`go_ready`] and [`check_in_ready`] (clause `lists`) keep the list that of the ready
+//! threads. Free to change for speed: what is remembered of each thread, which of them are looked at again, and how many
+//! private turns go in a row.
 #![tactic(auto)]
 
 mod books;
