@@ -17,6 +17,9 @@
 //! What `format` prints is read again as the same program, and printed the same, under two conditions. The depth sum of
 //! the printed text passes its limit at no token, and its length does not pass that of a program file. docs/LANGUAGE.md
 //! has both, and how far a text can grow.
+//!
+//! All promises of the tool are clauses of [`lam`], first `answer`, `planned` and `others_kept`; its laws stand in
+//! `lam_main_laws`. Nothing here is a matter of speed: the commands do the work.
 #![tactic(auto)]
 
 ghost use Rattle.std.specs.Prelude.{◌≡◌, ◌≢◌, false, [], None, Ok, Err, IsErr, IfErr, map, string_bytes, IsTrue};

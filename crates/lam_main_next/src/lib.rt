@@ -5,6 +5,10 @@
 //! its pipes and threads. The turns are taken (`thread_host_run`), and the document is made of the files and
 //! directories that they leave, or it is refused (`world_save`). The document is written last, and nothing is written
 //! where there is a refusal. What a call answers is what the plan of these files says (`lam_main_plan`).
+//!
+//! A public promise rests on [`next`] (clauses `gives`, `kept`, `spared`, `failed`): the document and the line are
+//! those that are planned, and no other file changes. Free to change for speed: when an input is let go of. The
+//! document must stay until the next one is made.
 #![tactic(auto)]
 
 mod ending;

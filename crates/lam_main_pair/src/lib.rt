@@ -5,6 +5,10 @@
 //! turns. The second run comes in the same way. What the observer notes of each run is kept while its turns are taken,
 //! once (`pair_check_agenda`). Then the starts and the agendas are compared (`pair_check`). What a call answers is what
 //! the plan of these files says (`lam_main_plan`).
+//!
+//! A public promise rests on [`pair`] (clauses `gives`, `stay` and `failed`): the line is that of the one answer to the
+//! two runs, and refusals come in the order of reading. Free to change for speed: when starts and agendas are let go
+//! of, and whether the turns are taken on a copy of the start.
 #![tactic(auto)]
 
 mod half;

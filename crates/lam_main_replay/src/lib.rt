@@ -9,6 +9,11 @@
 //! the book, the schedule of turns. `run_inputs` reads each from its bytes. The machine takes the turns, and what is
 //! seen of them, or noted (`lam_machine_replay`), is printed (`audit_log`). What a call answers is what the plan of
 //! these files says (`lam_main_plan`), in one relation for all commands (`specs/Halts.antt`).
+//!
+//! Public promises rest on the commands (clauses `gives`, `stay` and `failed`), on the readers [`read_file`],
+//! [`read_code`], [`read_start`] and [`read_turns`], and on [`shown_turns`] (clause `says`). What is printed is what is
+//! planned, refusals come in the order of reading, and a fault is answered only where the shelf counted one. Free to
+//! change for speed: when what was read is let go of.
 #![tactic(auto)]
 
 mod document;

@@ -5,6 +5,9 @@
 //! take the turns (`thread_host`), and nothing says in advance which thread takes which turn. So what is printed is
 //! what the written book shows: `replay` and `audit` of the same program, document and book show the same run again.
 //! The book is written last, and nothing is written where there is a refusal.
+//!
+//! Public promises rest on [`run`] and [`make`] (clauses `gives`, `kept`, `spared`, `failed`): what is printed is what
+//! the written book shows, and no other file changes. Nothing here is a matter of speed: `thread_host` does the work.
 #![tactic(auto)]
 
 mod making;

@@ -7,6 +7,10 @@
 //!
 //! - `entries`: the law that a start's threads stand where a walk requires it.
 //! - `telling`: the line of the answer.
+//!
+//! Public promises rest on [`walk`] (clauses `gives`, `stay` and `failed`) and on the law [`starts_stand_at_entries`].
+//! The line has the number of all asks of the run, and refusals come in the order of reading. Free to change for speed:
+//! when the source is let go of.
 #![tactic(auto)]
 
 mod entries;

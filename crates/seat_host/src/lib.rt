@@ -7,6 +7,10 @@
 //! A call draws a ticket, and waits until it is served. A *place* is one ticket's position in the order of calls. It
 //! holds the thread that took a turn there, or nothing. `seat_table` has the atomic steps, `law` the rule that they
 //! keep, and `book` the content of the table's slot.
+//!
+//! Public promises rest on [`SeatRun::turn_as`] and [`SeatRun::close`]: each turn stands in the book once, and the run
+//! that is given back is one of the code from its start. Free to change for speed: how long a call waits before it
+//! looks again.
 #![tactic(auto)]
 
 mod answer;

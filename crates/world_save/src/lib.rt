@@ -4,6 +4,9 @@
 //! turns left. The names of tags, what is public, the pipes and the threads are those that it began with. The law
 //! [`starts_can_be_kept`] says that such a document has pipes and threads to be taken. That the files are still a
 //! forest is a law of `world_forest_laws`.
+//!
+//! A public promise rests on [`save`] (clauses `ok`, `err`) and on the law. Nothing here is a matter of speed:
+//! `world_save_files` does the work.
 #![tactic(auto)]
 
 ghost use Rattle.std.specs.Prelude.{◌≡◌, Ok, IfOk, IfErr};
