@@ -90,6 +90,7 @@ module _ (r : ResolvedTree) (s : State) where
   raise_passes f (frame.Called calls ls) h i j = absurd (h calls ls refl)
   raise_passes f (frame.Region depth x b) h i j = absurd (i depth x b refl)
   raise_passes f (frame.Catch out) h i j = absurd (j out refl)
+  raise_passes f (frame.Loop depth e a false) h i j = record { left = refl; less = inr (refl, omega arith) }
   raise_passes f g h i j = record { left = refl; less = inr (refl, omega arith) }
 
   -- ---- returns
