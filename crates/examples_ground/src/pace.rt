@@ -3,7 +3,9 @@
 //! A state has the [`Pace`], where each worker is, and what each thread does next. A step is one worker's: the calls that
 //! `thread_host` makes while it has the lock, in their order, or what it does without the lock. Whatever the gate, the threads
 //! and memory may answer is a step of its own, and a sleeper may wake up by itself. A row of private turns, or a served turn,
-//! is a *take*; a run ends where no take is left or no thread is ready. In each state that can be reached:
+//! is a *take*; a run ends where no take is left or no thread is ready. The hook may wait for other workers, or waits for
+//! nobody. Then a worker that took in place may keep the lock and look again, any number of times, and one that is in the hook
+//! counts as one at the lock. In each state that can be reached:
 //!
 //! 1. Where a worker sleeps, one neither sleeps nor has stopped. So they are never left asleep, all of them.
 //! 2. Where a worker sleeps and something can be taken, one is at the lock, was woken, or is about to wake another. So nobody
@@ -37,6 +39,8 @@ enum At {
     /// Away with a thread, for at most so many turns.
     Away(u32, u64),
     Hook,
+    /// Has the lock still, to look again.
+    Again,
     Asleep,
     /// At the lock, since it was woken.
     Woken,
@@ -63,6 +67,8 @@ struct State {
     threads: [Next; 3],
     /// The leader whose hook was called, plus one, or 0.
     beyond: u64,
+    /// Whether the hook may wait for other workers.
+    may_wait: bool,
     /// How many takes are left.
     left: u64,
     /// Whether memory may be refused, once, and whether it was.
@@ -138,10 +144,12 @@ impl State {
             self.wake(wakes, choice);
             was
         };
-        let had_lock = wakes == Wakes::Nobody && matches!(was, At::Lock | At::Away(_, _));
-        let owes = if had_lock && at != At::Asleep && at != At::Refused {
+        let had_lock = wakes == Wakes::Nobody
+            && matches!(was, At::Lock | At::Again | At::Away(_, _));
+        let owes = if had_lock && !matches!(at, At::Asleep | At::Refused | At::Again) {
             let ready = self.ready(alloc)?;
-            self.pace.wakes(ready.len())
+            let turn = self.turn();
+            self.pace.wakes(ready.as_slice(), turn)
         } else {
             Wakes::Nobody
         };
@@ -160,7 +168,7 @@ impl State {
         choice: &mut Choice,
     ) -> Result<At, Fail> {
         match at {
-            At::Lock => return self.opened(alloc, worker, choice),
+            At::Lock | At::Again => return self.opened(alloc, worker, choice),
             At::Away(thread, most) => return self.ended(alloc, worker, thread, most, choice),
             At::Hook => {
                 if self.beyond == worker.saturating_add(1) {
@@ -203,20 +211,28 @@ impl State {
         fails
     }
 
-    /// A worker at the lock looks for something to take.
+    /// A worker at the lock looks for something to take. Where it took in place, it may keep the lock to look again.
     fn opened(&mut self, alloc: Global, worker: u64, choice: &mut Choice) -> Result<At, Fail> {
         self.pace.hears(self.beyond);
-        if self.lost || self.fails(choice) {
-            return Ok(At::Refused);
+        let at = self.looked(alloc, worker, choice)?;
+        if at == At::Hook && self.pace.looks_at_once() > 1 && choice.yes() {
+            return Ok(At::Again);
         }
-        let at = match self.picked(alloc, worker, choice)? {
-            None => At::Ending,
-            Some(thread) => self.begun(worker, thread, choice)?,
-        };
-        if self.pace.is_leader(worker) {
+        if at != At::Refused && self.pace.is_missed(worker) {
             self.beyond = worker.saturating_add(1);
         }
         Ok(at)
+    }
+
+    /// A worker that has the lock looks for something to take.
+    fn looked(&mut self, alloc: Global, worker: u64, choice: &mut Choice) -> Result<At, Fail> {
+        if self.lost || self.fails(choice) {
+            return Ok(At::Refused);
+        }
+        match self.picked(alloc, worker, choice)? {
+            None => Ok(At::Ending),
+            Some(thread) => self.begun(worker, thread, choice),
+        }
     }
 
     /// A worker goes away with a thread, takes of it in place, or finds that nothing is to be taken now.
@@ -331,7 +347,7 @@ impl State {
                 At::Refused => 30,
                 At::Away(_, _) => 50,
                 At::Asleep => 100,
-                At::Lock => 101,
+                At::Lock | At::Again => 101,
                 At::Woken | At::Hook => 102,
             };
             let first = if *wakes == Wakes::Nobody { 0 } else { 9 };
@@ -345,10 +361,11 @@ impl State {
         let asleep = self.count(At::Asleep);
         let woken = self.count(At::Woken);
         let is_woken = woken > 0 || self.workers.iter().any(|worker| worker.1 != Wakes::Nobody);
-        let is_looking = |worker: &(At, Wakes)| matches!(
-            worker.0,
-            At::Lock | At::Refused | At::Ending
-        );
+        let is_looking = |worker: &(At, Wakes)| match worker.0 {
+            At::Lock | At::Again | At::Refused | At::Ending => true,
+            At::Hook => !self.may_wait,
+            _ => false,
+        };
         if asleep > 0 && asleep.saturating_add(self.count(At::Stopped)) == 3 {
             return Ok(1);
         }
@@ -431,12 +448,14 @@ fn all_hold(
     threads: usize,
     left: u64,
     may_fail: bool,
+    may_wait: bool,
 ) -> Result<(), Fail> {
     let mut first = State {
-        pace: Pace::new(alloc, workers as u64, 3, TAKE)?,
+        pace: Pace::new(alloc, workers as u64, 3, TAKE, may_wait)?,
         workers: [(At::Stopped, Wakes::Nobody); 3],
         threads: [Next::Waits; 3],
         beyond: 0,
+        may_wait,
         left,
         may_fail,
         lost: false,
@@ -460,8 +479,11 @@ fn all_hold(
         if fault > 0 {
             return Err(Fail::new(format_args!("{fault} of {state:?}")));
         }
+        let is_held = state.count(At::Again) > 0;
         for (worker, (at, _)) in (0u64..).zip(state.workers.iter()) {
-            reached.go(alloc, &state, worker, *at)?;
+            if !is_held || *at == At::Again {
+                reached.go(alloc, &state, worker, *at)?;
+            }
         }
     }
     Err(Fail::new("too many states"))
@@ -469,13 +491,26 @@ fn all_hold(
 
 #[test]
 fn two_workers_are_woken(rt: HostRuntime) -> Result<(), Fail> {
-    all_hold(rt.alloc(), 2, 1, 5, false)?;
-    all_hold(rt.alloc(), 2, 2, 4, false)?;
-    all_hold(rt.alloc(), 2, 3, 3, true)
+    all_hold(rt.alloc(), 2, 1, 5, false, true)?;
+    all_hold(rt.alloc(), 2, 2, 4, false, true)?;
+    all_hold(rt.alloc(), 2, 3, 3, true, true)
 }
 
 #[test]
 fn three_workers_are_woken(rt: HostRuntime) -> Result<(), Fail> {
-    all_hold(rt.alloc(), 3, 1, 3, true)?;
-    all_hold(rt.alloc(), 3, 2, 3, false)
+    all_hold(rt.alloc(), 3, 1, 3, true, true)?;
+    all_hold(rt.alloc(), 3, 2, 3, false, true)
+}
+
+#[test]
+fn two_workers_are_woken_where_no_hook_waits(rt: HostRuntime) -> Result<(), Fail> {
+    all_hold(rt.alloc(), 2, 1, 5, false, false)?;
+    all_hold(rt.alloc(), 2, 2, 4, false, false)?;
+    all_hold(rt.alloc(), 2, 3, 3, true, false)
+}
+
+#[test]
+fn three_workers_are_woken_where_no_hook_waits(rt: HostRuntime) -> Result<(), Fail> {
+    all_hold(rt.alloc(), 3, 1, 3, true, false)?;
+    all_hold(rt.alloc(), 3, 2, 3, false, false)
 }

@@ -117,3 +117,16 @@ shared_along AreKept leaves code start budget p kept t n q went within few share
     subst (λ (x : Progress). IsShared AreKept code start budget x false kept) (sym went.after)
     (stretch_keeps code s went.stands p went.there budget (λ x. IsShared AreKept code start budget x false kept)
     (λ x after left turn h. shared_more AreKept code start budget x kept h (length x.turns) s.thread None after kept refl turn left few false (leaves, refl)) room shared)
+
+-- no private turn at all changes nothing
+no_room : (p : Progress) (n : ℕ) → n ≡ 0 → length p.turns + n ≤ length p.turns
+no_room p n none = omega (arith, none)
+
+same_length : (p q : Progress) → length q.turns < length p.turns → q ≡ p → ⊥
+same_length p q less same = let e : length q.turns ≡ length p.turns = ap (λ (x : Progress). length x.turns) same in omega (arith, less, e)
+
+pub went_nowhere : (code : CodeTree) (t n : ℕ) (p q : Progress) → n ≡ 0 → WentOn code t n p q → q ≡ p
+went_nowhere code t n p q none went =
+    let s = went.stretch in
+    went.after ∙ stretch_keeps code s went.stands p went.there (length p.turns) (λ x. x ≡ p)
+    (λ x after left turn same. absurd (same_length p x left same)) (no_room p s.count (went.count ∙ none)) refl

@@ -41,7 +41,8 @@ pub struct FinishedKept<Kept: Drop> {
 /// The hook is asked under the lock, with the number of turns so far and the ready threads in increasing order; its answer is
 /// taken modulo their number. It is asked once for each turn that is served, and once for a number of private turns of one
 /// thread: up to 64 of them with one worker, up to 4,096 with more. After each check-in it is called outside the lock, and may
-/// wait there for other workers.
+/// wait there for other workers. A hook of a type without a size holds nothing, and waits for nobody: it may be called under
+/// the lock too, and while it is called no other worker is woken for what this one does next.
 ///
 /// A thread may be away with another worker, or be left to the worker that takes turns in place. If the hook chooses such a
 /// thread, the next ready one that is neither is taken. The hook is asked and no turn follows

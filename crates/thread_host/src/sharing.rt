@@ -1,6 +1,6 @@
 //! The locked value: a course of its origin, and what is kept of it.
 
-ghost use Rattle.std.specs.Prelude.{◌≡◌, ◌<◌, ◌≤◌, true, [], length, IsTrue, ◌↔◌, IfOk, OnOk, OnErr, IfSome, MatchOption};
+ghost use Rattle.std.specs.Prelude.{◌≡◌, ◌<◌, ◌≤◌, true, false, [], length, IsTrue, ◌↔◌, IfOk, OnOk, OnErr, IfSome, MatchOption};
 ghost use Rattle.guarded_code_runs.specs.Worlds.{IsSound};
 ghost use Rattle.lam_machine_terms.specs.Turns as turns;
 ghost use Rattle.lam_machine_terms.specs.Turns.{moments};
@@ -14,7 +14,7 @@ ghost use Rattle.thread_host.specs.Visits.{GoesOn, EndsAs, TookReady, Visits, Ma
 ghost use Rattle.turn_book.specs.Limits.{most_turns};
 
 use crate::origins::Origin;
-use crate::stretching::{Opening, keeps_to, stretch_of, take_along, take_stretch, turns_in_place};
+use crate::stretching::{Opening, is_light_in, keeps_to, stretch_of, take_along, take_stretch};
 use crate::visits::{Visit, how_it_stands, picked, take_turn};
 use guarded_code::Verified;
 use lam_io::Gate;
@@ -59,7 +59,7 @@ impl<J: Origin<Kept>, Kept: Drop> Model for Shared<J, Kept> {
 }
 
 impl<J: Origin<Kept>, Kept: Drop> Shared<J, Kept> {
-    /// No turn yet, and what is kept of none, for so many workers.
+    /// No turn yet, and what is kept of none, for so many workers, whose hook may wait for other workers or waits for nobody.
     ///
     /// # Errors
     ///
@@ -70,13 +70,14 @@ impl<J: Origin<Kept>, Kept: Drop> Shared<J, Kept> {
         start: &World,
         nothing: Kept,
         workers: u64,
+        may_wait: bool,
     ) -> Result<Shared<J, Kept>, NoMemory>
         requires of { (code.now ≡ J.code) × (start.now ≡ J.start) }
         requires sound { IsSound code.now start.now }
         requires nothing { J.AreKept [] nothing }
         ensures { IfOk result (λ s. s ≡ record { turns = []; world = start.now }) }
     {
-        let pace = Pace::new(alloc, workers, THREAD_LIMIT as usize, LONGEST)?;
+        let pace = Pace::new(alloc, workers, THREAD_LIMIT as usize, LONGEST, may_wait)?;
         let course = Course::new(alloc, start)?;
         let ready = ReadyList::new(alloc, course.world(), code)?;
         Ok(Shared {
@@ -182,9 +183,8 @@ impl<J: Origin<Kept>, Kept: Drop> Shared<J, Kept> {
         ensures ok { IfOk result (Begins code.now budget self.old self.new) }
         ensures err { OnErr result (MayHaveTaken code.now budget self.old self.new) }
     {
-        let most = self.turns_here(code, thread, worker, spare);
-        if most > 0 {
-            self.along(code, who, thread, most, budget)?;
+        let most = self.turns_here(thread, worker, spare);
+        if self.goes_along(code, who, thread, most, budget)? {
             return Ok(Opening::Along(thread));
         }
         self.turn(alloc, code, who, thread, budget)?;
@@ -268,9 +268,10 @@ impl<J: Origin<Kept>, Kept: Drop> Shared<J, Kept> {
         self.pace.comes_back(thread, count, turn);
     }
 
-    /// How many private turns of a thread a worker is to take in place, and 0 where its next turn is not private. The worker
-    /// leads then. Where there is one worker and the hook has a choice, of a thread that holds much it takes one.
-    fn turns_here(&mut self, code: &Verified, thread: u32, worker: u64, spare: u64) -> u64
+    /// How many private turns of a thread a worker is to take in place at most, and 0 where its next turn is known not to be
+    /// private. The worker leads then. Where there is one worker and the hook has a choice, of a thread that holds much it takes
+    /// one.
+    fn turns_here(&mut self, thread: u32, worker: u64, spare: u64) -> u64
         ensures { self.new ≡ self.old }
     {
         self.pace.leads(worker);
@@ -279,7 +280,10 @@ impl<J: Origin<Kept>, Kept: Drop> Shared<J, Kept> {
         }
         let most = self.pace.turns_here(spare);
         let chooses = self.pace.is_alone() && self.ready.threads.len() > 1;
-        turns_in_place(&self.course, code, thread, chooses, most)
+        if chooses && !is_light_in(&self.course, thread) {
+            return most.min(1);
+        }
+        most
     }
 
     /// What is known of the leader's hook: the leader that was called and had not come back, plus one, or 0.
@@ -289,9 +293,14 @@ impl<J: Origin<Kept>, Kept: Drop> Shared<J, Kept> {
         self.pace.hears(beyond);
     }
 
-    /// Whether a worker takes turns in place.
-    pub fn is_leader(&self, worker: u64) -> bool {
-        self.pace.is_leader(worker)
+    /// Whether others are to know that a worker is in the hook.
+    pub fn is_missed(&self, worker: u64) -> bool {
+        self.pace.is_missed(worker)
+    }
+
+    /// How often a worker may look for something to take before it releases the lock.
+    pub fn looks_at_once(&self) -> u64 {
+        self.pace.looks_at_once()
     }
 
     /// A worker that has memory refused lets what it took go: every later visit answers so too.
@@ -319,8 +328,8 @@ impl<J: Origin<Kept>, Kept: Drop> Shared<J, Kept> {
     pub fn wakes(&mut self) -> Wakes
         ensures { self.new ≡ self.old }
     {
-        let ready = self.ready.threads.len();
-        self.pace.wakes(ready)
+        let turn = self.course.turns().len() as u64;
+        self.pace.wakes(self.ready.threads.as_slice(), turn)
     }
 
     fn keeps_to(&self, stretch: &Stretch, budget: u64) -> bool
@@ -362,7 +371,34 @@ impl<J: Origin<Kept>, Kept: Drop> Shared<J, Kept> {
         Ok(())
     }
 
-    /// Takes private turns of a thread that is ready in place, up to so many.
+    /// Takes private turns of a thread that is ready in place, up to so many: whether there were any. If not, all is as it was.
+    fn goes_along<K: Keeps<Kept>>(
+        &mut self,
+        code: &Verified,
+        who: &K,
+        thread: u32,
+        most: u64,
+        budget: u64,
+    ) -> Result<bool, NoMemory>
+        requires few { budget ≤ most_turns }
+        requires of { (code.now ≡ J.code) × (budget ≡ J.budget) }
+        requires keeps { Agree (K.AreKept who.now) J.AreKept }
+        requires ready { turns.ready code.now self.old.world thread ≡ true }
+        requires left { length self.old.turns < budget }
+        ensures some { IfOk result (λ any. any ≡ true → WentReady code.now budget self.old self.new thread) }
+        ensures none { IfOk result (λ any. any ≡ false → self.new ≡ self.old) }
+        ensures err { OnErr result (self.new ≡ self.old) }
+    {
+        if most == 0 {
+            return Ok(false);
+        }
+        match self.along(code, who, thread, most, budget)? {
+            0 => Ok(false),
+            _ => Ok(true),
+        }
+    }
+
+    /// Takes private turns of a thread that is ready in place, up to so many: how many they were.
     fn along<K: Keeps<Kept>>(
         &mut self,
         code: &Verified,
@@ -370,13 +406,14 @@ impl<J: Origin<Kept>, Kept: Drop> Shared<J, Kept> {
         thread: u32,
         most: u64,
         budget: u64,
-    ) -> Result<(), NoMemory>
+    ) -> Result<u64, NoMemory>
         requires few { budget ≤ most_turns }
         requires of { (code.now ≡ J.code) × (budget ≡ J.budget) }
         requires keeps { Agree (K.AreKept who.now) J.AreKept }
         requires ready { turns.ready code.now self.old.world thread ≡ true }
         requires left { length self.old.turns < budget }
         ensures ok { OnOk result (WentReady code.now budget self.old self.new thread) }
+        ensures none { IfOk result (λ n. n ≡ 0 → self.new ≡ self.old) }
         ensures err { OnErr result (self.new ≡ self.old) }
     {
         if self.lost {
@@ -394,7 +431,7 @@ impl<J: Origin<Kept>, Kept: Drop> Shared<J, Kept> {
             budget,
         )?;
         self.pace.went_along(thread, taken, most);
-        Ok(())
+        Ok(taken)
     }
 
     fn how_it_stands(&self, code: &Verified, budget: u64) -> Option<How>

@@ -72,32 +72,11 @@ fn private_stretch(
     }
 }
 
-/// How many turns of a thread to take in place at most: so many where its next turn is private, and one where light threads
-/// alone are to take more and it is none; none where the next turn is not private.
-pub fn turns_in_place(
-    course: &Course,
-    code: &Verified,
-    thread: u32,
-    light_alone: bool,
-    most: u64,
-) -> u64 {
+/// Whether a thread of a course is light; one that is not there is.
+pub fn is_light_in(course: &Course, thread: u32) -> bool {
     match course.world().threads().get(thread as usize) {
-        None => 0,
-        Some(found) => private_turns(found, code, light_alone, most),
-    }
-}
-
-fn private_turns(found: &LamThread, code: &Verified, light_alone: bool, most: u64) -> u64 {
-    match standing(found, code) {
-        Standing::Private => {
-            if light_alone && !is_light(found) {
-                return most.min(1);
-            }
-            most
-        }
-        Standing::Shared => 0,
-        Standing::Stuck => 0,
-        Standing::Ended => 0,
+        None => true,
+        Some(found) => is_light(found),
     }
 }
 
@@ -123,6 +102,7 @@ pub fn take_along<J: Origin<Kept>, Kept: Drop, K: Keeps<Kept>>(
     ensures room { HasRoom list.new }
     ensures shared { IsShared (K.AreKept who.now) code.now J.start budget course.new false kept.now }
     ensures ok { OnOk result (WentReady code.now budget course.old course.new thread) }
+    ensures none { IfOk result (λ n. n ≡ 0 → course.new ≡ course.old) }
     ensures err { OnErr result (course.new ≡ course.old) }
 {
     who.leaves_private();

@@ -93,10 +93,11 @@ pub fn take_turn<J: Origin<Kept>, Kept: Drop, K: Keeps<Kept>>(
     ensures ok { OnOk result (course.new ≡ one_more course.old thread course.new.world) }
     ensures err { OnErr result ((course.new ≡ course.old) ⊎ (course.new ≡ one_more course.old thread course.new.world)) }
 {
-    let turn = course.turns().len() as u64;
-    let taken = course.go(code, thread)?;
+    let before = course.turns().len() as u64;
+    let event = course.turn(code, thread)?;
+    let taken = Some(event);
     list_after_turn(list, course.world(), code, thread, &taken);
-    keep_taken(alloc, who, kept, lost, turn, taken, course.world())
+    keep_taken(alloc, who, kept, lost, before, taken, course.world())
 }
 
 /// What is kept of a turn of this number, which is nothing where it is private.

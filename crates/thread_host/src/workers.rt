@@ -24,7 +24,7 @@ use std::sync::{Condvar, Mutex, Wait};
 use std::thread;
 use std::thread::Threads;
 use thread_core_stretches::{Stretch, let_go_stretch};
-use thread_host_pace::Wakes;
+use thread_host_pace::{Wakes, may_wait};
 use thread_host_run::Course;
 use want_of_memory::NoMemory;
 
@@ -141,14 +141,14 @@ fn opened<J: Origin<Kept>, Kept: Drop, K: Keeps<Kept>, R: Wait, G: Gate>(
 {
     let mut held = desk.shared.lock(rt);
     held.hears(desk.beyond.load(Ordering::SeqCst));
-    let opening = held.begin(alloc, code, who, worker, budget, gate)?;
+    let opening = looked(alloc, &mut held, code, who, worker, budget, gate)?;
     if is_away(&opening) {
         held.falls_asleep(worker);
         let mut woken = desk.more.wait(rt, held);
         woken.wakes_up();
         return Ok(opening);
     }
-    if held.is_leader(worker) {
+    if held.is_missed(worker) {
         desk.beyond
             .store(worker.saturating_add(1), Ordering::SeqCst);
     }
@@ -156,6 +156,41 @@ fn opened<J: Origin<Kept>, Kept: Drop, K: Keeps<Kept>, R: Wait, G: Gate>(
     drop(held);
     wake(&desk.more, wakes);
     Ok(opening)
+}
+
+/// What a worker finds where it has the lock. As long as it takes turns in place, and its hook waits for nobody, it looks again
+/// a number of times. The hook is called after each time but the last here, since the caller calls it then.
+fn looked<J: Origin<Kept>, Kept: Drop, K: Keeps<Kept>, G: Gate>(
+    alloc: Global,
+    shared: &mut Shared<J, Kept>,
+    code: &Verified,
+    who: &K,
+    worker: u64,
+    budget: u64,
+    gate: &G,
+) -> Result<Opening, NoMemory>
+    requires few { budget ≤ most_turns }
+    requires of { (code.now ≡ J.code) × (budget ≡ J.budget) }
+    requires keeps { Agree (K.AreKept who.now) J.AreKept }
+    ensures { IfOk result (GoesBy code.now) }
+{
+    for _ in 1..shared.looks_at_once() {
+        let opening = shared.begin(alloc, code, who, worker, budget, gate)?;
+        match taken_here(&opening) {
+            None => return Ok(opening),
+            Some(thread) => gate.between(worker, thread),
+        }
+    }
+    shared.begin(alloc, code, who, worker, budget, gate)
+}
+
+/// The thread of which turns were taken in place.
+fn taken_here(opening: &Opening) -> Option<u32> {
+    match opening {
+        Opening::Took(thread) => Some(*thread),
+        Opening::Along(thread) => Some(*thread),
+        _ => None,
+    }
 }
 
 /// Wakes those that sleep, as many as are to be woken.
@@ -225,8 +260,16 @@ fn new_workers(alloc: Global, count: u64) -> Result<Vec<Worker>, NoMemory>
     Ok(workers)
 }
 
+/// A course after its workers, and whether one of them met want of memory.
+#[derive(Drop)]
+struct Left<J: Origin<Kept>, Kept: Drop> {
+    shared: Shared<J, Kept>,
+    refused: bool,
+}
+
 /// The course of a code from a start that so many workers take to its end, and then the caller, as worker 0, where something
-/// is left. The origin is what is handed in, and its caller picks it.
+/// is left. One worker is the caller: it starts no thread and takes no lock. The origin is what is handed in, and its caller
+/// picks it.
 ///
 /// # Errors
 ///
@@ -259,9 +302,44 @@ pub fn by_workers<
     ensures how { IfOk result (λ e. EndsAs code.now budget e.course e.how) }
     ensures kept { IfOk result (λ e. K.AreKept who.now (moments code.now e.course.turns start.now) e.kept) }
 {
+    let waits = may_wait(gate);
+    let fresh: Shared<J, Kept> = Shared::new(alloc, code, start, nothing, count, waits)?;
+    let left = shared_out(rt, alloc, fresh, code, count, budget, gate, who)?;
+    let Left { shared, refused } = left;
+    finish(alloc, shared, refused, code, who, budget, gate)
+}
+
+/// What so many workers leave of a course. Where there is one, it is the caller, to whom all is left.
+fn shared_out<
+    J: Origin<Kept> + Send + Sync,
+    Kept: Drop + Send,
+    K: Keeps<Kept> + Sync,
+    R: Threads + Wait + Sync,
+    G: Gate + Sync,
+>(
+    rt: &R,
+    alloc: Global,
+    shared: Shared<J, Kept>,
+    code: &Verified,
+    count: u64,
+    budget: u64,
+    gate: &G,
+    who: &K,
+) -> Result<Left<J, Kept>, NoMemory>
+    requires of { (code.now ≡ J.code) × (budget ≡ J.budget) }
+    requires keeps { Agree (K.AreKept who.now) J.AreKept }
+    requires workers { (0 < count) × (count ≤ most_workers) }
+    requires few { budget ≤ most_turns }
+{
+    if count == 1 {
+        return Ok(Left {
+            shared,
+            refused: false,
+        });
+    }
     let mut workers = new_workers(alloc, count)?;
     let desk: Desk<J, Kept> = Desk {
-        shared: Mutex::new(Shared::new(alloc, code, start, nothing, count)?),
+        shared: Mutex::new(shared),
         more: Condvar::new(),
         beyond: AtomicU64::new(0),
     };
@@ -276,7 +354,10 @@ pub fn by_workers<
     );
     let refused = workers.iter().any(|worker| worker.refused);
     let Desk { shared, .. } = desk;
-    finish(alloc, shared.into_inner(), refused, code, who, budget, gate)
+    Ok(Left {
+        shared: shared.into_inner(),
+        refused,
+    })
 }
 
 /// Takes the turns that are left, unless a worker met want of memory.
@@ -301,7 +382,7 @@ fn finish<J: Origin<Kept>, Kept: Drop, K: Keeps<Kept>, G: Gate>(
         let_go(shared);
         return Err(NoMemory);
     }
-    match go_on(alloc, &mut shared, code, who, budget, gate) {
+    match take_rest(alloc, &mut shared, code, who, budget, gate) {
         Ok(how) => match shared.into_parts() {
             None => Err(NoMemory),
             Some((course, kept)) => Ok(Ending { course, how, kept }),
@@ -318,7 +399,82 @@ fn let_go<J: Origin<Kept>, Kept: Drop>(shared: Shared<J, Kept>) {
     drop(shared);
 }
 
-/// Takes turns alone, as worker 0, until the run has ended.
+/// Takes turns alone, as worker 0, until the run has ended: private ones in rows, as long as that serves.
+fn take_rest<J: Origin<Kept>, Kept: Drop, K: Keeps<Kept>, G: Gate>(
+    alloc: Global,
+    shared: &mut Shared<J, Kept>,
+    code: &Verified,
+    who: &K,
+    budget: u64,
+    gate: &G,
+) -> Result<How, NoMemory>
+    requires few { budget ≤ most_turns }
+    requires of { (code.now ≡ J.code) × (budget ≡ J.budget) }
+    requires keeps { Agree (K.AreKept who.now) J.AreKept }
+    ensures { IfOk result (EndsAs code.now budget shared.new) }
+{
+    take_rows(alloc, shared, code, who, budget, gate)?;
+    go_on(alloc, shared, code, who, budget, gate)
+}
+
+/// Takes turns alone, as worker 0, private ones in rows. A visit takes a turn at least, so as many visits as the budget has
+/// turns are enough.
+fn take_rows<J: Origin<Kept>, Kept: Drop, K: Keeps<Kept>, G: Gate>(
+    alloc: Global,
+    shared: &mut Shared<J, Kept>,
+    code: &Verified,
+    who: &K,
+    budget: u64,
+    gate: &G,
+) -> Result<(), NoMemory>
+    requires few { budget ≤ most_turns }
+    requires of { (code.now ≡ J.code) × (budget ≡ J.budget) }
+    requires keeps { Agree (K.AreKept who.now) J.AreKept }
+{
+    for _ in 0..budget {
+        match take_row(alloc, shared, code, who, budget, gate)? {
+            Some(thread) => gate.between(0, thread),
+            None => return Ok(()),
+        }
+    }
+    Ok(())
+}
+
+/// A visit of a worker that is alone: the thread of which it took turns, or `None` where there is nothing to take.
+fn take_row<J: Origin<Kept>, Kept: Drop, K: Keeps<Kept>, G: Gate>(
+    alloc: Global,
+    shared: &mut Shared<J, Kept>,
+    code: &Verified,
+    who: &K,
+    budget: u64,
+    gate: &G,
+) -> Result<Option<u32>, NoMemory>
+    requires few { budget ≤ most_turns }
+    requires of { (code.now ≡ J.code) × (budget ≡ J.budget) }
+    requires keeps { Agree (K.AreKept who.now) J.AreKept }
+{
+    match shared.begin(alloc, code, who, 0, budget, gate)? {
+        Opening::Took(thread) => Ok(Some(thread)),
+        Opening::Along(thread) => Ok(Some(thread)),
+        Opening::Away => Ok(None),
+        Opening::Ended(_) => Ok(None),
+        Opening::Out(stretch, most) => {
+            let gone = gone_out(stretch, code, most)?;
+            let visit = shared.end(alloc, code, who, gone, 0, budget, gate)?;
+            Ok(taken_in(visit))
+        }
+    }
+}
+
+/// The thread of a turn, where one was taken.
+fn taken_in(visit: Visit) -> Option<u32> {
+    match visit {
+        Visit::Took(thread) => Some(thread),
+        Visit::Ended(_) => None,
+    }
+}
+
+/// Takes turns alone, as worker 0, one by one, until the run has ended.
 fn go_on<J: Origin<Kept>, Kept: Drop, K: Keeps<Kept>, G: Gate>(
     alloc: Global,
     shared: &mut Shared<J, Kept>,

@@ -4,7 +4,9 @@
 //!    wakes a sleeper where a thread that is ready is not away, unless one was woken and has not looked since. So the
 //!    sleepers are woken one by one as long as there is something to take, whatever the hook waits for in `between`.
 //! 2. A thread whose last private turns were few takes the next ones in place, under the lock. Workers do not help each
-//!    other there, so one of them leads: the others leave such threads to it, unless it is in `between`.
+//!    other there, so one of them leads: the others leave such threads to it, unless it is in `between`. If the hook waits for
+//!    nobody ([`may_wait`](crate::may_wait)), the leader is back at once. Then the others leave those threads to it there too,
+//!    nobody is woken for them, and the leader may take many turns before it releases the lock.
 //! 3. A thread that goes away has a number of turns for it, twice what it took the last time; all that are away have no more
 //!    than the budget leaves. Where they have all of it, a worker sleeps until one is back.
 //! 4. A thread that is away is not overtaken without bound: the system may hold up the worker that has it, and the others, which
@@ -20,10 +22,8 @@
 ghost use Rattle.std.specs.Prelude.{◌<◌, length};
 
 use std::alloc::Global;
+use turn_book::WORKER_LIMIT;
 use want_of_memory::NoMemory;
-
-/// The most workers.
-const MOST_WORKERS: usize = 16;
 
 /// How many threads a worker looks at for one to take. There are more of them than workers, so that it finds one that is not
 /// away.
@@ -37,6 +37,9 @@ const FIRST: u64 = 64;
 
 /// How far a thread that is away may be overtaken: so many times the longest that one is away for, for each worker.
 const AHEAD: u64 = 2;
+
+/// How often a worker looks for something to take before it releases the lock, where the hook waits for nobody.
+const LOOKS_AT_ONCE: u64 = 16;
 
 /// A thread of which a worker takes private turns outside the lock, how many it may take, and how many turns the run had when it
 /// went away.
@@ -59,6 +62,8 @@ pub enum Wakes {
 #[derive(Clone, Debug, PartialEq, Eq, Hash, Drop)]
 pub struct Pace {
     workers: u64,
+    /// Whether the hook may wait for other workers between turns.
+    may_wait: bool,
     /// The most private turns of a thread that is away.
     longest: u64,
     away: Vec<Away>,
@@ -79,7 +84,7 @@ pub struct Pace {
 
 impl Pace {
     /// Nobody is away or asleep, and of no thread it is known how many turns it takes. There are so many workers, at most so
-    /// many threads, and a thread is away for at most so many turns.
+    /// many threads, and a thread is away for at most so many turns. The hook may wait for other workers, or waits for nobody.
     ///
     /// # Errors
     ///
@@ -89,11 +94,13 @@ impl Pace {
         workers: u64,
         threads: usize,
         longest: u64,
+        may_wait: bool,
     ) -> Result<Pace, NoMemory> {
-        let away = Vec::with_capacity(alloc, MOST_WORKERS)?;
+        let away = Vec::with_capacity(alloc, WORKER_LIMIT as usize)?;
         let lasts = no_lasts(alloc, workers, threads)?;
         Ok(Pace {
             workers,
+            may_wait,
             longest,
             away,
             lasts,
@@ -142,6 +149,12 @@ impl Pace {
     /// Whether another worker takes turns in place, and is on its way to the lock.
     fn is_led(&self, worker: u64) -> bool {
         self.leader != 0 && self.leader != worker.saturating_add(1) && self.leader != self.beyond
+    }
+
+    /// How often a worker may look for something to take before it releases the lock: once where its hook may wait, since that
+    /// is called outside the lock.
+    pub fn looks_at_once(&self) -> u64 {
+        if self.may_wait { 1 } else { LOOKS_AT_ONCE }
     }
 
     /// Whether a thread took few private turns when it last took some.
@@ -238,8 +251,11 @@ impl Pace {
         }
     }
 
-    /// A thread takes so many private turns in place, of so many that it was to take.
+    /// A thread takes so many private turns in place, of so many that it was to take. Where it takes none, nothing new is known.
     pub fn went_along(&mut self, thread: u32, count: u64, most: u64) {
+        if count == 0 {
+            return;
+        }
         self.took(thread, count);
         if count < most {
             self.asking = u64::from(thread).saturating_add(1);
@@ -261,8 +277,13 @@ impl Pace {
     }
 
     /// Whether a worker takes turns in place.
-    pub fn is_leader(&self, worker: u64) -> bool {
+    fn is_leader(&self, worker: u64) -> bool {
         self.leader == worker.saturating_add(1)
+    }
+
+    /// Whether others are to know that a worker is in the hook: it takes turns in place, and may wait there.
+    pub fn is_missed(&self, worker: u64) -> bool {
+        self.may_wait && self.is_leader(worker)
     }
 
     fn follows(&mut self, worker: u64) {
@@ -301,20 +322,44 @@ impl Pace {
         }
     }
 
-    /// How many that sleep are to be woken now; they count as woken then. `ready` is how many threads are ready.
-    pub fn wakes(&mut self, ready: usize) -> Wakes {
+    /// How many that sleep are to be woken now; they count as woken then. These threads are ready, and the run has so many
+    /// turns.
+    pub fn wakes(&mut self, ready: &[u32], turn: u64) -> Wakes {
         if self.wakes_all {
             self.wakes_all = false;
             self.coming = self.coming.saturating_add(self.asleep);
             self.asleep = 0;
             return Wakes::All;
         }
-        if self.asleep == 0 || self.coming > 0 || (ready > 0 && ready <= self.away.len()) {
+        if self.asleep == 0 || self.coming > 0 || !self.leaves_some(ready, turn) {
             return Wakes::Nobody;
         }
         self.asleep = self.asleep.saturating_sub(1);
         self.coming = 1;
         Wakes::One
+    }
+
+    /// Whether some of the ready threads are for a worker that sleeps, or none is ready, so that the run has ended. A leader
+    /// whose hook waits for nobody comes for the short ones itself.
+    fn leaves_some(&self, ready: &[u32], turn: u64) -> bool {
+        if ready.is_empty() {
+            return true;
+        }
+        if ready.len() <= self.away.len() {
+            return false;
+        }
+        self.may_wait || self.leader == 0 || self.has_long(ready, turn)
+    }
+
+    /// Whether some of the threads are neither away nor short. Of many only some are looked at, others at another turn.
+    fn has_long(&self, ready: &[u32], turn: u64) -> bool {
+        let rows = ready.len() / MOST_LOOKS + 1;
+        let row = (turn % rows as u64) as usize;
+        ready
+            .iter()
+            .skip(row.saturating_mul(MOST_LOOKS))
+            .take(MOST_LOOKS)
+            .any(|thread| !self.is_short(*thread) && !self.is_away(*thread))
     }
 }
 

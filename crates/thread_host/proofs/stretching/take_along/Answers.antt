@@ -1,6 +1,6 @@
 use Rattle.std.proofs.Common.{arith}
 use Rattle.thread_host_run.proofs.CourseLemmas.{course_sound}
-use Rattle.thread_host.proofs.Keeping.{shared_along, within_budget}
+use Rattle.thread_host.proofs.Keeping.{shared_along, went_nowhere, within_budget}
 use Rattle.thread_host.proofs.stretching.take_along.Goals as goal
 
 pub go_ready-requires-clause-sound : goal.go_ready-requires-clause-sound
@@ -19,3 +19,6 @@ returns-clause-ok g c =
       within = within_budget c.args.course.now c.in_ok-taken.taken c.args.most c.args.budget c.in_ok-taken.ensures.few c.requires.within;
       went = c.in_ok-taken.ensures.ok;
     }
+
+pub returns-clause-none : goal.returns-clause-none
+returns-clause-none g c none = went_nowhere c.args.code.now c.args.thread c.in_ok-taken.taken c.args.course.now c.go_ready.new.course none c.in_ok-taken.ensures.ok
