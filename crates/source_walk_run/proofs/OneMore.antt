@@ -19,7 +19,6 @@ use Rattle.source_walk_state.specs.declared.Beginning.{Beginning}
 use Rattle.source_walk_meets.specs.Runs.{asked_in}
 use Rattle.source_walk_meets.specs.Walks.{asks_in}
 use Rattle.source_walk_meets.specs.Births.{Birth, birth_of, births, AreOfThreads}
-use Rattle.source_walk_meets.proofs.Alone.{asked_append}
 use Rattle.source_walk_meets.proofs.Lists.{is_there, split_get}
 use Rattle.source_walk_follow.specs.declared.followers.Follower.{Follower}
 use Rattle.source_walk_follow.specs.Following.{asks_met, FollowsTurn}
@@ -32,6 +31,11 @@ use Rattle.source_walk_run.proofs.Moving.{born_in, done_own, done_other, births_
 
 abbrev whats_of : List Moment → List What
 whats_of ms = map (λ (m : Moment). m.event.what) ms
+
+asked_append : (did more : List What) → asked_in (did ++ more) ≡ asked_in did ++ asked_in more
+asked_append [] more = refl
+asked_append (Private ∷ did) more = asked_append did more
+asked_append (Asked a x ∷ did) more = ap (λ l. a ∷ l) (asked_append did more)
 
 -- ---- one thread
 
