@@ -1,11 +1,12 @@
 #!/usr/bin/env python3
-"""Builds `format` and `check` without contracts: the crates from the lexer to the compiler as plain Rust, by rustc -O3.
+"""Builds what docs/MEASURED.md compares lam with, in plain Rust by rustc -O3: `format` and `check` from lam's own crates without
+contracts, or a machine of another design.
 
-Usage: tools/plain.py OUT
-Then `OUT format FILE` and `OUT check FILE` print what `lam` prints, for a program without faults.
+Usage: tools/plain.py OUT             then `OUT format FILE` and `OUT check FILE` print what `lam` prints, for a program without faults
+       tools/plain.py --run OUT       builds tools/plain_run.rs, whose head says how it is called
 
-It is what docs/MEASURED.md compares the proved program with: the same code, over the standard library of Rust. The
-clauses, proofs and models are dropped, `Result`s for want of memory stay, and std's own calls take the allocator.
+`format` and `check` are the same code over the standard library of Rust, from the lexer to the compiler. The clauses,
+proofs and models are dropped, `Result`s for want of memory stay, and std's own calls take the allocator.
 Maps in insertion order are made of std's `HashMap`, and of `lam_value` only what a constant may be is there.
 """
 import glob
@@ -47,6 +48,12 @@ pub mod unicode_ident {
     pub fn is_xid_start(c: char) -> bool { c.is_alphabetic() }
     pub fn is_xid_continue(c: char) -> bool { c.is_alphanumeric() || c == '_' }
 }
+pub struct BTreeMap<K, V>(std::collections::BTreeMap<K, V>);
+impl<K: Ord, V> BTreeMap<K, V> {
+    pub fn new(_: Global) -> Self { BTreeMap(std::collections::BTreeMap::new()) }
+    pub fn get(&self, key: &K) -> Option<&V> { self.0.get(key) }
+    pub fn insert(&mut self, key: K, value: V) -> Result<Option<V>, AllocFailed<(K, V)>> { Ok(self.0.insert(key, value)) }
+}
 pub mod indexmap {
     use super::*;
     pub struct IndexSet<K> { places: HashMap<K, usize>, keys: Vec<K> }
@@ -84,13 +91,17 @@ pub mod indexmap {
 pub mod lam_value {
     use super::*;
     #[derive(Clone, Copy, Debug, PartialEq, Eq)] pub enum Kind { Int, Bool, Null }
-    pub enum Value { Int(i64), Bool(bool), Bytes(ByteText), Nothing }
-    pub struct ByteText(std::sync::Arc<[u8]>);
+    #[derive(Clone)] pub enum Value { Int(i64), Bool(bool), Bytes(ByteText), Nothing }
+    #[derive(Clone)] pub struct ByteText(std::sync::Arc<[u8]>);
     impl ByteText { pub fn from_slice(_: Global, bytes: &[u8]) -> Result<ByteText, AllocError> { Ok(ByteText(bytes.into())) } }
     pub struct Values(Vec<Value>);
     impl Values {
         pub fn new(_: Global) -> Values { Values(Vec::new()) }
+        pub fn allocator(&self) -> Global { Global }
+        pub fn len(&self) -> u64 { self.0.len() as u64 }
         pub fn push(&mut self, value: Value) { self.0.push(value) }
+        pub fn pop(&mut self) -> Option<Value> { self.0.pop() }
+        pub fn copy(&self) -> Result<Values, crate::want_of_memory::NoMemory> { Ok(Values(self.0.clone())) }
         pub fn as_slice(&self) -> &[Value] { &self.0 }
     }
 }
@@ -144,7 +155,7 @@ def in_rust(text, crate):
         text = re.sub(rf'(?<![\w:]){name}::', f'crate::{name}::', text)
     for name in ('itoa', 'unicode_ident', 'indexmap', 'lam_value', 'lam_meaning_laws'):
         text = re.sub(rf'(?<![\w:]){name}::', f'crate::shim::{name}::', text)
-    text = re.sub(r'use std::alloc::', 'use crate::shim::', text)
+    text = re.sub(r'use std::(alloc|collections)::', 'use crate::shim::', text)
     text = re.sub(r'\*\w[\w.]*(\(\)[\w.]+)*\.allocator\(\)', 'crate::shim::Global', text)
     text = re.sub(r'\b(Vec|String)::new\((alloc|crate::shim::Global)\)', r'\1::new()', text)
     text = re.sub(r'\bVec::with_capacity\(alloc, (.*)\)\?;', r'Vec::with_capacity(\1);', text)
@@ -158,7 +169,14 @@ def in_rust(text, crate):
     return re.sub(r'(\n    \w+\.extend_from_slice\(.*\))\n\}', r'\1;\n    Ok(())\n}', text)
 
 
+def compiled(source, out, folder):
+    words = ['rustc', '--edition', '2021', '-C', 'opt-level=3', '-o', os.path.abspath(out), '-C', 'codegen-units=1', source]
+    sys.exit(subprocess.run(words, cwd=folder).returncode)
+
+
 def main():
+    if len(sys.argv) == 3 and sys.argv[1] == '--run':
+        compiled('plain_run.rs', sys.argv[2], os.path.join(HERE, 'tools'))
     if len(sys.argv) != 2:
         sys.exit(__doc__)
     with tempfile.TemporaryDirectory() as folder:
@@ -172,9 +190,7 @@ def main():
             out.write(SHIM)
         with open(os.path.join(folder, 'main.rs'), 'w') as out:
             out.write('#![allow(warnings)]\nmod shim;\n' + ''.join(f'mod {it};\n' for it in CRATES) + MAIN)
-        words = ['rustc', '--edition', '2021', '-C', 'opt-level=3', '-o', os.path.abspath(sys.argv[1]),
-                 '-C', 'codegen-units=1', 'main.rs']
-        sys.exit(subprocess.run(words, cwd=folder).returncode)
+        compiled('main.rs', sys.argv[1], folder)
 
 
 if __name__ == '__main__':
