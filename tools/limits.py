@@ -9,6 +9,7 @@ seconds of the call, the most memory that it held, and how it ended.
 """
 import json
 import os
+import random
 import subprocess
 import sys
 import tempfile
@@ -125,6 +126,16 @@ def mebibyte():
     return {'P': ''.join(parts)}
 
 
+def constants(count):
+    """A program of so many constants, none of them twice, in a drawn order."""
+    numbers, parts = [*range(1_000_000, 1_000_000 + count)], []
+    random.Random(1).shuffle(numbers)
+    for at in range(0, count, 30_000):
+        lines = ''.join(f'x={number};\n' for number in numbers[at:at + 30_000])
+        parts.append(f'fn f{at}(): int {{\n  let x: int = 0;\n{lines}  return x;\n}}\n')
+    return {'P': ''.join(parts)}
+
+
 def own_labels(count):
     """Files with a label each, so that there are as many homes."""
     tree = []
@@ -171,6 +182,7 @@ ROWS = [
     ('`next` of 32,000 of them', lambda: own_labels(32_000), ['next', 'P', 'W', 'B', 'N']),
     ('`next` of 64,000 of them', lambda: own_labels(64_000), ['next', 'P', 'W', 'B', 'N']),
     ('`check` of a mebibyte', mebibyte, ['check', 'P']),
+    *((f'`check` of {count:,} constants', lambda count=count: constants(count), ['check', 'P']) for count in (21_500, 43_000, 86_000)),
     ('`format` of a mebibyte', mebibyte, ['format', 'P']),
 ]
 

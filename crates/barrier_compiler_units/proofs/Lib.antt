@@ -1,5 +1,5 @@
 pub mod Numbers
-pub mod Keys
+pub mod Places
 pub mod Joins
 pub mod Trees
 pub mod UnitSteps

@@ -44,7 +44,7 @@ in_more (w ∷ ws) more v h = by (same_values v w) h (in_more ws more v)
     by true h rest = refl
     by false h rest = rest h
 
-place_more : (vs more : List Value) (v : Value) → is_in v vs ≡ true → place_of (vs ++ more) v ≡ place_of vs v
+pub place_more : (vs more : List Value) (v : Value) → is_in v vs ≡ true → place_of (vs ++ more) v ≡ place_of vs v
 place_more [] more v h = absurd (true≢false (sym h))
 place_more (w ∷ ws) more v h = by (same_values v w) h (place_more ws more v)
   where

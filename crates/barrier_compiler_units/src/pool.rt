@@ -1,28 +1,36 @@
 //! The numbered constants of a program.
 
-ghost use Rattle.std.specs.Prelude.{◌≡◌, ◌+◌, ◌<◌, ◌≤◌, ◌^◌, [], ◌∷◌, length, map, true, IfOk, OnOk};
+ghost use Rattle.std.specs.Prelude.{◌≡◌, ◌+◌, ◌-◌, ◌<◌, ◌≤◌, ◌^◌, [], ◌∷◌, length, map, take, true, false, cond, Some, IfOk, OnOk, OnErr};
+ghost use Rattle.std.specs.BTreeMap.{get};
+ghost use Rattle.std.specs.Ordering.{is_eq};
 ghost use Rattle.std.specs.List.{AllByRecursion};
 ghost use Rattle.lam_bytecode.specs.Codes.{IsConstant};
 ghost use Rattle.lam_meaning.specs.Pieces.{is_in, with_constant, place_of, constants_in, numbered};
+ghost use Rattle.barrier_compiler_ops.specs.declared.instruction.Constant.{Constant};
 ghost use Rattle.barrier_compiler_ops.specs.Views.{constant_value, flat_view};
 ghost use Rattle.barrier_compiler_units.specs.Adds.{AreIn};
+ghost use Rattle.barrier_compiler_units.specs.Places.{AreKept, Places, constant_cmp};
 
 use barrier_compiler_ops::{Constant, Instruction};
-use indexmap::IndexSet;
 use lam_bytecode::Op;
 use lam_value::{ByteText, Value, Values};
 use std::alloc::Global;
+use std::collections::BTreeMap;
 use std::marker::Model;
 use want_of_memory::NoMemory;
 
 /// The constants of a program, each once, in order of first use. Seen as their values.
+///
+/// Each stands twice: as a value, by its number, and as the key at which its number is found, in the order of constants: no
+/// choice of constants makes that slow.
 #[derive(Drop)]
 pub struct Pool {
-    constants: IndexSet<Constant>,
+    values: Values,
+    places: BTreeMap<Constant, u64>,
 }
 
 impl Model for Pool {
-    ghost use Rattle.std.specs.Prelude.{List, map};
+    ghost use Rattle.std.specs.Prelude.{List};
     ghost use Rattle.std.specs.Coded.{coded_list};
     ghost use Rattle.lam_value.specs.declared.values.Value.{Value as Item};
     ghost use Rattle.lam_value.specs.contracts.values.Value as item;
@@ -31,9 +39,11 @@ impl Model for Pool {
 
     ghost coded = { coded_list item.the_row.coded };
 
-    ghost use Rattle.barrier_compiler_ops.specs.Views.{constant_value};
+    ghost use Rattle.barrier_compiler_units.specs.Places.{AreKept};
 
-    ghost view = { λ p. map constant_value p.constants.keys };
+    ghost view = { λ p. p.values };
+
+    ghost invariant = { λ p. AreKept p.places p.values };
 }
 
 impl Pool {
@@ -42,19 +52,20 @@ impl Pool {
         ensures { result ≡ [] }
     {
         Pool {
-            constants: IndexSet::new(alloc),
+            values: Values::new(alloc),
+            places: BTreeMap::new(alloc),
         }
     }
 
     /// The number of a constant, which is there from now on.
-    fn number(&mut self, constant: &Constant) -> Result<usize, NoMemory>
+    fn number(&mut self, constant: &Constant) -> Result<u64, NoMemory>
         ensures pool { OnOk result (self.new ≡ with_constant self.old (constant_value constant.now)) }
         ensures place { IfOk result (λ n. n ≡ place_of self.new (constant_value constant.now)) }
         ensures found { OnOk result (is_in (constant_value constant.now) self.new ≡ true) }
         ensures within { IfOk result (λ n. n < length self.new) }
         ensures room { OnOk result (length self.new ≤ length self.old + 1) }
     {
-        place_in(&mut self.constants, constant)
+        place_in(&mut self.values, &mut self.places, constant)
     }
 
     /// The values of the constants, by number.
@@ -66,19 +77,67 @@ impl Pool {
         ensures values { IfOk result (λ vs. vs ≡ self.now) }
         ensures constants { IfOk result (λ vs. AllByRecursion IsConstant vs) }
     {
-        values_of(&self.constants)
+        self.values.copy()
     }
 }
 
-fn place_in(constants: &mut IndexSet<Constant>, constant: &Constant) -> Result<usize, NoMemory>
-    ensures pool { OnOk result (map constant_value constants.new.keys ≡ with_constant (map constant_value constants.old.keys) (constant_value constant.now)) }
-    ensures place { IfOk result (λ n. n ≡ place_of (map constant_value constants.new.keys) (constant_value constant.now)) }
-    ensures found { OnOk result (is_in (constant_value constant.now) (map constant_value constants.new.keys) ≡ true) }
-    ensures within { IfOk result (λ n. n < length (map constant_value constants.new.keys)) }
-    ensures room { OnOk result (length (map constant_value constants.new.keys) ≤ length (map constant_value constants.old.keys) + 1) }
+/// The number of a constant among these, where it is put at the end if it is not there.
+fn place_in(
+    values: &mut Values,
+    places: &mut BTreeMap<Constant, u64>,
+    constant: &Constant,
+) -> Result<u64, NoMemory>
+    requires { AreKept places.old values.old }
+    ensures kept { AreKept places.new values.new }
+    ensures placed { IfOk result (λ n. Places values.old values.new (constant_value constant.now) n) }
 {
-    let (at, _) = constants.insert_full(copied(constant, *constants.allocator())?)?;
-    Ok(at)
+    match places.get(constant).copied() {
+        Some(place) => Ok(place),
+        None => put_last(values, places, constant),
+    }
+}
+
+/// Puts a constant that is not there yet after the others, and answers its number.
+fn put_last(
+    values: &mut Values,
+    places: &mut BTreeMap<Constant, u64>,
+    constant: &Constant,
+) -> Result<u64, NoMemory>
+    requires kept { AreKept places.old values.old }
+    requires new { is_in (constant_value constant.now) values.old ≡ false }
+    ensures kept { AreKept places.new values.new }
+    ensures placed { IfOk result (λ n. Places values.old values.new (constant_value constant.now) n) }
+{
+    let alloc = values.allocator();
+    let place = values.len();
+    let key = copied(constant, alloc)?;
+    values.push(value_of(constant, alloc)?)?;
+    match put_place(places, key, place) {
+        Ok(()) => Ok(place),
+        Err(_) => {
+            drop_last(values);
+            Err(NoMemory)
+        }
+    }
+}
+
+/// Lets a constant have a place. After an error nothing has changed.
+fn put_place(
+    places: &mut BTreeMap<Constant, u64>,
+    constant: Constant,
+    place: u64,
+) -> Result<(), NoMemory>
+    ensures ok { OnOk result ((k : Constant) → get constant_cmp places.new k ≡ cond (is_eq (constant_cmp constant k)) (Some place) (get constant_cmp places.old k)) }
+    ensures err { OnErr result (places.new.entries ≡ places.old.entries) }
+{
+    places.insert(constant, place)?;
+    Ok(())
+}
+
+fn drop_last(values: &mut Values)
+    ensures { values.new ≡ take (length values.old - 1) values.old }
+{
+    let _ = values.pop();
 }
 
 fn copied(constant: &Constant, alloc: Global) -> Result<Constant, NoMemory>
@@ -101,18 +160,6 @@ fn value_of(constant: &Constant, alloc: Global) -> Result<Value, NoMemory>
         Constant::Bytes(bytes) => Ok(Value::Bytes(ByteText::from_slice(alloc, bytes)?)),
         Constant::Nothing => Ok(Value::Nothing),
     }
-}
-
-fn values_of(constants: &IndexSet<Constant>) -> Result<Values, NoMemory>
-    ensures values { IfOk result (λ vs. vs ≡ map constant_value constants.now.keys) }
-    ensures constants { IfOk result (λ vs. AllByRecursion IsConstant vs) }
-{
-    let alloc = *constants.allocator();
-    let mut values = Values::new(alloc);
-    for constant in constants.as_slice() {
-        values.push(value_of(constant, alloc)?)?;
-    }
-    Ok(values)
 }
 
 /// An instruction with its constant by number.
