@@ -9,7 +9,7 @@ use Rattle.lam_lexer.specs.declared.token.Token.{Token}
 use Rattle.lam_syntax.specs.declared.Program.{Program}
 use Rattle.lam_syntax.specs.Tree.{ProgramTree, program_tree}
 use Rattle.lam_grammar.specs.Meaning.{nothing}
-use Rattle.lam_grammar.specs.Program.{lam, program, SpellsProgram}
+use Rattle.lam_grammar.specs.Program.{lam, program, most_depth, SpellsProgram}
 use Rattle.lam_grammar.specs.Examples.{examples}
 use Rattle.lam_grammar.proofs.Passes.{sound}
 use Rattle.lam_parser.specs.declared.ParseFault.{ParseFault}
@@ -26,16 +26,16 @@ module _ (ts : List Token) where
   fewer n d n' d' le le' c = record {
     others = c.others;
     same = λ j h. c.same j (omega arith);
-    bound = 128 + c.bound;
+    bound = most_depth + c.bound;
     vs = c.vs;
     spells = record { end = c.spells.end; sum = c.spells.sum; reads = moves lam examples sound c.spells.reads (λ j h. refl) (inl refl) (λ m h. no_lower m); whole = c.spells.whole };
   }
     where
-      no_lower : (j : ℕ) → capped lam d c.bound j ≤ capped lam d' (128 + c.bound) j
+      no_lower : (j : ℕ) → capped lam d c.bound j ≤ capped lam d' (most_depth + c.bound) j
       no_lower j =
           elim (cases_lt j d') [
-            | inl lt ↦ let e : 128 ≡ capped lam d c.bound j = cond_below j d 128 c.bound (omega arith) in omega (arith, e, low lam d' (128 + c.bound) j lt)
-            | inr ge ↦ omega (arith, either_below (nat_lt j d) 128 c.bound, high lam d' (128 + c.bound) j ge)
+            | inl lt ↦ let e : most_depth ≡ capped lam d c.bound j = cond_below j d most_depth c.bound (omega arith) in omega (arith, e, low lam d' (most_depth + c.bound) j lt)
+            | inr ge ↦ omega (arith, either_below (nat_lt j d) most_depth c.bound, high lam d' (most_depth + c.bound) j ge)
           ]
 
   no_later_unexpected : (n m d : ℕ) → n < m → IsUnexpected lam program nothing ts n → Continues lam program nothing ts m d → ⊥

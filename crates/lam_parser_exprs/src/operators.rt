@@ -1,6 +1,6 @@
 //! Operator expressions: left-associative levels, comparisons, prefixes and postfix parts.
 
-ghost use Rattle.std.specs.Prelude.{◌≡◌, ◌<◌, ◌≤◌, length, IfOk, MatchResult};
+ghost use Rattle.std.specs.Prelude.{◌≡◌, ◌<◌, ◌≤◌, ◌+◌, length, IfOk, MatchResult};
 ghost use Rattle.lam_grammar.specs.Table as table;
 ghost use Rattle.lam_parser_tokens.specs.Reading.{ReadsExpr};
 ghost use Rattle.lam_parser_parts.specs.Parts.{IsElement, IndexFails};
@@ -22,7 +22,7 @@ use std::alloc::Global;
 #[cycle(expression)]
 pub fn expression(alloc: Global, tokens: &[Token], at: usize, depth: u64) -> Result<Read, Break>
     requires in_range { at ≤ length tokens.now }
-    requires bounded { depth ≤ 130 }
+    requires bounded { depth ≤ most_depth + 2 }
     ensures reads { ReadsExpr tokens.now table.expr depth at result }
     ensures goes_on { IfOk result (λ x. (at < x.next) × (x.next ≤ length tokens.now)) }
     ensures depth { IfOk result (λ x. x.depth ≡ depth) }
@@ -46,10 +46,10 @@ fn chain(
     level: Level,
 ) -> Result<Read, Break>
     requires in_range { at ≤ length tokens.now }
-    requires bounded { depth ≤ 140 }
+    requires bounded { depth ≤ most_depth + 12 }
     ensures reads { ReadsExpr tokens.now (table.chain level) depth at result }
     ensures goes_on { IfOk result (λ x. (at < x.next) × (x.next ≤ length tokens.now)) }
-    ensures depth { IfOk result (λ x. x.depth ≤ 150) }
+    ensures depth { IfOk result (λ x. x.depth ≤ most_depth + 22) }
 {
     let mut left = operand(alloc, tokens, at, depth, level)?;
     while let Some(token) = take_if(tokens, left.next, left.depth, Mark::Operator(level))? {
@@ -70,10 +70,10 @@ fn operand(
     level: Level,
 ) -> Result<Read, Break>
     requires in_range { at ≤ length tokens.now }
-    requires bounded { depth ≤ 140 }
+    requires bounded { depth ≤ most_depth + 12 }
     ensures reads { ReadsExpr tokens.now (table.operand_rule level) depth at result }
     ensures goes_on { IfOk result (λ x. (at < x.next) × (x.next ≤ length tokens.now)) }
-    ensures depth { IfOk result (λ x. x.depth ≤ 150) }
+    ensures depth { IfOk result (λ x. x.depth ≤ most_depth + 22) }
 {
     match level {
         Level::Or => chain(alloc, tokens, at, depth, Level::And),
@@ -87,10 +87,10 @@ fn operand(
 #[cycle(expression)]
 fn comparison(alloc: Global, tokens: &[Token], at: usize, depth: u64) -> Result<Read, Break>
     requires in_range { at ≤ length tokens.now }
-    requires bounded { depth ≤ 140 }
+    requires bounded { depth ≤ most_depth + 12 }
     ensures reads { ReadsExpr tokens.now table.comparison depth at result }
     ensures goes_on { IfOk result (λ x. (at < x.next) × (x.next ≤ length tokens.now)) }
-    ensures depth { IfOk result (λ x. x.depth ≤ 150) }
+    ensures depth { IfOk result (λ x. x.depth ≤ most_depth + 22) }
 {
     let left = chain(alloc, tokens, at, depth, Level::Sum)?;
     let Some(token) = take_if(tokens, left.next, left.depth, Mark::Comparison)? else {
@@ -105,7 +105,7 @@ fn comparison(alloc: Global, tokens: &[Token], at: usize, depth: u64) -> Result<
 #[cycle(expression)]
 fn unary(alloc: Global, tokens: &[Token], at: usize, depth: u64) -> Result<Read, Break>
     requires in_range { at ≤ length tokens.now }
-    requires bounded { depth ≤ 140 }
+    requires bounded { depth ≤ most_depth + 12 }
     ensures reads { ReadsExpr tokens.now table.unary depth at result }
     ensures goes_on { IfOk result (λ x. (at < x.next) × (x.next ≤ length tokens.now)) }
     ensures depth { IfOk result (λ x. x.depth ≡ depth) }
@@ -134,10 +134,10 @@ fn unary(alloc: Global, tokens: &[Token], at: usize, depth: u64) -> Result<Read,
 #[cycle(expression)]
 fn postfix(alloc: Global, tokens: &[Token], at: usize, depth: u64) -> Result<Read, Break>
     requires in_range { at ≤ length tokens.now }
-    requires bounded { depth ≤ 145 }
+    requires bounded { depth ≤ most_depth + 17 }
     ensures reads { ReadsExpr tokens.now table.post depth at result }
     ensures goes_on { IfOk result (λ x. (at < x.next) × (x.next ≤ length tokens.now)) }
-    ensures depth { IfOk result (λ x. x.depth ≤ 150) }
+    ensures depth { IfOk result (λ x. x.depth ≤ most_depth + 22) }
 {
     let mut of = primary(alloc, tokens, at, depth)?;
     loop {

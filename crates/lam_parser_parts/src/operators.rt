@@ -3,6 +3,7 @@
 ghost use Rattle.std.specs.Prelude.{◌≡◌, ◌+◌, ◌^◌, ◌<◌, ◌≤◌, length, IfOk, MatchResult};
 ghost use Rattle.lam_syntax.specs.Tree.{expr_tree, expr_node, binary_expr, unary_expr, field_expr, element_expr, id_tree};
 ghost use Rattle.lam_grammar.specs.Meaning as meaning;
+ghost use Rattle.lam_grammar.specs.Program.{most_depth};
 ghost use Rattle.lam_parser_tokens.specs.Reading.{TakeFails};
 ghost use Rattle.lam_parser_parts.specs.Parts.{IsMember};
 
@@ -85,7 +86,7 @@ pub fn make_unary(
 /// memory is refused.
 pub fn member(alloc: Global, tokens: &[Token], of: Read) -> Result<Read, Break>
     requires in_range { of.next < length tokens.now }
-    requires low { of.depth ≤ 150 }
+    requires low { of.depth ≤ most_depth + 22 }
     ensures reads { MatchResult result (IsMember tokens.now of) (TakeFails tokens.now of.depth (of.next + 1) Mark.Member) }
     ensures within { IfOk result (λ x. x.next ≤ length tokens.now) }
 {
@@ -96,7 +97,7 @@ pub fn member(alloc: Global, tokens: &[Token], of: Read) -> Result<Read, Break>
 
 fn with_field(alloc: Global, of: Read, field: Id) -> Result<Read, AllocError>
     requires room { of.next + 2 < 2 ^ 64 }
-    requires low { of.depth ≤ 150 }
+    requires low { of.depth ≤ most_depth + 22 }
     ensures tree { IfOk result (λ x. expr_tree x.expr.value ≡ expr_node of.begin (field_expr (expr_tree of.expr.value) (id_tree field))) }
     ensures places { IfOk result (λ x. (x.begin ≡ of.begin) × (x.next ≡ of.next + 1 + 1) × (x.depth ≡ of.depth + 1)) }
 {
@@ -115,7 +116,7 @@ fn with_field(alloc: Global, of: Read, field: Id) -> Result<Read, AllocError>
 /// What is read, with an index behind it.
 pub fn element(alloc: Global, of: Read, index: Read) -> Result<Read, AllocError>
     requires room { index.next + 1 < 2 ^ 64 }
-    requires low { of.depth ≤ 150 }
+    requires low { of.depth ≤ most_depth + 22 }
     ensures tree { IfOk result (λ x. expr_tree x.expr.value ≡ expr_node of.begin (element_expr (expr_tree of.expr.value) (expr_tree index.expr.value))) }
     ensures places { IfOk result (λ x. (x.begin ≡ of.begin) × (x.next ≡ index.next + 1) × (x.depth ≡ of.depth + 1)) }
 {

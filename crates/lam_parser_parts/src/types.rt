@@ -1,8 +1,9 @@
 //! The parser of types.
 
-ghost use Rattle.std.specs.Prelude.{◌≡◌, ◌<◌, ◌≤◌, length, IfOk};
+ghost use Rattle.std.specs.Prelude.{◌≡◌, ◌<◌, ◌≤◌, ◌+◌, length, IfOk};
 ghost use Rattle.lam_syntax.specs.Tree.{type_form, type_tree, type_node, array_type};
 ghost use Rattle.lam_grammar.specs.Meaning.{type_form_of};
+ghost use Rattle.lam_grammar.specs.Program.{most_depth};
 ghost use Rattle.lam_parser_parts.specs.Types.{ReadsType};
 
 use lam_lexer::{Token, TokenKind};
@@ -24,7 +25,7 @@ pub fn typ(
     depth: u64,
 ) -> Result<(TypeExpr, usize), Break>
     requires in_range { at ≤ length tokens.now }
-    requires bounded { depth ≤ 130 }
+    requires bounded { depth ≤ most_depth + 2 }
     ensures reads { ReadsType tokens.now depth at result }
     ensures goes_on { IfOk result (λ x. (at < x.1) × (x.1 ≤ length tokens.now)) }
 {

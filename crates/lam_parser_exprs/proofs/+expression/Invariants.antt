@@ -1,7 +1,8 @@
-use Rattle.std.proofs.Common.{◌≡◌, true, ◌<◌, ◌≤◌, ◌-◌, length, slice_get}
+use Rattle.std.proofs.Common.{◌≡◌, true, ◌<◌, ◌≤◌, ◌+◌, ◌-◌, length, slice_get}
 use Rattle.lam_syntax.specs.Tree.{expr_tree, ExprList, exprs_tree}
 use Rattle.lam_grammar.specs.Table.{chain, chain_tail, operand_rule, post, post_tail, expr, args, args_tail}
 use Rattle.lam_grammar.specs.Meaning.{Operations, operations_value, combine, Postfixes, postfixes_value, extend, expr_value, exprs_value}
+use Rattle.lam_grammar.specs.Program.{most_depth}
 use Rattle.lam_grammar.specs.Examples.{examples}
 use Rattle.lam_parser_tokens.proofs.Rules.{Loop}
 use Rattle.lam_parser_exprs.proofs.Ranks.{measure, chain_rank, operand_rank}
@@ -34,7 +35,7 @@ invariant-operators::chain-loop-left l = record {
   goes : Loop Operations operations_value (slice_get l.tokens) (chain l.level) (chain_tail l.level) l.depth l.at (λ os. expr_value l.left.begin (combine l.left.begin (expr_tree l.left.expr.value) os)) l.left.next l.left.depth (λ w. examples.closes (operand_rule l.level) w ≡ true);
   after : l.at < l.left.next;
   within : l.left.next ≤ length l.tokens;
-  low : l.left.depth ≤ 150;
+  low : l.left.depth ≤ most_depth + 22;
 }
 
 abbrev pub decreases-operators::chain-loop-left : goal.decreases-operators::chain-loop-left
@@ -45,7 +46,7 @@ invariant-operators::postfix-loop-of l = record {
   goes : Loop Postfixes postfixes_value (slice_get l.tokens) post post_tail l.depth l.at (λ os. expr_value l.of.begin (extend l.of.begin (expr_tree l.of.expr.value) os)) l.of.next l.of.depth (λ w. ⊥);
   after : l.at < l.of.next;
   within : l.of.next ≤ length l.tokens;
-  low : l.of.depth ≤ 150;
+  low : l.of.depth ≤ most_depth + 22;
 }
 
 abbrev pub decreases-operators::postfix-loop-of : goal.decreases-operators::postfix-loop-of
