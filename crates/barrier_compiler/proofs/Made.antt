@@ -5,8 +5,8 @@ use Rattle.lam_resolve_tree.specs.Tree.{ResolvedTree}
 use Rattle.lam_bytecode.specs.Codes.{CodeTree}
 use Rattle.lam_meaning.specs.Long.{compiled}
 use Rattle.lam_resolve_laws.specs.Resolved.{resolved}
-use Rattle.barrier_compiler.specs.declared.emitting.CompileFault.{CompileFault}
-use Rattle.barrier_compiler.specs.declared.emitting.CompileFault.TheVariants.{CodeTooLong, NoMemory}
+use Rattle.barrier_compiler.specs.declared.generation.CompileFault.{CompileFault}
+use Rattle.barrier_compiler.specs.declared.generation.CompileFault.TheVariants.{CodeTooLong, NoMemory}
 use Rattle.barrier_compiler.specs.Faults.{IsFaultOf}
 use Rattle.barrier_compiler.specs.Compiled.{IsCompiledTo}
 

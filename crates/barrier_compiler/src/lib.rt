@@ -1,21 +1,21 @@
 //! The compiler: from a checked program to its code.
 //!
 //! It resolves names first (`lam_resolve`), and then gives each function and each region its operations by the scheme
-//! of `lam_meaning` (`emitting`). [`compile`] does both; that the code acts as the program is a clause of it.
+//! of `lam_meaning` (`generation`). [`compile`] does both; that the code acts as the program is a clause of it.
 //!
 //! A public promise rests on `compile` (clauses `ok`, `long`, `acts`): the code is the scheme's and acts as the
 //! program. What may be made faster stands in `barrier_compiler_ops` and `barrier_compiler_units`.
 #![tactic(auto)]
 
-mod emitting;
+mod generation;
 
 ghost use Rattle.std.specs.Prelude.{◌≡◌, ◌⊎◌, ℕ, Ok, Err, IfOk, IfErr};
 ghost use Rattle.lam_bytecode.specs.Codes.{IsCode};
 ghost use Rattle.region_check.specs.Seen.{checked_tree};
-ghost use Rattle.barrier_compiler.specs.declared.emitting.CompileFault.TheVariants.{CodeTooLong, NoMemory as no_memory};
+ghost use Rattle.barrier_compiler.specs.declared.generation.CompileFault.TheVariants.{CodeTooLong, NoMemory as no_memory};
 ghost use Rattle.barrier_compiler.specs.Compiled.{IsCompiledTo, ActsAsProgram};
 
-pub use emitting::{CompileFault, emit};
+pub use generation::{CompileFault, emit};
 use lam_bytecode::Code;
 use lam_meaning_laws::compiled_code_acts_as_its_source;
 use lam_resolve::resolve;

@@ -3,7 +3,7 @@
 use lam_bytecode::Op;
 
 /// A constant of a program.
-#[derive(Debug, PartialEq, Eq, Hash, Drop)]
+#[derive(Debug, PartialEq, Eq, PartialOrd, Ord, Drop)]
 pub enum Constant {
     Int(i64),
     Bool(bool),

@@ -4,7 +4,7 @@ ghost use Rattle.std.specs.Prelude.{◌≡◌, ◌<◌, ◌^◌, map, not, lengt
 ghost use Rattle.lam_bytecode.specs.Codes.{IsCode};
 ghost use Rattle.thinned_code.specs.Thinned.{staying_in};
 
-use crate::staying::Staying;
+use crate::remainder::Staying;
 use code_verify::redundant_barriers;
 use lam_bytecode::{Code, CodeUnit};
 use std::alloc::Global;

@@ -5,7 +5,7 @@
 //! one that stayed.
 //!
 //! `again` finds the operations that stay: all but the redundant barriers of each unit (`code_verify`). `units` builds
-//! the new code, where `staying` says which operations stay and `ops` where jumps go. `thinned_code_acts` has the laws
+//! the new code, where `remainder` says which operations stay and `ops` where jumps go. `thinned_code_acts` has the laws
 //! that thinned code acts as the code, and as the code's program. That a program's code has no break is a law of
 //! `compiled_code_guarded`.
 //!
@@ -16,7 +16,7 @@
 
 mod again;
 mod ops;
-mod staying;
+mod remainder;
 mod units;
 
 ghost use Rattle.std.specs.Prelude.{◌≡◌, IfOk};
@@ -30,7 +30,7 @@ use code_verify::is_guarded;
 use compiled_code_guarded::compiled_code_is_guarded;
 use guarded_code::Verified;
 use lam_bytecode::Code;
-pub use staying::Staying;
+pub use remainder::Staying;
 use std::alloc::Global;
 use thinned_code_acts::thinned_scheme_acts;
 pub use units::thin_code;

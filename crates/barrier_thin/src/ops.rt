@@ -4,7 +4,7 @@ ghost use Rattle.std.specs.Prelude.{◌≡◌, ◌++◌, false, map, get_or, IfO
 ghost use Rattle.thinned_code.specs.Thinned.{moved_op, sifted};
 ghost use Rattle.barrier_thin.specs.Addresses.{one_if};
 
-use crate::staying::Staying;
+use crate::remainder::Staying;
 use lam_bytecode::Op;
 use std::alloc::Global;
 use want_of_memory::NoMemory;

@@ -7,7 +7,7 @@ ghost use Rattle.thinned_code.specs.Thinned.{moved_kind, thin_unit, staying_in, 
 ghost use Rattle.barrier_thin.specs.Units.{thin_each};
 
 use crate::ops::moved_ops;
-use crate::staying::Staying;
+use crate::remainder::Staying;
 use lam_bytecode::{ArgKinds, Code, CodeUnit, FunctionName, Kinds, Ops, UnitKind};
 use lam_value::{Value, Values};
 use std::alloc::Global;

@@ -20,8 +20,8 @@ use Rattle.closed_terms.specs.Schedule.{slot_of, quantum, is_inside, next_ready,
 use Rattle.closed_terms.specs.Ends.{all_ended, most_turns, idle, end_at, IsEnded}
 use Rattle.closed_run.specs.declared.places.Place.{Place}
 use Rattle.closed_run.specs.Places.{Fits, HasRoom, with_turns}
-use Rattle.closed_run.specs.declared.going.Coming.{Coming}
-use Rattle.closed_run.specs.declared.going.Coming.TheVariants.{Next, Ends}
+use Rattle.closed_run.specs.declared.turns.Coming.{Coming}
+use Rattle.closed_run.specs.declared.turns.Coming.TheVariants.{Next, Ends}
 use Rattle.closed_run.specs.Going.{Comes, TakesRow, TakesOne}
 use Rattle.closed_run.proofs.ReadyLemmas.{not_all_ended, inside_label}
 use Rattle.closed_run.proofs.NextLemmas.{lt_of, le_true, le_false}

@@ -12,8 +12,8 @@ use Rattle.lam_machine_replay.specs.Keeping.{KeepsOneMore}
 use Rattle.closed_terms.specs.Schedule.{is_inside, next_slot}
 use Rattle.closed_terms.specs.Ends.{end_at}
 use Rattle.closed_run.specs.declared.places.Place.{Place}
-use Rattle.closed_run.specs.declared.going.Coming.{Coming}
-use Rattle.closed_run.specs.declared.going.Coming.TheVariants.{Next, Ends}
+use Rattle.closed_run.specs.declared.turns.Coming.{Coming}
+use Rattle.closed_run.specs.declared.turns.Coming.TheVariants.{Next, Ends}
 use Rattle.closed_run.specs.Places.{HasRoom, with_turns}
 
 -- it does not end here, and this is the next slot; or it ends here so

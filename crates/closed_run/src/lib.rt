@@ -12,23 +12,23 @@
 //!
 //! - `next`: who is next.
 //! - `places`: where a closed run stands between two turns.
-//! - `going`: whether the run goes on, private turns in a row, and one turn.
-//! - `ending`: a closed run to its end; `departing`: the first departure.
+//! - `turns`: whether the run goes on, private turns in a row, and one turn.
+//! - `ends`: a closed run to its end; `departures`: the first departure.
 //!
 //! A public promise rests on [`closed_kept`] (clauses `start`, `ended`, `kept`), [`closed_on`], [`first_departure`]
 //! (`ok`, `run`, `stops`) and [`next_of`]: the run is the closed one, and ends as it says. Free to change for speed:
 //! when the list of threads is looked at, and how many private turns go in a row.
 #![tactic(auto)]
 
-mod departing;
-mod ending;
-mod going;
+mod departures;
+mod ends;
 mod next;
 mod places;
+mod turns;
 
 pub use closed_terms::{Departure, End, Slot};
-pub use departing::first_departure;
-pub use ending::{Closed, ClosedRun, closed_kept, closed_on};
+pub use departures::first_departure;
+pub use ends::{Closed, ClosedRun, closed_kept, closed_on};
 pub use lam_machine_replay::{Keeps, RunFault, World};
 pub use next::next_of;
 pub use thread_host_run::RunParts;

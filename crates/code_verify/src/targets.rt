@@ -5,8 +5,8 @@ ghost use Rattle.guarded_code.specs.Changes.{goes};
 ghost use Rattle.guarded_code.specs.Breaks.{names_something, all_within, is_well_targeted, first_failing_op, start_places, first_bad_target};
 ghost use Rattle.code_verify.specs.Stops.{next_seen};
 
-use code_verify_tables::{function_takes, region_takes};
 use lam_bytecode::{Code, CodeUnit, Op, UnitKind};
+use thread_steps::{function_takes, region_takes};
 
 /// The addresses that may come next.
 #[derive(Clone, Copy, Debug, PartialEq, Eq)]
@@ -48,7 +48,7 @@ fn names_something(code: &Code, locals: u32, op: Op) -> bool
         Op::Load(n) | Op::Store(n) => n < locals,
         Op::Call(unit) | Op::Spawn(unit) => function_takes(code.units(), unit).is_some(),
         Op::NewObject(class) => (class as usize) < code.classes().len(),
-        Op::EnterRegion(region) => region_takes(code.units(), region).is_some(),
+        Op::EnterRegion(region) => region_takes(code, region).is_some(),
         _ => true,
     }
 }

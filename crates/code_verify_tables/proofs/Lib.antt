@@ -2,5 +2,4 @@ pub mod Deepest
 pub mod Fits
 pub mod Meets
 pub mod OnePlace
-pub mod Regions
 pub mod Tops

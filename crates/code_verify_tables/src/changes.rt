@@ -3,7 +3,7 @@
 ghost use Rattle.std.specs.Prelude.{◌≡◌, ◌∷◌, [], reverse, ◌++◌, slice_get, replicate, Some, None, unwrap_or};
 ghost use Rattle.lam_operators.specs.Words.{Word};
 ghost use Rattle.lam_builtins.specs.Rows.{plain_type, place_taken, places_taken, answer_given};
-ghost use Rattle.thread_steps.specs.Ops.{function_takes, is_region, region_in, region_takes, captures_of};
+ghost use Rattle.thread_steps.specs.Ops.{function_takes, region_in, region_takes};
 ghost use Rattle.guarded_code.specs.declared.known.ValueKind.TheVariants.{Number, Other};
 ghost use Rattle.lam_builtins.specs.Builtins.{row};
 ghost use Rattle.guarded_code.specs.Changes.{Only, Trades, anything, kind_of_value, kind_of_type, kind_of_place, kind_of_answer, kind_of_result, constant_kind, result_kind, places_of, change};
@@ -14,57 +14,13 @@ use guarded_code::{Access, ValueKind};
 use lam_builtins::{Answers, Arguments, Builtin, PlainType, Takes};
 use lam_bytecode::{Code, CodeUnit, Op, UnitKind};
 use lam_value::Value;
+use thread_steps::{function_takes, region_takes};
 
 const NUMBER: Place = Place::Only(ValueKind::Number);
 
 const TRUTH: Place = Place::Only(ValueKind::Truth);
 
 const OTHER: Place = Place::Only(ValueKind::Other);
-
-/// How many arguments the function with a number takes, `None` where there is no such function.
-pub fn function_takes(units: &[CodeUnit], unit: u32) -> Option<usize>
-    ensures { result ≡ function_takes (slice_get units.now unit) }
-{
-    match units.get(unit as usize) {
-        None => None,
-        Some(unit) => match &unit.kind {
-            UnitKind::Function { takes, .. } => Some(takes.as_slice().len()),
-            UnitKind::Region { .. } => None,
-        },
-    }
-}
-
-fn is_region(region: u32, kind: &UnitKind) -> bool
-    ensures { result ≡ is_region region kind.now }
-{
-    match kind {
-        UnitKind::Function { .. } => false,
-        UnitKind::Region { region: own, .. } => *own == region,
-    }
-}
-
-fn captures_of(kind: &UnitKind) -> u32
-    ensures { result ≡ captures_of kind.now }
-{
-    match kind {
-        UnitKind::Function { .. } => 0,
-        UnitKind::Region { captures, .. } => *captures,
-    }
-}
-
-/// How many locals a region captures, `None` where there is no such region.
-#[tactic(auto, using(crate::proofs::Regions::takes_skip, crate::proofs::Regions::takes_hit, crate::proofs::Regions::takes_end))]
-pub fn region_takes(units: &[CodeUnit], region: u32) -> Option<u32>
-    ensures { result ≡ region_takes (region_in region units.now) }
-{
-    for number in 0..units.len() {
-        let unit = &units[number];
-        if is_region(region, &unit.kind) {
-            return Some(captures_of(&unit.kind));
-        }
-    }
-    None
-}
 
 fn kind_of_value(value: &Value) -> ValueKind
     ensures { result ≡ kind_of_value value.now }
@@ -203,10 +159,10 @@ fn called_unit(units: &[CodeUnit], unit: u32) -> OpChange
     )
 }
 
-fn entered(units: &[CodeUnit], region: u32) -> OpChange
-    ensures { change_seen result ≡ Trades (anything (region_takes (region_in region units.now)) ++ Only Other ∷ Only Other ∷ []) None }
+fn entered(code: &Code, region: u32) -> OpChange
+    ensures { change_seen result ≡ Trades (anything (region_takes (region_in region code.now.units)) ++ Only Other ∷ Only Other ∷ []) None }
 {
-    let captures = match region_takes(units, region) {
+    let captures = match region_takes(code, region) {
         None => None,
         Some(count) => Some(count as usize),
     };
@@ -244,7 +200,7 @@ pub fn change_of(code: &Code, op: Op) -> OpChange
         Op::JumpIfFalse(_) => few(FewPlaces::One(TRUTH), None),
         Op::Throw => few(FewPlaces::One(NUMBER), None),
         Op::Call(unit) => called_unit(code.units(), unit),
-        Op::EnterRegion(region) => entered(code.units(), region),
+        Op::EnterRegion(region) => entered(code, region),
         Op::Spawn(unit) => spawned(code.units(), unit),
         Op::ReadBarrier(depth) => OpChange::Tests(Access::Reading, depth),
         Op::WriteBarrier(depth) => OpChange::Tests(Access::Writing, depth),

@@ -14,7 +14,7 @@ use crate::description::Description;
 use crate::kinds::is_tested;
 use crate::packed::PackedKnown;
 use crate::places::{OpChange, Places};
-use crate::writing::{
+use crate::transfer::{
     forgotten, fresh, is_copy, known_at, set_local, test_local, tested_copy, tested_operand,
 };
 use guarded_code::{Access, Operand, ValueKind};

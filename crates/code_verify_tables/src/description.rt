@@ -6,10 +6,10 @@ ghost use Rattle.guarded_code.specs.Changes.{Loads, Stores, Tests, Trades};
 ghost use Rattle.code_verify_tables.specs.Seen.{change_seen, places_seen};
 ghost use Rattle.code_verify_tables.specs.Leaves.{Leaves};
 
-use crate::meeting::{meet_locals, meet_stacks};
+use crate::joins::{meet_locals, meet_stacks};
 use crate::packed::PackedKnown;
 use crate::places::{OpChange, Places};
-use crate::writing::{
+use crate::transfer::{
     forget_copies, set_local, test_copies, test_local, test_operand, write_loaded, write_locals,
     write_operands, write_traded,
 };

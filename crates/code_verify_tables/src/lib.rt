@@ -6,7 +6,7 @@
 //! - `changes`: the table of what each operation takes and gives.
 //! - `description`: a description, and what an operation leaves of it.
 //! - `current`: a description that operations change in place.
-//! - `meeting`: what two paths leave where they meet.
+//! - `joins`: what two paths leave where they meet.
 //! - `kinds`: whether an operation finds operands that it takes, and an access a tested reference.
 //!
 //! `guarded_code` defines all of it; this crate computes it.
@@ -18,16 +18,16 @@
 mod changes;
 mod current;
 mod description;
+mod joins;
 mod kinds;
-mod meeting;
 mod packed;
 mod places;
-mod writing;
+mod transfer;
 
-pub use changes::{change_of, function_takes, region_takes};
+pub use changes::change_of;
 pub use current::Current;
 pub use description::Description;
 pub use kinds::{is_guarded, takes_kinds, tests_again};
 pub use packed::PackedKnown;
 pub use places::{FewPlaces, OpChange, Place, Places};
-pub use writing::{fresh, untested};
+pub use transfer::{fresh, untested};

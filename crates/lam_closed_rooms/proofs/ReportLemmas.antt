@@ -18,7 +18,7 @@ use Rattle.lam_main_replay.specs.declared.halt.Halt.TheVariants.{Refused, NoMemo
 use Rattle.lam_main_replay.specs.Halts.{refuses, Finds}
 use Rattle.lam_closed_plan.specs.Closes.{Asked, ClosesFrom, ClosesCode, Closes}
 use Rattle.lam_closed_rooms.specs.declared.Report.{Report}
-use Rattle.lam_closed_rooms.specs.declared.showing.Taken.{Taken}
+use Rattle.lam_closed_rooms.specs.declared.texts.Taken.{Taken}
 use Rattle.lam_closed_rooms.specs.Reports.{Reports}
 use Rattle.lam_closed_rooms.specs.Taken.{planned, Offers}
 

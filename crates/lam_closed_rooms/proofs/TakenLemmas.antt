@@ -33,7 +33,7 @@ use Rattle.lam_main_replay.specs.declared.viewer.Viewer.{Viewer}
 use Rattle.lam_main_replay.specs.declared.viewer.Viewer.TheVariants.{Observer, Auditor}
 use Rattle.lam_main_replay.specs.Asked.{lines_for}
 use Rattle.lam_closed_plan.specs.Closes.{Asked, base_word, IsOfClosed, ClosesOver, ClosesFrom}
-use Rattle.lam_closed_rooms.specs.declared.showing.Taken.{Taken}
+use Rattle.lam_closed_rooms.specs.declared.texts.Taken.{Taken}
 use Rattle.lam_closed_rooms.specs.Taken.{IsShown, planned, Offers}
 
 -- ---- the book

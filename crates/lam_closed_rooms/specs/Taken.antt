@@ -8,7 +8,7 @@ use Rattle.lam_main_replay.specs.Refusals.{Plan}
 use Rattle.lam_main_replay.specs.declared.halt.Halt.{Halt}
 use Rattle.lam_main_replay.specs.declared.halt.Halt.TheVariants.{Refused, NoMemory, ShelfFailed}
 use Rattle.lam_main_replay.specs.Halts.{refuses}
-use Rattle.lam_closed_rooms.specs.declared.showing.Taken.{Taken}
+use Rattle.lam_closed_rooms.specs.declared.texts.Taken.{Taken}
 
 -- this end, this text, and the book of the turns
 pub record IsShown (e : End) (text : Text) (turns : List ℕ) (taken : Taken) : Type 0 where

@@ -12,10 +12,10 @@
 //! code and the world are let go. The turns themselves are taken by `closed_run`.
 #![tactic(auto)]
 
-mod checking;
-mod departing;
-mod showing;
-mod writing;
+mod book_check;
+mod departures;
+mod output;
+mod texts;
 
 ghost use Rattle.std.specs.Prelude.{◌≡◌, ◌<◌, ◌≤◌, Some, IsTrue, IfErr, string_bytes};
 ghost use Rattle.lam_io.specs.Outside.{Rose, AllStay};
@@ -28,9 +28,9 @@ ghost use Rattle.lam_closed_plan.specs.Closes.{ClosesFrom, ClosesCode, Closes};
 ghost use Rattle.lam_closed_rooms.specs.Asked.{files_of, asked_of};
 ghost use Rattle.lam_closed_rooms.specs.Reports.{Reports};
 
-pub use crate::checking::check;
-use crate::showing::shown;
-use crate::writing::written;
+pub use crate::book_check::check;
+use crate::output::written;
+use crate::texts::shown;
 pub use closed_run::End;
 use closed_run::World;
 use guarded_code::Verified;

@@ -12,7 +12,7 @@
 #![tactic(auto)]
 
 mod fault;
-mod reading;
+mod layers;
 
 pub use fault::{Flaw, ProgramFault};
-pub use reading::{check_program, read_program};
+pub use layers::{check_program, read_program};

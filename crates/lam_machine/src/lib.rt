@@ -11,10 +11,10 @@
 //! private turns go in a row.
 #![tactic(auto)]
 
-mod asking;
+mod ask_turns;
 mod privately;
-mod stepping;
+mod steps;
 
 pub use lam_machine_world::{World, let_go_world};
 pub use privately::{step_privately, step_privately_for};
-pub use stepping::step;
+pub use steps::step;

@@ -7,7 +7,7 @@
 //! - `stores`: one of each store, which the threads of the machine share, with its copy.
 //! - `served`: services, and short ways to write them.
 //! - `effect`: effects, made of what an ask names.
-//! - `applying`: their application.
+//! - `application`: their application.
 //!
 //! A world is its stores and its threads (`specs/Parts`). `specs/Meaning` says what services mean: an effect is one of
 //! the definitions', and `effect_of` there says what it does.
@@ -16,12 +16,12 @@
 //! Free to change for speed: how an effect is applied.
 #![tactic(auto)]
 
-mod applying;
+mod application;
 mod effect;
 mod served;
 mod stores;
 
-pub use applying::apply;
+pub use application::apply;
 pub use effect::Effect;
 pub use lam_value::TAG_LIMIT;
 pub use served::Served;

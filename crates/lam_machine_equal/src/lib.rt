@@ -6,7 +6,7 @@
 //! - `outcomes`: faults, and how threads ended.
 //! - `contexts`: the contexts of threads with their calls.
 //! - `threads` and `worlds`: the rest.
-//! - `copying`: an equal code. `comparing`: whether two codes are equal.
+//! - `copies`: an equal code. `equality`: whether two codes are equal.
 //!
 //! Each comparison goes over both sides once, place by place, and takes no memory. A program's code is given once and
 //! kept where it is needed. This crate copies it for callers that keep it beside a run. It compares codes, part by
@@ -16,16 +16,16 @@
 //! equal. Free to change for speed: the order in which parts are compared and copied.
 #![tactic(auto)]
 
-mod comparing;
 mod contexts;
-mod copying;
+mod copies;
+mod equality;
 mod outcomes;
 mod threads;
 mod worlds;
 
-pub use comparing::same_code;
 pub use contexts::same_context;
-pub use copying::copy_code;
+pub use copies::copy_code;
+pub use equality::same_code;
 pub use lam_machine_world::lives;
 pub use outcomes::same_result;
 pub use threads::same_thread;

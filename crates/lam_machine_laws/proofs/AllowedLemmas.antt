@@ -12,20 +12,22 @@ use Rattle.lam_machine_effects.specs.Caps.{Caps}
 use Rattle.lam_machine_effects.specs.Changes.{MayChange, Covers, joined, used, change_test, covers_test}
 use Rattle.lam_value.specs.declared.values.Value.{Value}
 use Rattle.lam_value.specs.Homes.{home_of, name_of, count_in}
-use Rattle.lam_machine_effects.specs.Things.{slots_at}
+use Rattle.lam_machine_effects.specs.Things.{most_things, slots_at}
+use Rattle.lam_machine_effects.specs.Fault.TheVariants.{HomeFull}
 use Rattle.lam_machine_effects.specs.Ask.{Ask}
 use Rattle.lam_machine_effects.specs.Ask.TheVariants.{CopyTo, Enter}
 use Rattle.lam_machine_effects.specs.Codes.{CodeTree}
 use Rattle.lam_machine_effects.specs.Threads.{Context, Thread}
 use Rattle.lam_machine_effects.specs.Next.{Next, goes, asks, stuck, next_of}
 use Rattle.lam_machine_effects.specs.Worlds.{World, contexts_in}
-use Rattle.lam_machine_effects.specs.Serves.{Made, a_region, a_thing, made_label, Served}
+use Rattle.lam_machine_effects.specs.Serves.{Made, a_region, a_thing, made_label, Served, full, name_in}
 use Rattle.lam_machine_effects.specs.Serving.{renamed, served_by, publicly, serve}
 use Rattle.lam_machine_effects.specs.Turns.{is_ready, Moment, served, turn_by}
 use Rattle.lam_machine_effects.specs.Views.{goes_down, is_release, used_by}
 use Rattle.lam_machine_laws.proofs.FlowLemmas.{each_passes}
 use Rattle.lam_machine_laws.proofs.ThreadLemmas.{some_inj}
-use Rattle.lam_machine_laws.proofs.RowLemmas.{under_by, unless_by, on_thing_by, served_proper}
+use Rattle.lam_machine_laws.proofs.RowLemmas.{served_proper}
+use Rattle.lam_machine_laws.proofs.JudgedLemmas.{judged_by, tested}
 use Rattle.lam_machine_laws.proofs.TurnLemmas.{acts, only}
 use Rattle.lam_machine_laws.specs.Laws.{IsAllowed, ReleasesAreAllowed}
 
@@ -77,23 +79,19 @@ fair c n m h e = subst (λ m. first_failing (change_test c.caps c.label (made_la
 
 copy_fair : (w : World) (c : Context) (r : Value) (l : Label) → Fair c (served_by w c (CopyTo r l))
 copy_fair w c r l =
-    on_thing_by (Fair c) r _
-    (λ n e. under_by (Fair c) _ _
-    (λ t.
+    judged_by (Fair c) w c (CopyTo r l) (λ x e m q. none_made m q) (λ f e g m q. none_made m q)
+    (λ e g m q.
+    let n = name_in r in
+    let t = tested r (λ n. read_test c.label n.own ++ (change_test c.caps n.own l ++ change_test c.caps c.label l)) (λ n. full (count_in w.heap.counts (home_of c.label l)) most_things HomeFull) g e in
     let a = each_passes (read_test c.label n.own) (change_test c.caps n.own l ++ change_test c.caps c.label l) t in
     let b = each_passes (change_test c.caps n.own l) (change_test c.caps c.label l) a.1 in
     let home = home_of c.label l in
-    unless_by (Fair c) _ _ (λ m q. fair c (a_thing (name_of home (count_in w.heap.counts home)) (renamed r (name_of home (count_in w.heap.counts home))) (slots_at w.heap n)) m b.1 q) (λ f m q. none_made m q))
-    (λ x m q. none_made m q))
-    (λ f m q. none_made m q)
+    fair c (a_thing (name_of home (count_in w.heap.counts home)) (renamed r (name_of home (count_in w.heap.counts home))) (slots_at w.heap n)) m b.1 q)
 
 entry_fair : (w : World) (c : Context) (l : Label) (k : Caps) (region : ℕ) (args : List Value) → Fair c (served_by w c (Enter l k region args))
 entry_fair w c l k region args =
-    under_by (Fair c) _ _
-    (λ t.
-    let a = each_passes (change_test c.caps c.label l) (covers_test c.caps k) t in
-    unless_by (Fair c) _ _ (λ m q. fair c (a_region l k (c.depth + 1) region args) m a.0 q) (λ f m q. none_made m q))
-    (λ x m q. none_made m q)
+    judged_by (Fair c) w c (Enter l k region args) (λ x e m q. none_made m q) (λ f e g m q. none_made m q)
+    (λ e g m q. fair c (a_region l k (c.depth + 1) region args) m (each_passes (change_test c.caps c.label l) (covers_test c.caps k) e).0 q)
 
 no_release : (w : World) (c : Context) (a : Ask) (m : Made) {X : Type 0} → goes_down c.label (serve w c a).made ≡ false → (serve w c a).made ≡ Some m → goes_down c.label (Some m) ≡ true → X
 no_release w c a m above e down = absurd (true≢false (sym down ∙ ap (goes_down c.label) (sym e) ∙ above))

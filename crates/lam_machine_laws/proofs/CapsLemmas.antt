@@ -70,7 +70,7 @@ front_caps public code c i a (Failed f) h = refl
 abbrev EntersRight : Caps → Ask → Served → Type 0
 EntersRight k a d = EntersBelow k a d.answer
 
-done_enters : (w : World) (c : Context) (a : Ask) → first_failing (tests_of c a) ≡ None → EntersRight c.caps a (deed_by w c a)
+done_enters : (w : World) (c : Context) (a : Ask) → first_failing (tests_of w c a) ≡ None → EntersRight c.caps a (deed_by w c a)
 done_enters w c (ask.Enter l k region args) e = covers_passes c.caps k (each_passes (change_test c.caps c.label l) (covers_test c.caps k) e).1
 done_enters w c a e = tt
 
@@ -93,7 +93,7 @@ Spawns k e = Unit {0}
 abbrev SpawnsRight : Caps → Served → Type 0
 SpawnsRight k d = Spawns k d.effect
 
-done_spawns : (w : World) (c : Context) (a : Ask) → first_failing (tests_of c a) ≡ None → SpawnsRight c.caps (deed_by w c a)
+done_spawns : (w : World) (c : Context) (a : Ask) → first_failing (tests_of w c a) ≡ None → SpawnsRight c.caps (deed_by w c a)
 done_spawns w c (ask.Spawn unit args caps) e = covers_passes c.caps caps (each_passes (same_test c.label public_label) (covers_test c.caps caps) e).1
 done_spawns w c a e = tt
 

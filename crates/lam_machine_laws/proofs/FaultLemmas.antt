@@ -12,6 +12,7 @@ use Rattle.lam_machine_effects.specs.Codes.{CodeTree}
 use Rattle.lam_machine_effects.specs.Threads.{Phase, Bottom, Body, Catch, Context, Thread}
 use Rattle.lam_machine_effects.specs.Next.{asks, next_of, with_inside, faulted}
 use Rattle.lam_machine_effects.specs.Worlds.{World, thread_at, contexts_in, contexts_at}
+use Rattle.lam_machine_effects.specs.Serves.{under, unless}
 use Rattle.lam_machine_effects.specs.Serving.{serve}
 use Rattle.lam_machine_effects.specs.Turns.{Moment, is_ready, served, turn_by, step, and_then, moments}
 use Rattle.lam_machine_laws.proofs.ThreadLemmas.{some_inj}
@@ -25,6 +26,7 @@ use Rattle.lam_machine_laws.specs.Own.{done_by}
 
 -- to have a fault handled is always done
 handling_done : (w : World) (c : Context) (ph : Phase) (f : Fault) → (serve w c (handling ph f)).answer ≡ Done
+unfolding under unless
 handling_done w c Bottom f = refl
 handling_done w c (Body at) f = refl
 handling_done w c Catch f = refl

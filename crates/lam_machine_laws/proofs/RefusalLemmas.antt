@@ -14,7 +14,7 @@ use Rattle.lam_machine_effects.specs.Codes.{CodeTree}
 use Rattle.lam_machine_effects.specs.Threads.{Inside, Context, Thread}
 use Rattle.lam_machine_effects.specs.Next.{Next, goes, asks, stuck, next_of, with_inside, faulted, takes, result_after}
 use Rattle.lam_machine_effects.specs.Worlds.{World, thread_at, with_thread}
-use Rattle.lam_machine_effects.specs.Serves.{nothing, effect_of, Served}
+use Rattle.lam_machine_effects.specs.Serves.{nothing, effect_of, Served, under, unless}
 use Rattle.lam_machine_effects.specs.Serving.{served_by, publicly, serve}
 use Rattle.lam_machine_effects.specs.Turns.{is_ready, Moment, goes_on, served, turn_by, step}
 use Rattle.lam_machine_laws.proofs.ThreadLemmas.{some_inj}
@@ -52,14 +52,14 @@ quiet_row : (w : World) (c : Context) (a : Ask) → Quiet (served_by w c a)
 quiet_row w c a = judged_by Quiet w c a (λ x e h. (refl, refl)) (λ f e g h. (refl, refl)) (λ e g h. absurd (done_done w c a h))
 
 -- where an ask is refused, and where one of its tests fails
-to_rule : (w : World) (c : Context) (a : Ask) (x : Denied) → (served_by w c a).answer ≡ Refused x → first_failing (tests_of c a) ≡ Some x
+to_rule : (w : World) (c : Context) (a : Ask) (x : Denied) → (served_by w c a).answer ≡ Refused x → first_failing (tests_of w c a) ≡ Some x
 to_rule w c a x =
-    judged_by (λ (d : Served). d.answer ≡ Refused x → first_failing (tests_of c a) ≡ Some x) w c a
+    judged_by (λ (d : Served). d.answer ≡ Refused x → first_failing (tests_of w c a) ≡ Some x) w c a
     (λ y e q. e ∙ ap Some (refused_inj y x q)) (λ f e g q. absurd cc) (λ e g q. absurd (done_done w c a (subst IsFault (sym q) tt)))
 
-by_rule : (w : World) (c : Context) (a : Ask) (x : Denied) → first_failing (tests_of c a) ≡ Some x → (served_by w c a).answer ≡ Refused x
+by_rule : (w : World) (c : Context) (a : Ask) (x : Denied) → first_failing (tests_of w c a) ≡ Some x → (served_by w c a).answer ≡ Refused x
 by_rule w c a x =
-    let t = first_failing (tests_of c a) in
+    let t = first_failing (tests_of w c a) in
     judged_by (λ (d : Served). t ≡ Some x → d.answer ≡ Refused x) w c a
     (λ y e q. ap Refused (some_inj y x (sym e ∙ q))) (λ f e g q. none_some t x e q) (λ e g q. none_some t x e q)
 
@@ -75,6 +75,7 @@ EndsWell (End out) x = ⊥
 EndsWell a x = Unit {0}
 
 ends_well : (w : World) (c : Context) (a : Ask) → EndsWell a (serve w c a).answer
+unfolding under unless
 ends_well w c (End out) = tt
 ends_well w c a = tt
 

@@ -16,12 +16,12 @@ use Rattle.lam_machine_effects.specs.Ask.TheVariants as ask
 use Rattle.lam_machine_effects.specs.Fault.TheVariants.{Deep, HomeFull}
 use Rattle.lam_machine_effects.specs.Threads.{Context}
 use Rattle.lam_machine_effects.specs.Worlds.{World}
-use Rattle.lam_machine_effects.specs.Serves.{Served, full}
+use Rattle.lam_machine_effects.specs.Serves.{Served, full, name_in}
 use Rattle.lam_machine_effects.specs.Serving.{publicly, serve}
 use Rattle.lam_machine_effects.specs.Turns.{is_taken, is_ready}
 use Rattle.lam_machine_laws.proofs.Full.{not_full, no_fault}
 use Rattle.lam_machine_laws.proofs.JudgedLemmas.{RefersTo, judged_by, refers, followed, tested}
-use Rattle.lam_machine_laws.specs.Judged.{fault_by, name_in, deed_by}
+use Rattle.lam_machine_laws.specs.Judged.{fault_by, deed_by}
 use Rattle.lam_machine_laws.specs.Sound.{ThingLives, CopiesLiving}
 use Rattle.lam_machine_laws.specs.Tests.{tests_of}
 use Rattle.lam_machine_effects.specs.Parts.{stores_of}
@@ -57,7 +57,7 @@ module _ (w : World) (t : ℕ) (c : Context) where
   abbrev served : Context
   served = publicly w.public c
 
-  done_room : (a : Ask) → is_ready w t c a ≡ true → CopiesLiving w a → first_failing (tests_of served a) ≡ None → fault_by w served a ≡ None → Room t w (deed_by w served a)
+  done_room : (a : Ask) → is_ready w t c a ≡ true → CopiesLiving w a → first_failing (tests_of w served a) ≡ None → fault_by w served a ≡ None → Room t w (deed_by w served a)
   done_room (ask.New shape) r h e g = not_full _ _ _ g
   done_room (ask.CopyTo v l) r h e g =
       let fault = λ (n : Name). full (count_in w.heap.counts (home_of c.label l)) most_things HomeFull in

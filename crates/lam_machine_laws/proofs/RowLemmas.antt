@@ -1,12 +1,11 @@
 -- Each ask once: what its service makes and changes, where the acting context is unseen and where it is seen.
-use Rattle.std.proofs.Common.{◌≡◌, Bool, true, false, List, [], ◌∷◌, ◌++◌, Option, Some, None, refl, sym, ap, ◌∙◌, subst}
+use Rattle.std.proofs.Common.{◌≡◌, Bool, true, false, List, [], ◌∷◌, ◌++◌, Some, None, refl, sym, ap, ◌∙◌, subst}
 use Rattle.std.specs.Prelude.{not}
 use Rattle.std.specs.List.{AllByRecursion}
 use Rattle.std.proofs.Math.Bool.{true≢false}
 use Rattle.flow_labels.specs.declared.Label.{Label}
-use Rattle.flow_labels.specs.declared.Denied.{Denied}
 use Rattle.flow_labels.specs.Flow.{flows, public_label}
-use Rattle.flow_labels.specs.Failing.{Test, first_failing, read_test, write_test, same_test}
+use Rattle.flow_labels.specs.Failing.{first_failing, read_test, write_test, same_test}
 use Rattle.lam_machine_effects.specs.Caps.{Caps}
 use Rattle.lam_machine_effects.specs.Changes.{joined, change_test, covers_test}
 use Rattle.lam_value.specs.declared.names.Name.{Name}
@@ -19,46 +18,26 @@ use Rattle.lam_machine_effects.specs.Things.{most_things, slots_at, sort_of}
 use Rattle.labelled_files.specs.Trees.{next_name}
 use Rattle.lam_machine_effects.specs.Message.TheVariants as message
 use Rattle.lam_machine_effects.specs.MessageKind.TheVariants as sort_of_message
-use Rattle.lam_machine_effects.specs.Fault.{Fault}
-use Rattle.lam_machine_effects.specs.Fault.TheVariants.{Null, Deep, HomeFull}
-use Rattle.lam_machine_effects.specs.Answer.TheVariants.{Done, Refused, Failed}
+use Rattle.lam_machine_effects.specs.Fault.TheVariants.{Deep, HomeFull}
+use Rattle.lam_machine_effects.specs.Answer.TheVariants.{Done}
 use Rattle.lam_machine_effects.specs.Ask.{Ask}
 use Rattle.lam_machine_effects.specs.Ask.TheVariants.{Write, New, CopyTo, Mint, Enter, Caught, Suppressed, MonEnter, MonLeave, MakeFile, MakeDir, Remove, Append, Cut, MakePipe, Send, SendCaps, Receive, ReceiveCaps, Spawn, End}
 use Rattle.lam_machine_effects.specs.Threads.{Context}
 use Rattle.lam_machine_effects.specs.Worlds.{World}
-use Rattle.lam_machine_effects.specs.Serves.{Effect, takes_tag, sets_slot, adds_thing, adds_copy, takes_monitor, gives_back, drops, adds_file, adds_dir, removes, appends, cuts, sends, receives, Made, a_thing, a_file, a_dir, made_label, Served, answers, does, full, gives, makes, unless_denied, under, unless, on_thing}
-use Rattle.lam_machine_effects.specs.Serving.{publicly, reference, renamed, serve}
+use Rattle.lam_machine_effects.specs.Serves.{Effect, takes_tag, sets_slot, adds_thing, adds_copy, takes_monitor, gives_back, drops, adds_file, adds_dir, removes, appends, cuts, sends, receives, Made, a_thing, a_file, a_dir, made_label, Served, does, full, gives, makes, name_in}
+use Rattle.lam_machine_effects.specs.Serving.{adds, publicly, reference, renamed, serve}
 use Rattle.lam_machine_effects.specs.Turns.{may_ask, lists}
 use Rattle.lam_machine_effects.specs.Views.{goes_down}
 use Rattle.lam_machine_laws.proofs.FlowLemmas.{flows_refl, flows_trans, hidden_up, each_passes, read_passes, write_passes, same_passes, mint_passes}
 use Rattle.lam_machine_laws.proofs.EffectLemmas.{IsHidden, IsOpen}
 use Rattle.lam_machine_laws.specs.Isolation.{IsWellLabelled}
-use Rattle.lam_machine_laws.specs.Judged.{adds, deed_by, fault_by, name_in}
+use Rattle.lam_machine_laws.specs.Judged.{deed_by, fault_by}
 use Rattle.lam_machine_laws.specs.Tests.{tests_of}
 pub use Rattle.lam_machine_laws.proofs.JudgedLemmas.{RefersTo}
 use Rattle.lam_machine_laws.proofs.JudgedLemmas.{judged_by, refers, tested}
 use Rattle.lam_machine_laws.proofs.ThreadLemmas.{IsOwn, KeepsOwn, NoRegion, Fits, listed_own}
 
--- ---- what a service stands under
-
-pub under_by : (P : Served → Type 0) (t : Test) (d : Served) → (first_failing t ≡ None → P d) → ((x : Denied) → P (answers (Refused x))) → P (under t d)
-unfolding under
-under_by P t d h r = go (first_failing t) refl
-  where
-    go : (x : Option Denied) → first_failing t ≡ x → P (unless_denied x d)
-    go None e = h e
-    go (Some x) e = r x
-
-pub unless_by : (P : Served → Type 0) (x : Option Fault) (d : Served) → P d → ((f : Fault) → P (answers (Failed f))) → P (unless x d)
-unfolding unless
-unless_by P None d h r = h
-unless_by P (Some f) d h r = r f
-
-pub on_thing_by : (P : Served → Type 0) (r : Value) (go : Name → Served) → ((n : Name) → RefersTo r n → P (go n)) → ((f : Fault) → P (answers (Failed f))) → P (on_thing r go)
-unfolding on_thing
-on_thing_by P (Obj n) go h k = h n refl
-on_thing_by P (Arr n len) go h k = h n refl
-on_thing_by P v go h k = k Null
+-- ---- references
 
 own_by : (l : Label) (r : Value) (n : Name) → RefersTo r n → n.own ≡ l → IsOwn l r
 own_by l (Obj m) n e h = ap (λ (k : Name). k.own) e ∙ h
@@ -140,7 +119,7 @@ made_above k p d l t =
     let b = each_passes (write_test p d) (write_test p l ++ change_test k p l) a.1 in
     (write_passes p d b.0, write_passes p l (each_passes (write_test p l) (change_test k p l) b.1).0)
 
-deed_proper : (w : World) (c : Context) (a : Ask) → first_failing (tests_of (publicly w.public c) a) ≡ None → fault_by w (publicly w.public c) a ≡ None → IsProper w c a (deed_by w (publicly w.public c) a)
+deed_proper : (w : World) (c : Context) (a : Ask) → first_failing (tests_of w (publicly w.public c) a) ≡ None → fault_by w (publicly w.public c) a ≡ None → IsProper w c a (deed_by w (publicly w.public c) a)
 deed_proper w c (Write r at v) e g =
     let n = name_in r in
     let t = tested r (λ k. write_test c.label k.own) (λ k. None) g e in

@@ -9,7 +9,8 @@
 //!   Releases are allowed by capabilities that the acting context holds or that are public. No context gets
 //!   capabilities but by minting, receiving and entering, and no turn changes what is public. They also say what is
 //!   refused, and by which rule.
-//! - `specs/Judged`: each ask once, by its tests, its fault and its effect. Tables over all asks are read off from it.
+//! - `specs/Judged`: each ask is served by its row (`row` of `lam_machine_terms/specs/Serving`): its tests, its fault and
+//!   what is done. What holds of these three holds of the ask.
 //! - `turn_parts`: a turn that asks is its ask's service, with the answer's effect on the thread and its own on the
 //!   stores (`specs/Turned`). A service that is ready has room (`specs/Ready`).
 //! - `specs/Own`: a thread of a run is that thread with its own turns and the answers that it got.

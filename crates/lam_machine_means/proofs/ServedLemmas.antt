@@ -3,7 +3,6 @@ use Rattle.std.proofs.Common.{◌≡◌, ℕ, zero, suc, false, List, [], ◌∷
 use Rattle.std.specs.Prelude.{replicate, slice_get, slice_set, unwrap_or}
 use Rattle.std.specs.FinMap.{contains_key}
 use Rattle.flow_labels.specs.declared.Denied.{Denied}
-use Rattle.flow_labels.specs.Failing.{Test}
 use Rattle.lam_value.specs.declared.names.Name.{Name}
 use Rattle.lam_value.specs.declared.values.Value.{Value}
 use Rattle.lam_value.specs.declared.values.Value.TheVariants.{Nothing, Obj, Arr, File, Dir}
@@ -20,6 +19,7 @@ use Rattle.labelled_pipes.specs.Queues.{waiting_at}
 use Rattle.lam_builtins.specs.Types.{int, bytes, caps, file, dir}
 use Rattle.lam_resolve_tree.specs.Tree.{ResolvedType}
 use Rattle.lam_asks.specs.declared.fault.Fault.{Fault}
+use Rattle.lam_asks.specs.declared.fault.Fault.TheVariants.{NoEntry}
 use Rattle.lam_asks.specs.declared.answer.Outcome.{Outcome}
 use Rattle.lam_asks.specs.declared.answer.Outcome.TheVariants as outcome
 use Rattle.lam_asks.specs.declared.answer.Answer.TheVariants.{Val, Refused, Failed}
@@ -29,12 +29,13 @@ use Rattle.lam_bytecode.specs.Codes.{CodeTree}
 use Rattle.thread_steps.specs.Threads.{Inside, Context, Thread}
 use Rattle.thread_steps.specs.Next.{Next, goes, asks, stuck, next_of, with_inside, started, result_after, takes}
 use Rattle.lam_machine_valid.specs.Worlds.{World, thread_at, result_in, result_at, with_thread}
-use Rattle.lam_machine_runs.specs.Serves.{Effect, sets_slot, adds_copy, adds_thread, effect_of, Served, answers, under, unless, on_thing}
-use Rattle.lam_machine_valid.specs.Serving.{slot_at, renamed, opened, received, ended_with, serve}
+use Rattle.lam_machine_runs.specs.Serves.{Effect, sets_slot, adds_copy, adds_thread, effect_of, Served, answers, does}
+use Rattle.lam_machine_valid.specs.Serving.{slot_at, adds, renamed, where_none, found, received, child_fault, value_of_end, publicly, serve}
+use Rattle.lam_machine_valid.specs.Judged.{fault_by, deed_by}
 use Rattle.lam_machine_valid.specs.Turns.{is_ready, Moment, goes_on, served, turn_by}
 use Rattle.lam_machine_valid.specs.Valid.{AreSoundStores}
 use Rattle.lam_machine_valid.proofs.ThreadLemmas.{some_inj}
-use Rattle.lam_machine_valid.proofs.LamMachineLawsRowLemmas.{under_by, unless_by, on_thing_by}
+use Rattle.lam_machine_valid.proofs.JudgedLemmas.{judged_by}
 use Rattle.lam_machine_valid.proofs.TurnLemmas.{acts, only}
 use Rattle.lam_machine_valid.specs.Laws.{LeadsTo}
 use Rattle.lam_machine_valid.proofs.NextLemmas.{followed}
@@ -58,22 +59,6 @@ module _ (classes : Classes) (G : Typing) (code : CodeTree) (t : ℕ) (w : World
 
   failed : (a : Ask) (f : Fault) → Typed a (answers (Failed f))
   failed a f = record { typing = G; more = λ n x e. e; slots = typed; answer = tt }
-
-  ruled : (a : Ask) (test : Test) (d : Served) → Typed a d → Typed a (under test d)
-  ruled a test d h = under_by (Typed a) test d (λ x. h) (refused a)
-
-  unfailing : (a : Ask) (f : Option Fault) (d : Served) → Typed a d → Typed a (unless f d)
-  unfailing a f d h = unless_by (Typed a) f d h (failed a)
-
-  -- a test, and then a fault
-  both : (a : Ask) (test : Test) (f : Option Fault) (d : Served) → Typed a d → Typed a (under test (unless f d))
-  both a test f d h = ruled a test (unless f d) (unfailing a f d h)
-
-  leading : (a : Ask) (r : Value) (go : Name → Served) → ((n : Name) → Typed a (go n)) → Typed a (on_thing r go)
-  leading a r go h = on_thing_by (Typed a) r go (λ n e. h n) (failed a)
-
-  through : (a : Ask) (r : Value) (n : Name) (go : Name → Served) → LeadsTo r n → Typed a (go n) → Typed a (on_thing r go)
-  through a r n go e h = subst (Typed a) (sym (followed r n go e)) h
 
   slot_typed : (n : Name) (x : Thing) (at : ℕ) (u : ResolvedType) → G n ≡ Some x → slice_get (slot_types classes x) at ≡ Some u → Is G u (slot_at w.heap n at)
   slot_typed n x at u is e =
@@ -116,71 +101,74 @@ module _ (classes : Classes) (G : Typing) (code : CodeTree) (t : ℕ) (w : World
   caps_typed (message.Caps k ∷ ms) = refl
   caps_typed ms = refl
 
-  opened_typed : (u : ResolvedType) (refer : Name → Value) (x : Option Name) → ((n : Name) → Is G u (refer n)) → IsAnswer G u (opened refer x)
-  opened_typed u refer None h = tt
-  opened_typed u refer (Some n) h = h n
+  found_typed : (u : ResolvedType) (refer : Name → Value) (x : Option Name) → ((n : Name) → Is G u (refer n)) → where_none x NoEntry ≡ None → Is G u (found refer x)
+  found_typed u refer None h g = absurd cc
+  found_typed u refer (Some n) h g = h n
 
   number_typed : (v : Value) → IsNumber (outcome.Value v) → Is G int v
   number_typed v h = subst (Is G int) (sym h.1) refl
 
-  joined_typed : (x : Option Outcome) → ((r : Outcome) → x ≡ Some r → IsNumber r) → IsAnswer G int (ended_with x)
-  joined_typed None h = tt
-  joined_typed (Some (outcome.Value v)) h = number_typed v (h (outcome.Value v) refl)
-  joined_typed (Some (outcome.Failed f)) h = tt
+  joined_typed : (x : Option Outcome) → ((r : Outcome) → x ≡ Some r → IsNumber r) → child_fault x ≡ None → Is G int (value_of_end x)
+  joined_typed None h g = absurd cc
+  joined_typed (Some (outcome.Value v)) h g = number_typed v (h (outcome.Value v) refl)
+  joined_typed (Some (outcome.Failed f)) h g = absurd cc
+
+  -- nothing changes on the heap, and the answer is typed
+  still : (a : Ask) (d : Served) → AreSlots classes G (effect_of code t d.effect w).heap.slots → IsAnswer G (given_type wanted a) d.answer → Typed a d
+  still a d s h = record { typing = G; more = λ n x e. e; slots = s; answer = h }
 
   -- ---- the rows
 
-  row : (a : Ask) → IsAsk classes G wanted a → Typed a (serve w c a)
-  row (ask.Read r at) h =
-      through (ask.Read r at) r h.0 _ h.2 (ruled (ask.Read r at) _ (answers (Val (slot_at w.heap h.0 at))) (record { typing = G; more = λ n x e. e; slots = typed; answer = slot_typed h.0 h.1 at wanted h.3 h.4 }))
-  row (ask.Write r at v) h =
-      through (ask.Write r at v) r h.1.0 _ h.1.2 (ruled (ask.Write r at v) _ _
-      (record { typing = G; more = λ n x e. e; slots = set_typed classes G w.heap h.1.0 h.1.1 at h.0 v typed h.1.3 h.1.4 h.2; answer = tt }))
-  row (ask.New (Class k fields)) h =
+  -- the context as it is served: what is public counts as held
+  abbrev acting : Context
+  acting = publicly w.public c
+
+  deed : (a : Ask) → IsAsk classes G wanted a → fault_by w acting a ≡ None → Typed a (deed_by w acting a)
+  deed (ask.Read r at) h g = subst (λ n. Typed (ask.Read r at) (answers (Val (slot_at w.heap n at)))) (sym (followed r h.0 h.2)) (still (ask.Read r at) (answers (Val (slot_at w.heap h.0 at))) typed (slot_typed h.0 h.1 at wanted h.3 h.4))
+  deed (ask.Write r at v) h g =
+      subst (λ n. Typed (ask.Write r at v) (does (sets_slot n at v))) (sym (followed r h.1.0 h.1.2))
+      (still (ask.Write r at v) (does (sets_slot h.1.0 at v)) (set_typed classes G w.heap h.1.0 h.1.1 at h.0 v typed h.1.3 h.1.4 h.2) tt)
+  deed (ask.New (Class k fields)) h g =
       let home = home_of c.label c.label in
       let x = an_object k in
       let H = with_name G (next_in home) x in
-      unfailing (ask.New (Class k fields)) _ _ (record {
+      record {
         typing = H;
         more = name_extends classes G w.heap.slots typed (next_in home) (fresh home) x;
         slots = made_typed classes G w.heap.slots typed (next_in home) (fresh home) x fields (subst (Are H (fields_in (slice_get classes k))) (sym h.1) (first_fields H (fields_in (slice_get classes k))));
         answer = (k, name_there G (next_in home) x, h.0);
-      })
-  row (ask.New (Array k len)) h =
+      }
+  deed (ask.New (Array k len)) h g =
       let home = home_of c.label c.label in
       let x = an_array h.0 len in
       let H = with_name G (next_in home) x in
-      unfailing (ask.New (Array k len)) _ _ (record {
+      record {
         typing = H;
         more = name_extends classes G w.heap.slots typed (next_in home) (fresh home) x;
         slots = made_typed classes G w.heap.slots typed (next_in home) (fresh home) x (replicate len (zero_of k)) (subst (λ j. Are H (replicate len h.0) (replicate len (zero_of j))) (sym h.2) (first_elements H h.0 len));
         answer = (h.0, name_there G (next_in home) x, h.1);
-      })
-  row (ask.CopyTo r l) h =
-      let q = copy_typed (home_of c.label l) r h.0 h.1 h.2 in
-      through (ask.CopyTo r l) r h.0 _ h.1 (both (ask.CopyTo r l) _ _ _ (record { typing = q.0; more = q.1; slots = q.2; answer = q.3 }))
-  row ask.Mint h = both ask.Mint _ _ _ (record { typing = G; more = λ n x e. e; slots = typed; answer = refl })
-  row (ask.Enter l k region args) h = both (ask.Enter l k region args) _ _ _ (record { typing = G; more = λ n x e. e; slots = typed; answer = tt })
-  row (ask.MonEnter r) h =
-      leading (ask.MonEnter r) r _ (λ n. both (ask.MonEnter r) _ _ _ (record { typing = G; more = λ n x e. e; slots = typed; answer = tt }))
-  row (ask.MonLeave r) h = leading (ask.MonLeave r) r _ (λ n. record { typing = G; more = λ n x e. e; slots = typed; answer = tt })
-  row (ask.MakeFile d text l) h = both (ask.MakeFile d text l) _ _ _ (record { typing = G; more = λ n x e. e; slots = typed; answer = refl })
-  row (ask.MakeDir d text l) h = both (ask.MakeDir d text l) _ _ _ (record { typing = G; more = λ n x e. e; slots = typed; answer = refl })
-  row (ask.OpenFile d text) h = ruled (ask.OpenFile d text) _ _ (record { typing = G; more = λ n x e. e; slots = typed; answer = opened_typed file (λ n. File n) _ (λ n. refl) })
-  row (ask.OpenDir d text) h = ruled (ask.OpenDir d text) _ _ (record { typing = G; more = λ n x e. e; slots = typed; answer = opened_typed dir (λ n. Dir n) _ (λ n. refl) })
-  row (ask.Remove d text) h = both (ask.Remove d text) _ _ _ (record { typing = G; more = λ n x e. e; slots = typed; answer = tt })
-  row (ask.FileRead f at n) h = ruled (ask.FileRead f at n) _ _ (record { typing = G; more = λ n x e. e; slots = typed; answer = refl })
-  row (ask.FileLength f) h = ruled (ask.FileLength f) _ _ (record { typing = G; more = λ n x e. e; slots = typed; answer = refl })
-  row (ask.Append f bs) h = ruled (ask.Append f bs) _ _ (record { typing = G; more = λ n x e. e; slots = typed; answer = tt })
-  row (ask.Cut f len) h = ruled (ask.Cut f len) _ _ (record { typing = G; more = λ n x e. e; slots = typed; answer = tt })
-  row (ask.MakePipe l) h = both (ask.MakePipe l) _ _ _ (record { typing = G; more = λ n x e. e; slots = typed; answer = refl })
-  row (ask.Send p bs) h = ruled (ask.Send p bs) _ _ (record { typing = G; more = λ n x e. e; slots = typed; answer = tt })
-  row (ask.SendCaps p k) h = ruled (ask.SendCaps p k) _ _ (record { typing = G; more = λ n x e. e; slots = typed; answer = tt })
-  row (ask.Receive p) h = ruled (ask.Receive p) _ _ (record { typing = G; more = λ n x e. e; slots = typed; answer = bytes_typed (waiting_at w.pipes p) })
-  row (ask.ReceiveCaps p) h = ruled (ask.ReceiveCaps p) _ _ (record { typing = G; more = λ n x e. e; slots = typed; answer = caps_typed (waiting_at w.pipes p) })
-  row (ask.Spawn unit args k) h = both (ask.Spawn unit args k) _ _ _ (record { typing = G; more = λ n x e. e; slots = typed; answer = refl })
-  row (ask.Join u) h = ruled (ask.Join u) _ _ (record { typing = G; more = λ n x e. e; slots = typed; answer = joined_typed (result_at w u) (results u) })
-  row a h = record { typing = G; more = λ n x e. e; slots = typed; answer = tt }
+      }
+  deed (ask.CopyTo r l) h g =
+      let home = home_of c.label l in
+      let q = copy_typed home r h.0 h.1 h.2 in
+      subst (λ n. Typed (ask.CopyTo r l) (adds w home (slots_at w.heap n) (renamed r) (adds_copy n home))) (sym (followed r h.0 h.1))
+      (record { typing = q.0; more = q.1; slots = q.2; answer = q.3 })
+  deed ask.Mint h g = still ask.Mint _ typed refl
+  deed (ask.MakeFile d text l) h g = still (ask.MakeFile d text l) _ typed refl
+  deed (ask.MakeDir d text l) h g = still (ask.MakeDir d text l) _ typed refl
+  deed (ask.OpenFile d text) h g = still (ask.OpenFile d text) _ typed (found_typed file (λ n. File n) _ (λ n. refl) g)
+  deed (ask.OpenDir d text) h g = still (ask.OpenDir d text) _ typed (found_typed dir (λ n. Dir n) _ (λ n. refl) g)
+  deed (ask.FileRead f at n) h g = still (ask.FileRead f at n) _ typed refl
+  deed (ask.FileLength f) h g = still (ask.FileLength f) _ typed refl
+  deed (ask.MakePipe l) h g = still (ask.MakePipe l) _ typed refl
+  deed (ask.Receive p) h g = still (ask.Receive p) _ typed (bytes_typed (waiting_at w.pipes p))
+  deed (ask.ReceiveCaps p) h g = still (ask.ReceiveCaps p) _ typed (caps_typed (waiting_at w.pipes p))
+  deed (ask.Spawn unit args k) h g = still (ask.Spawn unit args k) _ typed refl
+  deed (ask.Join u) h g = still (ask.Join u) _ typed (joined_typed (result_at w u) (results u) g)
+  deed a h g = record { typing = G; more = λ n x e. e; slots = typed; answer = tt }
+
+  row : (a : Ask) → IsAsk classes G wanted a → Typed a (serve w c a)
+  row a h = judged_by (Typed a) w acting a (λ x e. refused a x) (λ f e g. failed a f) (λ e g. deed a h g)
 
 -- ---- results
 

@@ -8,21 +8,23 @@ use Rattle.lam_value.specs.declared.names.Name.{Name}
 use Rattle.lam_value.specs.declared.values.Value.{Value}
 use Rattle.lam_value.specs.declared.values.Value.TheVariants.{Obj, Arr}
 use Rattle.lam_value.specs.Homes.{Home, home_of, name_of, count_in}
-use Rattle.labelled_heap.specs.Things.{Things, slots_at, with_copy}
+use Rattle.labelled_heap.specs.Things.{Things, most_things, slots_at, with_copy}
 use Rattle.lam_asks.specs.declared.answer.Answer.{Answer}
 use Rattle.lam_asks.specs.declared.answer.Answer.TheVariants.{Entered, Val}
 use Rattle.lam_asks.specs.declared.answer.What.TheVariants.{Asked}
+use Rattle.lam_asks.specs.declared.fault.Fault.TheVariants.{HomeFull}
 use Rattle.lam_asks.specs.declared.ask.Ask.{Ask}
 use Rattle.lam_asks.specs.declared.ask.Ask.TheVariants.{CopyTo, Enter}
 use Rattle.lam_bytecode.specs.Codes.{CodeTree}
 use Rattle.thread_steps.specs.Threads.{Inside, Context, Thread}
 use Rattle.thread_steps.specs.Next.{Next, goes, asks, stuck, next_of, takes}
 use Rattle.lam_machine_terms.specs.Worlds.{World, thread_at, contexts_in, with_thread}
-use Rattle.lam_machine_terms.specs.Serves.{Served}
-use Rattle.lam_machine_terms.specs.Serving.{renamed, serve}
+use Rattle.lam_machine_terms.specs.Serves.{Served, full, name_in}
+use Rattle.lam_machine_terms.specs.Serving.{renamed, publicly, serve}
 use Rattle.lam_machine_terms.specs.Turns.{is_ready, Moment, served, turn_by}
 use Rattle.lam_machine_laws.proofs.ThreadLemmas.{some_inj}
-use Rattle.lam_machine_laws.proofs.RowLemmas.{under_by, unless_by, RefersTo, on_thing_by, may_release, served_proper}
+use Rattle.lam_machine_laws.proofs.RowLemmas.{RefersTo, may_release, served_proper}
+use Rattle.lam_machine_laws.proofs.JudgedLemmas.{judged_by, refers}
 use Rattle.lam_machine_laws.proofs.TurnLemmas.{acts, only}
 use Rattle.lam_machine.proofs.StoreLemmas.{there_now}
 use Rattle.audit_log_notes.specs.declared.Content.TheVariants as content
@@ -56,32 +58,26 @@ module _ (code : CodeTree) (w : World) (t : ℕ) (th : Thread) (c : Context) (re
 
   entry_told : (l : Label) (k : Caps) (region : ℕ) (args : List Value) → Tells (Enter l k region args) (serve w c (Enter l k region args))
   entry_told l k region args =
-      under_by (Tells (Enter l k region args)) _ _
-      (λ x. unless_by (Tells (Enter l k region args)) _ _
-      (record {
+      judged_by (Tells (Enter l k region args)) w (publicly w.public c) (Enter l k region args) (λ x e. refl) (λ f e g. refl)
+      (λ e g. record {
         content = ap (λ d. Some (content.Context l k d region args)) (sym (depth_there w t th (takes code th c rest i (Enter l k region args) Entered) at));
         by = refl;
         shown = λ o. refl;
         down = refl;
       })
-      (λ f. refl))
-      (λ x. refl)
 
   copy_told : (r : Value) (l : Label) → Tells (CopyTo r l) (serve w c (CopyTo r l))
   copy_told r l =
       let home = home_of c.label l in
-      on_thing_by (Tells (CopyTo r l)) r _
-      (λ n e. under_by (Tells (CopyTo r l)) _ _
-      (λ x. unless_by (Tells (CopyTo r l)) _ _
-      (record {
-        content = ap (λ s. Some (content.Thing (renamed r (name_of home (count_in w.heap.counts home))) s)) (sym (copied_slots w.heap n home r e));
+      judged_by (Tells (CopyTo r l)) w (publicly w.public c) (CopyTo r l) (λ x e. refl) (λ f e g. refl)
+      (λ e g. record {
+        content =
+            ap (λ s. Some (content.Thing (renamed r (name_of home (count_in w.heap.counts home))) s))
+            (sym (copied_slots w.heap (name_in r) home r (refers r (λ n. full (count_in w.heap.counts home) most_things HomeFull) g)));
         by = refl;
         shown = λ o. refl;
         down = refl;
       })
-      (λ f. refl))
-      (λ x. refl))
-      (λ f. refl)
 
   row_told : (a : Ask) → Tells a (serve w c a)
   row_told (CopyTo r l) = copy_told r l

@@ -1,6 +1,6 @@
 -- A row that reads some parts of a world and of a context serves its ask in each world and context with these parts. What a
 -- row is given as capabilities are those of the context and the public ones together.
-use Rattle.std.proofs.Common.{◌≡◌, ℕ, List, length, Option, Result, Ok, Err, IfOk, sym, ap, subst, ◌∙◌}
+use Rattle.std.proofs.Common.{◌≡◌, ℕ, List, [], length, Option, None, Result, Ok, Err, IfOk, sym, ap, subst, ◌∙◌}
 use Rattle.want_of_memory.specs.declared.NoMemory.{NoMemory}
 use Rattle.flow_labels.specs.declared.Label.{Label}
 use Rattle.capabilities.specs.declared.Caps.{Caps}
@@ -11,11 +11,12 @@ use Rattle.lam_asks.specs.declared.ask.Ask.{Ask}
 use Rattle.lam_asks.specs.declared.ask.Ask.TheVariants.{Join}
 use Rattle.thread_steps.specs.Threads.{Context}
 use Rattle.lam_machine_effects.specs.Worlds.{World, result_at}
-use Rattle.lam_machine_effects.specs.Serves.{drops, does}
+use Rattle.lam_machine_effects.specs.Serves.{drops, does, under, unless}
 use Rattle.lam_machine_effects.specs.Serving.{publicly, served_by, serve}
 use Rattle.lam_machine_effects.specs.declared.stores.Stores.{Stores}
 use Rattle.lam_machine_effects.specs.declared.served.Served.{Served}
 use Rattle.lam_machine_effects.specs.Meaning.{DoesAs}
+use Rattle.lam_machine_rows.proofs.RowLemmas.{plain_as}
 use Rattle.lam_machine_rows.specs.Acting.{Acting}
 use Rattle.lam_machine_rows.specs.Rows.{Serves, with_tags, with_heap, with_monitors, with_files, with_pipes, at_label, acting_by, at_depth}
 use Rattle.lam_machine_rows.specs.Serves.{ReadsWorld}
@@ -81,8 +82,8 @@ module _ (a : Ask) (s : Stores) (n : ℕ) (o : Option Outcome) (who : Acting) wh
         ∙ ap (λ (t : Stores). at_depth c.label (joined c.caps t.public) c.depth (publicly w.public c)) (sym h.stores))
 
   -- a row that gives back the monitors of the context
-  pub released : (ns : List Name) (r : Result Served NoMemory) → ns ≡ who.held → IfOk r (λ d. DoesAs d (does (drops ns))) → IfOk r (λ d. (w : World) (c : Context) → ReadsWorld w c a s n o who → DoesAs d (does (drops c.held)))
-  released ns (Ok d) e h = λ w c k. subst (λ ms. DoesAs d (does (drops ms))) (e ∙ ap (λ (x : Acting). x.held) (sym k.acting)) h
+  pub released : (ns : List Name) (r : Result Served NoMemory) → ns ≡ who.held → IfOk r (λ d. DoesAs d (does (drops ns))) → IfOk r (λ d. (w : World) (c : Context) → ReadsWorld w c a s n o who → DoesAs d (under [] (unless None (does (drops c.held)))))
+  released ns (Ok d) e h = λ w c k. plain_as d (does (drops c.held)) (subst (λ ms. DoesAs d (does (drops ms))) (e ∙ ap (λ (x : Acting). x.held) (sym k.acting)) h)
   released ns (Err e) f h = tt
 
   -- a row that reads how many threads there are

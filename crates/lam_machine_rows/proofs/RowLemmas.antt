@@ -1,5 +1,5 @@
 -- What a row owes at each of its returns: what its service stands under, and the service itself.
-use Rattle.std.proofs.Common.{◌≡◌, Option, Some, None, Result, Ok, Err, IfOk, refl, sym, ap, subst}
+use Rattle.std.proofs.Common.{◌≡◌, [], Option, Some, None, Result, Ok, Err, IfOk, refl, sym, ap, subst}
 use Rattle.want_of_memory.specs.declared.NoMemory.{NoMemory}
 use Rattle.flow_labels.specs.declared.Denied.{Denied}
 use Rattle.flow_labels.specs.Failing.{Test, first_failing}
@@ -8,17 +8,20 @@ use Rattle.lam_value.specs.declared.values.Value.{Value}
 use Rattle.lam_value.specs.declared.values.Value.TheVariants.{Obj, Arr}
 use Rattle.lam_asks.specs.declared.fault.Fault.{Fault}
 use Rattle.lam_asks.specs.declared.fault.Fault.TheVariants.{Null}
+use Rattle.lam_asks.specs.declared.answer.Outcome.{Outcome}
+use Rattle.lam_asks.specs.declared.answer.Outcome.TheVariants as outcome
 use Rattle.lam_asks.specs.declared.answer.Answer.{Answer}
 use Rattle.lam_asks.specs.declared.answer.Answer.TheVariants.{Done, Val, Refused, Failed}
 use Rattle.thread_steps.specs.Threads.{Context}
 use Rattle.lam_machine_effects.specs.Worlds.{World}
 use Rattle.lam_machine_effects.specs.Serves as told
-use Rattle.lam_machine_effects.specs.Serves.{answers, does, gives, makes, unless_denied, under, unless, on_thing, Made}
+use Rattle.lam_machine_effects.specs.Serves.{answers, does, gives, makes, unless_denied, under, unless, of_thing, at_thing, name_in, Made}
 use Rattle.lam_machine_effects.specs.declared.served.Served.{Served}
 use Rattle.lam_machine_effects.specs.declared.effect.Effect.{Effect}
 use Rattle.lam_machine_effects.specs.declared.effect.Effect.TheVariants.{Nothing}
 use Rattle.lam_machine_effects.specs.Meaning.{meaning, DoesAs}
-use Rattle.lam_machine_rows.specs.Rows.{thing_of}
+use Rattle.lam_machine_effects.specs.Serving.{child_fault, value_of_end}
+use Rattle.lam_machine_rows.specs.Rows.{thing_of, ended_with}
 
 some_inj : {A : Type 0} (x y : A) → Some x ≡ Some y → x ≡ y
 some_inj x y e = cc
@@ -52,17 +55,41 @@ pub holds_as : (d : Served) (o : Option Fault) (e : told.Served) → None ≡ o 
 unfolding unless
 holds_as d o e there h = subst (λ (y : Option Fault). DoesAs d (unless y e)) there h
 
-pub null_as : (d : Served) (r : Value) (go : Name → told.Served) → d ≡ record { answer = Failed Null; effect = Nothing } → None ≡ thing_of r → DoesAs d (on_thing r go)
-unfolding on_thing
-null_as d (Obj n) go is e = absurd cc
-null_as d (Arr n len) go is e = absurd cc
-null_as d r go is e = answers_as d (Failed Null) (Failed Null) is refl
+-- a row without a fault, and one without a test
+pub clear_as : (d : Served) (t : Test) (e : told.Served) → None ≡ first_failing t → DoesAs d e → DoesAs d (under t (unless None e))
+clear_as d t e first h = passes_as d t (unless None e) first (holds_as d None e refl h)
 
-pub thing_as : (d : Served) (r : Value) (n : Name) (go : Name → told.Served) → Some n ≡ thing_of r → DoesAs d (go n) → DoesAs d (on_thing r go)
-unfolding on_thing
-thing_as d (Obj m) n go e h = subst (λ k. DoesAs d (go k)) (some_inj n m e) h
-thing_as d (Arr m len) n go e h = subst (λ k. DoesAs d (go k)) (some_inj n m e) h
-thing_as d r n go e h = absurd cc
+pub untested_as : (d : Served) (e : told.Served) → DoesAs d e → DoesAs d (under [] e)
+untested_as d e h = passes_as d [] e refl h
+
+pub plain_as : (d : Served) (e : told.Served) → DoesAs d e → DoesAs d (under [] (unless None e))
+plain_as d e h = clear_as d [] e refl h
+
+-- a row of a reference
+pub null_as : (d : Served) (r : Value) (test : Name → Test) (f : Name → Option Fault) (e : told.Served) → d ≡ record { answer = Failed Null; effect = Nothing } → None ≡ thing_of r → DoesAs d (under (of_thing r test) (unless (at_thing r f) e))
+null_as d (Obj n) test f e is there = absurd cc
+null_as d (Arr n len) test f e is there = absurd cc
+null_as d r test f e is there = passes_as d [] (unless (Some Null) e) refl (fails_as d (Some Null) e Null is refl)
+
+pub thing_as : (d : Served) (r : Value) (n : Name) (test : Name → Test) (f : Name → Option Fault) (go : Name → told.Served) → Some n ≡ thing_of r → DoesAs d (under (test n) (unless (f n) (go n))) → DoesAs d (under (of_thing r test) (unless (at_thing r f) (go (name_in r))))
+thing_as d (Obj m) n test f go e h = subst (λ k. DoesAs d (under (test k) (unless (f k) (go k)))) (some_inj n m e) h
+thing_as d (Arr m len) n test f go e h = subst (λ k. DoesAs d (under (test k) (unless (f k) (go k)))) (some_inj n m e) h
+thing_as d r n test f go e h = absurd cc
+
+-- a row of a reference without a test
+no_test : (r : Value) → of_thing r (λ n. []) ≡ []
+no_test (Obj n) = refl
+no_test (Arr n len) = refl
+no_test r = refl
+
+pub free_as : (d : Served) (r : Value) (e : told.Served) → DoesAs d (under (of_thing r (λ n. [])) e) → DoesAs d (under [] e)
+free_as d r e h = subst (λ t. DoesAs d (under t e)) (no_test r) h
+
+pub joined_as : (d : Served) (x : Option Outcome) → DoesAs d (answers (ended_with x)) → DoesAs d (unless (child_fault x) (answers (Val (value_of_end x))))
+unfolding unless
+joined_as d None h = h
+joined_as d (Some (outcome.Value v)) h = h
+joined_as d (Some (outcome.Failed f)) h = h
 
 -- ---- the same of a service that memory may have been refused to
 
@@ -74,9 +101,19 @@ pub holds_ok : (r : Result Served NoMemory) (o : Option Fault) (e : told.Served)
 holds_ok (Ok d) o e there h = holds_as d o e there h
 holds_ok (Err x) o e there h = tt
 
-pub thing_ok : (r : Result Served NoMemory) (v : Value) (n : Name) (go : Name → told.Served) → Some n ≡ thing_of v → IfOk r (λ d. DoesAs d (go n)) → IfOk r (λ d. DoesAs d (on_thing v go))
-thing_ok (Ok d) v n go e h = thing_as d v n go e h
-thing_ok (Err x) v n go e h = tt
+pub clear_ok : (r : Result Served NoMemory) (t : Test) (e : told.Served) → None ≡ first_failing t → IfOk r (λ d. DoesAs d e) → IfOk r (λ d. DoesAs d (under t (unless None e)))
+clear_ok (Ok d) t e first h = clear_as d t e first h
+clear_ok (Err x) t e first h = tt
+
+pub untested_ok : (r : Result Served NoMemory) (e : told.Served) → IfOk r (λ d. DoesAs d e) → IfOk r (λ d. DoesAs d (under [] e))
+untested_ok r e h = passes_ok r [] e refl h
+
+pub free_ok : (x : Result Served NoMemory) (r : Value) (e : told.Served) → IfOk x (λ d. DoesAs d (under (of_thing r (λ n. [])) e)) → IfOk x (λ d. DoesAs d (under [] e))
+free_ok x r e h = subst (λ t. IfOk x (λ d. DoesAs d (under t e))) (no_test r) h
+
+pub thing_ok : (r : Result Served NoMemory) (v : Value) (n : Name) (test : Name → Test) (f : Name → Option Fault) (go : Name → told.Served) → Some n ≡ thing_of v → IfOk r (λ d. DoesAs d (under (test n) (unless (f n) (go n)))) → IfOk r (λ d. DoesAs d (under (of_thing v test) (unless (at_thing v f) (go (name_in v)))))
+thing_ok (Ok d) v n test f go e h = thing_as d v n test f go e h
+thing_ok (Err x) v n test f go e h = tt
 
 pub gives_ok : (r : Result Served NoMemory) (v u : Value) (f : told.Effect) → v ≡ u → IfOk r (λ d. DoesAs d (gives v f)) → IfOk r (λ d. DoesAs d (gives u f))
 gives_ok r v u f value h = subst (λ x. IfOk r (λ d. DoesAs d (gives x f))) value h

@@ -9,6 +9,11 @@ use Rattle.labelled_heap.specs.Things.{Things}
 use Rattle.monitor_core.specs.Held.{Held}
 use Rattle.labelled_files.specs.Trees.{Tree}
 use Rattle.labelled_pipes.specs.Queues.{Queues}
+use Rattle.lam_asks.specs.declared.answer.Answer.{Answer}
+use Rattle.lam_asks.specs.declared.answer.Answer.TheVariants.{Val, Failed}
+use Rattle.lam_asks.specs.declared.answer.Outcome.{Outcome}
+use Rattle.lam_asks.specs.declared.answer.Outcome.TheVariants as outcome
+use Rattle.lam_asks.specs.declared.fault.Fault.TheVariants.{Child}
 use Rattle.lam_asks.specs.declared.ask.Ask.{Ask}
 use Rattle.thread_steps.specs.Threads.{Context}
 use Rattle.lam_machine_effects.specs.Worlds.{World}
@@ -63,3 +68,11 @@ abbrev pub thing_of : Value → Option Name
 thing_of (Obj n) = Some n
 thing_of (Arr n len) = Some n
 thing_of v = None
+
+-- ---- threads that ended
+
+-- what a joined thread ended with
+abbrev pub ended_with : Option Outcome → Answer
+ended_with None = Failed Child
+ended_with (Some (outcome.Value v)) = Val v
+ended_with (Some (outcome.Failed f)) = Failed Child

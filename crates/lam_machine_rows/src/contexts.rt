@@ -8,9 +8,9 @@ ghost use Rattle.lam_asks.specs.declared.ask.Ask.TheVariants as Ask;
 ghost use Rattle.thread_steps.specs.Threads.{Context};
 ghost use Rattle.lam_machine_effects.specs.Worlds.{World, result_at};
 ghost use Rattle.lam_machine_effects.specs.Serves as told;
-ghost use Rattle.lam_machine_effects.specs.Serving.{ended_with, served_by};
+ghost use Rattle.lam_machine_effects.specs.Serving.{served_by};
 ghost use Rattle.lam_machine_effects.specs.Meaning.{DoesAs};
-ghost use Rattle.lam_machine_rows.specs.Rows.{Serves, any_world, at_label, acting_by, at_depth, with_tags};
+ghost use Rattle.lam_machine_rows.specs.Rows.{Serves, any_world, at_label, acting_by, at_depth, with_tags, ended_with};
 
 use crate::rules::{enter_rule, full, spawn_rule};
 use crate::services::{did, given};

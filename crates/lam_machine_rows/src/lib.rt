@@ -9,7 +9,7 @@
 //! - `things`, `files`, `pipes` and `contexts`: the rows of the asks about each.
 //! - `services`: their services where memory may be refused to an effect.
 //! - `rows`: the dispatch of each ask to its row.
-//! - `waiting`: which ask waits, and which may be made.
+//! - `readiness`: which ask waits, and which may be made.
 //!
 //! `specs/Serves` says what is read, and `lam_machine_terms` what is served.
 //!
@@ -17,17 +17,17 @@
 //! where the definition says. Free to change for speed: the order in which a row reads and tests.
 #![tactic(auto)]
 
-mod acting;
+mod actor;
 mod contexts;
 mod files;
 mod pipes;
+mod readiness;
 mod rows;
 mod rules;
 mod services;
 mod things;
-mod waiting;
 
-pub use acting::Acting;
+pub use actor::Acting;
 pub use lam_machine_effects::{Served, Stores};
+pub use readiness::is_ready;
 pub use rows::serve;
-pub use waiting::is_ready;

@@ -8,7 +8,7 @@ ghost use Rattle.lam_machine_effects.specs.Serving.{serve};
 ghost use Rattle.lam_machine_effects.specs.Meaning.{DoesAs};
 ghost use Rattle.lam_machine_rows.specs.Serves.{ReadsWorld};
 
-use crate::acting::Acting;
+use crate::actor::Acting;
 use crate::contexts::{done, enter, join, mint, release, spawn};
 use crate::files::{
     append, cut, file_length, make_dir, make_file, open_dir, open_file, read_file, remove,

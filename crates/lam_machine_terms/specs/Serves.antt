@@ -122,8 +122,42 @@ unless (Some f) d = answers (Failed f)
 abbrev pub full : ℕ → ℕ → Fault → Option Fault
 full n limit f = if nat_lt n limit then None else Some f
 
--- a reference to an object or an array
-unfoldable pub on_thing : Value → (Name → Served) → Served
-on_thing (Obj n) go = go n
-on_thing (Arr n len) go = go n
-on_thing v go = answers (Failed Null)
+-- ---- rows
+
+-- what is stated of an ask: its tests in their order, its fault, and what is done where it has neither
+pub record Row : Type 0 where
+  pub tests : Test
+  pub fault : Option Fault
+  pub done : Served
+
+-- the first test that fails refuses it; else it has its fault; else it is done
+abbrev pub judged : Row → Served
+judged r = under r.tests (unless r.fault r.done)
+
+-- a row, by its columns
+abbrev pub tested : Test → Option Fault → Served → Row
+tested t f d = record { tests = t; fault = f; done = d }
+
+-- a row without a test
+abbrev pub untested : Option Fault → Served → Row
+untested f d = record { tests = []; fault = f; done = d }
+
+-- ---- references
+
+-- a test of the thing that a reference leads to
+abbrev pub of_thing : Value → (Name → Test) → Test
+of_thing (Obj n) test = test n
+of_thing (Arr n len) test = test n
+of_thing v test = []
+
+-- a reference that leads to nothing raises Null
+abbrev pub at_thing : Value → (Name → Option Fault) → Option Fault
+at_thing (Obj n) fault = fault n
+at_thing (Arr n len) fault = fault n
+at_thing v fault = Some Null
+
+-- the thing that a reference leads to. (Any name, for what leads nowhere: that has a fault)
+abbrev pub name_in : Value → Name
+name_in (Obj n) = n
+name_in (Arr n len) = n
+name_in v = record { maker = public_label; own = public_label; n = 0 }

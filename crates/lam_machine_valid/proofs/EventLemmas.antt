@@ -16,6 +16,7 @@ use Rattle.lam_bytecode.specs.Codes.{CodeTree}
 use Rattle.thread_steps.specs.Threads.{Inside, Context, Thread}
 use Rattle.thread_steps.specs.Next.{asks, past, next_of}
 use Rattle.lam_machine_laws.specs.Worlds.{World, thread_at, contexts_in, contexts_at}
+use Rattle.lam_machine_laws.specs.Serves.{under, unless}
 use Rattle.lam_machine_laws.specs.Serving.{publicly, serve}
 use Rattle.lam_machine_laws.specs.Turns.{may_ask, is_taken, is_living, waits, served, turn_by, turn_on, turn_in, step}
 use Rattle.lam_machine_valid.proofs.NextLemmas.{what_it_may, barred_at}
@@ -32,12 +33,12 @@ not_first : (x : Option Denied) (d : Denied) (b : Bool) → x ≡ Some d → (is
 not_first None d b e = absurd cc
 not_first (Some y) d b e = refl
 
-taken_not : (w : World) (t : ℕ) (c : Context) (r : Value) (d : Denied) → first_failing (tests_of c (ask.MonEnter r)) ≡ Some d → is_taken w t c.label r ≡ false
+taken_not : (w : World) (t : ℕ) (c : Context) (r : Value) (d : Denied) → first_failing (tests_of w c (ask.MonEnter r)) ≡ Some d → is_taken w t c.label r ≡ false
 taken_not w t c (Obj n) d e = not_first (first_failing (same_test c.label n.own)) d (not (is_free w.monitors n t)) e
 taken_not w t c (Arr n len) d e = not_first (first_failing (same_test c.label n.own)) d (not (is_free w.monitors n t)) e
 taken_not w t c r d e = refl
 
-goes_at_once : (w : World) (t : ℕ) (c : Context) (public : Caps) (a : Ask) (d : Denied) → first_failing (tests_of (publicly public c) a) ≡ Some d → waits w t c a ≡ false
+goes_at_once : (w : World) (t : ℕ) (c : Context) (public : Caps) (a : Ask) (d : Denied) → first_failing (tests_of w (publicly public c) a) ≡ Some d → waits w t c a ≡ false
 goes_at_once w t c public (ask.MonEnter r) d e = taken_not w t c r d e
 goes_at_once w t c public (ask.Join u) d e = not_first (first_failing (read_test c.label public_label)) d (is_living (thread_at w u)) e
 goes_at_once w t c public a d e = refl
@@ -66,7 +67,7 @@ module _ (code : CodeTree) (w : World) (t : ℕ) (c : Context) (rest : List Cont
             ∙ ap (λ b. cond b (Some (served code w t th c rest a i (serve w c a))) None) (both (may_ask c a) (waits w t c a) (what_it_may code c a i e) quick),
       )
 
-  refused_turn : (a : Ask) (i : Inside) (d : Denied) → next_of code c ≡ asks a i → first_failing (tests_of (publicly w.public c) a) ≡ Some d → IsDenied code w t a (Refused d)
+  refused_turn : (a : Ask) (i : Inside) (d : Denied) → next_of code c ≡ asks a i → first_failing (tests_of w (publicly w.public c) a) ≡ Some d → IsDenied code w t a (Refused d)
   refused_turn a i d e f =
       let h = asked_turn a i e (goes_at_once w t c w.public a d f) in
       let m = served code w t h.0 c rest a i (serve w c a) in
@@ -74,6 +75,7 @@ module _ (code : CodeTree) (w : World) (t : ℕ) (c : Context) (rest : List Cont
       (m, h.3, what, (change_nothing code).refused w t m a d h.3 what)
 
   barred_turn : (d : Denied) (i : Inside) → next_of code c ≡ asks (ask.Barred d) i → IsDenied code w t (ask.Barred d) Done
+  unfolding under unless
   barred_turn d i e =
       let h = asked_turn (ask.Barred d) i e refl in (
         served code w t h.0 c rest (ask.Barred d) i (serve w c (ask.Barred d)),

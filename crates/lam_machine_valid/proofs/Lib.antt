@@ -15,6 +15,6 @@ pub mod ReadyLemmas
 pub mod SuitLemmas
 pub mod FormLemmas
 pub use Rattle.lam_machine_laws.proofs.OwnLemmas
-pub use Rattle.lam_machine_laws.proofs.RowLemmas as LamMachineLawsRowLemmas
+pub use Rattle.lam_machine_laws.proofs.JudgedLemmas
 pub use Rattle.lam_machine_laws.proofs.ThreadLemmas
 pub use Rattle.lam_machine_laws.proofs.TurnLemmas

@@ -3,7 +3,7 @@ use Rattle.std.proofs.Common.{◌≡◌, ℕ, true, false, List, [], ◌∷◌, 
 use Rattle.std.specs.Prelude.{not, drop}
 use Rattle.flow_labels.specs.declared.Label.{Label}
 use Rattle.flow_labels.specs.declared.Denied.{Denied}
-use Rattle.flow_labels.specs.Failing.{first_failing, read_test, write_test}
+use Rattle.flow_labels.specs.Failing.{Test, first_failing, read_test, write_test}
 use Rattle.lam_value.specs.declared.names.Name.{Name}
 use Rattle.lam_value.specs.declared.values.Value.{Value}
 use Rattle.lam_value.specs.declared.values.Value.TheVariants.{Obj, Arr}
@@ -18,7 +18,7 @@ use Rattle.thread_steps.specs.Threads.{Frame, Inside, Phase, Bottom, Body, Catch
 use Rattle.thread_steps.specs.Ops as ops
 use Rattle.thread_steps.specs.Ops.{Did, gives, sets, jumps, calls, returns, fails, wants, leaves, breaks, barrier, may_read, may_write, effect}
 use Rattle.thread_steps.specs.Next.{Next, goes, asks, past, returned, leaving, next_by, raised, around, next_op, next_in, next_of}
-use Rattle.lam_machine_laws.specs.Serves.{Served, sets_slot, answers, does, unless_denied, under, on_thing}
+use Rattle.lam_machine_laws.specs.Serves.{Served, sets_slot, answers, does, unless_denied, under, unless, of_thing, at_thing, name_in}
 use Rattle.lam_machine_laws.specs.Serving.{slot_at}
 use Rattle.lam_machine_laws.specs.Turns.{is_bottom, lists, may_ask}
 use Rattle.lam_machine_valid.specs.Laws.{IsTop, IsBarred, IsPassed, op_at, StandsAt, LeadsTo, IsRead, IsWritten, GivesSlot, SetsSlot, AsksWhatItMay, BarriersTest, AccessesPass}
@@ -172,23 +172,22 @@ may_write_it p (Arr m len) n h e = subst (λ (k : Name). first_failing (write_te
 may_write_it p r n h e = absurd e
 
 -- a reference is followed
-pub followed : (r : Value) (n : Name) (go : Name → Served) → LeadsTo r n → on_thing r go ≡ go n
-unfolding on_thing
-followed (Obj m) n go e = ap go e
-followed (Arr m len) n go e = ap go e
-followed r n go e = absurd e
+pub followed : (r : Value) (n : Name) → LeadsTo r n → name_in r ≡ n
+followed (Obj m) n e = e
+followed (Arr m len) n e = e
+followed r n e = absurd e
+
+accessed : (r : Value) (n : Name) (test : Name → Test) (go : Name → Served) → LeadsTo r n → first_failing (test n) ≡ None → under (of_thing r test) (unless (at_thing r (λ k. None)) (go (name_in r))) ≡ go n
+unfolding under unless
+accessed (Obj m) n test go e p = allowed (first_failing (test m)) (go m) (ap (λ k. first_failing (test k)) e ∙ p) ∙ ap go e
+accessed (Arr m len) n test go e p = allowed (first_failing (test m)) (go m) (ap (λ k. first_failing (test k)) e ∙ p) ∙ ap go e
+accessed r n test go e p = absurd e
 
 pub gives_slot : (c : Context) (r : Value) (at : ℕ) → IsRead c.label r → GivesSlot c r at
-unfolding under
-gives_slot c r at h w n e =
-    followed r n (λ k. under (read_test c.label k.own) (answers (Val (slot_at w.heap k at)))) e
-    ∙ allowed (first_failing (read_test c.label n.own)) (answers (Val (slot_at w.heap n at))) (may_read_it c.label r n h e)
+gives_slot c r at h w n e = accessed r n (λ k. read_test c.label k.own) (λ k. answers (Val (slot_at w.heap k at))) e (may_read_it c.label r n h e)
 
 pub sets_it : (c : Context) (r v : Value) (at : ℕ) → IsWritten c.label r → SetsSlot c r at v
-unfolding under
-sets_it c r v at h w n e =
-    followed r n (λ k. under (write_test c.label k.own) (does (sets_slot k at v))) e
-    ∙ allowed (first_failing (write_test c.label n.own)) (does (sets_slot n at v)) (may_write_it c.label r n h e)
+sets_it c r v at h w n e = accessed r n (λ k. write_test c.label k.own) (λ k. does (sets_slot k at v)) e (may_write_it c.label r n h e)
 
 pub access_passes : (code : CodeTree) → AccessesPass code
 access_passes code =

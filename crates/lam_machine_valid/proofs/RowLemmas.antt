@@ -40,14 +40,14 @@ use Rattle.thread_steps.specs.Threads.{Inside, Context}
 use Rattle.thread_steps.specs.Threads as threads
 use Rattle.thread_steps.specs.Next.{gains, given, started}
 use Rattle.lam_machine_laws.specs.Worlds.{World, thread_at, result_in, result_at}
-use Rattle.lam_machine_laws.specs.Serves.{Effect, full, adds_thing, adds_copy, takes_monitor, gives_back, drops, receives, effect_of, Served, does}
-use Rattle.lam_machine_laws.specs.Serving.{publicly, slot_at, reference, renamed, received, serve}
+use Rattle.lam_machine_laws.specs.Serves.{Effect, full, adds_thing, adds_copy, takes_monitor, gives_back, drops, receives, effect_of, Served, does, name_in}
+use Rattle.lam_machine_laws.specs.Serving.{publicly, slot_at, reference, renamed, received, found, value_of_end, serve}
 use Rattle.lam_machine_laws.specs.Turns.{is_ready, lists, may_ask}
 use Rattle.lam_machine_laws.specs.Valid.{IsKnown, IsKnownName, Lives, EntryLives, MessageLives, OutcomeLives, IsValid, all_listings}
 use Rattle.lam_machine_laws.proofs.RowLemmas.{RefersTo}
 use Rattle.lam_machine_laws.proofs.JudgedLemmas.{judged_by, refers}
 use Rattle.lam_machine_laws.proofs.RoomLemmas.{room_row}
-use Rattle.lam_machine_laws.specs.Judged.{fault_by, deed_by, name_in, found, value_of_end}
+use Rattle.lam_machine_laws.specs.Judged.{fault_by, deed_by}
 use Rattle.lam_machine_laws.specs.Room.{HasRoom}
 use Rattle.lam_machine_laws.specs.Parts.{stores_of}
 use Rattle.lam_machine_laws.proofs.ThreadLemmas.{front}

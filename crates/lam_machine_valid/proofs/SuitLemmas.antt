@@ -9,7 +9,10 @@ use Rattle.lam_value.specs.declared.values.Value.TheVariants.{Obj, Arr, File, Di
 use Rattle.lam_value.specs.declared.shapes.Shape.{Shape}
 use Rattle.lam_value.specs.declared.shapes.Shape.TheVariants.{Class, Array}
 use Rattle.labelled_heap.specs.Things.{most_things}
-use Rattle.monitor_core.specs.Held.{most_takings}
+use Rattle.monitor_core.specs.Held.{most_takings, takings}
+use Rattle.labelled_files.specs.Entries.{name_of_kind}
+use Rattle.labelled_files.specs.Trees.{target_at}
+use Rattle.labelled_files.specs.declared.directory.EntryKind.TheVariants as kind
 use Rattle.labelled_files.specs.declared.directory.Target.{Target}
 use Rattle.labelled_files.specs.declared.files.FileFault.{FileFault}
 use Rattle.labelled_files.specs.declared.files.FileFault.TheVariants as file_fault
@@ -22,6 +25,8 @@ use Rattle.lam_asks.specs.declared.fault.Fault.{Fault}
 use Rattle.lam_asks.specs.declared.fault.Fault.TheVariants.{HomeFull, Deep, BadName, Exists, DirFull, NoEntry}
 use Rattle.lam_asks.specs.declared.answer.Outcome.{Outcome}
 use Rattle.lam_asks.specs.declared.answer.Outcome.TheVariants as outcome
+use Rattle.lam_asks.specs.declared.answer.Answer.TheVariants.{Val}
+use Rattle.lam_value.specs.Homes.{home_of, count_in}
 use Rattle.lam_asks.specs.declared.ask.Ask.{Ask}
 use Rattle.lam_asks.specs.declared.ask.Ask.TheVariants as ask
 use Rattle.lam_asks.specs.Suits as suit
@@ -31,12 +36,12 @@ use Rattle.thread_steps.specs.Limits.{depth_limit}
 use Rattle.thread_steps.specs.Threads.{Context}
 use Rattle.lam_machine_laws.specs.Limits.{most_tags, most_threads}
 use Rattle.lam_machine_laws.specs.Worlds.{World, result_at}
-use Rattle.lam_machine_laws.specs.Serves.{Served, answers, does, gives_back, unless_denied, under, unless, full, on_thing}
-use Rattle.lam_machine_laws.specs.Serving.{reference, renamed, file_faults, opened, absent, received, ended_with, serve}
+use Rattle.lam_machine_laws.specs.Serves.{Served, answers, does, gives_back, unless_denied, under, unless, full, of_thing, at_thing, name_in}
+use Rattle.lam_machine_laws.specs.Serving.{reference, renamed, file_faults, where_none, found, absent, received, child_fault, value_of_end, serve}
 use Rattle.lam_machine_laws.specs.Turns.{lists}
 use Rattle.lam_machine_valid.specs.Laws.{LeadsTo}
 use Rattle.lam_machine_valid.proofs.EffectLemmas.{IsThing}
-use Rattle.lam_machine_valid.proofs.NextLemmas.{AskIs, ask_is, followed, gives_slot, sets_it}
+use Rattle.lam_machine_valid.proofs.NextLemmas.{AskIs, ask_is, gives_slot, sets_it}
 use Rattle.lam_machine_valid.specs.Suiting.{Joined, with_value, forbidden, without_value, Suits, AnswersSuit}
 
 -- a service's answer is one that is wanted
@@ -69,9 +74,22 @@ full_may k n limit f h = by (nat_lt n limit)
     by true = tt
     by false = h
 
--- both a test and a limit
-limited : (k : Want) (t : Test) (n limit : ℕ) (f : Fault) (d : Served) → k.refusable ≡ true → is_among f k.faults ≡ true → fits k d.answer ≡ true → Fits k (under t (unless (full n limit f) d))
-limited k t n limit f d may among h = under_fits k t _ may (unless_fits k (full n limit f) d (full_may k n limit f among) (record { it = h }))
+-- a row with a test, with a limit, and without a test
+tested_fits : (k : Want) (t : Test) (f : Option Fault) (d : Served) → k.refusable ≡ true → MayFail k f → fits k d.answer ≡ true → fits k (under t (unless f d)).answer ≡ true
+tested_fits k t f d may fail h = (under_fits k t _ may (unless_fits k f d fail (record { it = h }))).it
+
+limited : (k : Want) (t : Test) (n limit : ℕ) (f : Fault) (d : Served) → k.refusable ≡ true → is_among f k.faults ≡ true → fits k d.answer ≡ true → fits k (under t (unless (full n limit f) d)).answer ≡ true
+limited k t n limit f d may among h = tested_fits k t (full n limit f) d may (full_may k n limit f among) h
+
+untested_fits : (k : Want) (f : Option Fault) (d : Served) → MayFail k f → fits k d.answer ≡ true → fits k (under [] (unless f d)).answer ≡ true
+unfolding under
+untested_fits k f d may h = (unless_fits k f d may (record { it = h })).it
+
+-- a reference that leads to a thing has the fault of the thing
+thing_may : (k : Want) (r : Value) (f : Name → Option Fault) → IsThing r → ((n : Name) → MayFail k (f n)) → MayFail k (at_thing r f)
+thing_may k (Obj n) f e h = h n
+thing_may k (Arr n len) f e h = h n
+thing_may k r f e h = absurd e.1
 
 abbrev made_in : Sort → Want
 made_in s = suit.ruled (suit.is_value s) (BadName ∷ Exists ∷ DirFull ∷ HomeFull ∷ [])
@@ -90,10 +108,11 @@ made_fits s t x d h = under_fits (made_in s) t _ refl (unless_fits (made_in s) (
 abbrev opens_in : Sort → Want
 opens_in s = suit.ruled (suit.is_value s) (NoEntry ∷ [])
 
-opened_fits : (s : Sort) (t : Test) (refer : Name → Value) (x : Option Name) → ((n : Name) → is_of s (refer n) ≡ true) → Fits (opens_in s) (under t (answers (opened refer x)))
+opened_fits : (s : Sort) (t : Test) (refer : Name → Value) (x : Option Name) → ((n : Name) → is_of s (refer n) ≡ true) → Fits (opens_in s) (under t (unless (where_none x NoEntry) (answers (Val (found refer x)))))
+unfolding unless
 opened_fits s t refer x h = under_fits (opens_in s) t _ refl (by x)
   where
-    by : (y : Option Name) → Fits (opens_in s) (answers (opened refer y))
+    by : (y : Option Name) → Fits (opens_in s) (unless (where_none y NoEntry) (answers (Val (found refer y))))
     by None = record { it = refl }
     by (Some n) = record { it = h n }
 
@@ -120,17 +139,14 @@ caps_fit [] = refl
 caps_fit (message.Bytes bytes ∷ ms) = refl
 caps_fit (message.Caps caps ∷ ms) = refl
 
-back_fits : (ns : List Name) (r : Value) → lists ns r ≡ true → Fits (suit.always suit.is_done) (on_thing r (λ n. does (gives_back n)))
-unfolding on_thing
-back_fits ns (Obj n) h = record { it = refl }
-back_fits ns (Arr n len) h = record { it = refl }
+back_fits : (ns : List Name) (r : Value) → lists ns r ≡ true → fits (suit.always suit.is_done) (under [] (unless (at_thing r (λ n. None)) (does (gives_back (name_in r))))).answer ≡ true
+unfolding under unless
+back_fits ns (Obj n) h = refl
+back_fits ns (Arr n len) h = refl
 back_fits ns r h = absurd cc
 
--- a reference is followed
-through : (k : Want) (r : Value) (go : Name → Served) (h : IsThing r) → Fits k (go h.0) → Fits k (on_thing r go)
-through k r go h f = subst (Fits k) (sym (followed r h.0 go h.1)) f
-
-joined_suits : (x : Option Outcome) → Joined (ended_with x)
+joined_suits : (x : Option Outcome) → Joined (unless (child_fault x) (answers (Val (value_of_end x)))).answer
+unfolding unless
 joined_suits None = without_value
 joined_suits (Some (outcome.Value v)) = with_value v
 joined_suits (Some (outcome.Failed f)) = without_value
@@ -147,35 +163,40 @@ module _ (code : CodeTree) (c : Context) (w : World) where
   suits_row : (a : Ask) → AskIs code c a → Suits a (serve w c a).answer
   suits_row (ask.Read r at) h = (_, ap (λ (d : Served). d.answer) (gives_slot c r at h w h.0 h.1))
   suits_row (ask.Write r at v) h = λ s. ap (λ (d : Served). fits (suit.always suit.is_done) d.answer) (sets_it c r v at h w h.0 h.1)
-  suits_row (ask.New shape) h = λ s.
-      (unless_fits (want_of s (ask.New shape)) (full _ most_things HomeFull) _ (full_may (want_of s (ask.New shape)) _ most_things HomeFull refl) (record { it = shape_fits shape _ })).it
-  suits_row (ask.CopyTo r l) h = λ s. (through (want_of s (ask.CopyTo r l)) r _ h (limited (want_of s (ask.CopyTo r l)) _ _ most_things HomeFull _ refl refl (copy_fits r h.0 _ h.1))).it
-  suits_row ask.Mint h = λ s. (limited (want_of s ask.Mint) _ _ most_tags HomeFull _ refl refl refl).it
-  suits_row (ask.Enter l k region args) h = λ s. (limited (want_of s (ask.Enter l k region args)) _ _ depth_limit Deep _ refl refl refl).it
-  suits_row ask.Leave h = λ s. refl
-  suits_row (ask.Barred denied) h = λ s. refl
-  suits_row (ask.Caught f) h = λ s. refl
-  suits_row (ask.Suppressed f) h = λ s. refl
-  suits_row (ask.End out) h = λ s. refl
-  suits_row (ask.MonEnter r) h = λ s. (through (want_of s (ask.MonEnter r)) r _ h (limited (want_of s (ask.MonEnter r)) _ _ most_takings Deep _ refl refl refl)).it
-  suits_row (ask.MonLeave r) h = λ s. (back_fits c.held r h).it
+  suits_row (ask.New shape) h = λ s. untested_fits (want_of s (ask.New shape)) (full _ most_things HomeFull) _ (full_may (want_of s (ask.New shape)) _ most_things HomeFull refl) (shape_fits shape _)
+  suits_row (ask.CopyTo r l) h = λ s.
+      let k = want_of s (ask.CopyTo r l) in
+      let fault = λ (n : Name). full (count_in w.heap.counts (home_of c.label l)) most_things HomeFull in
+      tested_fits k _ (at_thing r fault) _ refl (thing_may k r fault h (λ n. full_may k (count_in w.heap.counts (home_of c.label l)) most_things HomeFull refl)) (copy_fits r h.0 _ h.1)
+  suits_row ask.Mint h = λ s. limited (want_of s ask.Mint) _ _ most_tags HomeFull _ refl refl refl
+  suits_row (ask.Enter l k region args) h = λ s. limited (want_of s (ask.Enter l k region args)) _ _ depth_limit Deep _ refl refl refl
+  suits_row ask.Leave h = λ s. untested_fits (want_of s ask.Leave) None _ tt refl
+  suits_row (ask.Barred denied) h = λ s. untested_fits (want_of s (ask.Barred denied)) None _ tt refl
+  suits_row (ask.Caught f) h = λ s. untested_fits (want_of s (ask.Caught f)) None _ tt refl
+  suits_row (ask.Suppressed f) h = λ s. untested_fits (want_of s (ask.Suppressed f)) None _ tt refl
+  suits_row (ask.End out) h = λ s. untested_fits (want_of s (ask.End out)) None _ tt refl
+  suits_row (ask.MonEnter r) h = λ s.
+      let k = want_of s (ask.MonEnter r) in
+      let fault = λ (n : Name). full (takings w.monitors n) most_takings Deep in
+      tested_fits k _ (at_thing r fault) _ refl (thing_may k r fault h (λ n. full_may k (takings w.monitors n) most_takings Deep refl)) refl
+  suits_row (ask.MonLeave r) h = λ s. back_fits c.held r h
   suits_row (ask.MakeFile d text l) h = λ s. (made_fits suit.files _ _ _ refl).it
   suits_row (ask.MakeDir d text l) h = λ s. (made_fits suit.directories _ _ _ refl).it
-  suits_row (ask.OpenFile d text) h = λ s. (opened_fits suit.files _ (λ n. File n) _ (λ n. refl)).it
-  suits_row (ask.OpenDir d text) h = λ s. (opened_fits suit.directories _ (λ n. Dir n) _ (λ n. refl)).it
-  suits_row (ask.Remove d text) h = λ s. (under_fits (want_of s (ask.Remove d text)) _ _ refl (unless_fits (want_of s (ask.Remove d text)) (absent _) _ (absent_may _) (record { it = refl }))).it
-  suits_row (ask.FileRead f at n) h = λ s. (under_fits (want_of s (ask.FileRead f at n)) _ _ refl (record { it = refl })).it
-  suits_row (ask.FileLength f) h = λ s. (under_fits (want_of s (ask.FileLength f)) _ _ refl (record { it = refl })).it
-  suits_row (ask.Append f bytes) h = λ s. (under_fits (want_of s (ask.Append f bytes)) _ _ refl (record { it = refl })).it
-  suits_row (ask.Cut f len) h = λ s. (under_fits (want_of s (ask.Cut f len)) _ _ refl (record { it = refl })).it
-  suits_row (ask.MakePipe l) h = λ s. (limited (want_of s (ask.MakePipe l)) _ _ most_pipes HomeFull _ refl refl refl).it
-  suits_row (ask.Send p bytes) h = λ s. (under_fits (want_of s (ask.Send p bytes)) _ _ refl (record { it = refl })).it
-  suits_row (ask.SendCaps p caps) h = λ s. (under_fits (want_of s (ask.SendCaps p caps)) _ _ refl (record { it = refl })).it
-  suits_row (ask.Receive p) h = λ s. (under_fits (want_of s (ask.Receive p)) _ _ refl (record { it = bytes_fit (waiting_at w.pipes p) })).it
-  suits_row (ask.ReceiveCaps p) h = λ s. (under_fits (want_of s (ask.ReceiveCaps p)) _ _ refl (record { it = caps_fit (waiting_at w.pipes p) })).it
-  suits_row (ask.Spawn unit args caps) h = λ s. (limited (want_of s (ask.Spawn unit args caps)) _ _ most_threads HomeFull _ refl refl refl).it
+  suits_row (ask.OpenFile d text) h = λ s. (opened_fits suit.files _ (λ n. File n) (name_of_kind kind.File (target_at w.files d text)) (λ n. refl)).it
+  suits_row (ask.OpenDir d text) h = λ s. (opened_fits suit.directories _ (λ n. Dir n) (name_of_kind kind.Dir (target_at w.files d text)) (λ n. refl)).it
+  suits_row (ask.Remove d text) h = λ s. tested_fits (want_of s (ask.Remove d text)) _ (absent (target_at w.files d text)) _ refl (absent_may (target_at w.files d text)) refl
+  suits_row (ask.FileRead f at n) h = λ s. tested_fits (want_of s (ask.FileRead f at n)) _ None _ refl tt refl
+  suits_row (ask.FileLength f) h = λ s. tested_fits (want_of s (ask.FileLength f)) _ None _ refl tt refl
+  suits_row (ask.Append f bytes) h = λ s. tested_fits (want_of s (ask.Append f bytes)) _ None _ refl tt refl
+  suits_row (ask.Cut f len) h = λ s. tested_fits (want_of s (ask.Cut f len)) _ None _ refl tt refl
+  suits_row (ask.MakePipe l) h = λ s. limited (want_of s (ask.MakePipe l)) _ _ most_pipes HomeFull _ refl refl refl
+  suits_row (ask.Send p bytes) h = λ s. tested_fits (want_of s (ask.Send p bytes)) _ None _ refl tt refl
+  suits_row (ask.SendCaps p caps) h = λ s. tested_fits (want_of s (ask.SendCaps p caps)) _ None _ refl tt refl
+  suits_row (ask.Receive p) h = λ s. tested_fits (want_of s (ask.Receive p)) _ None _ refl tt (bytes_fit (waiting_at w.pipes p))
+  suits_row (ask.ReceiveCaps p) h = λ s. tested_fits (want_of s (ask.ReceiveCaps p)) _ None _ refl tt (caps_fit (waiting_at w.pipes p))
+  suits_row (ask.Spawn unit args caps) h = λ s. limited (want_of s (ask.Spawn unit args caps)) _ _ most_threads HomeFull _ refl refl refl
   suits_row (ask.Join u) h = under_joined _ _ (joined_suits (result_at w u))
-  suits_row (ask.Say bytes) h = λ s. refl
+  suits_row (ask.Say bytes) h = λ s. untested_fits (want_of s (ask.Say bytes)) None _ tt refl
 
 pub all_suit : (code : CodeTree) → AnswersSuit code
 all_suit code c a after e w = suits_row code c w a (ask_is code c a after e)

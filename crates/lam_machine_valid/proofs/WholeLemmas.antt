@@ -19,7 +19,7 @@ use Rattle.thread_steps.specs.Threads.{Frame, Inside, Context}
 use Rattle.thread_steps.specs.Threads as threads
 use Rattle.thread_steps.specs.Next.{Next, goes, asks, stuck, next_of, with_inside, takes, started}
 use Rattle.lam_machine_laws.specs.Worlds.{World, thread_at, with_thread}
-use Rattle.lam_machine_laws.specs.Serves.{Effect, nothing, takes_monitor, gives_back, drops, adds_thread, effect_of, Served}
+use Rattle.lam_machine_laws.specs.Serves.{Effect, nothing, takes_monitor, gives_back, drops, adds_thread, effect_of, Served, under, unless}
 use Rattle.lam_machine_laws.specs.Serving.{serve}
 use Rattle.lam_machine_laws.specs.Turns.{may_ask, waits, is_ready, Moment, goes_on, served, turn_by, step, and_then, moments, left_by}
 use Rattle.lam_machine_laws.specs.Valid.{AreKnown, AllLive, OutcomeLives, FrameLives, ContextLives, AreStacked, has_contexts, all_listings, StoresLive, IsValidThread, IsValid}
@@ -201,6 +201,7 @@ public_known_after code t w e g h = subst (AreKnown (effect_of code t e w)) (sym
 
 -- an end is always done
 ends_done : (w : World) (c : Context) (a : Ask) → EndsDone a (serve w c a).answer
+unfolding under unless
 ends_done w c (ask.End r) = refl
 ends_done w c a = tt
 

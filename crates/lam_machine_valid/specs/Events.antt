@@ -25,7 +25,7 @@ IsDenied code w t a x = (m : Moment) × (step code w t ≡ Some m) × (m.event.w
 pub record FailingTestsAreEvents (code : CodeTree) : Type 0 where
   pub of_asks :
       (w : World) (t : ℕ) (c : Context) (rest : List Context) (a : Ask) (after : Inside) (d : Denied) →
-      contexts_at w t ≡ c ∷ rest → next_of code c ≡ asks a after → first_failing (tests_of (publicly w.public c) a) ≡ Some d →
+      contexts_at w t ≡ c ∷ rest → next_of code c ≡ asks a after → first_failing (tests_of w (publicly w.public c) a) ≡ Some d →
       IsDenied code w t a (Refused d)
   pub of_barriers :
       (w : World) (t : ℕ) (c : Context) (rest : List Context) (op : Op) (d : Denied) →

@@ -27,4 +27,4 @@ Says None (Some f) x = x ≡ Failed f
 Says None None x = IsDone x
 
 abbrev pub AnswersFollowTheRows : Type 0
-AnswersFollowTheRows = (w : World) (c : Context) (a : Ask) → Says (first_failing (tests_of (publicly w.public c) a)) (fault_by w c a) (serve w c a).answer
+AnswersFollowTheRows = (w : World) (c : Context) (a : Ask) → Says (first_failing (tests_of w (publicly w.public c) a)) (fault_by w c a) (serve w c a).answer

@@ -10,10 +10,10 @@
 //! the definition says. Free to change for speed: how the parts of a world are held, and how they are dropped.
 #![tactic(auto)]
 
+mod facts;
 mod letting_go;
-mod reading;
 mod world;
 
+pub use facts::{acting, is_ready, lives, result_of, served_of};
 pub use letting_go::{let_go_code, let_go_stores, let_go_world};
-pub use reading::{acting, is_ready, lives, result_of, served_of};
 pub use world::World;

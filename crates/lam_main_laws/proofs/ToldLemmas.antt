@@ -17,12 +17,13 @@ use Rattle.lam_bytecode.specs.Codes.{CodeTree}
 use Rattle.thread_steps.specs.Threads.{Context, Thread}
 use Rattle.thread_steps.specs.Next.{Next, goes, asks, stuck, next_of}
 use Rattle.lam_machine_terms.specs.Worlds.{World}
-use Rattle.lam_machine_terms.specs.Serves.{Made, a_region, a_thing, made_label, Served}
-use Rattle.lam_machine_terms.specs.Serving.{renamed, serve}
+use Rattle.lam_machine_terms.specs.Serves.{Made, a_region, a_thing, made_label, Served, name_in}
+use Rattle.lam_machine_terms.specs.Serving.{renamed, publicly, serve}
 use Rattle.lam_machine_terms.specs.Turns.{is_ready, Moment, served, turn_by}
 use Rattle.lam_machine_terms.specs.Views.{goes_down, is_release, used_by}
 use Rattle.lam_machine_laws.proofs.ThreadLemmas.{some_inj}
-use Rattle.lam_machine_laws.proofs.RowLemmas.{under_by, unless_by, on_thing_by, served_proper}
+use Rattle.lam_machine_laws.proofs.RowLemmas.{served_proper}
+use Rattle.lam_machine_laws.proofs.JudgedLemmas.{judged_by}
 use Rattle.lam_machine_laws.proofs.TurnLemmas.{acts, only}
 use Rattle.audit_log_notes.specs.Notes.{content_in, released}
 use Rattle.audit_log_notes.specs.declared.Content.{Content}
@@ -43,19 +44,15 @@ made_fits a x n m h e = subst (λ k. IsEntryOrCopyOf (Asked a x) (Some k)) (some
 
 copy_fits : (w : World) (c : Context) (r : Value) (l : Label) → Fits (CopyTo r l) (serve w c (CopyTo r l))
 copy_fits w c r l =
-    on_thing_by (Fits (CopyTo r l)) r _
-    (λ n e. under_by (Fits (CopyTo r l)) _ _
-    (λ t.
     let name = name_of (home_of c.label l) (count_in w.heap.counts (home_of c.label l)) in
-    unless_by (Fits (CopyTo r l)) _ _ (λ m q. made_fits (CopyTo r l) (Val (renamed r name)) (a_thing name (renamed r name) (slots_at w.heap n)) m (copy r l name (renamed r name) (slots_at w.heap n)) q) (λ f m q. none_made m q))
-    (λ x m q. none_made m q))
-    (λ f m q. none_made m q)
+    let slots = slots_at w.heap (name_in r) in
+    judged_by (Fits (CopyTo r l)) w (publicly w.public c) (CopyTo r l) (λ x e m q. none_made m q) (λ f e g m q. none_made m q)
+    (λ e g m q. made_fits (CopyTo r l) (Val (renamed r name)) (a_thing name (renamed r name) slots) m (copy r l name (renamed r name) slots) q)
 
 entry_fits : (w : World) (c : Context) (l : Label) (k : Caps) (region : ℕ) (args : List Value) → Fits (Enter l k region args) (serve w c (Enter l k region args))
 entry_fits w c l k region args =
-    under_by (Fits (Enter l k region args)) _ _
-    (λ t. unless_by (Fits (Enter l k region args)) _ _ (λ m q. made_fits (Enter l k region args) Entered (a_region l k (c.depth + 1) region args) m (entry l k (c.depth + 1) region args) q) (λ f m q. none_made m q))
-    (λ x m q. none_made m q)
+    judged_by (Fits (Enter l k region args)) w (publicly w.public c) (Enter l k region args) (λ x e m q. none_made m q) (λ f e g m q. none_made m q)
+    (λ e g m q. made_fits (Enter l k region args) Entered (a_region l k (c.depth + 1) region args) m (entry l k (c.depth + 1) region args) q)
 
 no_release : (w : World) (c : Context) (a : Ask) (m : Made) {X : Type 0} → goes_down c.label (serve w c a).made ≡ false → (serve w c a).made ≡ Some m → goes_down c.label (Some m) ≡ true → X
 no_release w c a m above e down = absurd (true≢false (sym down ∙ ap (goes_down c.label) (sym e) ∙ above))

@@ -15,9 +15,9 @@ use Rattle.world_doc_terms.specs.Breaks.{Reading}
 use Rattle.world_doc_terms.specs.Start.{start_of}
 use Rattle.world_forest.specs.Forest.{IsForest}
 use Rattle.world_save_files.specs.Saved.{IsSavedText, IsSaveFault}
-use Rattle.world_save_files.specs.declared.saving.SaveFault.{SaveFault}
-use Rattle.world_save_files.specs.declared.saving.SaveFault.TheVariants as fault
-use Rattle.world_save_files.specs.declared.saving.Saved.{Saved}
+use Rattle.world_save_files.specs.declared.document.SaveFault.{SaveFault}
+use Rattle.world_save_files.specs.declared.document.SaveFault.TheVariants as fault
+use Rattle.world_save_files.specs.declared.document.Saved.{Saved}
 use Rattle.lam_main_words.specs.Words.{Text}
 use Rattle.lam_main_replay.specs.Status.TheVariants.{Done}
 use Rattle.lam_main_replay.specs.Refusals.{Plan, no_turn}
@@ -34,7 +34,7 @@ use Rattle.lam_main_replay.specs.declared.halt.Halt.{Halt}
 use Rattle.lam_main_replay.specs.declared.halt.Halt.TheVariants.{Refused, NoMemory, ShelfFailed}
 use Rattle.lam_main_replay.specs.Halts.{refuses, Finds, Reports, IsRead}
 use Rattle.lam_main_replay.proofs.ReportLemmas.{reports_map, reports_later, not_reported}
-use Rattle.lam_main_next.specs.declared.ending.Ending.{Ending}
+use Rattle.lam_main_next.specs.declared.run_end.Ending.{Ending}
 use Rattle.lam_main_next.specs.Endings.{planned, Offers, IsToldOf, halt_of_save}
 
 -- ---- what is made of the files at the end

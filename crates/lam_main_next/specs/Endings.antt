@@ -1,8 +1,8 @@
 -- What is made of the end of a run, as a plan.
 use Rattle.std.specs.Prelude.{◌≡◌, Some, Result, Ok, Err, string_bytes}
-use Rattle.world_save_files.specs.declared.saving.SaveFault.{SaveFault}
-use Rattle.world_save_files.specs.declared.saving.SaveFault.TheVariants as fault
-use Rattle.world_save_files.specs.declared.saving.Saved.{Saved}
+use Rattle.world_save_files.specs.declared.document.SaveFault.{SaveFault}
+use Rattle.world_save_files.specs.declared.document.SaveFault.TheVariants as fault
+use Rattle.world_save_files.specs.declared.document.Saved.{Saved}
 use Rattle.lam_main_words.specs.Words.{Text}
 use Rattle.lam_main_replay.specs.Status.TheVariants.{Done}
 use Rattle.lam_main_replay.specs.Refusals.{Plan}
@@ -11,7 +11,7 @@ use Rattle.lam_main_replay.specs.declared.halt.Refusal.TheVariants.{Unnamed, Bad
 use Rattle.lam_main_replay.specs.declared.halt.Halt.{Halt}
 use Rattle.lam_main_replay.specs.declared.halt.Halt.TheVariants.{Refused, NoMemory, ShelfFailed}
 use Rattle.lam_main_replay.specs.Halts.{refuses}
-use Rattle.lam_main_next.specs.declared.ending.Ending.{Ending}
+use Rattle.lam_main_next.specs.declared.run_end.Ending.{Ending}
 
 -- the line is printed, and the document is written to the file of a name
 abbrev pub planned : Text → Ending → Plan

@@ -11,8 +11,8 @@
 //! document must stay until the next one is made.
 #![tactic(auto)]
 
-mod ending;
-mod writing;
+mod output;
+mod run_end;
 
 ghost use Rattle.std.specs.Prelude.{◌≡◌, ◌≤◌, Ok, Some, length, IsTrue, IfErr, string_bytes};
 ghost use Rattle.lam_io.specs.Outside.{Rose, AllStay};
@@ -29,8 +29,8 @@ ghost use Rattle.lam_main_replay.specs.Halts.{Reports};
 ghost use Rattle.lam_main_replay.specs.Asked.{files_of};
 ghost use Rattle.turn_book.specs.Limits.{most_turns};
 
-use crate::ending::end_of_turns;
-use crate::writing::written;
+use crate::output::written;
+use crate::run_end::end_of_turns;
 use guarded_code::Verified;
 use lam_io::Shelf;
 use lam_machine_world::{World, let_go_world};

@@ -10,7 +10,7 @@ use Rattle.lam_machine_terms.specs.Worlds.{World}
 use Rattle.lam_machine_terms.specs.Turns.{replay}
 use Rattle.world_doc_terms.specs.Start.{start_of}
 use Rattle.world_save_files.specs.Saved.{HasKept, IsSavedText, IsSaveFault}
-use Rattle.world_save_files.specs.declared.saving.SaveFault.TheVariants as fault
+use Rattle.world_save_files.specs.declared.document.SaveFault.TheVariants as fault
 use Rattle.lam_main_words.specs.Words.{Text}
 use Rattle.lam_main_plan.specs.declared.Status.TheVariants.{Done}
 use Rattle.lam_main_plan.specs.Refusals.{Plan, line, unnamed_tag, bad_text, too_big}

@@ -19,13 +19,13 @@
 mod document;
 mod files;
 mod halt;
-mod keeping;
 mod program;
 mod report;
 mod run_text;
 mod script;
 mod turns;
 mod viewer;
+mod viewer_text;
 
 ghost use Rattle.std.specs.Prelude.{◌≡◌, IsTrue, IfErr, string_bytes};
 ghost use Rattle.lam_io.specs.Outside.{Rose, AllStay};

@@ -16,7 +16,7 @@ use Rattle.lam_main_replay.specs.declared.halt.Halt.{Halt}
 use Rattle.lam_main_replay.specs.declared.halt.Halt.TheVariants.{Refused, NoMemory, ShelfFailed}
 use Rattle.lam_main_replay.specs.Halts.{Finds, Reports}
 use Rattle.lam_main_replay.proofs.ReportLemmas.{reports_map, reports_later, not_reported}
-use Rattle.lam_main_threads.specs.declared.showing.Taken.{Taken}
+use Rattle.lam_main_threads.specs.declared.texts.Taken.{Taken}
 use Rattle.lam_main_threads.specs.Taken.{planned, Offers}
 use Rattle.lam_main_threads.proofs.TakenLemmas.{same_plan}
 

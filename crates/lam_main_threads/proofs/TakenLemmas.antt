@@ -30,8 +30,8 @@ use Rattle.lam_main_replay.specs.Halts.{refuses, Finds, Says}
 use Rattle.lam_main_replay.specs.declared.viewer.Viewer.{Viewer}
 use Rattle.lam_main_replay.specs.declared.viewer.Viewer.TheVariants.{Observer, Auditor}
 use Rattle.lam_main_replay.specs.Asked.{lines_for}
-use Rattle.lam_main_threads.specs.declared.taking.Ended.{Ended}
-use Rattle.lam_main_threads.specs.declared.showing.Taken.{Taken}
+use Rattle.lam_main_threads.specs.declared.parts.Ended.{Ended}
+use Rattle.lam_main_threads.specs.declared.texts.Taken.{Taken}
 use Rattle.lam_main_threads.specs.Taken.{IsParted, IsEndedRun, HasBook, IsShown, planned, Offers}
 
 -- ---- the turns

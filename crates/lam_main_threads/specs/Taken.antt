@@ -12,8 +12,8 @@ use Rattle.lam_main_replay.specs.Threads.{status_of}
 use Rattle.lam_main_replay.specs.declared.halt.Halt.{Halt}
 use Rattle.lam_main_replay.specs.declared.halt.Halt.TheVariants.{Refused, NoMemory, ShelfFailed}
 use Rattle.lam_main_replay.specs.Halts.{refuses}
-use Rattle.lam_main_threads.specs.declared.taking.Ended.{Ended}
-use Rattle.lam_main_threads.specs.declared.showing.Taken.{Taken}
+use Rattle.lam_main_threads.specs.declared.parts.Ended.{Ended}
+use Rattle.lam_main_threads.specs.declared.texts.Taken.{Taken}
 
 -- ---- the turns
 

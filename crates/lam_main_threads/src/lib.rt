@@ -10,10 +10,10 @@
 //! the written book shows, and no other file changes. Nothing here is a matter of speed: `thread_host` does the work.
 #![tactic(auto)]
 
-mod making;
-mod showing;
-mod taking;
-mod writing;
+mod made_runs;
+mod output;
+mod parts;
+mod texts;
 
 ghost use Rattle.std.specs.Prelude.{◌≡◌, ◌<◌, ◌≤◌, Some, IsTrue, IfErr, string_bytes};
 ghost use Rattle.lam_io.specs.Outside.{Rose, AllStay};
@@ -27,9 +27,9 @@ ghost use Rattle.lam_main_replay.specs.Asked.{reader_of};
 ghost use Rattle.lam_main_threads.specs.Asked.{files_of};
 ghost use Rattle.turn_book.specs.Limits.{most_turns, most_workers};
 
-pub use crate::making::make;
-use crate::showing::shown;
-use crate::writing::written;
+pub use crate::made_runs::make;
+use crate::output::written;
+use crate::texts::shown;
 use guarded_code::Verified;
 use lam_io::{Gate, Shelf};
 use lam_main_replay::{Halt, Report, read_code, read_start};

@@ -6,16 +6,16 @@
 //! answer, how many asks there were. What a call answers is what the plan of these files says (`lam_main_plan`).
 //!
 //! - `entries`: the law that a start's threads stand where a walk requires it.
-//! - `telling`: the line of the answer.
+//! - `answer_line`: the line of the answer.
 //!
 //! Public promises rest on [`walk`] (clauses `gives`, `stay` and `failed`) and on the law [`starts_stand_at_entries`].
 //! The line has the number of all asks of the run, and refusals come in the order of reading. Free to change for speed:
 //! when the source is let go of.
 #![tactic(auto)]
 
+mod answer_line;
 mod entries;
 mod source;
-mod telling;
 
 ghost use Rattle.std.specs.Prelude.{◌≡◌, ℕ, List, IsTrue, IfErr, string_bytes};
 ghost use Rattle.lam_io.specs.Outside.{Rose, AllStay};
@@ -30,8 +30,8 @@ ghost use Rattle.lam_main_replay.specs.Asked.{files_of};
 ghost use Rattle.lam_main_laws.specs.Meant.{MeansEverywhere};
 ghost use Rattle.lam_main_walk.specs.Sources.{IsSoundSource, Tells};
 
+use crate::answer_line::told;
 use crate::source::{Source, let_go_source, read_source};
-use crate::telling::told;
 pub use entries::starts_stand_at_entries;
 use lam_io::Shelf;
 use lam_machine_world::{World, let_go_world};

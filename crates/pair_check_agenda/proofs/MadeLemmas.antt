@@ -16,18 +16,18 @@ use Rattle.lam_bytecode.specs.Codes.{CodeTree}
 use Rattle.thread_steps.specs.Threads.{Context, Thread}
 use Rattle.thread_steps.specs.Next.{Next, goes, asks, stuck, next_of}
 use Rattle.lam_machine_terms.specs.Worlds.{World}
-use Rattle.lam_machine_terms.specs.Serves.{Made, a_region, a_thing, Served}
-use Rattle.lam_machine_terms.specs.Serving.{renamed, serve}
+use Rattle.lam_machine_terms.specs.Serves.{Made, a_region, a_thing, Served, name_in}
+use Rattle.lam_machine_terms.specs.Serving.{renamed, publicly, serve}
 use Rattle.lam_machine_terms.specs.Turns.{is_ready, Moment, step, served, turn_by}
 use Rattle.lam_machine_laws.proofs.ThreadLemmas.{some_inj}
-use Rattle.lam_machine_laws.proofs.RowLemmas.{under_by, unless_by, on_thing_by}
+use Rattle.lam_machine_laws.proofs.JudgedLemmas.{judged_by}
 use Rattle.lam_machine_laws.proofs.TurnLemmas.{acts, only}
 use Rattle.audit_log_notes.specs.Notes.{content_in}
 use Rattle.audit_log_notes.specs.declared.Content.{Content}
 use Rattle.audit_log_notes.specs.declared.Content.TheVariants as content
 use Rattle.lam_machine_replay.specs.Told.{label_by, product_label, product_by, product}
 use Rattle.lam_machine_replay.proofs.ProductLemmas.{other_label}
-use Rattle.pair_check_agenda.specs.Agendas.{name_in, made_of}
+use Rattle.pair_check_agenda.specs.Agendas.{made_of}
 
 -- the value that leads to a thing has its name
 abbrev pub IsNamed : Option Made → Type 0
@@ -67,15 +67,12 @@ module _ (w : World) (c : Context) where
   Names a d = IsNamedBy (label_by d.answer a) d.made
 
   entry_named : (l : Label) (k : Caps) (region : ℕ) (args : List Value) → Names (Enter l k region args) (serve w c (Enter l k region args))
-  entry_named l k region args =
-      under_by (Names (Enter l k region args)) _ _ (λ x. unless_by (Names (Enter l k region args)) _ _ tt (λ f. tt)) (λ x. tt)
+  entry_named l k region args = judged_by (Names (Enter l k region args)) w (publicly w.public c) (Enter l k region args) (λ x e. tt) (λ f e g. tt) (λ e g. tt)
 
   copy_named : (r : Value) (l : Label) → Names (CopyTo r l) (serve w c (CopyTo r l))
   copy_named r l =
       let home = home_of c.label l in
-      on_thing_by (Names (CopyTo r l)) r _
-      (λ n e. under_by (Names (CopyTo r l)) _ _ (λ x. unless_by (Names (CopyTo r l)) _ _ (renamed_name r (name_of home (count_in w.heap.counts home))) (λ f. tt)) (λ x. tt))
-      (λ f. tt)
+      judged_by (Names (CopyTo r l)) w (publicly w.public c) (CopyTo r l) (λ x e. tt) (λ f e g. tt) (λ e g. renamed_name r (name_of home (count_in w.heap.counts home)))
 
   row_named : (a : Ask) → Names a (serve w c a)
   row_named (CopyTo r l) = copy_named r l

@@ -1,11 +1,7 @@
 -- What an agenda in the memory of a program stands for.
 use Rattle.std.specs.Prelude.{◌≡◌, List, map, Some}
 use Rattle.flow_labels.specs.declared.Label.{Label}
-use Rattle.flow_labels.specs.Flow.{public_label}
-use Rattle.lam_value.specs.declared.names.Name.{Name}
-use Rattle.lam_value.specs.declared.values.Value.{Value}
-use Rattle.lam_value.specs.declared.values.Value.TheVariants.{Obj, Arr}
-use Rattle.lam_machine_terms.specs.Serves.{Made, a_region, a_thing}
+use Rattle.lam_machine_terms.specs.Serves.{Made, a_region, a_thing, name_in}
 use Rattle.lam_machine_terms.specs.Turns.{Moment}
 use Rattle.lam_machine_terms.specs.Views.{Item, turn, past, agenda}
 use Rattle.lam_machine_terms.specs.Views as views
@@ -14,12 +10,6 @@ use Rattle.audit_log_notes.specs.declared.Content.TheVariants.{Context, Thing}
 use Rattle.pair_check_agenda.specs.declared.entry.Release.{Release}
 use Rattle.pair_check_agenda.specs.declared.entry.Entry.{Entry}
 use Rattle.pair_check_agenda.specs.declared.entry.Entry.TheVariants.{Turn, Past}
-
--- the name in a value that leads to a thing; no other value is a thing's
-abbrev pub name_in : Value → Name
-name_in (Obj n) = n
-name_in (Arr n len) = n
-name_in v = record { maker = public_label; own = public_label; n = 0 }
 
 -- what was made, by what is told of it
 abbrev pub made_of : Content → Made

@@ -9,8 +9,8 @@ ghost use Rattle.lam_machine_replay.specs.Stops.{IsStop};
 ghost use Rattle.pair_check_terms.specs.Pairs.{IsMet};
 ghost use Rattle.pair_check_agenda.specs.Agendas.{items_in};
 
+use crate::common_part::meeting;
 use crate::entry::Entry;
-use crate::meeting::meeting;
 use flow_labels::Label;
 use guarded_code::Verified;
 use lam_machine_replay::{RunFault, World, keep_turns};

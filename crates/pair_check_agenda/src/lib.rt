@@ -10,8 +10,8 @@
 //!
 //! - `contents`: equality of two contents of releases.
 //! - `entry`: the record of one turn; `agenda`: the list, which [`Agenda::entries`] reads.
-//! - `noting`: the entry of a turn's event and the world after it; `taking`: the fold, which notes private turns in rows.
-//! - `meeting`: the comparison of two agendas.
+//! - `notes`: the entry of a turn's event and the world after it; `observer`: the fold, which notes private turns in rows.
+//! - `common_part`: the comparison of two agendas.
 //!
 //! `specs/Agendas` says what an agenda stands for, and `specs/Noting` what is noted of a turn.
 //!
@@ -21,11 +21,11 @@
 #![tactic(auto)]
 
 mod agenda;
+mod common_part;
 mod contents;
 mod entry;
-mod meeting;
-mod noting;
-mod taking;
+mod notes;
+mod observer;
 
 pub use agenda::{Agenda, agenda_of, answer_of};
 pub use entry::{Entry, Release};

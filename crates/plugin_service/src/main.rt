@@ -3,21 +3,21 @@
 //! Each caller acts by a seat of its own. Two users have a wage each, which is secret, and a plug-in serves both. It
 //! may read what it likes, and holds no capability. It writes each user's tax where that user's wage is, and then tries
 //! to carry Ann's wage to Bob. The host's caller starts the three others; these act at once, on threads of their own.
-//! `story` has the program and the world that they act in, `callers` takes the turns, and `auditing` reads the book of
+//! `story` has the program and the world that they act in, `callers` takes the turns, and `book_audit` reads the book of
 //! what they did.
 //!
 //! It prints what each caller saw of its own turns, one caller after another, and the audit of the book. The number of
 //! a turn depends on the order of the callers, so the audit is printed without it. Nothing is written to a file.
 #![tactic(auto)]
 
-mod auditing;
+mod book_audit;
 mod callers;
 mod stop;
 mod story;
 
 ghost use Rattle.std.specs.Prelude.{◌≡◌};
 
-use crate::auditing::audited;
+use crate::book_audit::audited;
 use crate::callers::{Done, all_act};
 use crate::stop::{Stop, not_opened};
 use crate::story::{PROGRAM, WORLD};

@@ -7,8 +7,8 @@ use Rattle.lam_front.specs.declared.fault.ProgramFault.TheVariants.{NotUtf8, At,
 use Rattle.lam_front.specs.Programs.{IsFine, IsBroken}
 use Rattle.lam_bytecode.specs.Codes.{CodeTree}
 use Rattle.barrier_compiler.specs.Compiled.{IsCompiledTo}
-use Rattle.barrier_compiler.specs.declared.emitting.CompileFault.{CompileFault}
-use Rattle.barrier_compiler.specs.declared.emitting.CompileFault.TheVariants.{CodeTooLong as too_long_code, NoMemory as no_memory_for_code}
+use Rattle.barrier_compiler.specs.declared.generation.CompileFault.{CompileFault}
+use Rattle.barrier_compiler.specs.declared.generation.CompileFault.TheVariants.{CodeTooLong as too_long_code, NoMemory as no_memory_for_code}
 use Rattle.world_doc_terms.specs.Start.{start_of}
 use Rattle.world_doc_stores.specs.Meaning as reading
 use Rattle.world_doc_stores.specs.declared.fault.WorldFault.{WorldFault}

@@ -7,8 +7,8 @@ use Rattle.lam_front.specs.declared.fault.ProgramFault.TheVariants as front
 use Rattle.lam_front.specs.Programs.{IsFine, IsBroken}
 use Rattle.lam_bytecode.specs.Codes.{CodeTree}
 use Rattle.barrier_compiler.specs.Compiled.{IsCompiledTo}
-use Rattle.barrier_compiler.specs.declared.emitting.CompileFault.{CompileFault}
-use Rattle.barrier_compiler.specs.declared.emitting.CompileFault.TheVariants as compiler
+use Rattle.barrier_compiler.specs.declared.generation.CompileFault.{CompileFault}
+use Rattle.barrier_compiler.specs.declared.generation.CompileFault.TheVariants as compiler
 use Rattle.thinned_code.specs.Thinned.{thinned}
 use Rattle.world_doc_terms.specs.Breaks.{break_seen}
 use Rattle.world_doc_terms.specs.Start.{start_of}

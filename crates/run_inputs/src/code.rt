@@ -6,7 +6,7 @@ ghost use Rattle.region_check.specs.Seen.{checked_tree};
 ghost use Rattle.lam_front.specs.Programs.{IsFine};
 ghost use Rattle.lam_bytecode.specs.Codes.{IsCode};
 ghost use Rattle.barrier_compiler.specs.Compiled.{IsCompiledTo};
-ghost use Rattle.barrier_compiler.specs.declared.emitting.CompileFault.TheVariants.{CodeTooLong, NoMemory as no_memory};
+ghost use Rattle.barrier_compiler.specs.declared.generation.CompileFault.TheVariants.{CodeTooLong, NoMemory as no_memory};
 ghost use Rattle.thinned_code.specs.Thinned.{thinned};
 ghost use Rattle.run_inputs.specs.Inputs.{IsCompiled, IsRunCode, NoCode};
 

@@ -1,6 +1,6 @@
 //! The significant digits of a numeral, found without a promise: what is found is tested.
 
-use crate::counting::is_count;
+use crate::lengths::is_count;
 use fast_float::Numeral;
 
 /// Digits, how many they are, and the power of ten of the last.

@@ -9,9 +9,9 @@
 //! `digits_of`, since what it finds is tested.
 #![tactic(auto)]
 
-mod counting;
 mod digits;
-mod reading;
+mod floats;
+mod lengths;
 
 ghost use Rattle.std.specs.Prelude.{◌≡◌, ◌<◌, ◌-◌, IsTrue, Some, length};
 ghost use Rattle.std.specs.Float.{binary64};
@@ -19,9 +19,9 @@ ghost use Rattle.std.specs.Float.Ieee.{neg};
 ghost use Rattle.fast_float.specs.Parse.{parse_float};
 ghost use Rattle.shortest_numerals.specs.Shortest.{IsShortest, IsShortestText, LengthsAreOne, ShortestAreOne};
 
-use counting::{is_count, is_length};
 use digits::{Digits, digits_of};
-use reading::{none_beside, reads_as};
+use floats::{none_beside, reads_as};
+use lengths::{is_count, is_length};
 
 /// A float above 0 has one length of shortest numerals.
 pub fn shortest_lengths_are_one()

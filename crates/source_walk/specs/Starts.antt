@@ -4,12 +4,8 @@ use Rattle.lam_bytecode.specs.Codes.{CodeTree}
 use Rattle.lam_resolve_tree.specs.Tree.{ResolvedTree}
 use Rattle.thread_steps.specs.Threads.{Thread}
 use Rattle.thread_steps.specs.Next.{started}
-use Rattle.source_walk_terms.specs.Walks.{IsEntry, StandsAtEntry}
+use Rattle.source_walk_terms.specs.Walks.{IsEntry}
 use Rattle.source_walk_state.specs.declared.Beginning.{Beginning}
-
--- threads stand at entries
-abbrev pub AreAtEntries : ResolvedTree → CodeTree → List Thread → Type 0
-AreAtEntries r code ths = (u : ℕ) (th : Thread) → slice_get ths u ≡ Some th → StandsAtEntry r code th
 
 -- a thread stands where this begins, which is an entry of the program
 pub record BeginsAt (r : ResolvedTree) (code : CodeTree) (th : Thread) (b : Beginning) : Type 0 where

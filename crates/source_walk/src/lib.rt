@@ -6,7 +6,7 @@
 //! (`source_walk_terms`, `specs/Walks`).
 //!
 //! - `starts`: how the threads of a start begin.
-//! - `walking`: the walk over all threads; `source_walk_run` takes them on together, turn by turn, and
+//! - `threads_walk`: the walk over all threads; `source_walk_run` takes them on together, turn by turn, and
 //!   `source_walk_follow` is the walk of one.
 //! - `runs`: the walk over a run of a checked program, [`walk`].
 //!
@@ -19,9 +19,9 @@
 
 mod runs;
 mod starts;
-mod walking;
+mod threads_walk;
 
 pub use runs::walk;
 pub use source_walk_run::{RunFault, World, meant_runs_are_same};
 pub use source_walk_terms::Walked;
-pub use walking::walk_turns;
+pub use threads_walk::walk_turns;

@@ -9,7 +9,7 @@ ghost use Rattle.guarded_code_runs.specs.Worlds.{IsSound};
 ghost use Rattle.lam_machine_runs.specs.Stops.{stopped_at};
 ghost use Rattle.source_walk_terms.specs.Walks.{ThreadsAtEntries, IsWalked};
 
-use crate::walking::walk_turns;
+use crate::threads_walk::walk_turns;
 use guarded_code::Verified;
 use lam_resolve::resolve;
 use lam_resolve_tree::Resolved;

@@ -3,8 +3,8 @@
 ghost use Rattle.std.specs.Prelude.{◌≡◌, ◌≤◌, ◌<◌, ◌^◌, take, length, IfOk};
 ghost use Rattle.lam_resolve_tree.specs.Tree.{resolved_tree};
 ghost use Rattle.lam_resolve_tree.specs.Limits.{WithinLimits};
-ghost use Rattle.source_walk_terms.specs.Walks.{StandsAtEntry};
-ghost use Rattle.source_walk.specs.Starts.{AreAtEntries, BeginsAt, AreBeginnings};
+ghost use Rattle.source_walk_terms.specs.Walks.{AreAtEntries, StandsAtEntry};
+ghost use Rattle.source_walk.specs.Starts.{BeginsAt, AreBeginnings};
 
 use guarded_code::Verified;
 use lam_resolve_tree::Resolved;

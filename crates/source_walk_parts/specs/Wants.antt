@@ -4,11 +4,11 @@ use Rattle.lam_asks.specs.declared.fault.Fault.{Fault}
 use Rattle.lam_asks.specs.declared.fault.Fault.TheVariants as fault
 use Rattle.lam_asks.specs.Suits as plain
 use Rattle.source_walk_state.specs.Meaning.{sort_seen}
-use Rattle.source_walk_parts.specs.declared.suiting.Given.{Given}
-use Rattle.source_walk_parts.specs.declared.suiting.Given.TheVariants as given
-use Rattle.source_walk_parts.specs.declared.suiting.Failing.{Failing}
-use Rattle.source_walk_parts.specs.declared.suiting.Failing.TheVariants as failing
-use Rattle.source_walk_parts.specs.declared.suiting.Want.{Want}
+use Rattle.source_walk_parts.specs.declared.answers.Given.{Given}
+use Rattle.source_walk_parts.specs.declared.answers.Given.TheVariants as given
+use Rattle.source_walk_parts.specs.declared.answers.Failing.{Failing}
+use Rattle.source_walk_parts.specs.declared.answers.Failing.TheVariants as failing
+use Rattle.source_walk_parts.specs.declared.answers.Want.{Want}
 
 abbrev pub given_seen : Given → plain.Given
 given_seen given.Done = plain.is_done

@@ -2,7 +2,7 @@
 //!
 //! - `walk`: a walk's frames, its context's label, capabilities, locals and open calls, and the units left; with the
 //!   changes that steps make.
-//! - `suiting`: which answers suit an ask.
+//! - `answers`: which answers suit an ask.
 //! - `controls`: how a walk goes on with the result of an operator or a built-in call.
 //! - `locals`: the locals of calls and regions.
 //! - `access`: accesses to fields and elements, with their tests in order.
@@ -16,18 +16,18 @@
 #![tactic(auto)]
 
 mod access;
+mod answers;
 mod controls;
 mod locals;
 mod sorts;
-mod suiting;
 mod things;
 mod walk;
 
 pub use access::{Access, Way, element_access, field_access, reads, writes};
+pub use answers::{Failing, Given, Want, suits};
 pub use controls::{built, labelled, operated, prefixed, signed};
 pub use locals::{captured, padded};
 pub use sorts::{kind_of, result_sort, sort_of};
-pub use suiting::{Failing, Given, Want, suits};
 pub use things::{monitor, new_array, spawns, thrown, wait_if_asked};
 pub use walk::{
     Walk, begin_call, begin_region, go_to, local_of, pop, push, restore, return_to, set_local,

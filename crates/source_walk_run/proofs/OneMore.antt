@@ -23,7 +23,7 @@ use Rattle.source_walk_meets.proofs.Lists.{is_there, split_get}
 use Rattle.source_walk_follow.specs.declared.followers.Follower.{Follower}
 use Rattle.source_walk_follow.specs.Following.{asks_met, FollowsTurn}
 use Rattle.source_walk_follow.proofs.Following.{private_turn}
-use Rattle.source_walk_run.specs.declared.keeping.Kept.{Kept}
+use Rattle.source_walk_run.specs.declared.turns_pass.Kept.{Kept}
 use Rattle.source_walk_run.specs.Beginnings.{beginning_of}
 use Rattle.source_walk_run.specs.Walking.{IsMeeting, AreFirstWalks, AreWalking, Begins, FollowsAt}
 use Rattle.source_walk_run.specs.Keeping.{IsKept, Adds}

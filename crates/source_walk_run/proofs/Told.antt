@@ -17,7 +17,7 @@ use Rattle.source_walk_meets.proofs.Lists.{made_get}
 use Rattle.source_walk_follow.specs.declared.followers.Follower.{Follower}
 use Rattle.source_walk_follow.specs.Following.{place_left}
 use Rattle.source_walk_follow.proofs.Following.{followed}
-use Rattle.source_walk_run.specs.declared.keeping.Kept.{Kept}
+use Rattle.source_walk_run.specs.declared.turns_pass.Kept.{Kept}
 use Rattle.source_walk_run.specs.declared.departures.Departures.{Departures}
 use Rattle.source_walk_run.specs.Beginnings.{all_begun}
 use Rattle.source_walk_run.specs.Counting.{AreTurnsOf}

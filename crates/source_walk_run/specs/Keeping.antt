@@ -9,7 +9,7 @@ use Rattle.source_walk_meets.specs.Walks.{asks_in}
 use Rattle.source_walk_meets.specs.Births.{birth_of, AreOfThreads}
 use Rattle.source_walk_follow.specs.declared.followers.Follower.{Follower}
 use Rattle.source_walk_follow.specs.Following.{asks_met}
-use Rattle.source_walk_run.specs.declared.keeping.Kept.{Kept}
+use Rattle.source_walk_run.specs.declared.turns_pass.Kept.{Kept}
 use Rattle.source_walk_run.specs.Walking.{AreWalking, Begins, FollowsAt}
 
 -- What is kept after these moments, where the start's threads began as starts, and thread u takes (turns at u) turns in

@@ -10,8 +10,8 @@ ghost use Rattle.source_walk_follow.specs.Following.{place_left};
 ghost use Rattle.source_walk_run.specs.Counting.{AreTurnsOf};
 ghost use Rattle.source_walk_run.specs.Departures.{DeparturesOf};
 
-use crate::counting::turns_of_each;
-use crate::keeping::{Kept, Walker, kept_of};
+use crate::tally::turns_of_each;
+use crate::turns_pass::{Kept, Walker, kept_of};
 use guarded_code::Verified;
 use lam_machine_effects::THREAD_LIMIT;
 use lam_machine_replay::{RunFault, World, runs_are_whole};

@@ -12,7 +12,7 @@ use Rattle.thread_steps.specs.Next.{started}
 use Rattle.lam_meaning.specs.Plays.{asks_made}
 use Rattle.lam_machine_means.specs.Kinds.{AreOf}
 use Rattle.lam_machine_means.specs.Acts.{AreFirst}
-use Rattle.lam_machine_means.specs.Worlds.{World, thread_at}
+use Rattle.lam_machine_means.specs.Worlds.{World}
 use Rattle.lam_machine_means.specs.Turns.{Moment, moments, replay}
 use Rattle.lam_machine_means.specs.Own.{done_by}
 use Rattle.lam_machine_means.specs.Runs.{asked_in, answers_in, Began, WasSpawned}
@@ -37,9 +37,13 @@ pub record StandsAtEntry (r : ResolvedTree) (code : CodeTree) (th : Thread) : Ty
   pub it : th ≡ started code function args caps
   pub entry : IsEntry r function args
 
--- what a walk takes of a start: each of its threads stands at an entry
+-- each of these threads stands at an entry
+abbrev pub AreAtEntries : ResolvedTree → CodeTree → List Thread → Type 0
+AreAtEntries r code ths = (u : ℕ) (th : Thread) → slice_get ths u ≡ Some th → StandsAtEntry r code th
+
+-- what a walk takes of a start
 abbrev pub ThreadsAtEntries : ResolvedTree → CodeTree → World → Type 0
-ThreadsAtEntries r code w = (u : ℕ) (th : Thread) → thread_at w u ≡ Some th → StandsAtEntry r code th
+ThreadsAtEntries r code w = AreAtEntries r code w.threads
 
 -- ---- one thread
 

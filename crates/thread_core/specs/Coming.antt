@@ -4,8 +4,8 @@ use Rattle.lam_bytecode.specs.Codes.{CodeTree}
 use Rattle.thread_steps.specs.Threads.{Context}
 use Rattle.thread_steps.specs.Next.{Next, stuck, raised, next_by}
 use Rattle.thread_core_effects.specs.Acting.{did_of}
-use Rattle.thread_core.specs.declared.coming.Coming.{Coming}
-use Rattle.thread_core.specs.declared.coming.Coming.TheVariants as coming
+use Rattle.thread_core.specs.declared.next_turn.Coming.{Coming}
+use Rattle.thread_core.specs.declared.next_turn.Coming.TheVariants as coming
 
 abbrev pub next_from : CodeTree → Context → Coming → Next
 next_from code c (coming.Handles f) = raised c.phase c.inside f

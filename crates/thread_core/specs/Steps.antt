@@ -3,7 +3,7 @@ use Rattle.std.specs.Prelude.{◌+◌, ◌<◌, ◌^◌}
 use Rattle.lam_bytecode.specs.Codes.{CodeTree}
 use Rattle.thread_steps.specs.Threads.{Context}
 use Rattle.thread_core_effects.specs.declared.acted.OpEffect.TheVariants as op_effect
-use Rattle.thread_core.specs.declared.coming.Coming.TheVariants.{Sees}
+use Rattle.thread_core.specs.declared.next_turn.Coming.TheVariants.{Sees}
 use Rattle.thread_steps.specs.Next as next
 use Rattle.thread_steps.specs.Next.{stands}
 use Rattle.thread_core.specs.declared.step.Change.{Change}

@@ -14,13 +14,12 @@
 //! nothing has changed. Free to change for speed: how often what comes next is read, and how a step is made ready.
 #![tactic(auto)]
 
-mod coming;
+mod next_turn;
 mod step;
-mod stepping;
+mod steps;
 mod threads;
 mod turn;
 
-pub use coming::{Coming, next};
-pub use thread_core_ops::region_of;
+pub use next_turn::{Coming, next};
 pub use threads::{advance, ask, go_on, outlook, private_step, standing, waits_for};
 pub use turn::{Outlook, Standing, Turn, Waits};

@@ -6,7 +6,7 @@ ghost use Rattle.thread_steps.specs.Next.{standing, is_private, is_shared};
 ghost use Rattle.thread_core.specs.Turning.{turn_of, stepped, stepped_in, standing_of, ask_of, awaited_of, awaited_by};
 ghost use Rattle.thread_core.specs.Untested.{untested_standing, untested_standing_in, ThreadFinds, StandsAs};
 
-use crate::stepping::{context_ask, context_outlook, go_on_in};
+use crate::steps::{context_ask, context_outlook, go_on_in};
 use crate::turn::{Outlook, Standing, Turn, Waits};
 use guarded_code_threads::Verified;
 use lam_asks::Ask;

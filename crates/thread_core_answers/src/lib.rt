@@ -9,10 +9,10 @@
 //! answer does what the definition says, or nothing. Free to change for speed: what a plan holds.
 #![tactic(auto)]
 
-mod answering;
-mod doing;
+mod commit;
+mod pauses;
 mod plan;
-mod planning;
+mod plans;
 
-pub use answering::{Prepared, prepare, take_answer};
+pub use pauses::{Prepared, prepare, take_answer};
 pub use thread_core::{Standing, Turn, advance, go_on};

@@ -9,12 +9,12 @@
 #![tactic(auto)]
 
 mod acted;
-mod asking;
+mod asks;
 mod equal;
-mod reading;
+mod readers;
 
 pub use acted::{AskRef, Called, Computed, OpEffect, ValueRef};
-pub use asking::{ask_from, value_from};
+pub use asks::{ask_from, value_from};
 pub use equal::{same_names, same_values};
-pub use reading::{is_null, number_in, some_null, tag_in, thing_in, truth_in};
+pub use readers::{is_null, number_in, some_null, tag_in, thing_in, truth_in};
 pub use thread_core_state::{Context, Operands};

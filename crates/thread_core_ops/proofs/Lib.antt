@@ -1,3 +1,1 @@
-pub mod UnitLists
-pub mod CountedRegions
 pub mod Many

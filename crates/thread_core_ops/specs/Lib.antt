@@ -1,3 +1,2 @@
-pub mod Units
 pub mod Untested
 pub use Rattle.thread_core_calls.specs.Reaching

@@ -5,19 +5,17 @@
 //! thread stands, to ask, to act, and to find the operands that an answered ask leaves.
 //!
 //! - `operators`: operators, and the making of labels and capabilities.
-//! - `units`: what begins a unit.
-//! - `seeing`: the operations.
+//! - `units`: the operations that begin a unit.
+//! - `previews`: the operations.
 //!
 //! Built-in calls, barriers, accesses and monitors stand in `thread_core_calls`.
 //!
-//! No public promise rests on it directly: `lam_machine`'s does. Free to change for speed: how a region's unit is found
-//! (`units`).
+//! No public promise rests on it directly: `lam_machine`'s does. Free to change for speed: what is borrowed.
 #![tactic(auto)]
 
 mod operators;
-mod seeing;
+mod previews;
 mod units;
 
 pub use operators::{label_from, operator, prefix, with_sign};
-pub use seeing::{FRAMES_LIMIT, see};
-pub use units::{UnitAt, region_of};
+pub use previews::{FRAMES_LIMIT, see};

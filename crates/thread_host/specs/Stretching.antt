@@ -9,8 +9,8 @@ use Rattle.thread_host_run.specs.Courses.{Progress}
 use Rattle.thread_host_run.specs.Stretched.{StretchFits, WentOn, checked_in}
 use Rattle.thread_host.specs.declared.visits.Visit.{Visit}
 use Rattle.thread_host.specs.declared.visits.Visit.TheVariants as visit
-use Rattle.thread_host.specs.declared.stretching.Opening.{Opening}
-use Rattle.thread_host.specs.declared.stretching.Opening.TheVariants as opening
+use Rattle.thread_host.specs.declared.stretches.Opening.{Opening}
+use Rattle.thread_host.specs.declared.stretches.Opening.TheVariants as opening
 use Rattle.thread_host.specs.Visits.{EndsAs, TookReady, Visits}
 
 -- a stretch is of a thread as it is in a course, and stands with the code

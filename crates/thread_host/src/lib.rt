@@ -13,7 +13,7 @@
 //! them. [`run_kept`] also folds over the run as its turns are taken, for a view or a count (`Keeps` of
 //! `lam_machine_replay`). So no second pass is made.
 //!
-//! A lock's contract does not say which value it returns. The guarded type (`sharing`) therefore has a phantom
+//! A lock's contract does not say which value it returns. The guarded type (`shared`) therefore has a phantom
 //! parameter, [`Origin`] (`origins`), that fixes the code, the start, the budget and what is kept. So what comes back
 //! is known to be a course of them, and nothing is copied or compared to find that out.
 //!
@@ -21,28 +21,28 @@
 //! what workers leave is a run of the code from the start, within the budget, which ended as it says, and what was kept is of
 //! its moments. They rest on `Shared::begin` and `Shared::end` too (`ok`, `err`): what is taken is of a ready thread and within
 //! the budget, and what is checked in is a stretch that fits. Free to change for speed: which threads of several workers are
-//! copied (`lightness`). No clause speaks of how long a stretch is (`LONGEST` of `sharing`), but docs/ARCHITECTURE.md and
+//! copied (`lightness`). No clause speaks of how long a stretch is (`LONGEST` of `shared`), but docs/ARCHITECTURE.md and
 //! docs/DECISIONS.md name its 4,096, so a change of it changes those pages. What one worker's book shows is said in the head
 //! of `thread_host_pace`; `lightness` decides there too how long a row is.
 //!
 //! - `visits`: one visit of the shared course.
-//! - `stretching`: private turns in place, and how those of a copy begin and come back.
-//! - `workers`: the workers; `running`: the runs.
+//! - `stretches`: private turns in place, and how those of a copy begin and come back.
+//! - `workers`: the workers; `whole_run`: the runs.
 #![tactic(auto)]
 
 mod lightness;
 mod origins;
-mod running;
-mod sharing;
-mod stretching;
+mod shared;
+mod stretches;
 mod visits;
+mod whole_run;
 mod workers;
 
 pub use lam_machine_replay::{Counter, Keeps, World};
 pub use lam_machine_runs::How;
 pub use origins::Origin;
-pub use running::{Finished, FinishedKept, run_kept, run_on};
-pub use sharing::Shared;
-pub use stretching::Opening;
+pub use shared::Shared;
+pub use stretches::Opening;
 pub use thread_host_run::{RunParts, let_go_verified};
 pub use visits::Visit;
+pub use whole_run::{Finished, FinishedKept, run_kept, run_on};

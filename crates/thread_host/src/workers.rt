@@ -11,8 +11,8 @@ ghost use Rattle.thread_host.specs.Visits.{EndsAs};
 ghost use Rattle.turn_book.specs.Limits.{most_turns, most_workers};
 
 use crate::origins::Origin;
-use crate::sharing::Shared;
-use crate::stretching::Opening;
+use crate::shared::Shared;
+use crate::stretches::Opening;
 use crate::visits::Visit;
 use guarded_code::Verified;
 use lam_io::Gate;

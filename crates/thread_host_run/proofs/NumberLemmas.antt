@@ -9,7 +9,7 @@ use Rattle.lam_value.specs.Names.{name_eq}
 use Rattle.lam_value.proofs.Keys.{name_total, name_exact, name_ties}
 use Rattle.lam_value.proofs.Rows.{itself, is_same}
 use Rattle.lam_machine_laws.proofs.ThreadLemmas.{some_inj}
-use Rattle.thread_host_run.specs.declared.waiting.Touched.{Touched}
+use Rattle.thread_host_run.specs.declared.waits.Touched.{Touched}
 use Rattle.thread_host_run.specs.Waiting.{Extends, Touches, is_monitor}
 
 pub name_same : (x y : Name) → name_eq x y ≡ true → x ≡ y

@@ -11,9 +11,9 @@ use Rattle.lam_machine_laws.proofs.ThreadLemmas.{some_inj}
 use Rattle.thread_host_run.specs.ReadyLists.{kept_list}
 use Rattle.thread_host_run.specs.Waiting.{awaited_at, IsAwaited, Extends, Tells, TellsBut, AllTell, IsHeldSo}
 use Rattle.thread_host_run.specs.Kept.{ListsBy, AllTellBut, OthersTell, unknown, AreBut, AreOld}
-use Rattle.thread_host_run.specs.declared.waiting.Prospect.{Prospect}
-use Rattle.thread_host_run.specs.declared.waiting.Touched.{Touched}
-use Rattle.thread_host_run.specs.declared.waiting.Touched.TheVariants.{OneMonitor, Everything}
+use Rattle.thread_host_run.specs.declared.waits.Prospect.{Prospect}
+use Rattle.thread_host_run.specs.declared.waits.Touched.{Touched}
+use Rattle.thread_host_run.specs.declared.waits.Touched.TheVariants.{OneMonitor, Everything}
 use Rattle.thread_host_run.proofs.Others.{Moved, others_ready, as_many, at_same, set_other}
 use Rattle.thread_host_run.proofs.Kept.{kept_list_moved}
 use Rattle.thread_host_run.proofs.WaitingLemmas.{awaited_more, tells_more, but_more}

@@ -36,12 +36,12 @@ use Rattle.thread_host_run.specs.Readiness.{waits_on}
 use Rattle.thread_host_run.specs.Waiting.{awaited_at, IsAwaited, Tells, TellsBut, AllTell, is_stale, Touches}
 use Rattle.thread_host_run.specs.Kept.{IsAsk, IsOfMonitor, OthersTell}
 use Rattle.thread_host_run.specs.Quiet.{touches_others, is_quiet}
-use Rattle.thread_host_run.specs.declared.waiting.Awaits.{Awaits}
-use Rattle.thread_host_run.specs.declared.waiting.Awaits.TheVariants.{Nobody, Monitor, Unknown}
-use Rattle.thread_host_run.specs.declared.waiting.Awaits.TheVariants as awaits
-use Rattle.thread_host_run.specs.declared.waiting.Prospect.{Prospect}
-use Rattle.thread_host_run.specs.declared.waiting.Touched.{Touched}
-use Rattle.thread_host_run.specs.declared.waiting.Touched.TheVariants.{Everything}
+use Rattle.thread_host_run.specs.declared.waits.Awaits.{Awaits}
+use Rattle.thread_host_run.specs.declared.waits.Awaits.TheVariants.{Nobody, Monitor, Unknown}
+use Rattle.thread_host_run.specs.declared.waits.Awaits.TheVariants as awaits
+use Rattle.thread_host_run.specs.declared.waits.Prospect.{Prospect}
+use Rattle.thread_host_run.specs.declared.waits.Touched.{Touched}
+use Rattle.thread_host_run.specs.declared.waits.Touched.TheVariants.{Everything}
 use Rattle.thread_host_run.proofs.WaitingLemmas.{ready_still}
 use Rattle.thread_host_run.proofs.Others.{living_set}
 

@@ -15,11 +15,11 @@ use Rattle.lam_machine_terms.specs.Worlds.{World, thread_at}
 use Rattle.lam_machine_terms.specs.Turns.{ready, is_living}
 use Rattle.thread_host_run.specs.Readiness.{waits_on, ready_by}
 use Rattle.thread_host_run.specs.Waiting.{awaited_at, IsAwaited, Extends, Tells, TellsBut, IsHeldSo, is_number, is_stale, is_monitor, is_everything}
-use Rattle.thread_host_run.specs.declared.waiting.Awaits.{Awaits}
-use Rattle.thread_host_run.specs.declared.waiting.Awaits.TheVariants.{Nobody, Monitor, End, Unknown}
-use Rattle.thread_host_run.specs.declared.waiting.Prospect.{Prospect}
-use Rattle.thread_host_run.specs.declared.waiting.Touched.{Touched}
-use Rattle.thread_host_run.specs.declared.waiting.Touched.TheVariants.{OneMonitor}
+use Rattle.thread_host_run.specs.declared.waits.Awaits.{Awaits}
+use Rattle.thread_host_run.specs.declared.waits.Awaits.TheVariants.{Nobody, Monitor, End, Unknown}
+use Rattle.thread_host_run.specs.declared.waits.Prospect.{Prospect}
+use Rattle.thread_host_run.specs.declared.waits.Touched.{Touched}
+use Rattle.thread_host_run.specs.declared.waits.Touched.TheVariants.{OneMonitor}
 use Rattle.thread_host_run.proofs.ReadyLemmas.{ready_there, ready_absent}
 
 -- ---- a thread that waits for something asks

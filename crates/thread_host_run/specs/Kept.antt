@@ -11,9 +11,9 @@ use Rattle.lam_machine_terms.specs.Worlds.{World}
 use Rattle.lam_machine_terms.specs.Limits.{most_threads}
 use Rattle.thread_host_run.specs.ReadyLists.{ready_threads}
 use Rattle.thread_host_run.specs.Waiting.{AllTell, TellsBut}
-use Rattle.thread_host_run.specs.declared.waiting.Prospect.{Prospect}
-use Rattle.thread_host_run.specs.declared.waiting.Awaits.TheVariants.{Unknown}
-use Rattle.thread_host_run.specs.declared.waiting.Touched.{Touched}
+use Rattle.thread_host_run.specs.declared.waits.Prospect.{Prospect}
+use Rattle.thread_host_run.specs.declared.waits.Awaits.TheVariants.{Unknown}
+use Rattle.thread_host_run.specs.declared.waits.Touched.{Touched}
 use Rattle.thread_host_run.specs.declared.ready_list.ReadyList.{ReadyList}
 
 -- the ready threads, and what each thread waits for

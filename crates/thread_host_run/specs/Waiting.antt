@@ -7,11 +7,11 @@ use Rattle.thread_steps.specs.Threads.{Thread}
 use Rattle.thread_core_stretches.specs.Turning.{Awaited, nobody, a_monitor, a_thread, awaited_of}
 use Rattle.lam_machine_terms.specs.Worlds.{World, thread_at}
 use Rattle.lam_machine_terms.specs.Turns as turns
-use Rattle.thread_host_run.specs.declared.waiting.Awaits.{Awaits}
-use Rattle.thread_host_run.specs.declared.waiting.Awaits.TheVariants.{Nobody, Monitor, End, Unknown}
-use Rattle.thread_host_run.specs.declared.waiting.Prospect.{Prospect}
-use Rattle.thread_host_run.specs.declared.waiting.Touched.{Touched}
-use Rattle.thread_host_run.specs.declared.waiting.Touched.TheVariants.{OneMonitor, Everything}
+use Rattle.thread_host_run.specs.declared.waits.Awaits.{Awaits}
+use Rattle.thread_host_run.specs.declared.waits.Awaits.TheVariants.{Nobody, Monitor, End, Unknown}
+use Rattle.thread_host_run.specs.declared.waits.Prospect.{Prospect}
+use Rattle.thread_host_run.specs.declared.waits.Touched.{Touched}
+use Rattle.thread_host_run.specs.declared.waits.Touched.TheVariants.{OneMonitor, Everything}
 
 -- the most monitors that have a number
 abbrev pub most_names : ℕ

@@ -11,8 +11,8 @@ ghost use Rattle.thread_host_run.specs.Courses.{IsCourse, one_more, TookTurn};
 ghost use Rattle.thread_host_run.specs.Stretched.{StretchFits, WentOn, checked_in};
 ghost use Rattle.turn_book.specs.Limits.{most_turns};
 
-use crate::taking::{go_turn, take_turn};
-use crate::{going, stretches};
+use crate::one_turn::{go_turn, take_turn};
+use crate::{rows, stretches};
 use guarded_code::Verified;
 use lam_asks::Event;
 use lam_machine::{World, let_go_world};
@@ -123,7 +123,7 @@ impl Course {
         ensures ok { IfOk result (λ n. WentOn code.now thread n self.old self.new) }
         ensures err { OnErr result (self.new ≡ self.old) }
     {
-        let taken = going::go_along(&mut self.turns, &mut self.world, code, thread, most)?;
+        let taken = rows::go_along(&mut self.turns, &mut self.world, code, thread, most)?;
         Ok(taken)
     }
 

@@ -16,11 +16,11 @@
 //! ([`Course::go_along`], [`go_ready`]).
 //!
 //! - `readiness`: whether a thread is ready, without memory.
-//! - `course` and `run`: the types; `taking`: one turn; `stretches`: how stretches come back.
-//! - `going`: private turns in a row, in place.
-//! - `seeking`: the search for a thread that is ready or lives.
-//! - `listing`: the list of the ready threads, kept from turn to turn; `ready_list`: with what each thread waits for
-//!   (`waiting`).
+//! - `course` and `run`: the types; `one_turn`: one turn; `stretches`: how stretches come back.
+//! - `rows`: private turns in a row, in place.
+//! - `search`: the search for a thread that is ready or lives.
+//! - `lists`: the list of the ready threads, kept from turn to turn; `ready_list`: with what each thread waits for
+//!   (`waits`).
 //! - `books`: the run of a book of turns, or the turn at which they stop to be one.
 //!
 //! A public promise rests on [`Run::turn`] and [`Run::check_in`] (clauses `ok`, `err`), [`Run::turns`] (clause `whole`),
@@ -32,22 +32,22 @@
 
 mod books;
 mod course;
-mod going;
-mod listing;
+mod lists;
+mod one_turn;
 mod readiness;
 mod ready_list;
+mod rows;
 mod run;
-mod seeking;
+mod search;
 mod stretches;
-mod taking;
-mod waiting;
+mod waits;
 
 pub use books::{RunOf, run_of};
 pub use course::{Course, let_go_course};
+pub use one_turn::was_quiet;
 pub use readiness::ready;
 pub use ready_list::{ReadyList, check_in_ready, go_ready, list_after_turn};
 pub use run::{Run, RunParts, let_go_run, let_go_verified};
-pub use seeking::living_in;
-pub use taking::was_quiet;
+pub use search::living_in;
 pub use turn_book::TURN_LIMIT;
-pub use waiting::{Awaits, Prospect};
+pub use waits::{Awaits, Prospect};

@@ -24,9 +24,9 @@ ghost use Rattle.thread_host_run.specs.Waiting.{IsHeldSo};
 ghost use Rattle.thread_host_run.specs.Kept.{Lists, ListsBy, HasRoom, AllTellBut, OthersTell, IsAsk, IsOfMonitor, AreBut, AreOld};
 
 use crate::course::Course;
-use crate::listing::{check_in_listed, few_threads, leave, roomy_list};
-use crate::taking::touches_others;
-use crate::waiting::{Awaits, MOST_NAMES, Prospect, Touched, look, look_again, touched_at};
+use crate::lists::{check_in_listed, few_threads, leave, roomy_list};
+use crate::one_turn::touches_others;
+use crate::waits::{Awaits, MOST_NAMES, Prospect, Touched, look, look_again, touched_at};
 use guarded_code::Verified;
 use indexmap::IndexSet;
 use lam_asks::{Ask, Event, What};

@@ -15,9 +15,9 @@ ghost use Rattle.thread_host_run.specs.Stretched.{StretchFits, checked_in};
 ghost use Rattle.turn_book.specs.Limits.{most_turns};
 
 use crate::course::Course;
-use crate::listing::few_threads;
-use crate::seeking::{living_in, ready_in};
-use crate::taking::was_quiet;
+use crate::lists::few_threads;
+use crate::one_turn::was_quiet;
+use crate::search::{living_in, ready_in};
 use guarded_code::Verified;
 use lam_asks::{Event, let_go_event};
 use lam_machine::{World, let_go_world};

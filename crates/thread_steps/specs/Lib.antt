@@ -5,6 +5,7 @@ pub mod Threads
 pub mod Builtins
 pub mod Ops
 pub mod Next
+pub mod Units
 pub use Rattle.lam_bytecode.specs.Codes
 pub use Rattle.lam_asks.specs.Caps
 pub use Rattle.lam_asks.specs.Changes

@@ -11,12 +11,16 @@
 //! - `specs/Ops`: the effect of each operation.
 //! - `specs/Next`: what comes next, and what an answer does to the thread.
 //!
-//! The compiler's proof and the machine both stand on these definitions, and neither on the other.
+//! The compiler's proof and the machine both stand on these definitions, and neither on the other. The code here looks
+//! functions and regions up among a code's units (`units`), for the verifier and for threads.
 //!
-//! All promises about threads are stated in these definitions. Nothing here is a matter of speed.
+//! All promises about threads are stated in these definitions. Free to change for speed: how a region's unit is found.
 #![tactic(auto)]
+
+mod units;
 
 pub use lam_asks::{
     Answer, Ask, Caps, Fault, Label, Name, Outcome, Value, Values, both, same, same_values,
 };
 pub use lam_bytecode::Code;
+pub use units::{UnitAt, function_takes, region_of, region_takes};

@@ -5,8 +5,8 @@ use Rattle.flow_labels.specs.TwoLists.{Text}
 use Rattle.lam_machine_terms.specs.Worlds.{World}
 use Rattle.lam_machine_effects.specs.declared.stores.Stores.{Stores}
 use Rattle.lam_machine_effects.specs.Parts.{stores_of}
-use Rattle.world_save_files.specs.declared.saving.Saved.{Saved}
-use Rattle.world_save_files.specs.declared.saving.SaveFault.{SaveFault}
+use Rattle.world_save_files.specs.declared.document.Saved.{Saved}
+use Rattle.world_save_files.specs.declared.document.SaveFault.{SaveFault}
 use Rattle.world_save_files.specs.Saved.{IsSavedText, IsSaveFault}
 
 -- of the stores at the start, and of those that are now

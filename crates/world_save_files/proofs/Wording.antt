@@ -11,11 +11,11 @@ use Rattle.world_save_terms.specs.Items.{items_of}
 use Rattle.world_save_terms.specs.Rows.{Row}
 use Rattle.world_save_terms.specs.Document.{most_document}
 use Rattle.world_save_items.specs.Steps.{Found, found, path_of, items_from, IsWalk}
-use Rattle.world_save_items.specs.declared.finding.Step.{Step}
+use Rattle.world_save_items.specs.declared.traversal.Step.{Step}
 use Rattle.world_save_text.specs.declared.document.Contents.{Contents}
 use Rattle.world_save_text.specs.Texts.{parts_with, text_with}
-use Rattle.world_save_files.specs.declared.saving.SaveFault.{SaveFault}
-use Rattle.world_save_files.specs.declared.saving.SaveFault.TheVariants.{Unnamed, BadText, TooBig, NoMemory}
+use Rattle.world_save_files.specs.declared.document.SaveFault.{SaveFault}
+use Rattle.world_save_files.specs.declared.document.SaveFault.TheVariants.{Unnamed, BadText, TooBig, NoMemory}
 use Rattle.world_save_files.specs.Saved.{HasKept, CanBeKept, HaveText, IsTextOf, IsSaveFault}
 use Rattle.world_save_files.specs.Bounds.{AreSortedRows, IsBounded, IsUnbounded}
 

@@ -8,8 +8,8 @@ use Rattle.world_save_terms.specs.Document.{most_document}
 use Rattle.world_save_items.specs.Measures.{capped}
 use Rattle.world_save_text.specs.declared.document.Contents.{Contents}
 use Rattle.world_save_text.specs.Texts.{text_with}
-use Rattle.world_save_files.specs.declared.saving.SaveFault.{SaveFault}
-use Rattle.world_save_files.specs.declared.saving.SaveFault.TheVariants.{Unnamed, BadText, TooBig, NoMemory}
+use Rattle.world_save_files.specs.declared.document.SaveFault.{SaveFault}
+use Rattle.world_save_files.specs.declared.document.SaveFault.TheVariants.{Unnamed, BadText, TooBig, NoMemory}
 
 -- the rows of homes, in order
 pub record AreSortedRows (c : Contents) (homes : List (Home × ℕ)) (rows : List Row) : Type 0 where

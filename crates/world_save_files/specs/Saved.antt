@@ -12,8 +12,8 @@ use Rattle.world_save_terms.specs.Rows.{Row, AreRows}
 use Rattle.world_save_terms.specs.Document.{Parts, parts_of, Spells, most_document}
 use Rattle.world_save_terms.specs.Refusals.{AllNamed, IsLeastUnnamed, bad_path}
 use Rattle.world_save_items.specs.Measures.{capped}
-use Rattle.world_save_files.specs.declared.saving.SaveFault.{SaveFault}
-use Rattle.world_save_files.specs.declared.saving.SaveFault.TheVariants.{Unnamed, BadText, TooBig, NoMemory}
+use Rattle.world_save_files.specs.declared.document.SaveFault.{SaveFault}
+use Rattle.world_save_files.specs.declared.document.SaveFault.TheVariants.{Unnamed, BadText, TooBig, NoMemory}
 
 -- an older document is a text, and has these pipes and threads
 pub record HasKept (old : Text) (pipes threads : Data) : Type 0 where

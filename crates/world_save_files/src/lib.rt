@@ -7,18 +7,18 @@
 //!
 //! - `numbers` and `values`: the text of a JSON value.
 //! - `kept`: the texts that are taken from the older document.
-//! - `saving`: the refusals and the document.
+//! - `document`: the refusals and the document.
 //! - `lengths`: the law that all texts of the same files have one length.
 //!
 //! A public promise rests on `save_files` (clauses `ok`, `err`): the document is written whole, or its first refusal is
 //! told. Free to change for speed: how values of the older document are copied.
 #![tactic(auto)]
 
+mod document;
 mod kept;
 mod lengths;
 mod numbers;
-mod saving;
 mod values;
 
+pub use document::{DOCUMENT_LIMIT, SaveFault, Saved, save_files};
 pub use lengths::saved_lengths_are_one;
-pub use saving::{DOCUMENT_LIMIT, SaveFault, Saved, save_files};

@@ -20,8 +20,8 @@ use Rattle.world_forest.specs.Forest.{IsForest}
 use Rattle.world_save_terms.specs.Items.{Item, below as under, held_by, at_entry, items_below, items_of}
 use Rattle.world_save_items.specs.Measures.{capped}
 use Rattle.world_save_items.specs.Steps.{Found, found, path_of, items_from, AreMeasured, IsWalk, Todo, todo as seen, found_at, whole_dir, inside, todo_after}
-use Rattle.world_save_items.specs.declared.finding.Step.{Step}
-use Rattle.world_save_items.specs.declared.finding.Frame.{Frame}
+use Rattle.world_save_items.specs.declared.traversal.Step.{Step}
+use Rattle.world_save_items.specs.declared.traversal.Frame.{Frame}
 use Rattle.world_save_items.proofs.Chains.{IsChain, few}
 
 -- ---- what is still to be found, by what is to be done, the top first

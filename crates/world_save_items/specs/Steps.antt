@@ -9,8 +9,8 @@ use Rattle.labelled_files.specs.declared.directory.EntryKind.{EntryKind}
 use Rattle.labelled_files.specs.declared.directory.EntryKind.TheVariants.{File, Dir}
 use Rattle.labelled_files.specs.Trees.{Tree}
 use Rattle.world_save_terms.specs.Items.{Item, below as under, items_of}
-use Rattle.world_save_items.specs.declared.finding.Step.{Step}
-use Rattle.world_save_items.specs.declared.finding.Frame.{Frame}
+use Rattle.world_save_items.specs.declared.traversal.Step.{Step}
+use Rattle.world_save_items.specs.declared.traversal.Frame.{Frame}
 use Rattle.world_save_items.specs.Measures.{capped}
 
 -- ---- what was found

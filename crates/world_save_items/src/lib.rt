@@ -4,7 +4,7 @@
 //! stack of its own, so no depth of directories is too much for it. Its memory goes by the number of items and by their
 //! entries' names alone. Paths may add up far past memory, so a path is told by how much of the path before it stays.
 //!
-//! - `finding`: the list. It ends because the files are a forest (`proofs/Chains`): the directories on the way down
+//! - `traversal`: the list. It ends because the files are a forest (`proofs/Chains`): the directories on the way down
 //!   differ.
 //! - `measure`: the number of bytes that a text takes between quotes.
 //!
@@ -12,8 +12,8 @@
 //! to change for speed: how the way down is kept.
 #![tactic(auto)]
 
-mod finding;
 mod measure;
+mod traversal;
 
-pub use finding::{Step, lengthen, walk};
 pub use measure::{escaped_len, letter, more};
+pub use traversal::{Step, lengthen, walk};

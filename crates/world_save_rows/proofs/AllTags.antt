@@ -14,7 +14,7 @@ use Rattle.labelled_files.specs.declared.directory.EntryKind.TheVariants.{File, 
 use Rattle.labelled_files.specs.Trees.{Tree, lives_as, IsSound}
 use Rattle.world_save_terms.specs.Items.{Item, items_of}
 use Rattle.world_save_terms.specs.Refusals.{IsTagOf, IsItemLabel, IsHomeLabel, IsUnnamed, AllNamed, IsLeastUnnamed}
-use Rattle.world_save_rows.specs.declared.listing.HomeCount.{HomeCount}
+use Rattle.world_save_rows.specs.declared.home_list.HomeCount.{HomeCount}
 use Rattle.world_save_rows.specs.Seen.{home_seen}
 use Rattle.world_save_rows.specs.Least.{IsLeastOf, IsInLabel, IsInHome, IsAmong}
 use Rattle.world_save_rows.proofs.Entries.{items_live}

@@ -11,7 +11,7 @@ use Rattle.std.specs.Cmp.{IsTotalOrder}
 use Rattle.std.proofs.lemmas.Cmp.{then_total, on_total, nat_list_cmp_total, nat_cmp_total}
 use Rattle.std.proofs.lemmas.List.Sorted.{IsPermutation-refl, IsPermutation-sym, IsPermutation-cons, IsPermutation-trans, IsPermutation-middle}
 use Rattle.world_save_terms.specs.Rows.{Row, row_cmp}
-use Rattle.world_save_rows.specs.declared.ordering.Row as code
+use Rattle.world_save_rows.specs.declared.order.Row as code
 use Rattle.world_save_rows.specs.Seen.{row_seen}
 
 module _ {X : Type 0} (lt : X → X → Bool) where

@@ -9,7 +9,7 @@ use Rattle.flow_labels.specs.Tags.{Tags, tags_of, lesser}
 use Rattle.flow_labels.specs.declared.Label.{Label}
 use Rattle.tag_sets.proofs.RisingLemmas.{first-filter, IsRising-filter, has-filter, first-some, first-none}
 use Rattle.tag_sets.proofs.TagLemmas.{tags_of-rising, has-tags_of}
-use Rattle.world_save_rows.specs.declared.listing.HomeCount.{HomeCount}
+use Rattle.world_save_rows.specs.declared.home_list.HomeCount.{HomeCount}
 use Rattle.world_save_rows.specs.Least.{IsLeastOf, IsFrom, IsInLabel, IsInHome, IsAmong}
 
 less : (x y : ℕ) → nat_lt y x ≡ true → y ≤ x

@@ -6,8 +6,8 @@ use Rattle.flow_labels.specs.TwoLists.{Text}
 use Rattle.lam_value.specs.Label.{Label}
 use Rattle.lam_value_homes.specs.Homes.{listed_home}
 use Rattle.world_save_terms.specs.Rows as terms
-use Rattle.world_save_rows.specs.declared.listing.HomeCount.{HomeCount}
-use Rattle.world_save_rows.specs.declared.ordering.Row.{Row}
+use Rattle.world_save_rows.specs.declared.home_list.HomeCount.{HomeCount}
+use Rattle.world_save_rows.specs.declared.order.Row.{Row}
 use Rattle.world_save_rows.specs.Seen.{home_seen, row_seen}
 
 -- ---- homes

@@ -4,7 +4,7 @@ use Rattle.std.specs.FinSet.{contains}
 use Rattle.flow_labels.specs.Tags.{Tags}
 use Rattle.flow_labels.specs.declared.Label.{Label}
 use Rattle.world_save_terms.specs.Refusals.{IsTagOf}
-use Rattle.world_save_rows.specs.declared.listing.HomeCount.{HomeCount}
+use Rattle.world_save_rows.specs.declared.home_list.HomeCount.{HomeCount}
 
 -- the least number of a kind, if there is one
 abbrev pub IsLeastOf : (ℕ → Type 0) → Option ℕ → Type 0

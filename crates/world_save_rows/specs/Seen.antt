@@ -2,8 +2,8 @@
 use Rattle.std.specs.Prelude.{◌≡◌, ℕ, string_bytes}
 use Rattle.lam_value.specs.Homes.{Home, home_of}
 use Rattle.world_save_terms.specs.Rows as terms
-use Rattle.world_save_rows.specs.declared.listing.HomeCount.{HomeCount}
-use Rattle.world_save_rows.specs.declared.ordering.Row.{Row}
+use Rattle.world_save_rows.specs.declared.home_list.HomeCount.{HomeCount}
+use Rattle.world_save_rows.specs.declared.order.Row.{Row}
 
 -- a home with its counter
 abbrev pub home_seen : HomeCount → Home × ℕ

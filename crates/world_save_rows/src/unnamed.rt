@@ -7,7 +7,7 @@ ghost use Rattle.world_save_terms.specs.Refusals.{AllNamed, IsLeastUnnamed};
 ghost use Rattle.world_save_rows.specs.Least.{IsLeastOf, IsFrom, IsInLabel, IsInHome, IsAmong};
 ghost use Rattle.world_save_rows.specs.Seen.{home_seen};
 
-use crate::listing::HomeCount;
+use crate::home_list::HomeCount;
 use flow_labels::{Label, TagId, TagNames, TagSet};
 use labelled_files::Files;
 

@@ -13,7 +13,7 @@ use Rattle.labelled_files.specs.Trees.{Tree}
 use Rattle.world_save_terms.specs.Document.{kind_at, tag_data, tags_from, item_data}
 use Rattle.world_save_items.specs.Measures.{capped}
 use Rattle.world_save_items.specs.Steps.{Found, found, path_of, items_from, AreMeasured}
-use Rattle.world_save_items.specs.declared.finding.Step.{Step}
+use Rattle.world_save_items.specs.declared.traversal.Step.{Step}
 use Rattle.world_save_text.specs.declared.writer.JsonWriter.{JsonWriter}
 use Rattle.world_save_text.specs.Writing.{Wrote}
 use Rattle.world_save_text.proofs.Writings.{HasWritten, one_written, all_written, mapped}

@@ -16,7 +16,7 @@ use Rattle.labelled_files.specs.Trees.{Tree, entries_at, IsSound}
 use Rattle.world_save_terms.specs.Items.{Item, below as under, held_by, at_entry, items_below, items_of}
 use Rattle.world_save_terms.specs.Refusals.{bad_path}
 use Rattle.world_save_items.specs.Steps.{Found, found, path_of, items_from, IsWalk}
-use Rattle.world_save_items.specs.declared.finding.Step.{Step}
+use Rattle.world_save_items.specs.declared.traversal.Step.{Step}
 use Rattle.world_save_rows.proofs.Entries.{IsGood, entries_good}
 use Rattle.world_save_text.proofs.Lists.{from_place, past_end}
 use Rattle.world_save_text.proofs.Seams.{seam}

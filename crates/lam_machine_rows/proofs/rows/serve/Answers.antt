@@ -2,6 +2,7 @@ use Rattle.std.proofs.Common.{refl}
 use Rattle.capabilities.specs.Changes.{joined}
 use Rattle.lam_machine_rows.specs.Rows.{any_world, any_context, with_tags, with_heap, with_monitors, with_files, with_pipes, at_label, acting_by, at_depth}
 use Rattle.lam_machine_rows.proofs.PartLemmas.{moved, moved_ok, one, each, tags_is, heap_is, monitors_is, files_is, pipes_is, label_is, caps_is, depth_is, released, among, joining}
+use Rattle.lam_machine_rows.proofs.RowLemmas.{plain_as}
 use Rattle.lam_machine_rows.proofs.rows.serve.Goals as goal
 
 pub returns-in-Read : goal.returns-in-Read
@@ -138,15 +139,15 @@ returns-in-Enter c =
 
 pub returns-in-Leave : goal.returns-in-Leave
 returns-in-Leave c =
-    moved _ _ _ _ _ _ _ c.in-Leave.is (λ w k h. c.done.ensures)
+    moved _ _ _ _ _ _ _ c.in-Leave.is (λ w k h. plain_as _ _ c.done.ensures)
 
 pub returns-in-Barred : goal.returns-in-Barred
 returns-in-Barred c =
-    moved _ _ _ _ _ _ _ c.in-Barred.is (λ w k h. c.done-in-Barred.ensures)
+    moved _ _ _ _ _ _ _ c.in-Barred.is (λ w k h. plain_as _ _ c.done-in-Barred.ensures)
 
 pub returns-in-Say : goal.returns-in-Say
 returns-in-Say c =
-    moved _ _ _ _ _ _ _ c.in-Say.is (λ w k h. c.done-in-Say.ensures)
+    moved _ _ _ _ _ _ _ c.in-Say.is (λ w k h. plain_as _ _ c.done-in-Say.ensures)
 
 pub returns-in-Caught : goal.returns-in-Caught
 returns-in-Caught c =

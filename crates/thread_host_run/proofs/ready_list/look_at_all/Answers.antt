@@ -1,4 +1,4 @@
-use Rattle.thread_host_run.specs.declared.waiting.Touched.TheVariants.{Everything}
+use Rattle.thread_host_run.specs.declared.waits.Touched.TheVariants.{Everything}
 use Rattle.thread_host_run.proofs.Tellings.{nothing_known}
 use Rattle.thread_host_run.proofs.ready_list.look_at_all.Goals as goal
 

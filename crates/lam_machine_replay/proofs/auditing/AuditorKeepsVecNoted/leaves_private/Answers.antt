@@ -1,5 +1,0 @@
-use Rattle.lam_machine_replay.proofs.NotedLemmas.{private_unnoted}
-use Rattle.lam_machine_replay.proofs.auditing.AuditorKeepsVecNoted.leaves_private.Goals as goal
-
-pub returns : goal.returns
-returns c = λ ms m kept. private_unnoted ms m kept.items

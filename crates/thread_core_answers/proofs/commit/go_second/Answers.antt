@@ -1,0 +1,10 @@
+use Rattle.std.proofs.Common.{◌-◌, ◌∷◌, ap, arith}
+use Rattle.thread_core_answers.specs.Preparing.{done_in}
+use Rattle.thread_core_answers.specs.declared.plan.Plan.TheVariants as plan
+use Rattle.thread_core_answers.proofs.Tops.{done_second}
+use Rattle.thread_core_answers.proofs.commit.go_second.Goals as goal
+
+pub returns : goal.returns
+returns c =
+    done_second c.args.contexts.now.items (c.len-at.result - 2) c.index_mut.result.now c.go.new.c (done_in (plan.Enters c.args.going)) (omega arith) c.index_mut.ensures.value
+    (λ r rest. ap (λ d. r ∷ (d ∷ rest)) c.go.ensures)
